@@ -1,0 +1,4 @@
+pub mod Field
+pub mod Sums
+pub mod Polynomial
+pub mod Product

@@ -1,0 +1,5 @@
+pub mod Limits
+pub mod Header
+pub mod Session
+pub mod Beginning
+pub mod Answer

@@ -1,0 +1,24 @@
+-- The ranges of the numbers in frames and session files. They are widened here, and nowhere else.
+use Rattle.std.specs.Prelude.{ℕ, ◌*◌, ◌+◌, ◌^◌, ◌<◌, ◌≤◌, ◌≡◌}
+use Rattle.wire_frames.specs.declared.TheConstants.{MOST_DEGREE, MOST_SERVERS, MOST_ROWS, MOST_WIDTH, MOST_CELLS}
+use Rattle.wire_frames.specs.declared.session.SessionParams.{SessionParams}
+
+-- so many rows of so many bytes
+pub record IsShape (r s : ℕ) : Type 0 where
+  pub some_rows : 1 ≤ r
+  pub few_rows : r ≤ MOST_ROWS
+  pub some_bytes : 1 ≤ s
+  pub few_bytes : s ≤ MOST_WIDTH
+  pub few_cells : r * s ≤ MOST_CELLS
+
+-- the numbers that a session may have: scheme 1 with 1 <= t < h <= n
+pub record IsInRange (p : SessionParams) : Type 0 where
+  pub scheme : p.scheme ≡ 1
+  pub private : 1 ≤ p.t
+  pub few_private : p.t ≤ MOST_DEGREE
+  pub agreement : p.t < p.h
+  pub few_agree : p.h ≤ MOST_SERVERS
+  pub servers : p.h ≤ p.n
+  pub few_servers : p.n ≤ MOST_SERVERS
+  pub session : p.session < 2 ^ 64
+  pub shape : IsShape p.r p.s

@@ -1,0 +1,23 @@
+//! Frames and session files: which bytes stand for which fields.
+#![tactic(auto)]
+
+mod header;
+mod session;
+
+pub use header::QueryHeader;
+pub use session::SessionParams;
+
+/// The greatest degree of a query's polynomials, so how many servers together may learn nothing.
+pub const MOST_DEGREE: u8 = 1;
+
+/// The greatest number of servers.
+pub const MOST_SERVERS: u8 = 8;
+
+/// The greatest number of rows of a database.
+pub const MOST_ROWS: u32 = 1 << 20;
+
+/// The greatest width of a row, in bytes.
+pub const MOST_WIDTH: u32 = 1 << 16;
+
+/// The greatest size of a database, in bytes.
+pub const MOST_CELLS: u64 = 1 << 30;
