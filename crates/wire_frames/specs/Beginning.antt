@@ -1,5 +1,5 @@
 -- How far bytes are right: what begins some session, and the place at which bytes stop doing so.
-use Rattle.std.specs.Prelude.{◌≡◌, ℕ, ◌<◌, ◌≤◌, List, ◌++◌, length, take, Option}
+use Rattle.std.specs.Prelude.{◌≡◌, ℕ, ◌<◌, ◌≤◌, List, ◌++◌, length, take}
 use Rattle.wire_frames.specs.Session.{Transcript, IsSession}
 
 -- some session's file begins with these bytes
@@ -13,8 +13,3 @@ pub record IsPlace (bytes : List ℕ) (place : ℕ) : Type 0 where
   pub within : place ≤ length bytes
   pub begins : Begins (take place bytes)
   pub longest : (n : ℕ) → place < n → n ≤ length bytes → Begins (take n bytes) → ⊥
-
--- what a reader has seen: the bytes so far, or the place at which they were refused for good
-pub record Reading : Type 0 where
-  pub so_far : List ℕ
-  pub refused : Option ℕ

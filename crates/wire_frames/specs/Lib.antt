@@ -2,4 +2,5 @@ pub mod Limits
 pub mod Header
 pub mod Session
 pub mod Beginning
+pub mod Reading
 pub mod Answer

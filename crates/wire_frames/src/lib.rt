@@ -2,9 +2,11 @@
 #![tactic(auto)]
 
 mod header;
+mod reader;
 mod session;
 
 pub use header::QueryHeader;
+pub use reader::{BadSession, FeedFault, feeds};
 pub use session::SessionParams;
 
 /// The greatest degree of a query's polynomials, so how many servers together may learn nothing.
