@@ -1,0 +1,4 @@
+pub mod Agreed
+pub mod Numbers
+pub mod Verdict
+pub mod Text

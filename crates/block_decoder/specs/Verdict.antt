@@ -1,0 +1,17 @@
+-- The verdict on the answers of a session.
+use Rattle.std.specs.Prelude.{◌≡◌, ℕ, ◌*◌, ◌<◌, ◌≤◌, List, length}
+use Rattle.wire_frames.specs.Answer.{Answer, answers}
+use Rattle.wire_frames.specs.Session.{Transcript}
+use Rattle.block_decoder.specs.Agreed.{Lists}
+use Rattle.block_decoder.specs.declared.verdict.Verdict.{Verdict}
+use Rattle.block_decoder.specs.declared.verdict.Verdict.TheVariants.{Listed, TooFew, TooWeak}
+
+-- fewer than h answers; else h answers may agree on too many blocks to list them; else the agreed blocks
+abbrev pub IsDecided : List Answer → ℕ → ℕ → ℕ → Verdict → Type 0
+IsDecided all width t h (TooFew k agree) = (k ≡ length all) × (agree ≡ h) × (length all < h)
+IsDecided all width t h (TooWeak k degree agree) = (k ≡ length all) × (degree ≡ t) × (agree ≡ h) × (h ≤ length all) × (h * h ≤ length all * t)
+IsDecided all width t h (Listed blocks) = (h ≤ length all) × (length all * t < h * h) × Lists blocks all width t h
+
+-- the verdict on a session, by its usable answers
+abbrev pub IsVerdict : Transcript → Verdict → Type 0
+IsVerdict session verdict = IsDecided (answers session) session.params.s session.params.t session.params.h verdict

@@ -1,0 +1,8 @@
+//! Which blocks a session's answers agree on, and the text that says so.
+#![tactic(auto)]
+
+mod listing;
+mod verdict;
+
+pub use listing::Listing;
+pub use verdict::Verdict;

@@ -1,0 +1,14 @@
+//! What is said of the answers of a session.
+
+use crate::Listing;
+
+/// The verdict on the usable answers of a session.
+#[derive(Drop)]
+pub enum Verdict {
+    /// The blocks on which enough answers agree.
+    Listed(Listing),
+    /// Only `k` answers are usable, fewer than the `h` that have to agree.
+    TooFew { k: u32, h: u32 },
+    /// With `k` answers and degree `t`, an agreement of `h` is too weak to bound the blocks: `h * h <= k * t`.
+    TooWeak { k: u32, t: u32, h: u32 },
+}
