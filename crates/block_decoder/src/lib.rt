@@ -3,6 +3,7 @@
 
 mod listing;
 mod verdict;
+mod write;
 
 pub use listing::Listing;
 pub use verdict::Verdict;
