@@ -1,1 +1,3 @@
 pub mod HexText
+pub mod Places
+pub mod Agreement
