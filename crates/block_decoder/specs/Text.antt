@@ -1,18 +1,18 @@
 -- The text of a verdict.
-use Rattle.std.specs.Prelude.{ℕ, List, ◌++◌, length, flat_map, codes, decimal}
+use Rattle.std.specs.Prelude.{ℕ, List, [], ◌∷◌, ◌++◌, length, flat_map, codes, decimal}
 use Rattle.hex.specs.Hex.{encode_lower}
 use Rattle.block_decoder.specs.declared.verdict.Verdict.{Verdict}
 use Rattle.block_decoder.specs.declared.verdict.Verdict.TheVariants.{Listed, TooFew, TooWeak}
 
 -- a block in lower-case hexadecimal, and a newline
-abbrev pub block_line : List ℕ → List ℕ
+unfoldable pub block_line : List ℕ → List ℕ
 block_line block = encode_lower block ++ codes "\n"
 
 -- a line: words, and numbers in decimal, each after a space
-abbrev pub number_word : ℕ → List ℕ
+unfoldable pub number_word : ℕ → List ℕ
 number_word n = codes " " ++ decimal n
 
-abbrev pub line_of : List ℕ → List ℕ → List ℕ
+unfoldable pub line_of : List ℕ → List ℕ → List ℕ
 line_of words numbers = words ++ (flat_map number_word numbers ++ codes "\n")
 
 -- the lines of a verdict

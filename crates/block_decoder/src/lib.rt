@@ -7,3 +7,4 @@ mod write;
 
 pub use listing::Listing;
 pub use verdict::Verdict;
+pub use write::write_verdict;
