@@ -1,5 +1,5 @@
 -- The blocks on which enough answers agree (Goldberg 2007).
-use Rattle.std.specs.Prelude.{◌≡◌, ℕ, ◌<◌, ◌≤◌, ◌↔◌, List, [], ◌∷◌, length, map, take, drop, slice_index_or, All, Contains}
+use Rattle.std.specs.Prelude.{◌≡◌, ℕ, ◌<◌, ◌≤◌, ◌↔◌, List, [], ◌∷◌, length, map, take, drop, slice_index_or, All, Contains, Bool, bytes_eq, count_by}
 use Rattle.std.specs.Ordering.{nat_cmp}
 use Rattle.std.specs.Cmp.Lexicographic.{slice_cmp}
 use Rattle.std.specs.List.Sorted.{IsStrictlyIncreasing, IsStrictlySortedBy}
@@ -40,3 +40,19 @@ pub record Lists (blocks : List (List ℕ)) (answers : List Answer) (width t h :
   pub ascending : IsStrictlySortedBy (slice_cmp nat_cmp) blocks
   pub sizes : All (λ b. length b ≡ width) blocks
   pub exact : (block : List ℕ) → Contains blocks block ↔ Agreed answers width t h block
+
+-- whether the answer's first bytes are what the polynomials, one for each of its first columns, take at its index
+abbrev pub holds_first : List (List ℕ) → Answer → Bool
+holds_first polynomials answer = bytes_eq (take (length polynomials) answer.payload) (map (λ p. val p answer.index) polynomials)
+
+-- how many answers the polynomials hold at, in their first columns
+abbrev pub weight : List (List ℕ) → List Answer → ℕ
+weight polynomials answers = count_by (holds_first polynomials) answers
+
+-- some polynomials of degree at most t, one for each column, hold at h answers, and their constants are the block
+pub record Heavy (answers : List Answer) (width t h : ℕ) (block : List ℕ) : Type 0 where
+  pub polynomials : List (List ℕ)
+  pub one_a_column : length polynomials ≡ width
+  pub degree : All (IsPolynomial t) polynomials
+  pub enough : h ≤ weight polynomials answers
+  pub constants : block ≡ constants_of polynomials
