@@ -1,4 +1,5 @@
+pub mod Agreement
+pub mod Ascending
 pub mod HexText
 pub mod Lines
 pub mod Places
-pub mod Agreement
