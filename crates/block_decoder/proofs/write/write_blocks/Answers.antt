@@ -1,4 +1,4 @@
-use Rattle.std.proofs.Common.{◌≡◌, ◌∙◌, ap, refl, sym, List, ℕ, [], ◌∷◌, ◌++◌, ◌+◌, length, take, drop, get_or, arith}
+use Rattle.std.proofs.Common.{◌∙◌, ap, sym, ℕ, ◌++◌, take}
 use Rattle.std.specs.Prelude.{flat_map, Vec}
 use Rattle.std.specs.declared.alloc.Global.{Global}
 use Rattle.std.proofs.lemmas.List.{take_all}
@@ -6,7 +6,7 @@ use Rattle.std.proofs.lemmas.List.Folds.{flat_map-map}
 use Rattle.std.proofs.lemmas.Result.{err_from_is_err_and}
 use Rattle.pir_ports.specs.Moves.{gave}
 use Rattle.pir_ports.proofs.Cells.{gave-gave, touches_more}
-use Rattle.pir_ports.proofs.Pieces.{gave_none, written_cut}
+use Rattle.pir_ports.proofs.Pieces.{written_cut}
 use Rattle.block_decoder.specs.Text.{block_line}
 use Rattle.block_decoder.proofs.Lines.{flat_map-take_more, flat_map-pieces}
 use Rattle.block_decoder.proofs.write.write_blocks.Goals as goal

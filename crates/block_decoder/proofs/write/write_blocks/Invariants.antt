@@ -1,4 +1,4 @@
-use Rattle.std.proofs.Common.{◌≡◌, take, map}
+use Rattle.std.proofs.Common.{◌≡◌, take}
 use Rattle.std.specs.Prelude.{flat_map}
 use Rattle.pir_ports.specs.Moves.{Touches, gave}
 use Rattle.block_decoder.specs.Text.{block_line}

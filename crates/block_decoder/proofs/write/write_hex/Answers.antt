@@ -1,8 +1,6 @@
-use Rattle.std.proofs.Common.{◌≡◌, ◌+◌, ◌-◌, ◌∙◌, ◌≤◌, [], ap, sym, subst, List, ℕ, length, take, drop, arith, refl}
+use Rattle.std.proofs.Common.{◌≡◌, ◌+◌, ◌-◌, ◌∙◌, ap, sym, take, drop, arith, refl}
 use Rattle.hex.specs.Hex.{encode_lower}
 use Rattle.pir_ports.specs.Moves.{gave}
-use Rattle.pir_ports.specs.Whole.{FailsWithin}
-use Rattle.pir_ports.specs.Written.{Written}
 use Rattle.pir_ports.proofs.Cells.{gave-gave, touches_more}
 use Rattle.pir_ports.proofs.Pieces.{gave_none, written_cut}
 use Rattle.std.proofs.lemmas.Result.{err_from_is_err_and}

@@ -1,4 +1,4 @@
-use Rattle.std.proofs.Common.{[], ◌∷◌, decimal, ap}
+use Rattle.std.proofs.Common.{[], ◌∷◌, decimal}
 use Rattle.std.proofs.lemmas.Result.{err_from_is_err_and}
 use Rattle.pir_ports.proofs.Pieces.{written_next, written_first, written_both}
 use Rattle.block_decoder.specs.Text.{number_word}

@@ -1,9 +1,8 @@
-use Rattle.std.proofs.Common.{◌≡◌, ◌∙◌, ap, refl, sym, List, ℕ, [], ◌∷◌, ◌+◌, length, take, drop, get_or, arith}
-use Rattle.std.specs.Prelude.{flat_map}
+use Rattle.std.proofs.Common.{◌∙◌, ap, sym}
 use Rattle.std.proofs.lemmas.Result.{err_from_is_err_and}
 use Rattle.pir_ports.specs.Moves.{gave}
 use Rattle.pir_ports.proofs.Cells.{gave-gave, touches_more}
-use Rattle.pir_ports.proofs.Pieces.{gave_none, written_cut}
+use Rattle.pir_ports.proofs.Pieces.{written_cut}
 use Rattle.block_decoder.specs.Text.{number_word}
 use Rattle.block_decoder.proofs.Lines.{flat_map-take_more, flat_map-pieces}
 use Rattle.block_decoder.proofs.write.write_numbers.Goals as goal
