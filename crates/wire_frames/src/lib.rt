@@ -3,6 +3,7 @@
 
 mod header;
 mod reader;
+mod records;
 mod session;
 
 pub use header::QueryHeader;
