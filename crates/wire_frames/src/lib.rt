@@ -8,7 +8,7 @@ mod session;
 
 pub use header::QueryHeader;
 pub use reader::{BadSession, FeedFault, feeds};
-pub use session::SessionParams;
+pub use session::{Session, SessionParams};
 
 /// The greatest degree of a query's polynomials, so how many servers together may learn nothing.
 pub const MOST_DEGREE: u8 = 1;
