@@ -1,13 +1,16 @@
 //! Frames and session files: which bytes stand for which fields.
 #![tactic(auto)]
 
+mod answer;
 mod header;
 mod reader;
+mod records;
 mod session;
 
+pub use answer::usable_answer;
 pub use header::QueryHeader;
 pub use reader::{BadSession, FeedFault, feeds};
-pub use session::SessionParams;
+pub use session::{Session, SessionParams};
 
 /// The greatest degree of a query's polynomials, so how many servers together may learn nothing.
 pub const MOST_DEGREE: u8 = 1;
@@ -23,3 +26,6 @@ pub const MOST_WIDTH: u32 = 1 << 16;
 
 /// The greatest size of a database, in bytes.
 pub const MOST_CELLS: u64 = 1 << 30;
+
+#[cfg(test)]
+mod tests;
