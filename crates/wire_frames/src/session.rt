@@ -65,7 +65,7 @@ impl Session {
     }
 
     /// Adds the record of the next server: the bytes that it answered, at most `24 + s` of them, or `None` where a call
-    /// failed. No bytes are still an answer. It takes no memory.
+    /// failed. An answer of no bytes is present too. It takes no memory.
     pub fn push_record(&mut self, bytes: Option<&[u8]>)
         requires few { length self.old.records < self.old.params.n }
         requires fits { IfSome (option_copied bytes) (λ b. length b ≤ 24 + self.old.params.s) }
