@@ -1,3 +1,4 @@
 pub mod Spans
 pub mod UnderWay
 pub mod Beginnings
+pub mod OneSession

@@ -1,0 +1,87 @@
+//! Reads a recorded session from Input, and judges it.
+
+ghost use Rattle.std.specs.Prelude.{◌≡◌, length, IfOk};
+ghost use Rattle.pir_ports.specs.Moves.{Touches};
+ghost use Rattle.wire_frames.specs.Session.{IsSession};
+ghost use Rattle.wire_frames.specs.Reading.{Feeds};
+ghost use Rattle.pir_tool.specs.Replayed.{ReadTo, Judged, IsFileOf, Fed};
+
+use crate::stub::{SessionReader, judge};
+use block_decoder::Verdict;
+use pir_ports::{Failed, Port, Ports};
+use std::alloc::{AllocError, Global};
+use thiserror::Error;
+use wire_frames::{BadSession, FeedFault, Session};
+
+/// Why a recorded session is not judged.
+#[derive(Clone, Copy, Debug, PartialEq, Eq, Error)]
+pub enum ReplayFault {
+    /// A call on Input failed.
+    #[error("a call on the input failed")]
+    ReadFault,
+    /// Input holds no session: `place` is the length of the longest prefix of its bytes that begins some session.
+    #[error("no session: wrong at byte {place}")]
+    BadSession { place: u64 },
+    /// Want of memory.
+    #[error("no memory")]
+    Memory,
+}
+
+// How many bytes are taken at once, at most.
+const PIECE: usize = 65536;
+
+/// Feeds one more piece.
+fn feed_piece(alloc: Global, reader: &mut SessionReader, piece: &[u8]) -> Result<(), ReplayFault>
+    ensures { Fed reader.old piece.now result reader.new }
+{
+    match reader.feed(alloc, piece) {
+        Ok(()) => Ok(()),
+        Err(FeedFault::BadSession { place }) => Err(ReplayFault::BadSession { place }),
+        Err(FeedFault::Memory) => Err(ReplayFault::Memory),
+    }
+}
+
+/// Reads Input to its end, or to the first piece that is refused.
+fn read_session<P: Ports>(alloc: Global, ports: &mut P) -> Result<Session, ReplayFault>
+    ensures read { ReadTo IsFileOf result (P.world ports.old) (P.world ports.new) }
+    ensures all { IfOk result (λ session. length session.records ≡ session.params.n) }
+    ensures others { Touches 0 (P.world ports.old) (P.world ports.new) }
+{
+    let Ok(mut buffer) = vec![in alloc; 0; PIECE] else {
+        return Err(ReplayFault::Memory);
+    };
+    let mut reader = SessionReader::new();
+    'pieces: loop {
+        match ports.take(Port::Input, &mut buffer) {
+            Ok(n) => {
+                if n == 0 {
+                    break;
+                }
+                feed_piece(alloc, &mut reader, &buffer[..n])?;
+            }
+            Err(Failed) => return Err(ReplayFault::ReadFault),
+        }
+    }
+    match reader.end() {
+        Ok(session) => Ok(session),
+        Err(BadSession { place }) => Err(ReplayFault::BadSession { place }),
+    }
+}
+
+/// The verdict on the session that Input, already open, holds to its end. It is read in pieces, and a wrong byte
+/// ends the reading.
+///
+/// # Errors
+///
+/// `ReadFault` only where the count of Input rose; `BadSession` exactly where Input holds no session; `Memory` for
+/// want of memory.
+pub fn replay<P: Ports>(alloc: Global, ports: &mut P) -> Result<Verdict, ReplayFault>
+    ensures replayed { ReadTo Judged result (P.world ports.old) (P.world ports.new) }
+    ensures others { Touches 0 (P.world ports.old) (P.world ports.new) }
+{
+    let session = read_session(alloc, ports)?;
+    match judge(alloc, &session) {
+        Ok(verdict) => Ok(verdict),
+        Err(AllocError) => Err(ReplayFault::Memory),
+    }
+}
