@@ -3,6 +3,8 @@ use Rattle.std.specs.Prelude.{◌≡◌, ◌≢◌, ◌⊎◌, ℕ, ◌<◌, Lis
 use Rattle.pir_ports.specs.World.{Cell, World}
 use Rattle.pir_ports.specs.Moves.{Rose, took, gave, named, counted}
 use Rattle.pir_ports.specs.Whole.{FailsWithin}
+use Rattle.wire_frames.specs.Session.{Transcript}
+use Rattle.block_decoder.specs.Verdict.{IsVerdict}
 use Rattle.block_decoder.specs.Text.{text}
 use Rattle.block_decoder.specs.declared.verdict.Verdict.{Verdict}
 use Rattle.pir_tool.specs.Table.{status_of}
@@ -66,3 +68,18 @@ Outcome name WriteFault old new = CutShort name old new
 Outcome name (BadInput (Session place)) old new = Refused name place old new
 Outcome name Memory old new = Unfinished name old new
 Outcome name status old new = Reported name status old new
+
+-- the verdict on this session is written whole, and is the status
+pub record Answered (session : Transcript) (status : Status) (old new : World) : Type 0 where
+  pub verdict : Verdict
+  pub judged : IsVerdict session verdict
+  pub status_is : status ≡ status_of verdict
+  pub written : new.at 1 ≡ gave (text verdict) (old.at 1)
+
+-- no port but Input and Output is touched
+abbrev pub TouchesStreams : World → World → Type 0
+TouchesStreams old new = (q : ℕ) → q < 1024 → q ≢ 0 → q ≢ 1 → new.at q ≡ old.at q
+
+-- the text of the verdict is written whole, and the status is its own; or a call on Output failed
+abbrev pub Told : Verdict → Status → World → World → Type 0
+Told verdict status old new = ((status ≡ status_of verdict) × (new.at 1 ≡ gave (text verdict) (old.at 1))) ⊎ ((status ≡ WriteFault) × FailsWithin 1 (text verdict) old new)

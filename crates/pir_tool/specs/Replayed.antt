@@ -5,10 +5,16 @@ use Rattle.pir_ports.specs.Moves.{took}
 use Rattle.pir_ports.specs.Whole.{FailsAfter}
 use Rattle.wire_frames.specs.Session.{Transcript, IsSession}
 use Rattle.wire_frames.specs.Beginning.{IsPlace}
+use Rattle.wire_frames.specs.Reading.{Reading, Feeds}
+use Rattle.wire_frames.specs.declared.reader.FeedFault.TheVariants.{BadSession as Wrong, Memory as NoMemory}
 use Rattle.block_decoder.specs.Verdict.{IsVerdict}
 use Rattle.block_decoder.specs.declared.verdict.Verdict.{Verdict}
-use Rattle.pir_tool.specs.declared.replay.ReplayFault.{ReplayFault}
-use Rattle.pir_tool.specs.declared.replay.ReplayFault.TheVariants.{ReadFault, BadSession, Memory}
+use Rattle.pir_tool.specs.declared.recorded.ReplayFault.{ReplayFault}
+use Rattle.pir_tool.specs.declared.recorded.ReplayFault.TheVariants.{ReadFault, BadSession, Memory}
+
+-- the bytes are the file of a session
+abbrev pub IsFileOf : Transcript → List ℕ → Type 0
+IsFileOf session bytes = IsSession bytes session
 
 -- the bytes are a session that has this verdict
 pub record Judged (verdict : Verdict) (bytes : List ℕ) : Type 0 where
@@ -26,9 +32,16 @@ pub record Took (p : ℕ) (old new : World) : Type 0 where
   pub n : ℕ
   pub cell : new.at p ≡ took n (old.at p)
 
--- what Input held is a session with this verdict; or it is none; or a call on Input failed; or memory ran out
-abbrev pub Replayed : Result Verdict ReplayFault → World → World → Type 0
-Replayed (Ok verdict) old new = Took 0 old new × IfSome (old.at 0).holds (Judged verdict)
-Replayed (Err (BadSession place)) old new = Took 0 old new × IfSome (old.at 0).holds (NoSession place)
-Replayed (Err ReadFault) old new = FailsAfter 0 old new
-Replayed (Err Memory) old new = Took 0 old new
+-- Input was read: what it held is P of the result; or it is no session; or a call on Input failed; or memory ran out
+abbrev pub ReadTo : {T : Type 0} → (T → List ℕ → Type 0) → Result T ReplayFault → World → World → Type 0
+ReadTo P (Ok x) old new = Took 0 old new × IfSome (old.at 0).holds (P x)
+ReadTo P (Err (BadSession place)) old new = Took 0 old new × IfSome (old.at 0).holds (NoSession place)
+ReadTo P (Err ReadFault) old new = FailsAfter 0 old new
+ReadTo P (Err Memory) old new = Took 0 old new
+
+-- one more piece was read
+abbrev pub Fed : Reading → List ℕ → Result (Unit {0}) ReplayFault → Reading → Type 0
+Fed old piece (Ok x) new = Feeds old piece (Ok x) new
+Fed old piece (Err (BadSession place)) new = Feeds old piece (Err (Wrong place)) new
+Fed old piece (Err ReadFault) new = ⊥
+Fed old piece (Err Memory) new = Feeds old piece (Err NoMemory) new

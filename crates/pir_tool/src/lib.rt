@@ -2,9 +2,13 @@
 #![tactic(auto)]
 
 mod outside;
-mod replay;
+mod recorded;
 mod status;
+mod stub;
+mod top;
 mod words;
 
 pub use outside::OsPorts;
+pub use recorded::{ReplayFault, replay};
 pub use status::{Bad, Status, code, line};
+pub use top::run;
