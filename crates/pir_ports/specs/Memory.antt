@@ -1,6 +1,7 @@
 -- Ports in memory.
 use Rattle.std.specs.Prelude.{ℕ, ◌+◌, ◌-◌, ◌^◌, min, Contains, List, [], get_or, set, replicate, Some, ◌++◌}
 use Rattle.std.specs.Option.{option_map}
+use Rattle.pir_ports.specs.declared.port.TheConstants.{PORT_COUNT}
 use Rattle.pir_ports.specs.World.{Cell, World}
 use Rattle.pir_ports.specs.MemoryCell.{MemoryCell, empty_cell}
 use Rattle.pir_ports.specs.NameLog.{NameLog, names_of, with_name}
@@ -34,13 +35,13 @@ world_of m = world_from m.cells m.log.names
 abbrev pub filled : List ℕ → Cell → Cell
 filled bytes c = record c { holds = option_map (λ h. h ++ bytes) c.holds }
 
--- n ports that hold nothing and have no room
-abbrev pub fresh : ℕ → List ℕ → ℕ → ℕ → ℕ → Memory
-fresh cut fail n names bytes = record {
+-- ports that hold nothing and have no room, before any call; there is room for so many names with so many bytes
+abbrev pub fresh : ℕ → List ℕ → ℕ → ℕ → Memory
+fresh cut fail names bytes = record {
   cut = cut;
   fail = fail;
   calls = 0;
-  cells = replicate n empty_cell;
+  cells = replicate PORT_COUNT empty_cell;
   log = record { names = []; name_room = names; byte_room = bytes };
 }
 

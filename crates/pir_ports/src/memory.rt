@@ -3,9 +3,9 @@ ghost use Rattle.std.specs.Prelude.{◌≡◌, ◌<◌, ◌≤◌, ◌-◌, ◌^
 ghost use Rattle.std.specs.Option.{option_copied};
 ghost use Rattle.pir_ports.specs.Number.{number};
 ghost use Rattle.pir_ports.specs.Moves.{Touches, Hands, Fails, gave, named};
-ghost use Rattle.pir_ports.specs.MemoryCell.{put, with_room, hand, accept, fault, moved};
+ghost use Rattle.pir_ports.specs.MemoryCell.{empty_cell, put, with_room, hand, accept, fault, moved};
 ghost use Rattle.pir_ports.specs.NameLog.{CanKeep};
-ghost use Rattle.pir_ports.specs.Memory.{Memory, world_of, cell_at, filled, fresh, changed, opened, next_call, called, IsDue};
+ghost use Rattle.pir_ports.specs.Memory.{Memory, world_of, cell_at, told, filled, fresh, changed, opened, next_call, called, IsDue};
 ghost use Rattle.pir_ports.specs.declared.port.TheConstants.{PORT_COUNT};
 
 use crate::cell::MemCell;
@@ -30,13 +30,14 @@ pub struct MemPorts {
 
 impl Model for MemPorts {
     ghost use Rattle.std.specs.Prelude.{◌<◌, ◌≡◌, length};
+    ghost use Rattle.pir_ports.specs.declared.port.TheConstants.{PORT_COUNT};
     ghost use Rattle.pir_ports.specs.Memory.{Memory};
 
     ghost Value = { Memory };
 
     ghost view = { λ m. record { cut = m.cut; fail = m.fail.items; calls = m.calls; cells = m.cells.items; log = m.names } };
 
-    ghost invariant = { λ m. (0 < m.cut) × (length m.cells.items ≡ 2) };
+    ghost invariant = { λ m. (0 < m.cut) × (length m.cells.items ≡ PORT_COUNT) };
 }
 
 // Counts one call more, and tells whether it is to fail.
@@ -64,7 +65,8 @@ impl MemPorts {
     ) -> Result<MemPorts, AllocError>
         requires cuts { 0 < cut }
         requires last { ¬ Contains fail.now (2 ^ 64 - 1) }
-        ensures { IfOk result (λ m. m ≡ fresh cut fail.now PORT_COUNT names bytes) }
+        ensures fresh { IfOk result (λ m. m ≡ fresh cut fail.now names bytes) }
+        ensures told { IfOk result (λ m. (p : ℕ) → (world_of m).at p ≡ told [] empty_cell) }
     {
         let fail = fail.to_vec(alloc)?;
         let names = Names::new(alloc, names, bytes)?;
