@@ -1,10 +1,10 @@
 -- Ports in memory.
-use Rattle.std.specs.Prelude.{ℕ, ◌+◌, ◌-◌, ◌^◌, min, Contains, List, [], get_or, set, replicate, Some, ◌++◌}
+use Rattle.std.specs.Prelude.{ℕ, ◌+◌, ◌-◌, ◌^◌, min, Contains, List, get_or, set, replicate, Some, ◌++◌}
 use Rattle.std.specs.Option.{option_map}
 use Rattle.pir_ports.specs.declared.port.TheConstants.{PORT_COUNT}
 use Rattle.pir_ports.specs.World.{Cell, World}
 use Rattle.pir_ports.specs.MemoryCell.{MemoryCell, empty_cell}
-use Rattle.pir_ports.specs.NameLog.{NameLog, names_of, with_name}
+use Rattle.pir_ports.specs.NameLog.{NameLog, no_names, names_of, with_name}
 
 -- the most bytes that a call moves, the numbers of the calls that fail, the count of calls so far, the ports by
 -- their numbers, and the names that they were opened with
@@ -42,7 +42,7 @@ fresh cut fail names bytes = record {
   fail = fail;
   calls = 0;
   cells = replicate PORT_COUNT empty_cell;
-  log = record { names = []; name_room = names; byte_room = bytes };
+  log = no_names names bytes;
 }
 
 -- the memory with one port changed

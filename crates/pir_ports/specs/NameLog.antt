@@ -8,6 +8,10 @@ pub record NameLog : Type 0 where
   pub name_room : ℕ
   pub byte_room : ℕ
 
+-- no names, and room for so many names with so many bytes
+abbrev pub no_names : ℕ → ℕ → NameLog
+no_names names bytes = record { names = []; name_room = names; byte_room = bytes }
+
 -- the names of one port
 abbrev pub names_of : ℕ → List (ℕ × List ℕ) → List (List ℕ)
 names_of p [] = []
