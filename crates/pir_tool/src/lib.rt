@@ -12,3 +12,6 @@ pub use outside::OsPorts;
 pub use recorded::{ReplayFault, replay};
 pub use status::{Bad, Status, code, line};
 pub use top::run;
+
+#[cfg(test)]
+mod tests;
