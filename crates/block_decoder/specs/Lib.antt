@@ -1,4 +1,5 @@
 pub mod Agreed
+pub mod Line
 pub mod Numbers
 pub mod Verdict
 pub mod Text

@@ -1,8 +1,12 @@
 //! Which blocks a session's answers agree on, and the text that says so.
 #![tactic(auto)]
 
+mod answers;
+mod decoder;
+mod line;
 mod listing;
 mod verdict;
 
+pub use decoder::{bound, decide};
 pub use listing::Listing;
 pub use verdict::Verdict;
