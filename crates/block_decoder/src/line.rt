@@ -1,6 +1,7 @@
 //! Polynomials of degree one, a column each.
 
-ghost use Rattle.std.specs.Prelude.{◌≡◌, ◌≢◌, ◌↔◌, length, IsTrue, IfOk};
+ghost use Rattle.std.specs.Prelude.{◌≡◌, ◌≢◌, ◌<◌, ◌↔◌, [], length, slice_index_or, IsTrue, IfOk};
+ghost use Rattle.gf256.specs.Polynomial.{val};
 ghost use Rattle.block_decoder.specs.Agreed.{Holds, constants_of};
 ghost use Rattle.block_decoder.specs.Line.{IsLineThrough};
 
@@ -48,12 +49,23 @@ impl Line {
         ensures through { IsLineThrough first.now second.now self.new }
     {
         let inverse = gf256::inv(gf256::add(first.index(), second.index()));
+        let bytes = first.payload();
+        let others = second.payload();
         for column in 0..self.constants.len() {
-            let byte = first.payload()[column];
-            let slope = gf256::mul(gf256::add(byte, second.payload()[column]), inverse);
+            let slope = gf256::mul(gf256::add(bytes[column], others[column]), inverse);
             self.slopes[column] = slope;
-            self.constants[column] = gf256::add(byte, gf256::mul(slope, first.index()));
+            self.constants[column] = gf256::add(bytes[column], gf256::mul(slope, first.index()));
         }
+    }
+
+    /// The value of a column's polynomial.
+    fn value(&self, column: usize, index: u8) -> u8
+        requires { column < length self.now }
+        ensures { result ≡ val (slice_index_or self.now column []) index }
+    {
+        let constant = self.constants[column];
+        let slope = self.slopes[column];
+        gf256::add(constant, gf256::mul(slope, index))
     }
 
     /// Whether the answer lies on it, in every column. It stops at the first column where it doesn't.
@@ -62,8 +74,7 @@ impl Line {
         ensures { IsTrue result ↔ Holds self.now answer.now }
     {
         for (column, byte) in answer.payload().iter().enumerate() {
-            let value = gf256::add(self.constants[column], gf256::mul(self.slopes[column], answer.index()));
-            if value != *byte {
+            if self.value(column, answer.index()) != *byte {
                 return false;
             }
         }
