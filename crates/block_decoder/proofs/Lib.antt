@@ -1,3 +1,4 @@
 pub mod Places
 pub mod Agreement
 mod Lines
+mod Pairs
