@@ -1,16 +1,13 @@
 -- A block is agreed on exactly where some polynomials with its constants hold at enough answers.
-use Rattle.std.proofs.Common.{◌≡◌, ℕ, ◌*◌, ◌<◌, ◌↔◌, Bool, true, List, [], ◌∷◌, length, get_or, take, drop, map, All, Decides, refl, sym, ◌∙◌, arith}
-use Rattle.std.proofs.lemmas.List.{take_all, length-take-le, length-drop}
+use Rattle.std.proofs.Common.{◌≡◌, ℕ, zero, suc, ◌+◌, ◌≤◌, ap, ◌*◌, ◌<◌, ◌↔◌, Bool, true, List, [], ◌∷◌, length, get_or, take, drop, map, All, Decides, refl, sym, ◌∙◌, arith}
+use Rattle.std.proofs.lemmas.List.{take_all, length-take-le, length-drop, drop-drop}
+use Rattle.std.proofs.Math.Nat.{mul-le-mul_right}
 use Rattle.std.proofs.lemmas.List.Elements.{All-cons, All-nil}
 use Rattle.std.proofs.lemmas.Slice.Eq.{bytes_eq-Decides}
 use Rattle.gf256.specs.Polynomial.{val}
 use Rattle.wire_frames.specs.Answer.{Answer}
-use Rattle.block_decoder.specs.Agreed.{answers_of, answer_at, Holds, Agreed, holds_first, Heavy}
+use Rattle.block_decoder.specs.Agreed.{Filled, answers_of, answer_at, Holds, Agreed, holds_first, Heavy}
 use Rattle.block_decoder.proofs.Places.{few_places, places_of, ascending-places_of, within-places_of, pass-places_of, length-places_of}
-
--- each payload has so many bytes
-abbrev pub Filled : ℕ → List Answer → Type 0
-Filled width answers = All (λ a. length a.payload ≡ width) answers
 
 -- at an answer with a byte for each polynomial the test is whether they hold
 pub holds_first-Decides : (polynomials : List (List ℕ)) (a : Answer) → length a.payload ≡ length polynomials → Decides (holds_first polynomials a) (Holds polynomials a)
@@ -73,3 +70,19 @@ filled-answers_of width (index ∷ indices) bytes e =
     All-cons (λ (a : Answer). length a.payload ≡ width) (record { index = index; payload = take width bytes }) (answers_of width indices (drop width bytes))
     (length-take-le width bytes (omega arith))
     (filled-answers_of width indices (drop width bytes) (let n = length-drop width bytes in omega (arith, n)))
+
+-- the answer at a place
+pub answer_at-answers_of : (width : ℕ) (indices bytes : List ℕ) (place : ℕ) → place < length indices
+    → answer_at (answers_of width indices bytes) place ≡ record { index = get_or indices place 0; payload = take width (drop (place * width) bytes) }
+answer_at-answers_of width [] bytes place h = absurd (omega arith)
+answer_at-answers_of width (index ∷ indices) bytes zero h = let e : 0 * width ≡ 0 = omega arith in rw e refl
+answer_at-answers_of width (index ∷ indices) bytes (suc place) h =
+    answer_at-answers_of width indices (drop width bytes) place (omega arith)
+    ∙ ap (λ (rest : List ℕ). record { index = get_or indices place 0; payload = take width rest }) (drop-drop (place * width) width bytes ∙ (let e : width + place * width ≡ suc place * width = omega arith in ap (λ n. drop n bytes) e))
+
+-- a row lies within the rows
+pub row_within : (place count width : ℕ) → place < count → place * width + width ≤ count * width
+row_within place count width h =
+    let e = mul-le-mul_right width (let l : suc place ≤ count = omega arith in l) in
+    let f : suc place * width ≡ place * width + width = omega arith in
+    omega (arith, e, f)

@@ -2,3 +2,5 @@ pub mod Agreed
 pub mod Numbers
 pub mod Verdict
 pub mod Text
+pub mod Numbered
+pub mod Gains

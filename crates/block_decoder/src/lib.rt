@@ -1,8 +1,11 @@
 //! Which blocks a session's answers agree on, and the text that says so.
 #![tactic(auto)]
 
+mod answers;
 mod listing;
+mod plain;
 mod verdict;
 
 pub use listing::Listing;
+pub use plain::plain_listing;
 pub use verdict::Verdict;
