@@ -18,7 +18,8 @@ use crate::answers::{Answer, Answers};
 use std::alloc::{AllocError, Global};
 
 // What is searched for: polynomials of degree at most `degree`, one for each of `width` columns, that hold at
-// `agreement` answers or more.
+// `agreement` answers or more. A polynomial is written as a number, whose lowest `degree` + 1 bytes are its
+// coefficients, the constant the lowest.
 #[derive(Drop)]
 struct Search<'a> {
     answers: Answers<'a>,
@@ -29,12 +30,16 @@ struct Search<'a> {
     ghost filled: { Filled width answers },
 }
 
-/// The listing of the blocks on which `h` answers or more agree, by trying every polynomial in every column: no
-/// interpolation, no inverse, no law of the field. The answers are the `indices` and their payloads of `s` bytes
-/// one after another in `bytes`; the polynomials have degree at most `t`.
+/// Lists the blocks on which `h` answers or more agree (Goldberg 2007), straight from that definition: it tries
+/// every polynomial in every column. It uses no interpolation, no inverse and no law of the field.
 ///
-/// For small inputs only: it evaluates 256^(t + 1) polynomials at each answer, for each vector of polynomials in
-/// the first columns that still holds at `h` answers.
+/// The answers are the `indices` and, in `bytes`, their payloads of `s` bytes one after another; the polynomials
+/// have degree at most `t`. With indices 1, 2, 3, the payloads `cfd2`, `4073`, `cce5` and t 1, h 3, s 2, the
+/// one block is `4344`.
+///
+/// For small inputs only: for each vector of polynomials in the first columns that still holds at `h` answers,
+/// it evaluates 256^(t + 1) polynomials at each answer. It calls itself to a depth of `s`, and takes memory for
+/// the vector and the listing alone.
 ///
 /// # Errors
 ///
@@ -64,7 +69,12 @@ pub fn plain_listing(
 
 impl<'a> Search<'a> {
     // Lists the block of each vector of polynomials that begins with those of these numbers.
-    fn extend(&self, alloc: Global, numbers: &mut Vec<u64>, listing: &mut Listing) -> Result<(), AllocError>
+    fn extend(
+        &self,
+        alloc: Global,
+        numbers: &mut Vec<u64>,
+        listing: &mut Listing,
+    ) -> Result<(), AllocError>
         requires columns { vec_len numbers.old ≤ self.now.width }
         requires ascending { IsStrictlySortedBy (slice_cmp nat_cmp) listing.old }
         ensures kept { OnOk result (numbers.new.items ≡ numbers.old.items) }
@@ -72,6 +82,7 @@ impl<'a> Search<'a> {
         ensures exact { OnOk result (Gains (Continues self.now.answers self.now.width self.now.degree
             self.now.agreement numbers.old.items) listing.old listing.new) }
     {
+        // Where too few answers hold in these columns, no more hold in all of them.
         if self.weight(numbers) < self.agreement {
             return Ok(());
         }
@@ -138,5 +149,8 @@ fn value(polynomial: &[u8], at: u8) -> u8
 fn constants(alloc: Global, numbers: &[u64]) -> Result<Vec<u8>, AllocError>
     ensures { IfOk result (λ block. block.items ≡ map (λ n. n % 256) numbers.now) }
 {
-    numbers.iter().map(|number| (*number % 256) as u8).collect(alloc)
+    numbers
+        .iter()
+        .map(|number| (*number % 256) as u8)
+        .collect(alloc)
 }

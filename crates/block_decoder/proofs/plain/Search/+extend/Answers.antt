@@ -1,11 +1,11 @@
-use Rattle.std.proofs.Common.{◌≡◌, ◌+◌, ◌-◌, ◌%◌, ◌^◌, ◌<◌, ◌≤◌, ◌↔◌, ◌⊎◌, ℕ, List, [], ◌∷◌, ◌++◌, length, map, take, vec_len, Result, Ok, Err, OnOk, refl, sym, ap, subst, ◌∙◌, inl, inr, arith, lit<}
+use Rattle.std.proofs.Common.{◌≡◌, ◌+◌, ◌-◌, ◌^◌, ◌<◌, ◌≤◌, ◌↔◌, ℕ, List, [], ◌∷◌, ◌++◌, length, take, vec_len, Result, Ok, Err, OnOk, sym, ap, subst, ◌∙◌, arith, lit<}
 use Rattle.std.proofs.Math.Nat.{pow-le-pow_right}
 use Rattle.std.proofs.Math.Seq.{take-append_seam}
 use Rattle.std.proofs.lemmas.List.{length-append}
 use Rattle.block_decoder.specs.Agreed.{weight}
 use Rattle.block_decoder.specs.Gains.{Gains}
-use Rattle.block_decoder.specs.Numbered.{numbered, all_numbered, Continues, ContinuesBelow}
-use Rattle.block_decoder.proofs.Continues.{Gains-none, Gains-same, Gains-both, Continues-light, Continues-whole, Continues-next, ContinuesBelow-none, ContinuesBelow-more}
+use Rattle.block_decoder.specs.Numbered.{all_numbered, Continues, ContinuesBelow}
+use Rattle.block_decoder.proofs.Continues.{Gains-none, Gains-same, Gains-both, Continues-light, Continues-whole, Continues-next, ContinuesBelow-more}
 use Rattle.block_decoder.proofs.plain.Search.+extend.Goals as goal
 
 OnOk-weaker : {T E : Type 0} (r : Result T E) (P Q : Type 0) → (P → Q) → OnOk r P → OnOk r Q
@@ -55,9 +55,10 @@ pub loop-number-preserved : goal.loop-number-preserved
 loop-number-preserved t c =
     let s = c.args.self.now in
     let numbers = c.args.numbers.now.items in
-    let pushed = c.in_ok-push.ensures.items ∙ ap (λ ns. ns ++ c.loop-number.number ∷ []) c.loop-number.invariant.kept in
-    let extended = c.in_ok-extend.ensures.kept ∙ pushed in
-    let kept = c.pop.ensures.rest ∙ ap (take (vec_len c.extend.new.numbers - 1)) extended ∙ without_last numbers c.loop-number.number (vec_len c.extend.new.numbers) (c.extend.new.numbers.ok.0 ∙ ap length extended) in
+    let pushed = rw c.loop-number.invariant.kept at c.in_ok-push.ensures.items in
+    let extended = rw pushed at c.in_ok-extend.ensures.kept in
+    let rest = rw extended at c.pop.ensures.rest in
+    let kept = rw (without_last numbers c.loop-number.number (vec_len c.extend.new.numbers) (c.extend.new.numbers.ok.0 ∙ ap length extended)) at rest in
     record {
       kept = kept;
       length_kept = c.pop.new.self.ok.0 ∙ ap length kept ∙ sym c.args.numbers.now.ok.0;

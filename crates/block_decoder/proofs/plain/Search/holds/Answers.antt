@@ -1,8 +1,6 @@
-use Rattle.std.proofs.Common.{◌≡◌, ◌<◌, ◌≤◌, ℕ, List, [], length, map, get_or, sym, ap, ◌∙◌, arith, below_more}
+use Rattle.std.proofs.Common.{◌≡◌, ◌<◌, ℕ, List, [], length, get_or, sym, ap, ◌∙◌, arith, below_more}
 use Rattle.std.proofs.lemmas.List.{length-map, get_or-map}
 use Rattle.gf256.specs.Polynomial.{val}
-use Rattle.wire_frames.specs.Answer.{Answer}
-use Rattle.block_decoder.specs.Agreed.{holds_first}
 use Rattle.block_decoder.specs.Numbered.{numbered, all_numbered}
 use Rattle.block_decoder.proofs.Weight.{holds_first-true, holds_first-false}
 use Rattle.block_decoder.proofs.plain.Search.holds.Goals as goal
