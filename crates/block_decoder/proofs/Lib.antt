@@ -1,4 +1,8 @@
+pub mod Ascending
 pub mod Places
 pub mod Agreement
 mod Lines
 mod Pairs
+pub mod Numbered
+pub mod Weight
+pub mod Continues

@@ -3,3 +3,5 @@ pub mod Line
 pub mod Numbers
 pub mod Verdict
 pub mod Text
+pub mod Numbered
+pub mod Gains

@@ -5,8 +5,10 @@ mod answers;
 mod decoder;
 mod line;
 mod listing;
+mod plain;
 mod verdict;
 
 pub use decoder::{bound, decide};
 pub use listing::Listing;
+pub use plain::plain_listing;
 pub use verdict::Verdict;

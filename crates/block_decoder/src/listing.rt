@@ -98,5 +98,9 @@ fn place_of(blocks: &[Vec<u8>], block: &[u8]) -> Result<usize, usize>
     ensures range { IsSearchInRange result (length blocks.now) }
     ensures place { IsBinarySearchResult (λ b. slice_cmp nat_cmp b.items block.now) blocks.now result }
 {
-    blocks.binary_search_by(|b| b.as_slice().cmp(block))
+    blocks.binary_search_by(
+        |b|
+            ensures { result ≡ slice_cmp nat_cmp b.now.items block.entry.now }
+        { b.as_slice().cmp(block) },
+    )
 }

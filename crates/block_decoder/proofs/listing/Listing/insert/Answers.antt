@@ -1,0 +1,34 @@
+use Rattle.std.proofs.Common.{map, Contains, sym, ap, subst, ◌∙◌, inl, inr}
+use Rattle.std.specs.Result.{is_ok}
+use Rattle.std.proofs.lemmas.Cmp.{nat_list_cmp_total}
+use Rattle.block_decoder.proofs.Ascending.{same_bytes, Contains-map, Contains-insert, map-insert, comparisons_rise, sorted_after}
+use Rattle.block_decoder.proofs.listing.Listing.insert.Goals as goal
+
+pub returns-in-Ok-clause-ok : goal.returns-in-Ok-clause-ok
+returns-in-Ok-clause-ok c = λ b. (
+  inl,
+  λ either. elim either [
+    | inl old ↦ old
+    | inr new ↦
+        let place = c.in-Ok.ensures in
+        let old = Contains-map (λ b. b.items) c.args.block.now c.deref.result.now c.in-Ok.field-0 place.range (λ d. same_bytes _ _ (place.place d)) in
+        subst (Contains c.args.self.now) (sym new) (subst (λ l. Contains l c.args.block.now) (ap (map (λ b. b.items)) c.deref.ensures.value ∙ c.self.view_is) old)
+  ],
+)
+
+pub invariant_of-self-in-Err : goal.invariant_of-self-in-Err
+invariant_of-self-in-Err c =
+    let blocks = c.self.inside.blocks.items in
+    let place = rw c.deref.ensures.value at c.in-Err.ensures.place in
+    let gap = place (comparisons_rise nat_list_cmp_total (λ b. b.items) blocks c.args.block.now c.self.invariant) in
+    let gap_of_copy = rw (← c.in_ok-copy-in-Err.ensures.items) at gap in
+    sorted_after nat_list_cmp_total (λ b. b.items) blocks c.insert.new.self.items c.in_ok-copy-in-Err.copy c.in-Err.place (is_ok c.insert.result) c.insert.ensures.items c.self.invariant (rw c.deref.ensures.value at c.in-Err.ensures.range) gap_of_copy.0 gap_of_copy.1
+
+pub returns-in_ok-insert-in-Err-clause-ascending : goal.returns-in_ok-insert-in-Err-clause-ascending
+returns-in_ok-insert-in-Err-clause-ascending c = invariant_of-self-in-Err c
+
+pub returns-in_ok-insert-in-Err-clause-ok : goal.returns-in_ok-insert-in-Err-clause-ok
+returns-in_ok-insert-in-Err-clause-ok c = λ b.
+    let blocks = c.self.inside.blocks.items in
+    let is = ap (map (λ b. b.items)) c.in_ok-insert-in-Err.ensures.items ∙ map-insert (λ b. b.items) blocks c.in-Err.place c.in_ok-copy-in-Err.copy in
+    rw is (rw (← c.self.view_is, ← c.in_ok-copy-in-Err.ensures.items) (Contains-insert (map (λ b. b.items) blocks) c.in-Err.place c.in_ok-copy-in-Err.copy.items b))

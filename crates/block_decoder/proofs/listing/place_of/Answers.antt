@@ -1,0 +1,8 @@
+use Rattle.std.proofs.Common.{rules}
+use Rattle.std.proofs.lemmas.Fn.{always_returns_same}
+use Rattle.std.specs.Cmp.Lexicographic.{slice_cmp}
+use Rattle.std.specs.Ordering.{nat_cmp}
+use Rattle.block_decoder.proofs.listing.place_of.Goals as goal
+
+pub returns-clause-place : goal.returns-clause-place
+returns-clause-place c = c.binary_search_by.ensures.position (λ b. slice_cmp nat_cmp b.items c.args.block.now) (always_returns_same _ _ _ (λ a r f called. (search rules, search rules)))
