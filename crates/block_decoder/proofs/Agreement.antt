@@ -1,6 +1,8 @@
 -- A block is agreed on exactly where some polynomials with its constants hold at enough answers.
-use Rattle.std.proofs.Common.{◌≡◌, ℕ, zero, suc, ◌+◌, ◌≤◌, ap, ◌*◌, ◌<◌, ◌↔◌, Bool, true, count_by, List, [], ◌∷◌, length, get_or, take, drop, map, All, Decides, refl, sym, ◌∙◌, arith}
-use Rattle.std.proofs.lemmas.List.{take_all, length-take-le, length-drop, drop-drop}
+use Rattle.std.proofs.Common.{◌≡◌, ℕ, zero, suc, ◌+◌, ◌≤◌, ap, ◌*◌, ◌<◌, ◌↔◌, Bool, true, count_by, List, [], ◌∷◌, length, get_or, take, drop, map, All, AllPairs, ◌≢◌, Decides, refl, sym, ◌∙◌, arith}
+use Rattle.std.proofs.lemmas.List.{take_all, length-take-le, length-drop, drop-drop, get_or_default}
+use Rattle.std.proofs.lemmas.List.Kept.{AllPairs-from_increasing}
+use Rattle.std.specs.List.Sorted.{IsStrictlyIncreasing}
 use Rattle.std.proofs.Math.Nat.{mul-le-mul_right}
 use Rattle.std.proofs.lemmas.List.Elements.{All-cons, All-nil}
 use Rattle.std.proofs.lemmas.List.Sums.{count_by_more_yes, count_by_more_no}
@@ -102,3 +104,15 @@ row_within place count width h =
     let e = mul-le-mul_right width (let l : suc place ≤ count = omega arith in l) in
     let f : suc place * width ≡ place * width + width = omega arith in
     omega (arith, e, f)
+
+-- ascending indices differ
+pub different-answers_of : (width : ℕ) (indices bytes : List ℕ) → IsStrictlyIncreasing indices → AllPairs (λ (a b : Answer). a.index ≢ b.index) (answers_of width indices bytes)
+different-answers_of width indices bytes ascending = λ i j d below within same.
+    let answers = answers_of width indices bytes in
+    let none : Answer = record { index = 0; payload = [] } in
+    let size = length-answers_of width indices bytes in
+    let at : (k : ℕ) → k < length answers → (get_or answers k d).index ≡ get_or indices k 0 = λ k l.
+        ap (λ (a : Answer). a.index) (get_or_default answers k d none l ∙ answer_at-answers_of width indices bytes k (omega (arith, l, size))) in
+    let rises = AllPairs-from_increasing indices ascending i j 0 below (omega (arith, within, size)) in
+    let equal = sym (at i (omega (arith, below, within))) ∙ same ∙ at j within in
+    omega (arith, rises, equal)
