@@ -1,13 +1,22 @@
-//! Frames and session files: which bytes stand for which fields.
+//! Frames and session files: which bytes stand for which fields. Numbers of more than one byte are big endian.
+//!
+//! An answer is usable exactly where it is the whole answer of status 0 to the query at hand, and a session holds the
+//! numbers and the records that it was given, in their order. Nothing is said of where the bytes come from: a server
+//! that lies behind a right header gives a usable answer.
 #![tactic(auto)]
 
+mod answer;
 mod header;
 mod reader;
+mod records;
 mod session;
+#[cfg(test)]
+mod tests;
 
+pub use answer::usable_answer;
 pub use header::QueryHeader;
 pub use reader::{BadSession, FeedFault, feeds};
-pub use session::SessionParams;
+pub use session::{Session, SessionParams};
 
 /// The greatest degree of a query's polynomials, so how many servers together may learn nothing.
 pub const MOST_DEGREE: u8 = 1;
