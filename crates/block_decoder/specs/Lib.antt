@@ -5,3 +5,4 @@ pub mod Verdict
 pub mod Text
 pub mod Numbered
 pub mod Gains
+pub mod Usable

@@ -3,12 +3,14 @@
 
 mod answers;
 mod decoder;
+mod judging;
 mod line;
 mod listing;
 mod plain;
 mod verdict;
 
 pub use decoder::{bound, decide};
+pub use judging::judge;
 pub use listing::Listing;
 pub use plain::plain_listing;
 pub use verdict::Verdict;
