@@ -1,6 +1,7 @@
 pub mod Ascending
 pub mod Places
 pub mod Agreement
+mod Collected
 mod Lines
 mod Pairs
 pub mod Numbered

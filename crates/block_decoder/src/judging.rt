@@ -36,7 +36,7 @@ fn collect_usable(alloc: Global, session: &Session) -> Result<UsableAnswers, All
     let most = usize::from(params.n);
     let mut indices = Vec::with_capacity(alloc, most)?;
     let mut payloads = Vec::with_capacity(alloc, most * params.s as usize)?;
-    for index in 1..=params.n {
+    for index in 1..params.n + 1 {
         if let Some(payload) = usable_payload(session, index) {
             indices.push(index)?;
             payloads.extend_from_slice(payload)?;
