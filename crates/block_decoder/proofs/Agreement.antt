@@ -1,16 +1,17 @@
 -- A block is agreed on exactly where some polynomials with its constants hold at enough answers.
-use Rattle.std.proofs.Common.{◌≡◌, ℕ, ◌*◌, ◌<◌, ◌↔◌, Bool, true, List, [], ◌∷◌, length, get_or, take, drop, map, All, Decides, refl, sym, ◌∙◌, arith}
-use Rattle.std.proofs.lemmas.List.{take_all, length-take-le, length-drop}
+use Rattle.std.proofs.Common.{◌≡◌, ℕ, zero, suc, ◌+◌, ◌≤◌, ap, ◌*◌, ◌<◌, ◌↔◌, Bool, true, count_by, List, [], ◌∷◌, length, get_or, take, drop, map, All, AllPairs, ◌≢◌, Decides, refl, sym, ◌∙◌, arith}
+use Rattle.std.proofs.lemmas.List.{take_all, length-take-le, length-drop, drop-drop, get_or_default}
+use Rattle.std.proofs.lemmas.List.Kept.{AllPairs-from_increasing}
+use Rattle.std.specs.List.Sorted.{IsStrictlyIncreasing}
+use Rattle.std.proofs.Math.Nat.{mul-le-mul_right}
 use Rattle.std.proofs.lemmas.List.Elements.{All-cons, All-nil}
+use Rattle.std.proofs.lemmas.List.Sums.{count_by_more_yes, count_by_more_no}
+use Rattle.std.proofs.lemmas.Bool.{false_from_ne_true}
 use Rattle.std.proofs.lemmas.Slice.Eq.{bytes_eq-Decides}
 use Rattle.gf256.specs.Polynomial.{val}
 use Rattle.wire_frames.specs.Answer.{Answer}
-use Rattle.block_decoder.specs.Agreed.{answers_of, answer_at, Holds, Agreed, holds_first, Heavy}
+use Rattle.block_decoder.specs.Agreed.{Filled, answers_of, answer_at, Holds, Agreed, holds_first, Heavy}
 use Rattle.block_decoder.proofs.Places.{few_places, places_of, ascending-places_of, within-places_of, pass-places_of, length-places_of}
-
--- each payload has so many bytes
-abbrev pub Filled : ℕ → List Answer → Type 0
-Filled width answers = All (λ a. length a.payload ≡ width) answers
 
 -- at an answer with a byte for each polynomial the test is whether they hold
 pub holds_first-Decides : (polynomials : List (List ℕ)) (a : Answer) → length a.payload ≡ length polynomials → Decides (holds_first polynomials a) (Holds polynomials a)
@@ -19,8 +20,22 @@ holds_first-Decides polynomials a e =
     let whole : take (length polynomials) a.payload ≡ a.payload = take_all (length polynomials) a.payload (omega arith) in
     (λ t. sym whole ∙ d.0 t, λ h. d.1 (whole ∙ h))
 
-filled-at : (width : ℕ) (answers : List Answer) (p : ℕ) → Filled width answers → p < length answers → length (answer_at answers p).payload ≡ width
+pub filled-at : (width : ℕ) (answers : List Answer) (p : ℕ) → Filled width answers → p < length answers → length (answer_at answers p).payload ≡ width
 filled-at width answers p f l = f p (record { index = 0; payload = [] }) l
+
+-- one more answer at which they hold
+pub weight_hit : (polynomials : List (List ℕ)) (answers : List Answer) (place : ℕ) → Filled (length polynomials) answers → place < length answers
+    → Holds polynomials (answer_at answers place) → count_by (holds_first polynomials) (take (place + 1) answers) ≡ count_by (holds_first polynomials) (take place answers) + 1
+weight_hit polynomials answers place filled h holds =
+    count_by_more_yes (holds_first polynomials) answers place (record { index = 0; payload = [] }) h
+    ((holds_first-Decides polynomials (answer_at answers place) (filled-at (length polynomials) answers place filled h)).1 holds)
+
+-- one more answer at which they don't
+pub weight_miss : (polynomials : List (List ℕ)) (answers : List Answer) (place : ℕ) → Filled (length polynomials) answers → place < length answers
+    → ¬ Holds polynomials (answer_at answers place) → count_by (holds_first polynomials) (take (place + 1) answers) ≡ count_by (holds_first polynomials) (take place answers)
+weight_miss polynomials answers place filled h fails =
+    count_by_more_no (holds_first polynomials) answers place (record { index = 0; payload = [] }) h
+    (false_from_ne_true (holds_first polynomials (answer_at answers place)) (λ t. fails ((holds_first-Decides polynomials (answer_at answers place) (filled-at (length polynomials) answers place filled h)).0 t)))
 
 pub heavy_from_agreed : (answers : List Answer) (width t h : ℕ) (block : List ℕ) → Filled width answers → Agreed answers width t h block → Heavy answers width t h block
 heavy_from_agreed answers width t h block filled a =
@@ -73,3 +88,31 @@ filled-answers_of width (index ∷ indices) bytes e =
     All-cons (λ (a : Answer). length a.payload ≡ width) (record { index = index; payload = take width bytes }) (answers_of width indices (drop width bytes))
     (length-take-le width bytes (omega arith))
     (filled-answers_of width indices (drop width bytes) (let n = length-drop width bytes in omega (arith, n)))
+
+-- the answer at a place
+pub answer_at-answers_of : (width : ℕ) (indices bytes : List ℕ) (place : ℕ) → place < length indices
+    → answer_at (answers_of width indices bytes) place ≡ record { index = get_or indices place 0; payload = take width (drop (place * width) bytes) }
+answer_at-answers_of width [] bytes place h = absurd (omega arith)
+answer_at-answers_of width (index ∷ indices) bytes zero h = let e : 0 * width ≡ 0 = omega arith in rw e refl
+answer_at-answers_of width (index ∷ indices) bytes (suc place) h =
+    answer_at-answers_of width indices (drop width bytes) place (omega arith)
+    ∙ ap (λ (rest : List ℕ). record { index = get_or indices place 0; payload = take width rest }) (drop-drop (place * width) width bytes ∙ (let e : width + place * width ≡ suc place * width = omega arith in ap (λ n. drop n bytes) e))
+
+-- a row lies within the rows
+pub row_within : (place count width : ℕ) → place < count → place * width + width ≤ count * width
+row_within place count width h =
+    let e = mul-le-mul_right width (let l : suc place ≤ count = omega arith in l) in
+    let f : suc place * width ≡ place * width + width = omega arith in
+    omega (arith, e, f)
+
+-- ascending indices differ
+pub different-answers_of : (width : ℕ) (indices bytes : List ℕ) → IsStrictlyIncreasing indices → AllPairs (λ (a b : Answer). a.index ≢ b.index) (answers_of width indices bytes)
+different-answers_of width indices bytes ascending = λ i j d below within same.
+    let answers = answers_of width indices bytes in
+    let none : Answer = record { index = 0; payload = [] } in
+    let size = length-answers_of width indices bytes in
+    let at : (k : ℕ) → k < length answers → (get_or answers k d).index ≡ get_or indices k 0 = λ k l.
+        ap (λ (a : Answer). a.index) (get_or_default answers k d none l ∙ answer_at-answers_of width indices bytes k (omega (arith, l, size))) in
+    let rises = AllPairs-from_increasing indices ascending i j 0 below (omega (arith, within, size)) in
+    let equal = sym (at i (omega (arith, below, within))) ∙ same ∙ at j within in
+    omega (arith, rises, equal)

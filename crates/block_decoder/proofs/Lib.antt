@@ -1,5 +1,11 @@
 pub mod Agreement
 pub mod Ascending
 pub mod HexText
-pub mod Lines
 pub mod Places
+pub mod TextLines
+mod Collected
+mod Lines
+mod Pairs
+pub mod Numbered
+pub mod Weight
+pub mod Continues

@@ -1,12 +1,12 @@
 -- The places of a list at which a test holds, and how many they are.
-use Rattle.std.proofs.Common.{◌≡◌, ℕ, suc, ◌+◌, ◌<◌, ◌≤◌, Bool, true, List, [], ◌∷◌, length, get_or, take, count_by, cond, filter, All, AllPairs, refl, sym, ap, ap₂, ◌∙◌, arith}
+use Rattle.std.proofs.Common.{◌≡◌, ℕ, suc, ◌+◌, ◌-◌, ◌<◌, ◌≤◌, Bool, true, List, [], ◌∷◌, length, get_or, take, drop, count_by, cond, filter, All, AllPairs, refl, sym, ap, ap₂, ◌∙◌, arith}
 use Rattle.std.specs.List.{range_with_len}
 use Rattle.std.specs.List.Sorted.{IsStrictlyIncreasing}
 use Rattle.std.proofs.lemmas.List.Elements.{All-from_get_or, All-filter, filter_passes}
 use Rattle.std.proofs.lemmas.List.FromFn.{length-range_with_len, get_or-range_with_len}
 use Rattle.std.proofs.lemmas.List.Kept.{IsStrictlyIncreasing-filter, AllPairs-from_increasing}
-use Rattle.std.proofs.lemmas.List.Sums.{count_by_more_yes, length-filter, sum_by-cons, sum_by-take-le}
-use Rattle.std.proofs.lemmas.List.{take-take}
+use Rattle.std.proofs.lemmas.List.Sums.{count_by_more_yes, length-filter, sum_by-cons, sum_by-take-le, sum_by-take-drop, count_by-le-length}
+use Rattle.std.proofs.lemmas.List.{take-take, length-drop}
 
 -- one if the test passed
 abbrev one_if : Bool → ℕ
@@ -78,3 +78,11 @@ count_by-range test (x ∷ xs) d whole from same =
 pub length-places_of : {X : Type 0} (test : X → Bool) (xs : List X) (d : X) → length (places_of test xs d) ≡ count_by test xs
 unfolding places_of
 length-places_of test xs d = length-filter _ (range_with_len 0 (length xs)) ∙ count_by-range test xs d xs 0 (λ i h. let e : 0 + i ≡ i = omega arith in ap (λ i. get_or xs i d) e)
+
+-- no more elements pass than in a beginning and those after it
+pub count_by-rest : {X : Type 0} (test : X → Bool) (xs : List X) (n : ℕ) → count_by test xs ≤ count_by test (take n xs) + (length xs - n)
+count_by-rest test xs n =
+    let parts = sum_by-take-drop (λ x. one_if (test x)) xs n in
+    let rest = count_by-le-length test (drop n xs) in
+    let size = length-drop n xs in
+    omega (arith, parts, rest, size)

@@ -41,6 +41,10 @@ pub record Lists (blocks : List (List ℕ)) (answers : List Answer) (width t h :
   pub sizes : All (λ b. length b ≡ width) blocks
   pub exact : (block : List ℕ) → Contains blocks block ↔ Agreed answers width t h block
 
+-- each payload has so many bytes
+abbrev pub Filled : ℕ → List Answer → Type 0
+Filled width answers = All (λ a. length a.payload ≡ width) answers
+
 -- whether the answer's first bytes are what the polynomials, one for each of its first columns, take at its index
 abbrev pub holds_first : List (List ℕ) → Answer → Bool
 holds_first polynomials answer = bytes_eq (take (length polynomials) answer.payload) (map (λ p. val p answer.index) polynomials)

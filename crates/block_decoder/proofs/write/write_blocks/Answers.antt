@@ -8,7 +8,7 @@ use Rattle.pir_ports.specs.Moves.{gave}
 use Rattle.pir_ports.proofs.Cells.{gave-gave, touches_more}
 use Rattle.pir_ports.proofs.Pieces.{written_cut}
 use Rattle.block_decoder.specs.Text.{block_line}
-use Rattle.block_decoder.proofs.Lines.{flat_map-take_more, flat_map-pieces}
+use Rattle.block_decoder.proofs.TextLines.{flat_map-take_more, flat_map-pieces}
 use Rattle.block_decoder.proofs.write.write_blocks.Goals as goal
 
 pub loop-block-preserved : goal.loop-block-preserved

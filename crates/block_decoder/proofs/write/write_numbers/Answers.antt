@@ -4,7 +4,7 @@ use Rattle.pir_ports.specs.Moves.{gave}
 use Rattle.pir_ports.proofs.Cells.{gave-gave, touches_more}
 use Rattle.pir_ports.proofs.Pieces.{written_cut}
 use Rattle.block_decoder.specs.Text.{number_word}
-use Rattle.block_decoder.proofs.Lines.{flat_map-take_more, flat_map-pieces}
+use Rattle.block_decoder.proofs.TextLines.{flat_map-take_more, flat_map-pieces}
 use Rattle.block_decoder.proofs.write.write_numbers.Goals as goal
 
 pub loop-n-preserved : goal.loop-n-preserved

@@ -1,0 +1,41 @@
+use Rattle.std.proofs.Common.{rules, ◌≡◌, ◌*◌, ◌<◌, length, ℕ, ◌+◌, ◌-◌, ◌≤◌, List, Fits, w64, Bor, arith, ap, ◌∙◌, sym, get_or, take, drop}
+use Rattle.block_decoder.specs.Agreed.{answers_of, answer_at}
+use Rattle.block_decoder.proofs.Agreement.{length-answers_of, answer_at-answers_of, row_within}
+use Rattle.block_decoder.proofs.answers.Answers.at.Goals as goal
+
+pub bounds-self-inside-place : goal.bounds-self-inside-place
+bounds-self-inside-place c =
+    let inside = c.self.inside in
+    let n = length-answers_of inside.width inside.indices.now inside.bytes.now in
+    omega (arith, n, ap length c.self.view_is)
+
+pub overflow_mul-from : goal.overflow_mul-from
+overflow_mul-from c =
+    let inside = c.self.inside in
+    let n = length-answers_of inside.width inside.indices.now inside.bytes.now in
+    let w = row_within c.args.place (length inside.indices.now) inside.width (omega (arith, n, ap length c.self.view_is)) in
+    omega (arith, w, c.self.invariant, c.self.told)
+
+pub overflow_add-result : goal.overflow_add-result
+overflow_add-result c =
+    let inside = c.self.inside in
+    let n = length-answers_of inside.width inside.indices.now inside.bytes.now in
+    let w = row_within c.args.place (length inside.indices.now) inside.width (omega (arith, n, ap length c.self.view_is)) in
+    omega (arith, w, c.self.invariant, c.self.told)
+
+pub slice_bounds-result-end : goal.slice_bounds-result-end
+slice_bounds-result-end c =
+    let inside = c.self.inside in
+    let n = length-answers_of inside.width inside.indices.now inside.bytes.now in
+    let w = row_within c.args.place (length inside.indices.now) inside.width (omega (arith, n, ap length c.self.view_is)) in
+    omega (arith, w, c.self.invariant, c.self.told)
+
+pub returns : goal.returns
+returns c =
+    let inside = c.self.inside in
+    let n = length-answers_of inside.width inside.indices.now inside.bytes.now in
+    let from = c.args.place * inside.width in
+    let size : from + inside.width - from ≡ inside.width = omega arith in
+    ap (λ (k : ℕ). record { index = get_or inside.indices.now c.args.place 0; payload = take k (drop from inside.bytes.now) }) size
+    ∙ sym (answer_at-answers_of inside.width inside.indices.now inside.bytes.now c.args.place (omega (arith, n, ap length c.self.view_is)))
+    ∙ ap (λ answers. answer_at answers c.args.place) c.self.view_is

@@ -1,0 +1,216 @@
+// The worked rows, and a comparison with the search by pairs.
+
+ghost use Rattle.std.specs.Prelude.{◌≡◌, ◌*◌, ◌≤◌, length};
+
+use crate::{Listing, Verdict, decide, plain_listing};
+use std::alloc::{AllocError, Global};
+use std::test::Fail;
+
+// Answers, what is asked of them, and the blocks that are agreed on.
+struct Row<'a> {
+    indices: &'a [u8],
+    bytes: &'a [u8],
+    t: u32,
+    h: u32,
+    s: u32,
+    blocks: &'a [&'a [u8]],
+}
+
+const ROWS: [Row<'static>; 8] = [
+    Row {
+        indices: &[1, 2, 3],
+        bytes: &[0xcf, 0xd2, 0x40, 0x73, 0xcc, 0xe5],
+        t: 1,
+        h: 2,
+        s: 2,
+        blocks: &[&[0x43, 0x44]],
+    },
+    Row {
+        indices: &[1, 2, 3],
+        bytes: &[0xcf, 0xd2, 0x40, 0x73, 0xcc, 0xe5],
+        t: 1,
+        h: 3,
+        s: 2,
+        blocks: &[&[0x43, 0x44]],
+    },
+    Row {
+        indices: &[1, 3],
+        bytes: &[0xcf, 0xd2, 0xcc, 0xe5],
+        t: 1,
+        h: 2,
+        s: 2,
+        blocks: &[&[0x43, 0x44]],
+    },
+    Row {
+        indices: &[1, 2, 3],
+        bytes: &[0xcf, 0xd2, 0x40, 0x72, 0xcc, 0xe5],
+        t: 1,
+        h: 3,
+        s: 2,
+        blocks: &[],
+    },
+    Row {
+        indices: &[1, 2, 3, 4, 5],
+        bytes: &[0x10, 0x10, 0x10, 0x17, 0x16],
+        t: 1,
+        h: 3,
+        s: 1,
+        blocks: &[&[0x10], &[0x13]],
+    },
+    Row {
+        indices: &[1, 2, 3, 4, 5],
+        bytes: &[0x10, 0x20, 0x10, 0x40, 0x10, 0x44, 0x20, 0x44, 0x40, 0x44],
+        t: 1,
+        h: 3,
+        s: 2,
+        blocks: &[],
+    },
+    Row {
+        indices: &[1, 2, 3, 4, 5, 6],
+        bytes: &[0x42, 0x41, 0x40, 0x4b, 0x49, 0x4f],
+        t: 1,
+        h: 3,
+        s: 1,
+        blocks: &[&[0x43]],
+    },
+    Row {
+        indices: &[1, 2, 3],
+        bytes: &[0x00, 0x01, 0x02],
+        t: 1,
+        h: 2,
+        s: 1,
+        blocks: &[&[0x01], &[0x07], &[0xf6]],
+    },
+];
+
+#[test]
+fn lists_the_worked_rows(rt: HostRuntime) -> Result<(), Fail> {
+    for row in &ROWS {
+        let listing = plain_listing(rt.alloc(), row.indices, row.bytes, row.t, row.h, row.s)?;
+        assert_eq!(rt; listing.len(), row.blocks.len());
+        for (i, block) in row.blocks.iter().enumerate() {
+            assert_eq!(rt; listing.get(i), Some(*block));
+        }
+    }
+    Ok(())
+}
+
+// A fixed sequence of bytes: a linear congruential generator.
+#[derive(Drop)]
+struct Draw {
+    state: u32,
+}
+
+impl Draw {
+    fn byte(&mut self) -> u8 {
+        self.state = self
+            .state
+            .wrapping_mul(1_664_525)
+            .wrapping_add(1_013_904_223);
+        (self.state >> 24) as u8
+    }
+}
+
+// How the answers of a made session lie in each column.
+#[derive(Clone, Copy)]
+enum Kind {
+    Anyhow,
+    OnOneLineButOne,
+    OnTwoLines,
+}
+
+// The lines of a column: a first one, and a second that meets it at index 3.
+#[derive(Clone, Copy, Drop)]
+struct Lines {
+    constant: u8,
+    slope: u8,
+    turn: u8,
+}
+
+impl Lines {
+    fn new(draw: &mut Draw) -> Lines {
+        Lines {
+            constant: draw.byte(),
+            slope: draw.byte(),
+            turn: draw.byte(),
+        }
+    }
+
+    fn first(&self, index: u8) -> u8 {
+        gf256::add(self.constant, gf256::mul(self.slope, index))
+    }
+
+    fn second(&self, index: u8) -> u8 {
+        gf256::add(
+            self.first(index),
+            gf256::mul(self.turn, gf256::add(index, 3)),
+        )
+    }
+
+    fn byte(&self, draw: &mut Draw, kind: Kind, index: u8) -> u8 {
+        match kind {
+            Kind::Anyhow => draw.byte(),
+            Kind::OnOneLineButOne if index == 4 => draw.byte(),
+            Kind::OnTwoLines if index > 3 => self.second(index),
+            _ => self.first(index),
+        }
+    }
+}
+
+const INDICES: [u8; 5] = [1, 2, 3, 4, 5];
+
+// A column of answers of a kind.
+fn column(draw: &mut Draw, kind: Kind) -> [u8; 5] {
+    let lines = Lines::new(draw);
+    let mut bytes = [0; 5];
+    for place in 0..5u8 {
+        bytes[place as usize] = lines.byte(draw, kind, place + 1);
+    }
+    bytes
+}
+
+// Two columns as the payloads of answers.
+fn side_by_side(left: &[u8; 5], right: &[u8; 5]) -> [u8; 10] {
+    let mut bytes = [0; 10];
+    for place in 0..5usize {
+        bytes[2 * place] = left[place];
+        bytes[2 * place + 1] = right[place];
+    }
+    bytes
+}
+
+fn are_same(a: &Listing, b: &Listing) -> bool {
+    a.len() == b.len() && (0..a.len()).all(|i| a.get(i) == b.get(i))
+}
+
+// How many blocks both programs list; `None` where they differ.
+fn count_of_both(alloc: Global, bytes: &[u8], s: u32) -> Result<Option<usize>, AllocError>
+    requires width { (1 ≤ s) × (s ≤ 2) }
+    requires fit { length bytes.now ≡ 5 * s }
+{
+    let plain = plain_listing(alloc, &INDICES, bytes, 1, 3, s)?;
+    match decide(alloc, &INDICES, bytes, 1, 3, s)? {
+        Verdict::Listed(listing) if are_same(&listing, &plain) => Ok(Some(plain.len())),
+        _ => Ok(None),
+    }
+}
+
+#[test]
+fn agrees_with_the_search_by_pairs(rt: HostRuntime) -> Result<(), Fail> {
+    let mut draw = Draw { state: 1 };
+    // Whether none, one, or several blocks were listed at some session.
+    let mut seen = [false; 3];
+    for _ in 0..5u8 {
+        for kind in [Kind::Anyhow, Kind::OnOneLineButOne, Kind::OnTwoLines] {
+            let left = column(&mut draw, kind);
+            let right = column(&mut draw, kind);
+            let both = side_by_side(&left, &right);
+            for (bytes, s) in [(&left[..], 1), (&right[..], 1), (&both[..], 2)] {
+                let count = count_of_both(rt.alloc(), bytes, s)?.ok_or("they differ")?;
+                seen[count.min(2)] = true;
+            }
+        }
+    }
+    assert!(rt; seen[0] && seen[1] && seen[2]);
+    Ok(())
+}
