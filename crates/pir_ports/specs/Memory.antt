@@ -6,8 +6,8 @@ use Rattle.pir_ports.specs.World.{Cell, World}
 use Rattle.pir_ports.specs.MemoryCell.{MemoryCell, empty_cell}
 use Rattle.pir_ports.specs.NameLog.{NameLog, no_names, names_of, with_name}
 
--- the most bytes that a call moves, the numbers of the calls that fail, the count of calls so far, the ports by
--- their numbers, and the names that they were opened with
+-- the most bytes that a call moves, the numbers of the calls that fail, the count of calls so far,
+-- the ports by their numbers, and the names that they were opened with
 pub record Memory : Type 0 where
   pub cut : ℕ
   pub fail : List ℕ
@@ -21,7 +21,12 @@ cell_at m p = get_or m.cells p empty_cell
 
 -- what is told of a port that was opened with these names: everything but its room
 abbrev pub told : List (List ℕ) → MemoryCell → Cell
-told names c = record { opened = Some names; holds = Some c.holds; accepted = Some c.accepted; faults = c.faults }
+told names c = record {
+  opened = Some names;
+  holds = Some c.holds;
+  accepted = Some c.accepted;
+  faults = c.faults;
+}
 
 -- what is told of ports that are these cells and were opened with these names
 abbrev pub world_from : List MemoryCell → List (ℕ × List ℕ) → World
@@ -35,7 +40,8 @@ world_of m = world_from m.cells m.log.names
 abbrev pub filled : List ℕ → Cell → Cell
 filled bytes c = record c { holds = option_map (λ h. h ++ bytes) c.holds }
 
--- ports that hold nothing and have no room, before any call; there is room for so many names with so many bytes
+-- ports that hold nothing and have no room, before any call, with room for so many names with so
+-- many bytes in all
 abbrev pub fresh : ℕ → List ℕ → ℕ → ℕ → Memory
 fresh cut fail names bytes = record {
   cut = cut;

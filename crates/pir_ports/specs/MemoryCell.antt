@@ -1,7 +1,7 @@
 -- One port in memory.
 use Rattle.std.specs.Prelude.{ℕ, ◌+◌, ◌-◌, ◌^◌, min, List, [], ◌++◌, length, drop}
 
--- the bytes still to come, the bytes taken, how many more can be taken, and the count of failed calls
+-- the bytes still to come, the bytes taken, how many more can be taken, the count of failed calls
 pub record MemoryCell : Type 0 where
   pub holds : List ℕ
   pub accepted : List ℕ

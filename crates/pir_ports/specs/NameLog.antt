@@ -1,8 +1,8 @@
 -- The names that ports in memory were opened with, in room that was taken before.
 use Rattle.std.specs.Prelude.{ℕ, ◌-◌, ◌<◌, ◌≤◌, List, [], ◌∷◌, ◌++◌, length, if◌then◌else◌, ◌==◌}
 
--- the names in the order of the openings, each with the number of its port, and the room left: for so many names,
--- with so many bytes in all
+-- the names in the order of the openings, each with the number of its port, and the room left: for
+-- so many names, with so many bytes in all
 pub record NameLog : Type 0 where
   pub names : List (ℕ × List ℕ)
   pub name_room : ℕ
@@ -24,4 +24,8 @@ pub record CanKeep (name : List ℕ) (log : NameLog) : Type 0 where
 
 -- the log with one name more
 abbrev pub with_name : ℕ → List ℕ → NameLog → NameLog
-with_name p name log = record { names = log.names ++ (p, name) ∷ []; name_room = log.name_room - 1; byte_room = log.byte_room - length name }
+with_name p name log = record {
+  names = log.names ++ (p, name) ∷ [];
+  name_room = log.name_room - 1;
+  byte_room = log.byte_room - length name;
+}

@@ -15,7 +15,11 @@ pub record LiesIn (text : List ℕ) (m : Mark) : Type 0 where
 
 -- the names in the text
 abbrev pub log_of : Inside → NameLog
-log_of n = record { names = map (name_at n.text.items) n.marks.items; name_room = n.name_room; byte_room = n.byte_room }
+log_of n = record {
+  names = map (name_at n.text.items) n.marks.items;
+  name_room = n.name_room;
+  byte_room = n.byte_room;
+}
 
 -- each mark lies in the text, and there is capacity for the room that is left
 pub record IsSound (n : Inside) : Type 0 where

@@ -14,11 +14,23 @@ use crate::{Failed, PORT_COUNT, Port, Ports};
 use std::alloc::{AllocError, Global};
 use std::marker::Model;
 
-/// Ports in memory, which tell everything and fail exactly where they are asked to.
+/// Ports in memory, which tell everything and fail only where they are asked to.
 ///
-/// A call of [`Ports`] moves as many bytes as it can, but at most `cut`. It fails exactly if its number stands in
-/// `fail`, if it is an `open` whose name the room for names can't keep, or a `give` with no room left for bytes.
-/// The numbers count the calls over all ports from 1, and stop at `2^64 - 1`. No call of [`Ports`] takes memory.
+/// A call of [`Ports`] moves as many bytes as it can, but at most `cut`. It fails exactly if its
+/// number stands in `fail`, if it is an `open` whose name there is no room to keep, or if it is a
+/// `give` on a port with no room left. Numbers count the calls over all ports from 1, and stop at
+/// `2^64 - 1`. No call of [`Ports`] takes memory.
+///
+/// ```
+/// // Takes of 3 bytes at most; the second call fails; room for one name of 8 bytes.
+/// let mut ports = MemPorts::new(alloc, 3, &[2], 1, 8)?;
+/// ports.put(alloc, Port::Input, b"abcd")?;
+/// assert_eq!(ports.open(Port::Input, "letters"), Ok(()));
+/// let mut text = [0; 4];
+/// assert_eq!(ports.take(Port::Input, &mut text), Err(Failed));
+/// assert_eq!(ports.take(Port::Input, &mut text), Ok(3));
+/// assert_eq!(ports.opened_as(Port::Input, 0), Some(b"letters".as_slice()));
+/// ```
 #[derive(Drop)]
 pub struct MemPorts {
     cut: usize,
@@ -35,12 +47,18 @@ impl Model for MemPorts {
 
     ghost Value = { Memory };
 
-    ghost view = { λ m. record { cut = m.cut; fail = m.fail.items; calls = m.calls; cells = m.cells.items; log = m.names } };
+    ghost view = { λ m. record {
+      cut = m.cut;
+      fail = m.fail.items;
+      calls = m.calls;
+      cells = m.cells.items;
+      log = m.names;
+    } };
 
     ghost invariant = { λ m. (0 < m.cut) × (length m.cells.items ≡ PORT_COUNT) };
 }
 
-// Counts one call more, and tells whether it is to fail.
+// Counts one call more, and tells whether it is due to fail.
 fn is_due(calls: &mut u64, fail: &[u64]) -> bool
     ensures calls { calls.new ≡ next_call calls.old }
     ensures due { IsTrue result ↔ Contains fail.now calls.new }
@@ -50,8 +68,8 @@ fn is_due(calls: &mut u64, fail: &[u64]) -> bool
 }
 
 impl MemPorts {
-    /// Ports that hold nothing and have no room for bytes. There is room for `names` names of `open`, with
-    /// `bytes` bytes in all.
+    /// Ports that hold nothing and have no room, with room for `names` names of `open` that have
+    /// `bytes` bytes in all. `cut` and `fail` stand above.
     ///
     /// # Errors
     ///
@@ -83,14 +101,16 @@ impl MemPorts {
         })
     }
 
-    /// Puts bytes behind those that the port has still to hand out.
+    /// Puts bytes behind those that the port has still to hand out. They lie in memory of the
+    /// allocator that `new` was given.
     ///
     /// # Errors
     ///
     /// `AllocError` if memory is short; nothing is changed then.
     pub fn put(&mut self, _alloc: Global, p: Port, bytes: &[u8]) -> Result<(), AllocError>
         ensures ok { OnOk result (self.new ≡ changed (number p) (put bytes.now) self.old) }
-        ensures told { OnOk result ((world_of self.new).at (number p) ≡ filled bytes.now ((world_of self.old).at (number p))) }
+        ensures told { OnOk result ((world_of self.new).at (number p)
+            ≡ filled bytes.now ((world_of self.old).at (number p))) }
         ensures others { Touches (number p) (world_of self.old) (world_of self.new) }
         ensures err { OnErr result (self.new ≡ self.old) }
     {
@@ -98,7 +118,8 @@ impl MemPorts {
         cell.put(bytes)
     }
 
-    /// Sets how many bytes more the port can take.
+    /// Sets how many bytes more the port can take, and takes memory for them from the allocator that
+    /// `new` was given.
     ///
     /// # Errors
     ///
@@ -123,7 +144,8 @@ impl MemPorts {
 
     /// Name `i`, counted from 0, that the port was opened with; `None` exactly where there is none.
     pub fn opened_as(&self, p: Port, i: usize) -> Option<&[u8]>
-        ensures { IfSome ((world_of self.now).at (number p)).opened (λ names. option_copied result ≡ slice_get names i) }
+        ensures { IfSome ((world_of self.now).at (number p)).opened
+            (λ names. option_copied result ≡ slice_get names i) }
     {
         self.names.name(p.number(), i)
     }
@@ -133,12 +155,14 @@ impl Ports for MemPorts {
     ghost world = { world_of };
 
     fn open(&mut self, p: Port, name: &str) -> Result<(), Failed>
-        ensures ok { OnOk result ((world_of self.new).at (number p) ≡ named name.now ((world_of self.old).at (number p))) }
+        ensures ok { OnOk result ((world_of self.new).at (number p)
+            ≡ named name.now ((world_of self.old).at (number p))) }
         ensures failed { OnErr result (Fails (number p) (world_of self.old) (world_of self.new)) }
         ensures others { Touches (number p) (world_of self.old) (world_of self.new) }
 
-        // It fails exactly where it is to fail or there is no room for the name.
+        // It fails exactly where it is due to fail or there is no room for the name.
         ensures exactly { IsErr result ↔ (IsDue self.old ⊎ ¬ CanKeep name.now self.old.log) }
+        ensures kept { OnOk result (CanKeep name.now self.old.log) }
         ensures opens { OnOk result (self.new ≡ opened (number p) name.now (called self.old)) }
         ensures counts { OnErr result (self.new ≡ changed (number p) fault (called self.old)) }
     {
@@ -152,14 +176,17 @@ impl Ports for MemPorts {
 
     fn take(&mut self, p: Port, into: &mut [u8]) -> Result<usize, Failed>
         requires { 0 < length into.old }
-        ensures ok { IfOk result (λ n. Hands (number p) n into.old into.new (world_of self.old) (world_of self.new)) }
-        ensures end { IfOk result (λ n. n ≡ 0 → IfSome ((world_of self.old).at (number p)).holds (λ h. h ≡ [])) }
+        ensures ok { IfOk result (λ n.
+            Hands (number p) n into.old into.new (world_of self.old) (world_of self.new)) }
+        ensures end { IfOk result (λ n.
+            n ≡ 0 → IfSome ((world_of self.old).at (number p)).holds (λ h. h ≡ [])) }
         ensures failed { OnErr result (Fails (number p) (world_of self.old) (world_of self.new)) }
         ensures others { Touches (number p) (world_of self.old) (world_of self.new) }
 
-        // It fails exactly where it is to fail, and hands out as much as it may.
+        // It fails exactly where it is due to fail, and hands out as much as it may.
         ensures exactly { IsErr result ↔ IsDue self.old }
-        ensures most { IfOk result (λ n. n ≡ moved self.old.cut (length into.old) (length (cell_at self.old (number p)).holds)) }
+        ensures most { IfOk result (λ n.
+            n ≡ moved self.old.cut (length into.old) (length (cell_at self.old (number p)).holds)) }
         ensures hands { IfOk result (λ n. self.new ≡ changed (number p) (hand n) (called self.old)) }
         ensures counts { OnErr result (self.new ≡ changed (number p) fault (called self.old)) }
     {
@@ -174,14 +201,17 @@ impl Ports for MemPorts {
         requires { 0 < length piece.now }
         ensures some { IfOk result (λ n. 0 < n) }
         ensures fits { IfOk result (λ n. n ≤ length piece.now) }
-        ensures ok { IfOk result (λ n. (world_of self.new).at (number p) ≡ gave (take n piece.now) ((world_of self.old).at (number p))) }
+        ensures ok { IfOk result (λ n. (world_of self.new).at (number p)
+            ≡ gave (take n piece.now) ((world_of self.old).at (number p))) }
         ensures failed { OnErr result (Fails (number p) (world_of self.old) (world_of self.new)) }
         ensures others { Touches (number p) (world_of self.old) (world_of self.new) }
 
-        // It fails exactly where it is to fail or there is no room, and takes as much as it may.
+        // It fails exactly where it is due to fail or has no room, and takes as much as it may.
         ensures exactly { IsErr result ↔ (IsDue self.old ⊎ ((cell_at self.old (number p)).room ≡ 0)) }
-        ensures most { IfOk result (λ n. n ≡ moved self.old.cut (length piece.now) (cell_at self.old (number p)).room) }
-        ensures accepts { IfOk result (λ n. self.new ≡ changed (number p) (accept (take n piece.now)) (called self.old)) }
+        ensures most { IfOk result (λ n.
+            n ≡ moved self.old.cut (length piece.now) (cell_at self.old (number p)).room) }
+        ensures accepts { IfOk result (λ n.
+            self.new ≡ changed (number p) (accept (take n piece.now)) (called self.old)) }
         ensures counts { OnErr result (self.new ≡ changed (number p) fault (called self.old)) }
     {
         let cell = &mut self.cells[p.number()];
