@@ -4,3 +4,5 @@ pub mod Session
 pub mod Beginning
 pub mod Reading
 pub mod Answer
+pub mod Form
+pub mod Field

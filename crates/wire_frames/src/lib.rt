@@ -1,6 +1,7 @@
 //! Frames and session files: which bytes stand for which fields.
 #![tactic(auto)]
 
+mod field;
 mod header;
 mod reader;
 mod session;
