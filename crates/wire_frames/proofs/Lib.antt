@@ -1,3 +1,5 @@
 mod Digits
-mod FormLemmas
 mod FieldLemmas
+mod FormLemmas
+pub mod Spans
+pub mod UnderWay

@@ -1,5 +1,5 @@
 -- The ranges of the numbers in frames and session files. They are widened here, and nowhere else.
-use Rattle.std.specs.Prelude.{ℕ, ◌*◌, ◌+◌, ◌^◌, ◌<◌, ◌≤◌, ◌≡◌}
+use Rattle.std.specs.Prelude.{ℕ, ◌*◌, ◌^◌, ◌<◌, ◌≤◌, ◌≡◌}
 use Rattle.wire_frames.specs.declared.TheConstants.{MOST_DEGREE, MOST_SERVERS, MOST_ROWS, MOST_WIDTH, MOST_CELLS}
 use Rattle.wire_frames.specs.declared.session.SessionParams.{SessionParams}
 

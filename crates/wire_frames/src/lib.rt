@@ -1,14 +1,17 @@
 //! Frames and session files: which bytes stand for which fields.
 #![tactic(auto)]
 
+mod answer;
 mod field;
 mod header;
 mod reader;
+mod records;
 mod session;
 
+pub use answer::usable_answer;
 pub use header::QueryHeader;
 pub use reader::{BadSession, FeedFault, feeds};
-pub use session::SessionParams;
+pub use session::{Session, SessionParams};
 
 /// The greatest degree of a query's polynomials, so how many servers together may learn nothing.
 pub const MOST_DEGREE: u8 = 1;
@@ -24,3 +27,6 @@ pub const MOST_WIDTH: u32 = 1 << 16;
 
 /// The greatest size of a database, in bytes.
 pub const MOST_CELLS: u64 = 1 << 30;
+
+#[cfg(test)]
+mod tests;

@@ -1,4 +1,12 @@
 //! A session: what was asked, and the bytes that each server answered.
+ghost use Rattle.std.specs.Prelude.{◌≡◌, ◌≤◌, ◌<◌, ◌+◌, ◌-◌, ◌++◌, ◌∷◌, [], length, All, IfSome, IfOk, slice_index_or};
+ghost use Rattle.std.specs.Option.{option_copied};
+ghost use Rattle.wire_frames.specs.Limits.{IsInRange};
+ghost use Rattle.wire_frames.specs.Session.{Fits, IsUnderWay};
+
+use crate::records::Records;
+use std::alloc::{AllocError, Global};
+use std::marker::Model;
 
 /// The numbers of a session.
 #[derive(Clone, Copy, Debug, PartialEq, Eq)]
@@ -17,4 +25,137 @@ pub struct SessionParams {
     pub r: u32,
     /// The width of a row, in bytes.
     pub s: u32,
+}
+
+/// What a client asked for, and a record for each server so far.
+#[derive(Drop)]
+pub struct Session {
+    params: SessionParams,
+    records: Records,
+}
+
+impl Model for Session {
+    ghost use Rattle.wire_frames.specs.Session.{Transcript, IsUnderWay};
+
+    ghost Value = { Transcript };
+
+    ghost view = { λ s. record { params = s.params; records = s.records.closed } };
+
+    ghost invariant = { λ s. IsUnderWay s.params s.records };
+}
+
+impl Session {
+    /// A session with no record yet. The memory for all its records is taken here, at most `24 + s` bytes for each.
+    pub fn new(alloc: Global, params: SessionParams) -> Result<Session, AllocError>
+        requires { IsInRange params }
+        ensures { IfOk result (λ t. t ≡ record { params = params; records = [] }) }
+    {
+        let most = usize::from(params.n) * (24 + params.s as usize);
+        let records = Records::with_room(alloc, usize::from(params.n), most)?;
+        Ok(Session { params, records })
+    }
+
+    /// The session with these numbers and records.
+    pub(crate) fn from_records(params: SessionParams, records: Records) -> Session
+        requires { IsUnderWay params records }
+        ensures { result ≡ record { params = params; records = records.closed } }
+    {
+        Session { params, records }
+    }
+
+    /// Adds the record of the next server: the bytes that it answered, or none where a call failed. It takes no memory.
+    pub fn push_record(&mut self, bytes: Option<&[u8]>)
+        requires few { length self.old.records < self.old.params.n }
+        requires fits { IfSome (option_copied bytes) (λ b. length b ≤ 24 + self.old.params.s) }
+        ensures { self.new ≡ record self.old { records = self.old.records ++ option_copied bytes.entry ∷ [] } }
+    {
+        match bytes {
+            Some(bytes) => self.push_present(bytes),
+            None => self.records.close_absent(),
+        }
+    }
+
+    fn push_present(&mut self, bytes: &[u8])
+        requires few { length self.old.records < self.old.params.n }
+        requires fits { length bytes.now ≤ 24 + self.old.params.s }
+        ensures { self.new ≡ record self.old { records = self.old.records ++ Some bytes.now ∷ [] } }
+    {
+        self.records.extend(bytes);
+        self.records.close_present();
+    }
+
+    /// The record of server `i`, counted from 1: none where a call failed.
+    pub fn record_at(&self, i: u32) -> Option<&[u8]>
+        requires first { 1 ≤ i }
+        requires last { i ≤ length self.now.records }
+        ensures { option_copied result ≡ slice_index_or self.now.records (i - 1) None }
+    {
+        self.records.record(i as usize - 1)
+    }
+
+    /// How many servers have a record.
+    pub fn record_count(&self) -> u32
+        ensures count { result ≡ length self.now.records }
+        ensures few { length self.now.records ≤ self.now.params.n }
+        ensures fits { All (Fits (24 + self.now.params.s)) self.now.records }
+    {
+        self.records.len() as u32
+    }
+
+    /// The numbers of the session, each in its range.
+    pub fn params(&self) -> SessionParams
+        ensures value { result ≡ self.now.params }
+        ensures range { IsInRange self.now.params }
+    {
+        self.params
+    }
+
+    /// 1 for Shamir's sharing.
+    pub fn scheme(&self) -> u8
+        ensures { result ≡ self.now.params.scheme }
+    {
+        self.params.scheme
+    }
+
+    /// So many servers together learn nothing.
+    pub fn t(&self) -> u8
+        ensures { result ≡ self.now.params.t }
+    {
+        self.params.t
+    }
+
+    /// How many answers have to agree.
+    pub fn h(&self) -> u8
+        ensures { result ≡ self.now.params.h }
+    {
+        self.params.h
+    }
+
+    /// The number of servers.
+    pub fn n(&self) -> u8
+        ensures { result ≡ self.now.params.n }
+    {
+        self.params.n
+    }
+
+    /// The number of the session.
+    pub fn session(&self) -> u64
+        ensures { result ≡ self.now.params.session }
+    {
+        self.params.session
+    }
+
+    /// The number of rows of the database.
+    pub fn r(&self) -> u32
+        ensures { result ≡ self.now.params.r }
+    {
+        self.params.r
+    }
+
+    /// The width of a row, in bytes.
+    pub fn s(&self) -> u32
+        ensures { result ≡ self.now.params.s }
+    {
+        self.params.s
+    }
 }

@@ -1,0 +1,23 @@
+use Rattle.std.proofs.Common.{◌≡◌, ◌-◌, ◌++◌, List, ℕ, length, map, drop, ◌∙◌, ap}
+use Rattle.std.specs.Option.{option_map}
+use Rattle.std.proofs.lemmas.List.{drop-append-le}
+use Rattle.wire_frames.specs.Records.{extended}
+use Rattle.wire_frames.proofs.Spans.{at_span, at_spans-append}
+use Rattle.wire_frames.proofs.records.Records.extend.Goals as goal
+
+pub returns : goal.returns
+returns c =
+    let bytes = c.self.inside.bytes.items in
+    let piece = c.args.piece.now in
+    let spans = c.self.inside.closed.items in
+    let more : c.extend_from_slice.new.self.items ≡ bytes ++ piece = c.in-Ok.ensures.items in
+    let closed : map (option_map (at_span c.extend_from_slice.new.self.items)) spans ≡ map (option_map (at_span bytes)) spans =
+    ap (λ (l : List ℕ). map (option_map (at_span l)) spans) more ∙ at_spans-append bytes piece spans c.self.invariant.3 in
+    let current : drop c.self.inside.start c.extend_from_slice.new.self.items ≡ drop c.self.inside.start bytes ++ piece =
+    ap (drop c.self.inside.start) more ∙ drop-append-le c.self.inside.start bytes piece c.self.invariant.2 in
+    (λ i. record {
+      closed = closed i;
+      current = current i;
+      record_room = c.self.inside.record_room;
+      byte_room = c.self.inside.byte_room - length piece;
+    }) ∙ ap (extended piece) c.self.view_is

@@ -1,0 +1,89 @@
+use crate::{QueryHeader, Session, SessionParams, usable_answer};
+use std::alloc::AllocError;
+
+const ASKED: QueryHeader = QueryHeader {
+    scheme: 1,
+    index: 1,
+    session: 7,
+    r: 2,
+    s: 2,
+};
+
+const FRAME: [u8; 26] = *b"PIRA\x01\x01\x01\0\0\0\0\0\0\0\0\x07\0\0\0\x02\0\0\0\x02\xcf\xd2";
+
+#[test]
+fn answers_of_the_formats(rt: HostRuntime) {
+    let second = b"PIRA\x01\x01\x02\0\0\0\0\0\0\0\0\x07\0\0\0\x02\0\0\0\x02\x40\x73";
+    let xor = b"PIRA\x01\x02\x01\0\0\0\0\0\0\0\0\x07\0\0\0\x02\0\0\0\x02\x41\x42";
+    let malformed = b"PIRA\x01\x01\x01\x01\0\0\0\0\0\0\0\x07\0\0\0\x02\0\0\0\x02";
+    let other_shape = b"PIRA\x01\x01\x01\x02\0\0\0\0\0\0\0\x07\0\0\0\x03\0\0\0\x02";
+    let other_scheme = b"PIRA\x01\x02\x01\x03\0\0\0\0\0\0\0\x07\0\0\0\x02\0\0\0\x02";
+    let longer = b"PIRA\x01\x01\x01\0\0\0\0\0\0\0\0\x07\0\0\0\x02\0\0\0\x02\xcf\xd2\0";
+    for (index, scheme, bytes, payload) in [
+        (1, 1, FRAME.as_slice(), [0xcf, 0xd2].as_slice()),
+        (2, 1, second.as_slice(), [0x40, 0x73].as_slice()),
+        (1, 2, xor.as_slice(), [0x41, 0x42].as_slice()),
+        (2, 1, FRAME.as_slice(), [].as_slice()),
+        (1, 2, FRAME.as_slice(), [].as_slice()),
+        (1, 1, malformed.as_slice(), [].as_slice()),
+        (1, 1, other_shape.as_slice(), [].as_slice()),
+        (1, 1, other_scheme.as_slice(), [].as_slice()),
+        (1, 1, longer.as_slice(), [].as_slice()),
+    ] {
+        let asked = QueryHeader {
+            scheme,
+            index,
+            ..ASKED
+        };
+        let got = usable_answer(bytes, &asked).unwrap_or(&[]);
+        assert_eq!(rt; got, payload, "server {index}, scheme {scheme}");
+    }
+}
+
+#[test]
+fn any_change_makes_an_answer_unusable(rt: HostRuntime) {
+    for place in 0..24 {
+        let mut bytes = FRAME;
+        bytes[place] ^= 1;
+        assert!(rt; usable_answer(&bytes, &ASKED).is_none(), "byte {place}");
+    }
+    for len in 0..26 {
+        assert!(rt;
+            usable_answer(&FRAME[..len], &ASKED).is_none(),
+            "{len} bytes"
+        );
+    }
+}
+
+#[test]
+fn records_stand_where_they_were_pushed(rt: HostRuntime) -> Result<(), AllocError> {
+    let params = SessionParams {
+        scheme: 1,
+        t: 1,
+        h: 2,
+        n: 3,
+        session: 7,
+        r: 2,
+        s: 2,
+    };
+    let mut session = Session::new(rt.alloc(), params)?;
+    assert_eq!(rt; session.record_count(), 0);
+    session.push_record(Some(&FRAME));
+    session.push_record(None);
+    session.push_record(Some(&[]));
+    assert_eq!(rt; session.record_count(), 3);
+    for (i, record) in [
+        (1, Some(FRAME.as_slice())),
+        (2, None),
+        (3, Some([].as_slice())),
+    ] {
+        assert_eq!(rt; session.record_at(i), record, "record {i}");
+    }
+    assert_eq!(rt; session.params(), params);
+    assert_eq!(rt;
+        (session.scheme(), session.t(), session.h(), session.n()),
+        (1, 1, 2, 3)
+    );
+    assert_eq!(rt; (session.session(), session.r(), session.s()), (7, 2, 2));
+    Ok(())
+}
