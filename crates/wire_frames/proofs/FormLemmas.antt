@@ -1,7 +1,9 @@
 -- What holds of prefixes in any form.
 use Rattle.std.proofs.Common.{◌≡◌, ℕ, zero, suc, ◌+◌, ◌-◌, ◌<◌, ◌≤◌, List, [], ◌∷◌, ◌++◌, length, take, drop, refl, sym, subst, ap, ◌∙◌, arith, append_assoc, length-append}
+use Rattle.std.specs.Prelude.{Result, Ok, Err, IsErrAnd}
 use Rattle.std.proofs.lemmas.List.{append-nil, length-take-le, take-append-drop, take_all}
-use Rattle.wire_frames.specs.Form.{Starts, StopsAt}
+use Rattle.std.proofs.lemmas.Result.{err_from_is_err_and}
+use Rattle.wire_frames.specs.Form.{Starts, StopsAt, Reads}
 
 -- a prefix of a prefix
 pub take-take : (m n : ℕ) (l : List ℕ) → m ≤ n → take m (take n l) ≡ take m l
@@ -36,3 +38,9 @@ stops-at F bytes place within begins next = record {
   begins = begins;
   longest = λ n more inside s. next (omega arith) (starts-shorter F (suc place) n bytes (omega arith) s);
 }
+
+-- what a `?` hands on of a reading
+pub reads-exit : {A : Type 0} {F : List ℕ → A → Type 0} {bytes : List ℕ} (r : Result A ℕ) (place : ℕ) → IsErrAnd r (λ e. e ≡ place) → Reads F bytes (Err place) → Reads F bytes r
+reads-exit {A} {F} {bytes} r place exit h =
+    let is = err_from_is_err_and r exit in
+    subst (Reads F bytes) (sym (is.1 ∙ ap (λ (n : ℕ). Err n) is.2)) h

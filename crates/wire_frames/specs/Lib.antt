@@ -7,3 +7,4 @@ pub mod Reading
 pub mod Answer
 pub mod Form
 pub mod Field
+pub mod Layout

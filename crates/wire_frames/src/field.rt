@@ -1,5 +1,4 @@
 //! The one reader of fields, which serves every frame.
-ghost use Rattle.std.specs.Prelude.{length, ◌≤◌};
 ghost use Rattle.wire_frames.specs.Field.{IsField, IsNumber};
 ghost use Rattle.wire_frames.specs.Form.{ReadsAt};
 
@@ -16,8 +15,7 @@ pub(crate) struct Number {
 /// to which the bytes are right. A byte is right where some number in range begins with the bytes
 /// of the field up to it.
 pub(crate) fn number_at(bytes: &[u8], at: usize, number: Number) -> Result<u64, usize>
-    requires at { at ≤ length bytes.now }
-    requires field { IsField number }
+    requires { IsField number }
     ensures { ReadsAt (IsNumber number) at number.width bytes.now result }
 {
     // The least number that begins with the bytes so far.

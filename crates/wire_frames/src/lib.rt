@@ -4,6 +4,7 @@
 mod answer;
 mod field;
 mod header;
+mod layout;
 mod reader;
 mod records;
 mod session;
