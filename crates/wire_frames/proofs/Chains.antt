@@ -1,16 +1,15 @@
 -- Fields one behind another: each may depend on the numbers before it.
-use Rattle.std.proofs.Common.{◌≡◌, ℕ, zero, suc, ◌+◌, ◌-◌, ◌^◌, ◌<◌, ◌≤◌, ◌⊎◌, List, [], ◌∷◌, ◌++◌, length, take, drop, refl, sym, subst, ap, ap₂, ◌∙◌, inl, inr, arith, append_assoc, length-append, length-drop}
-use Rattle.std.specs.Prelude.{Ok, Err}
+use Rattle.std.proofs.Common.{◌≡◌, ℕ, suc, ◌+◌, ◌-◌, ◌^◌, ◌<◌, ◌≤◌, List, [], ◌++◌, length, take, drop, refl, sym, subst, ap, ap₂, ◌∙◌, arith, append_assoc, length-append, length-drop}
+use Rattle.std.specs.Prelude.{Err}
 use Rattle.std.specs.Int.{bytes_high_first}
 use Rattle.std.proofs.Math.Seq.{take-add, take-append_seam, drop-append_seam}
-use Rattle.std.proofs.lemmas.Bool.{cases_lt}
-use Rattle.std.proofs.lemmas.List.{append-nil, length-take, length-take-le, take-append-drop, take-append-le, take_all}
+use Rattle.std.proofs.lemmas.List.{append-nil, length-take, take-append-drop, take-append-le, take_all}
 use Rattle.wire_frames.specs.declared.field.Number.{Number}
 use Rattle.wire_frames.specs.Field.{IsField, IsNumber}
-use Rattle.wire_frames.specs.Form.{Starts, StopsAt, StopsWithin, Reads}
+use Rattle.wire_frames.specs.Form.{Starts, StopsWithin, Reads}
 use Rattle.wire_frames.proofs.Digits.{number, number-digits}
 use Rattle.wire_frames.proofs.FieldLemmas.{length_number}
-use Rattle.wire_frames.proofs.FormLemmas.{starts-front, starts-shorter, starts-whole, stops-at, take-take}
+use Rattle.wire_frames.proofs.FormLemmas.{starts-front, starts-whole, stops-at, take-take}
 
 -- a number of a field, and then what is to follow that number
 pub record Then {A : Type 0} (f : Number) (next : ℕ → List ℕ → A → Type 0) (bytes : List ℕ) (value : A) : Type 0 where

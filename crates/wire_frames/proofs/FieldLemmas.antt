@@ -1,5 +1,5 @@
 -- Which bytes begin a number of a field: the rule, and the loop that follows it.
-use Rattle.std.proofs.Common.{◌≡◌, ℕ, zero, suc, ◌+◌, ◌-◌, ◌*◌, ◌^◌, ◌<◌, ◌≤◌, ◌⊎◌, List, [], ◌∷◌, ◌++◌, length, take, drop, get_or, All, refl, sym, subst, ap, ap₂, ◌∙◌, inl, inr, arith, length-append, length-drop}
+use Rattle.std.proofs.Common.{◌≡◌, ℕ, suc, ◌+◌, ◌-◌, ◌*◌, ◌^◌, ◌<◌, ◌≤◌, List, [], ◌∷◌, ◌++◌, length, take, drop, get_or, All, refl, sym, subst, ap, ap₂, ◌∙◌, inl, inr, arith, length-append, length-drop}
 use Rattle.std.proofs.Math.Nat.{add-mul, mul-le-mul_right, mul_assoc, pow-le-pow_right}
 use Rattle.std.proofs.Math.Seq.{drop-append_seam}
 use Rattle.std.proofs.lemmas.Bool.{cases_lt}
@@ -11,7 +11,7 @@ use Rattle.wire_frames.specs.declared.field.Number.{Number}
 use Rattle.wire_frames.specs.Field.{IsField, IsNumber}
 use Rattle.wire_frames.specs.Form.{Starts, StopsAt, StopsWithin}
 use Rattle.wire_frames.proofs.Digits.{IsByte, number, pow_pos, pow_up, length-digits, digits_are_bytes, number_below, digits-number, number-digits, number-append}
-use Rattle.wire_frames.proofs.FormLemmas.{starts-shorter, stops-at, take-take}
+use Rattle.wire_frames.proofs.FormLemmas.{stops-at, take-take}
 
 -- a number's bytes are as many as its field has
 pub length_number : (f : Number) (bytes : List ℕ) (v : ℕ) → IsNumber f bytes v → length bytes ≡ f.width

@@ -1,5 +1,5 @@
 -- The header of a session as a chain of fields: each in the range that the numbers before it leave.
-use Rattle.std.proofs.Common.{◌≡◌, ℕ, zero, suc, ◌+◌, ◌-◌, ◌*◌, ◌/◌, ◌^◌, ◌<◌, ◌≤◌, List, [], ◌∷◌, ◌++◌, length, take, drop, min, refl, sym, subst, ap, ap₂, ◌∙◌, arith, lit≤, lit<}
+use Rattle.std.proofs.Common.{◌≡◌, ℕ, ◌+◌, ◌*◌, ◌/◌, ◌^◌, ◌<◌, ◌≤◌, List, [], ◌∷◌, ◌++◌, take, drop, min, refl, sym, subst, ap, ap₂, ◌∙◌, arith, lit≤, lit<}
 use Rattle.std.specs.Int.{bytes_high_first}
 use Rattle.std.proofs.Math.Nat.{mod-eq_of_lt, div-mul-le_self, mul-le-mul_right}
 use Rattle.std.proofs.lemmas.Nat.{le-div}
@@ -9,8 +9,7 @@ use Rattle.wire_frames.specs.declared.session.SessionParams.{SessionParams}
 use Rattle.wire_frames.specs.Field.{IsField, IsNumber}
 use Rattle.wire_frames.specs.Form.{Starts}
 use Rattle.wire_frames.specs.Layout.{IsHeader}
-use Rattle.wire_frames.specs.Limits.{IsInRange, IsShape}
-use Rattle.wire_frames.specs.Session.{header_bytes}
+use Rattle.wire_frames.specs.Limits.{IsShape}
 use Rattle.wire_frames.proofs.Chains.{Then, IsDone, Leads, field_then, leads-start, leads-on, some_spelling, no_more}
 
 -- a field of one value
@@ -57,7 +56,7 @@ one_byte : (v : ℕ) → v < 256 → v ∷ [] ≡ bytes_high_first 1 v
 one_byte v h = ap (λ (x : ℕ). x ∷ []) (sym (mod-eq_of_lt h))
 
 -- a field of one byte
-byte_is : (least v most : ℕ) → least ≤ v → v ≤ most → most < 256 → IsNumber (record { width = 1; least = least; most = most }) (v ∷ []) v
+pub byte_is : (least v most : ℕ) → least ≤ v → v ≤ most → most < 256 → IsNumber (record { width = 1; least = least; most = most }) (v ∷ []) v
 byte_is least v most low high fits = record { least = low; most = high; spelled = one_byte v (omega arith) }
 
 -- so many rows of so many bytes are in range where the width is
@@ -68,7 +67,7 @@ widths r s shape =
     omega (arith, h, shape.few_bytes)
 
 -- a number of more bytes
-number_is : (width least v most : ℕ) → least ≤ v → v ≤ most → IsNumber (record { width = width; least = least; most = most }) (bytes_high_first width v) v
+pub number_is : (width least v most : ℕ) → least ≤ v → v ≤ most → IsNumber (record { width = width; least = least; most = most }) (bytes_high_first width v) v
 number_is width least v most low high = record { least = low; most = high; spelled = refl }
 
 -- a header is a chain of fields
@@ -89,17 +88,17 @@ header_into bytes p h =
     subst (λ (l : List ℕ). at_magic l p) (sym h.spelled) whole
 
 -- a field of one byte is its number
-byte_front : (least most v : ℕ) (front : List ℕ) → most < 256 → IsNumber (record { width = 1; least = least; most = most }) front v → front ≡ v ∷ []
+pub byte_front : (least most v : ℕ) (front : List ℕ) → most < 256 → IsNumber (record { width = 1; least = least; most = most }) front v → front ≡ v ∷ []
 byte_front least most v front fits h = h.spelled ∙ sym (one_byte v (omega (arith, h.most)))
 
 -- a field of one value is that value's bytes
-only_front : (width value v : ℕ) (front : List ℕ) → IsNumber (only width value) front v → front ≡ bytes_high_first width value
+pub only_front : (width value v : ℕ) (front : List ℕ) → IsNumber (only width value) front v → front ≡ bytes_high_first width value
 only_front width value v front h =
     let same : v ≡ value = omega (arith, h.least, h.most) in
     h.spelled ∙ ap (bytes_high_first width) same
 
 -- a split, where both parts are known
-joined : (bytes front rest front' rest' : List ℕ) → bytes ≡ front ++ rest → front ≡ front' → rest ≡ rest' → bytes ≡ front' ++ rest'
+pub joined : (bytes front rest front' rest' : List ℕ) → bytes ≡ front ++ rest → front ≡ front' → rest ≡ rest' → bytes ≡ front' ++ rest'
 joined bytes front rest front' rest' split e e' = split ∙ ap₂ (λ (x y : List ℕ). x ++ y) e e'
 
 -- what width and rows there are where the width is in its range
@@ -184,7 +183,7 @@ pub some_version : Starts at_version []
 some_version = some_spelling _ _ 1 (omega arith) (omega arith) some_scheme
 
 -- a field of at most 8 bytes that has some number, and none that is longer
-is_field : (width least most : ℕ) → width ≤ 8 → least ≤ most → most < 256 ^ width → IsField (record { width = width; least = least; most = most })
+pub is_field : (width least most : ℕ) → width ≤ 8 → least ≤ most → most < 256 ^ width → IsField (record { width = width; least = least; most = most })
 is_field width least most narrow some fits = record { narrow = narrow; some = some; fits = fits }
 
 -- THE STEPS of a reading of a header: each field that is read leads on to the next

@@ -1,5 +1,5 @@
 -- How far bytes go in a form. A form says which bytes spell which value.
-use Rattle.std.specs.Prelude.{◌≡◌, ℕ, ◌+◌, ◌-◌, ◌<◌, ◌≤◌, List, ◌++◌, length, take, drop, Result, Ok, Err}
+use Rattle.std.specs.Prelude.{ℕ, ◌+◌, ◌-◌, ◌<◌, ◌≤◌, List, ◌++◌, length, take, drop, Result, Ok, Err}
 
 -- the bytes begin a spelling of some value
 pub record Starts {A : Type 0} (Form : List ℕ → A → Type 0) (bytes : List ℕ) : Type 0 where

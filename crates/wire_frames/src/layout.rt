@@ -76,6 +76,18 @@ const PRESENT: Number = Number {
     most: 1,
 };
 
+const NO_LEN: Number = Number {
+    width: 4,
+    least: 0,
+    most: 0,
+};
+
+const LEN: Number = Number {
+    width: 4,
+    least: 0,
+    most: u32::MAX as u64,
+};
+
 /// The numbers that the header of a session spells, or the place up to which the bytes begin one.
 pub(crate) fn read_header(bytes: &[u8]) -> Result<SessionParams, usize>
     requires { length bytes.now ≤ HEADER_LEN }
@@ -115,4 +127,27 @@ pub(crate) fn read_header(bytes: &[u8]) -> Result<SessionParams, usize>
         r: r as u32,
         s: s as u32,
     })
+}
+
+/// What stands before the bytes of record `index`: how many bytes it has, or that it is absent. Else
+/// the place up to which the bytes begin such a header.
+pub(crate) fn read_record_header(bytes: &[u8], index: u8, most: u32) -> Result<Option<u32>, usize>
+    requires { length bytes.now ≤ RECORD_HEADER_LEN }
+    ensures { Reads (IsRecordHeader index most) bytes.now result }
+{
+    let index = index as u64;
+    let most = most as u64;
+    let number = Number {
+        width: 1,
+        least: index,
+        most: index,
+    };
+    number_at(bytes, 0, number)?;
+    let present = number_at(bytes, 1, PRESENT)?;
+    if present == 0 {
+        number_at(bytes, 2, NO_LEN)?;
+        return Ok(None);
+    }
+    let len = number_at(bytes, 2, Number { most, ..LEN })?;
+    Ok(Some(len as u32))
 }
