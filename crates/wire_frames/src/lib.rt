@@ -3,6 +3,7 @@
 
 mod answer;
 mod field;
+mod head;
 mod header;
 mod layout;
 mod reader;
