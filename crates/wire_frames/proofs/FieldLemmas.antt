@@ -1,7 +1,6 @@
 -- Which bytes begin a number of a field: the rule, and the loop that follows it.
 use Rattle.std.proofs.Common.{◌≡◌, ℕ, suc, ◌+◌, ◌-◌, ◌*◌, ◌^◌, ◌<◌, ◌≤◌, List, [], ◌∷◌, ◌++◌, length, take, drop, get_or, All, refl, sym, subst, ap, ap₂, ◌∙◌, inl, inr, arith, length-append, length-drop}
 use Rattle.std.proofs.Math.Nat.{add-mul, mul-le-mul_right, mul_assoc, pow-le-pow_right}
-use Rattle.std.proofs.Math.Seq.{drop-append_seam}
 use Rattle.std.proofs.lemmas.Bool.{cases_lt}
 use Rattle.std.proofs.lemmas.Nat.{pow-add}
 use Rattle.std.proofs.lemmas.List.{get_or-drop, length-take, length-take-le, take_all, take_more}
@@ -11,7 +10,7 @@ use Rattle.wire_frames.specs.declared.field.Number.{Number}
 use Rattle.wire_frames.specs.Field.{IsField, IsNumber}
 use Rattle.wire_frames.specs.Form.{Starts, StopsAt, StopsWithin}
 use Rattle.wire_frames.proofs.Digits.{IsByte, number, pow_pos, pow_up, length-digits, digits_are_bytes, number_below, digits-number, number-digits, number-append}
-use Rattle.wire_frames.proofs.FormLemmas.{stops-at, take-take}
+use Rattle.wire_frames.proofs.FormLemmas.{All-behind, stops-at, take-take}
 
 -- a number's bytes are as many as its field has
 pub length_number : (f : Number) (bytes : List ℕ) (v : ℕ) → IsNumber f bytes v → length bytes ≡ f.width
@@ -21,10 +20,6 @@ length_number f bytes v h = ap length h.spelled ∙ length-digits f.width v
 pub record IsRight (f : Number) (floor spread : ℕ) : Type 0 where
   pub low : floor ≤ f.most
   pub high : f.least < floor + spread
-
--- bytes behind others
-All-behind : (xs ys : List ℕ) → All IsByte (xs ++ ys) → All IsByte ys
-All-behind xs ys h = subst (All IsByte) (drop-append_seam xs ys) (All-drop IsByte (length xs) (xs ++ ys) h)
 
 -- the numbers that begin with some bytes, with k bytes to come, go from `number part * 256 ^ k` up, and are 256 ^ k:
 -- bytes that begin a number of the field leave one of these in range
@@ -39,7 +34,7 @@ right_from_starts f part field s =
     let value : number (part ++ s.rest) ≡ s.value = ap number h.spelled ∙ number-digits f.width s.value below in
     let split = number-append part s.rest in
     let bytes : All IsByte (part ++ s.rest) = subst (All IsByte) (sym h.spelled) (digits_are_bytes f.width s.value) in
-    let rest = number_below s.rest (All-behind part s.rest bytes) in
+    let rest = number_below s.rest (All-behind IsByte part s.rest bytes) in
     rw to_come record {
       low = omega (arith, value, split, h.most);
       high = omega (arith, value, split, rest, h.least);
