@@ -3,8 +3,10 @@ mod Chains
 mod Digits
 mod FieldLemmas
 mod FormLemmas
+mod HeadLemmas
 mod LayoutLemmas
 mod Parsing
 mod RecordHeader
+mod RecordsReaderLemmas
 pub mod Spans
 pub mod UnderWay

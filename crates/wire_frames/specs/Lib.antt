@@ -8,3 +8,4 @@ pub mod Answer
 pub mod Form
 pub mod Field
 pub mod Layout
+pub mod RecordsReader

@@ -8,6 +8,7 @@ mod header;
 mod layout;
 mod reader;
 mod records;
+mod records_reader;
 mod session;
 
 pub use answer::usable_answer;
