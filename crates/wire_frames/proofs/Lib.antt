@@ -6,6 +6,7 @@ mod FormLemmas
 mod HeadLemmas
 mod LayoutLemmas
 mod Parsing
+mod ReaderLemmas
 mod RecordHeader
 mod RecordsReaderLemmas
 pub mod Spans

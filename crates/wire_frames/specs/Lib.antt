@@ -9,3 +9,4 @@ pub mod Form
 pub mod Field
 pub mod Layout
 pub mod RecordsReader
+pub mod SessionReader

@@ -13,7 +13,7 @@ mod session;
 
 pub use answer::usable_answer;
 pub use header::QueryHeader;
-pub use reader::{BadSession, FeedFault, feeds};
+pub use reader::{BadSession, FeedFault, SessionReader};
 pub use session::{Session, SessionParams};
 
 /// The greatest degree of a query's polynomials, so how many servers together may learn nothing.
