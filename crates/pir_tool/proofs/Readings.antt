@@ -8,7 +8,7 @@ use Rattle.pir_ports.proofs.Cells.{reads_more, reads_end, touches_more}
 use Rattle.wire_frames.specs.Session.{Transcript, IsSession}
 use Rattle.wire_frames.specs.Beginning.{Begins, IsPlace}
 use Rattle.wire_frames.specs.Reading.{Reading, SoFar, Refused}
-use Rattle.wire_frames.proofs.Beginnings.{longest, length-begins, place_front, no_session}
+use Rattle.wire_frames.proofs.Fronts.{longest, length-begins, place_front, no_session}
 use Rattle.pir_tool.specs.Replayed.{NoSession}
 
 -- the bytes that a reader has seen

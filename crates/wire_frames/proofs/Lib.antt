@@ -1,4 +1,15 @@
+mod Beginnings
+mod Chains
+mod Digits
+mod FieldLemmas
+mod FormLemmas
+mod HeadLemmas
+mod LayoutLemmas
+mod Parsing
+mod ReaderLemmas
+mod RecordHeader
+mod RecordsReaderLemmas
 pub mod Spans
 pub mod UnderWay
-pub mod Beginnings
 pub mod OneSession
+pub mod Fronts

@@ -1,5 +1,5 @@
 use Rattle.std.proofs.Common.{◌-◌, length}
-use Rattle.wire_frames.proofs.Beginnings.{longest}
+use Rattle.wire_frames.proofs.Fronts.{longest}
 use Rattle.pir_tool.proofs.Readings.{HasSeen, seen_by}
 use Rattle.pir_tool.proofs.recorded.read_session.Given as goal
 
