@@ -4,7 +4,6 @@
 mod outside;
 mod recorded;
 mod status;
-mod stub;
 mod top;
 mod words;
 

@@ -6,12 +6,11 @@ ghost use Rattle.wire_frames.specs.Session.{IsSession};
 ghost use Rattle.wire_frames.specs.Reading.{Feeds};
 ghost use Rattle.pir_tool.specs.Replayed.{ReadTo, Judged, IsFileOf, Fed};
 
-use crate::stub::{SessionReader, judge};
-use block_decoder::Verdict;
+use block_decoder::{Verdict, judge};
 use pir_ports::{Failed, Port, Ports};
 use std::alloc::{AllocError, Global};
 use thiserror::Error;
-use wire_frames::{BadSession, FeedFault, Session};
+use wire_frames::{BadSession, FeedFault, Session, SessionReader};
 
 /// Why a recorded session is not judged.
 #[derive(Clone, Copy, Debug, PartialEq, Eq, Error)]
