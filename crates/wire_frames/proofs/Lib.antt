@@ -9,5 +9,6 @@ mod Parsing
 mod ReaderLemmas
 mod RecordHeader
 mod RecordsReaderLemmas
+mod SessionReaderLemmas
 pub mod Spans
 pub mod UnderWay
