@@ -1,4 +1,8 @@
-//! Frames and session files: which bytes stand for which fields.
+//! Frames and session files: which bytes stand for which fields. Numbers of more than one byte are big endian.
+//!
+//! An answer is usable exactly where it is the whole answer of status 0 to the query at hand, and a session holds the
+//! numbers and the records that it was given, in their order. Nothing is said of where the bytes come from: a server
+//! that lies behind a right header gives a usable answer.
 #![tactic(auto)]
 
 mod answer;
@@ -10,6 +14,8 @@ mod reader;
 mod records;
 mod records_reader;
 mod session;
+#[cfg(test)]
+mod tests;
 
 pub use answer::usable_answer;
 pub use header::QueryHeader;
@@ -30,6 +36,3 @@ pub const MOST_WIDTH: u32 = 1 << 16;
 
 /// The greatest size of a database, in bytes.
 pub const MOST_CELLS: u64 = 1 << 30;
-
-#[cfg(test)]
-mod tests;

@@ -31,7 +31,12 @@ impl Model for Records {
 
     ghost Value = { Kept };
 
-    ghost view = { λ r. record { closed = map (option_map (λ s. slice_range r.bytes.items s.start s.end)) r.closed.items; current = drop r.start r.bytes.items; record_room = r.record_room; byte_room = r.byte_room } };
+    ghost view = { λ r. record {
+      closed = map (option_map (λ s. slice_range r.bytes.items s.start s.end)) r.closed.items;
+      current = drop r.start r.bytes.items;
+      record_room = r.record_room;
+      byte_room = r.byte_room;
+    } };
 
     ghost invariant = { λ r. (vec_len r.closed + r.record_room ≤ vec_capacity r.closed)
         × (vec_len r.bytes + r.byte_room ≤ vec_capacity r.bytes)
@@ -94,7 +99,7 @@ impl Records {
         self.record_room -= 1;
     }
 
-    /// How many records are whole.
+    /// How many records are whole. All that is kept is bytes.
     pub fn len(&self) -> usize
         ensures count { result ≡ length self.now.closed }
         ensures bytes { AreBytes self.now }
@@ -102,7 +107,7 @@ impl Records {
         self.closed.len()
     }
 
-    /// The record at a place, counted from 0.
+    /// Record `i`, counted from 0: `None` where it is absent.
     pub fn record(&self, i: usize) -> Option<&[u8]>
         requires { i < length self.now.closed }
         ensures { option_copied result ≡ slice_index_or self.now.closed i None }

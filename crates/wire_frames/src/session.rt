@@ -45,7 +45,8 @@ impl Model for Session {
 }
 
 impl Session {
-    /// A session with no record yet. The memory for all its records is taken here, at most `24 + s` bytes for each.
+    /// A session with no record yet. The memory for all `n` records, of at most `24 + s` bytes each, is taken here, and
+    /// want of it is the only error.
     pub fn new(alloc: Global, params: SessionParams) -> Result<Session, AllocError>
         requires { IsInRange params }
         ensures { IfOk result (λ t. t ≡ record { params = params; records = [] }) }
@@ -55,7 +56,7 @@ impl Session {
         Ok(Session { params, records })
     }
 
-    /// The session with these numbers and records.
+    /// The session with these numbers and the records that are whole.
     pub(crate) fn from_records(params: SessionParams, records: Records) -> Session
         requires { IsUnderWay params records }
         ensures { result ≡ record { params = params; records = records.closed } }
@@ -63,7 +64,8 @@ impl Session {
         Session { params, records }
     }
 
-    /// Adds the record of the next server: the bytes that it answered, or none where a call failed. It takes no memory.
+    /// Adds the record of the next server: the bytes that it answered, at most `24 + s` of them, or `None` where a call
+    /// failed. An answer of no bytes is present too. It takes no memory.
     pub fn push_record(&mut self, bytes: Option<&[u8]>)
         requires few { length self.old.records < self.old.params.n }
         requires fits { IfSome (option_copied bytes) (λ b. length b ≤ 24 + self.old.params.s) }
@@ -75,6 +77,7 @@ impl Session {
         }
     }
 
+    /// Adds a record that is present.
     fn push_present(&mut self, bytes: &[u8])
         requires few { length self.old.records < self.old.params.n }
         requires fits { length bytes.now ≤ 24 + self.old.params.s }
@@ -84,7 +87,7 @@ impl Session {
         self.records.close_present();
     }
 
-    /// The record of server `i`, counted from 1: none where a call failed.
+    /// The record of server `i`, counted from 1: what was pushed, so `None` where a call failed.
     pub fn record_at(&self, i: u32) -> Option<&[u8]>
         requires first { 1 ≤ i }
         requires last { i ≤ length self.now.records }
@@ -93,7 +96,7 @@ impl Session {
         self.records.record(i as usize - 1)
     }
 
-    /// How many servers have a record.
+    /// How many records were pushed.
     pub fn record_count(&self) -> u32
         ensures count { result ≡ length self.now.records }
         ensures few { length self.now.records ≤ self.now.params.n }
@@ -110,14 +113,14 @@ impl Session {
         self.params
     }
 
-    /// 1 for Shamir's sharing.
+    /// 1 for Shamir's sharing, 2 for the XOR scheme.
     pub fn scheme(&self) -> u8
         ensures { result ≡ self.now.params.scheme }
     {
         self.params.scheme
     }
 
-    /// So many servers together learn nothing.
+    /// The degree of the queries' polynomials: so many servers together learn nothing.
     pub fn t(&self) -> u8
         ensures { result ≡ self.now.params.t }
     {
