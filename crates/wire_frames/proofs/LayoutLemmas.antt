@@ -224,3 +224,6 @@ pub to_end : {bytes : List ℕ} {scheme t h n session r v : ℕ} → Leads IsHea
     → Leads IsHeader (IsDone (record { scheme = scheme; t = t; h = h; n = n; session = session; r = r; s = v })) 28 bytes
 to_end {bytes} {scheme} {t} {h} {n} {session} {r} {v} leads is =
     leads-on (is_field 4 1 (min MOST_WIDTH (MOST_CELLS / r)) (lit≤ tt) (omega (arith, is.least, is.most)) (omega arith)) leads is
+
+pub some_magic : Starts at_magic []
+some_magic = some_spelling _ _ 1346982483 (lit≤ tt) (lit≤ tt) some_version

@@ -9,6 +9,7 @@ mod Parsing
 mod ReaderLemmas
 mod RecordHeader
 mod RecordsReaderLemmas
+mod SessionReaderLemmas
 pub mod Spans
 pub mod UnderWay
 pub mod OneSession

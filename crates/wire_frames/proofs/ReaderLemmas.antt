@@ -1,12 +1,12 @@
 -- The header of a session that comes in pieces, and what is read behind it.
-use Rattle.std.proofs.Common.{◌≡◌, ℕ, ◌+◌, ◌-◌, ◌<◌, ◌≤◌, List, [], ◌++◌, length, take, drop, min, refl, sym, subst, ap, ◌∙◌, arith, append_assoc, length-append, length-drop}
-use Rattle.std.specs.Prelude.{Result, Ok, Err}
+use Rattle.std.proofs.Common.{◌≡◌, ℕ, ◌+◌, ◌-◌, ◌<◌, ◌≤◌, List, [], ◌++◌, length, take, drop, min, sym, subst, ap, ◌∙◌, arith, append_assoc, length-append}
+use Rattle.std.specs.Prelude.{Result, Err}
 use Rattle.std.proofs.lemmas.List.{length-take, take-append-drop, take_all, take_rest}
 use Rattle.wire_frames.specs.declared.session.SessionParams.{SessionParams}
 use Rattle.wire_frames.specs.Form.{Starts, Reads}
 use Rattle.wire_frames.specs.Layout.{IsHeader}
-use Rattle.wire_frames.specs.RecordsReader.{Refuses, FeedsOn}
-use Rattle.wire_frames.specs.Session.{IsSession, header_bytes}
+use Rattle.wire_frames.specs.RecordsReader.{Refuses}
+use Rattle.wire_frames.specs.Session.{header_bytes}
 use Rattle.wire_frames.proofs.Beginnings.{header_begins, header_part}
 use Rattle.wire_frames.proofs.HeadLemmas.{IsBehind, place_behind, head_refuses, head_goes_on, refuses_more}
 use Rattle.wire_frames.proofs.Parsing.{length-header}

@@ -1,26 +1,35 @@
-use Rattle.std.proofs.Common.{rules, ◌≡◌, ◌<◌, [], length, ℕ, ◌+◌, ◌-◌, ◌*◌, ◌≤◌, ◌/◌, ◌%◌, Bool, true, false, nat_eq, nat_lt, List, ◌∷◌, ◌++◌, slice_index_or, slice_set, bit_and, bit_or, Fits, w8, w32, w64, Bor, MutBor}
-use Rattle.wire_frames.specs.Form.{Starts}
-use Rattle.wire_frames.specs.Layout.{IsHeader}
-use Rattle.wire_frames.specs.Reading.{SoFar, Feeds, Ends}
-use Rattle.wire_frames.specs.SessionReader.{IsRight, FeedsState, FeedsHeader}
+use Rattle.std.proofs.Common.{◌+◌, length, subst, arith}
+use Rattle.std.specs.Prelude.{Ok, Err}
+use Rattle.wire_frames.specs.declared.reader.FeedFault.TheVariants.{BadSession}
+use Rattle.wire_frames.specs.declared.reader.Stop.{Stop}
+use Rattle.wire_frames.specs.Reading.{Reading, Refused, Feeds}
+use Rattle.wire_frames.specs.SessionReader.{FeedsState, reading_of}
+use Rattle.wire_frames.proofs.SessionReaderLemmas.{taken_fits, taken_sound, taken_reads, refused_fits, refused_reads}
 use Rattle.wire_frames.proofs.reader.SessionReader.feed.Goals as goal
 
--- src/reader.rt:96:17
 pub overflow_add-self : goal.overflow_add-self
-overflow_add-self c = ?
+overflow_add-self c =
+    let few = taken_fits c.self.inside.taken c.self.inside.state c.args.piece.now c.feed.new.self c.self.invariant c.in-Ok.ensures in
+    omega (arith, few)
 
--- src/reader.rt:97:17
 pub invariant_of-self : goal.invariant_of-self
-invariant_of-self c = ?
+invariant_of-self c = taken_sound c.self.inside.taken c.self.inside.state c.args.piece.now c.feed.new.self c.self.invariant c.in-Ok.ensures
 
--- src/reader.rt:100:17
-pub overflow_add-self-in-Err-Wrong : goal.overflow_add-self-in-Err-Wrong
-overflow_add-self-in-Err-Wrong c = ?
-
--- src/reader.rt:91:5
 pub returns-in-Ok : goal.returns-in-Ok
-returns-in-Ok c = ?
+returns-in-Ok c =
+    subst (λ (old : Reading). Feeds old c.args.piece.now (Ok tt) (reading_of (c.self.inside.taken + length c.args.piece.now) c.feed.new.self)) c.self.view_is
+    (taken_reads c.self.inside.taken c.self.inside.state c.args.piece.now c.feed.new.self c.self.invariant c.in-Ok.ensures)
 
--- src/reader.rt:91:5
+pub overflow_add-self-in-Err-Wrong : goal.overflow_add-self-in-Err-Wrong
+overflow_add-self-in-Err-Wrong c =
+    let right = c.in-Err-Wrong.right in
+    let wrong = subst (λ (stop : Stop). FeedsState c.self.inside.state c.args.piece.now (Err stop) c.feed.new.self) c.in-Err-Wrong.field-0-is c.in-Err-Wrong.ensures in
+    let few = refused_fits c.self.inside.taken c.self.inside.state c.args.piece.now right c.feed.new.self c.self.ranges.0.1 c.self.invariant wrong in
+    omega (arith, few)
+
 pub returns-in-Err-Wrong : goal.returns-in-Err-Wrong
-returns-in-Err-Wrong c = ?
+returns-in-Err-Wrong c =
+    let right = c.in-Err-Wrong.right in
+    let wrong = subst (λ (stop : Stop). FeedsState c.self.inside.state c.args.piece.now (Err stop) c.feed.new.self) c.in-Err-Wrong.field-0-is c.in-Err-Wrong.ensures in
+    subst (λ (old : Reading). Feeds old c.args.piece.now (Err (BadSession (c.self.inside.taken + right))) (Refused (c.self.inside.taken + right))) c.self.view_is
+    (refused_reads c.self.inside.taken c.self.inside.state c.args.piece.now right c.feed.new.self c.self.invariant wrong)
