@@ -1,6 +1,6 @@
 //! Reads a recorded session from Input, and judges it.
 
-ghost use Rattle.std.specs.Prelude.{◌≡◌, length, IfOk};
+ghost use Rattle.std.specs.Prelude.{◌≡◌, ◌<◌, length, vec_len, IfOk};
 ghost use Rattle.pir_ports.specs.Moves.{Touches};
 ghost use Rattle.wire_frames.specs.Session.{IsSession};
 ghost use Rattle.wire_frames.specs.Reading.{Feeds};
@@ -40,18 +40,20 @@ fn feed_piece(alloc: Global, reader: &mut SessionReader, piece: &[u8]) -> Result
     }
 }
 
-/// Reads Input to its end, or to the first piece that is refused.
-fn read_session<P: Ports>(alloc: Global, ports: &mut P) -> Result<Session, ReplayFault>
+/// Reads Input to its end, or to the first piece that is refused, through the buffer.
+fn read_pieces<P: Ports>(
+    alloc: Global,
+    ports: &mut P,
+    buffer: &mut [u8],
+) -> Result<Session, ReplayFault>
+    requires { 0 < length buffer.old }
     ensures read { ReadTo IsFileOf result (P.world ports.old) (P.world ports.new) }
     ensures all { IfOk result (λ session. length session.records ≡ session.params.n) }
     ensures others { Touches 0 (P.world ports.old) (P.world ports.new) }
 {
-    let Ok(mut buffer) = vec![in alloc; 0; PIECE] else {
-        return Err(ReplayFault::Memory);
-    };
     let mut reader = SessionReader::new();
     'pieces: loop {
-        match ports.take(Port::Input, &mut buffer) {
+        match ports.take(Port::Input, buffer) {
             Ok(n) => {
                 if n == 0 {
                     break;
@@ -67,6 +69,13 @@ fn read_session<P: Ports>(alloc: Global, ports: &mut P) -> Result<Session, Repla
     }
 }
 
+/// Room for one piece.
+fn piece_buffer(alloc: Global) -> Result<Vec<u8>, ReplayFault>
+    ensures { IfOk result (λ buffer. 0 < vec_len buffer) }
+{
+    vec![in alloc; 0; PIECE].map_err(|_| ReplayFault::Memory)
+}
+
 /// The verdict on the session that Input, already open, holds to its end. It is read in pieces, and a wrong byte
 /// ends the reading.
 ///
@@ -78,7 +87,8 @@ pub fn replay<P: Ports>(alloc: Global, ports: &mut P) -> Result<Verdict, ReplayF
     ensures replayed { ReadTo Judged result (P.world ports.old) (P.world ports.new) }
     ensures others { Touches 0 (P.world ports.old) (P.world ports.new) }
 {
-    let session = read_session(alloc, ports)?;
+    let mut buffer = piece_buffer(alloc)?;
+    let session = read_pieces(alloc, ports, &mut buffer)?;
     match judge(alloc, &session) {
         Ok(verdict) => Ok(verdict),
         Err(AllocError) => Err(ReplayFault::Memory),
