@@ -7,7 +7,11 @@ mod judging;
 mod line;
 mod listing;
 mod plain;
+#[cfg(test)]
+mod tests;
 mod verdict;
+#[cfg(test)]
+mod worked_rows;
 
 pub use decoder::{bound, decide};
 pub use judging::judge;
