@@ -12,7 +12,14 @@ use crate::listing::Listing;
 use crate::verdict::Verdict;
 use std::alloc::{AllocError, Global};
 
-pub fn decide(alloc: Global, indices: &[u8], bytes: &[u8], t: u32, h: u32, s: u32) -> Result<Verdict, AllocError>
+pub fn decide(
+    alloc: Global,
+    indices: &[u8],
+    bytes: &[u8],
+    t: u32,
+    h: u32,
+    s: u32,
+) -> Result<Verdict, AllocError>
     requires ascending { IsStrictlyIncreasing indices.now }
     requires nonzero { All (λ a. a ≢ 0) indices.now }
     requires few { length indices.now ≤ 8 }
@@ -35,7 +42,12 @@ pub fn decide(alloc: Global, indices: &[u8], bytes: &[u8], t: u32, h: u32, s: u3
 }
 
 // Tries the line through each pair of answers.
-fn list_lines(alloc: Global, answers: &Answers<'_>, width: usize, h: usize) -> Result<Listing, AllocError>
+fn list_lines(
+    alloc: Global,
+    answers: &Answers<'_>,
+    width: usize,
+    h: usize,
+) -> Result<Listing, AllocError>
     requires different { AllPairs (λ a b. a.index ≢ b.index) answers.now }
     requires filled { Filled width answers.now }
     requires agreement { (2 ≤ h) × (h ≤ length answers.now) }

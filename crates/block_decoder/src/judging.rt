@@ -17,7 +17,14 @@ pub fn judge(alloc: Global, session: &Session) -> Result<Verdict, AllocError>
 {
     let params = session.params();
     let usable = collect_usable(alloc, session)?;
-    decide(alloc, &usable.indices, &usable.payloads, u32::from(params.t), u32::from(params.h), params.s)
+    decide(
+        alloc,
+        &usable.indices,
+        &usable.payloads,
+        u32::from(params.t),
+        u32::from(params.h),
+        params.s,
+    )
 }
 
 // The usable answers, by ascending index.

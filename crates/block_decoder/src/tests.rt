@@ -1,4 +1,7 @@
 // The worked rows, and sessions that are judged.
+
+ghost use Rattle.std.specs.Prelude.{◌≤◌};
+
 use crate::worked_rows::{ROWS, lists};
 use crate::{Verdict, bound, decide, judge};
 use std::alloc::{AllocError, Global};
@@ -30,13 +33,19 @@ fn bounds_the_worked_rows(rt: HostRuntime) {
     }
 }
 
-const FIRST: &[u8] = b"PIRA\x01\x01\x01\0\0\0\0\0\0\0\0\x07\0\0\0\x02\0\0\0\x02\xcf\xd2";
-const SECOND: &[u8] = b"PIRA\x01\x01\x02\0\0\0\0\0\0\0\0\x07\0\0\0\x02\0\0\0\x02\x40\x73";
-const THIRD: &[u8] = b"PIRA\x01\x01\x03\0\0\0\0\0\0\0\0\x07\0\0\0\x02\0\0\0\x02\xcc\xe5";
-const THIRD_OF_SESSION_8: &[u8] = b"PIRA\x01\x01\x03\0\0\0\0\0\0\0\0\x08\0\0\0\x02\0\0\0\x02\xcc\xe5";
+const FIRST: &[u8; 26] = b"PIRA\x01\x01\x01\0\0\0\0\0\0\0\0\x07\0\0\0\x02\0\0\0\x02\xcf\xd2";
+
+const SECOND: &[u8; 26] = b"PIRA\x01\x01\x02\0\0\0\0\0\0\0\0\x07\0\0\0\x02\0\0\0\x02\x40\x73";
+
+const THIRD: &[u8; 26] = b"PIRA\x01\x01\x03\0\0\0\0\0\0\0\0\x07\0\0\0\x02\0\0\0\x02\xcc\xe5";
+
+const THIRD_OF_SESSION_8: &[u8; 26] =
+    b"PIRA\x01\x01\x03\0\0\0\0\0\0\0\0\x08\0\0\0\x02\0\0\0\x02\xcc\xe5";
 
 // What is said of session 7 of three servers, of which `h` have to agree.
-fn judged(alloc: Global, h: u8, records: [Option<&[u8]>; 3]) -> Result<Verdict, AllocError> {
+fn judged(alloc: Global, h: u8, records: [Option<&[u8; 26]>; 3]) -> Result<Verdict, AllocError>
+    requires { (2 ≤ h) × (h ≤ 3) }
+{
     let params = SessionParams {
         scheme: 1,
         t: 1,
@@ -48,7 +57,10 @@ fn judged(alloc: Global, h: u8, records: [Option<&[u8]>; 3]) -> Result<Verdict, 
     };
     let mut session = Session::new(alloc, params)?;
     for record in records {
-        session.push_record(record);
+        match record {
+            Some(bytes) => session.push_record(Some(bytes)),
+            None => session.push_record(None),
+        }
     }
     judge(alloc, &session)
 }
@@ -74,7 +86,9 @@ fn counts_the_usable_answers_alone(rt: HostRuntime) -> Result<(), Fail> {
         (3, [Some(FIRST), Some(SECOND), Some(THIRD_OF_SESSION_8)], 2),
     ] {
         let verdict = judged(rt.alloc(), h, records)?;
-        assert!(rt; matches!(verdict, Verdict::TooFew { k, h: asked } if k == usable && asked == u32::from(h)));
+        assert!(rt;
+            matches!(verdict, Verdict::TooFew { k, h: asked } if k == usable && asked == u32::from(h))
+        );
     }
     Ok(())
 }

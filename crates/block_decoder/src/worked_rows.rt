@@ -79,8 +79,11 @@ pub const ROWS: [Row<'static>; 8] = [
     },
 ];
 
-
 // Whether the listing is these blocks, in this order.
 pub fn lists(listing: &Listing, blocks: &[&[u8]]) -> bool {
-    listing.len() == blocks.len() && blocks.iter().enumerate().all(|(i, block)| listing.get(i) == Some(*block))
+    listing.len() == blocks.len()
+        && blocks
+            .iter()
+            .enumerate()
+            .all(|(i, block)| listing.get(i) == Some(*block))
 }
