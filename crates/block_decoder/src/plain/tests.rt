@@ -119,7 +119,8 @@ fn count_of_both(alloc: Global, bytes: &[u8], s: u32) -> Result<Option<usize>, A
 #[test]
 fn agrees_with_the_search_by_pairs(rt: HostRuntime) -> Result<(), Fail> {
     let mut draw = Draw { state: 1 };
-    let mut counts = [0u32; 3];
+    // Whether none, one, or several blocks were listed at some session.
+    let mut seen = [false; 3];
     for _ in 0..5u8 {
         for kind in [Kind::Anyhow, Kind::OnOneLineButOne, Kind::OnTwoLines] {
             let left = column(&mut draw, kind);
@@ -127,10 +128,10 @@ fn agrees_with_the_search_by_pairs(rt: HostRuntime) -> Result<(), Fail> {
             let both = side_by_side(&left, &right);
             for (bytes, s) in [(&left[..], 1), (&right[..], 1), (&both[..], 2)] {
                 let count = count_of_both(rt.alloc(), bytes, s)?.ok_or("they differ")?;
-                counts[count.min(2)] += 1;
+                seen[count.min(2)] = true;
             }
         }
     }
-    assert!(rt; counts[0] > 0 && counts[1] > 0 && counts[2] > 0);
+    assert!(rt; seen[0] && seen[1] && seen[2]);
     Ok(())
 }
