@@ -1,4 +1,4 @@
-//! The worked rows of the format, for the tests of both programs.
+//! Worked examples, for the tests of both programs.
 
 use crate::Listing;
 
