@@ -112,7 +112,7 @@ different-answers_of width indices bytes ascending = λ i j d below within same.
     let none : Answer = record { index = 0; payload = [] } in
     let size = length-answers_of width indices bytes in
     let at : (k : ℕ) → k < length answers → (get_or answers k d).index ≡ get_or indices k 0 = λ k l.
-        ap (λ (a : Answer). a.index) (get_or_default answers k d none l ∙ answer_at-answers_of width indices bytes k (omega (arith, l, size))) in
+    ap (λ (a : Answer). a.index) (get_or_default answers k d none l ∙ answer_at-answers_of width indices bytes k (omega (arith, l, size))) in
     let rises = AllPairs-from_increasing indices ascending i j 0 below (omega (arith, within, size)) in
     let equal = sym (at i (omega (arith, below, within))) ∙ same ∙ at j within in
     omega (arith, rises, equal)

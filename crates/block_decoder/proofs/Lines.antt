@@ -1,5 +1,5 @@
 -- Polynomials of degree one: their values, and that two points fix one.
-use Rattle.std.proofs.Common.{◌≡◌, ◌≢◌, ℕ, zero, suc, ◌+◌, ◌<◌, List, [], ◌∷◌, length, map, get_or, All, subst, refl, sym, ap, ap₂, ◌∙◌, below_more, arith, lit<}
+use Rattle.std.proofs.Common.{◌≡◌, ◌≢◌, ℕ, zero, suc, ◌+◌, ◌<◌, List, [], ◌∷◌, length, map, get_or, subst, refl, sym, ap, ap₂, ◌∙◌, below_more, arith}
 use Rattle.std.proofs.lemmas.List.{ext_get_or, get_or_default, get_or-map, length-map, get_or-set_same, get_or-set_other}
 use Rattle.std.proofs.Math.ListN.{set}
 use Rattle.std.proofs.lemmas.List.Elements.{All-cons, All-nil, All-from_get_or}
@@ -7,7 +7,7 @@ use Rattle.gf256.specs.Field.{◌⊕◌, ◌⊗◌, power, inverse}
 use Rattle.gf256.specs.Sums.{sum_to}
 use Rattle.gf256.specs.Polynomial.{coef, val, IsPolynomial}
 use Rattle.wire_frames.specs.Answer.{Answer}
-use Rattle.block_decoder.specs.Agreed.{Holds, constants_of}
+use Rattle.block_decoder.specs.Agreed.{constants_of}
 use Rattle.block_decoder.specs.Line.{lines_of, IsLineThrough}
 use Rattle.gf256.proofs.FieldLaws.{ring, mul_lt, mul_comm}
 use Rattle.gf256.proofs.Xor.{sums, add_lt}

@@ -1,5 +1,5 @@
 -- The search by pairs: each block that is agreed on hides behind a line through two answers.
-use Rattle.std.proofs.Common.{◌≡◌, ◌≢◌, ◌⊎◌, ◌↔◌, inl, inr, ℕ, zero, suc, ◌+◌, ◌<◌, ◌≤◌, true, List, [], ◌∷◌, length, get_or, map, All, Contains, refl, sym, ap, subst, ◌∙◌, arith}
+use Rattle.std.proofs.Common.{◌≡◌, ◌⊎◌, ◌↔◌, inl, inr, ℕ, ◌+◌, ◌<◌, ◌≤◌, true, List, [], length, get_or, All, Contains, sym, ap, subst, ◌∙◌, arith}
 use Rattle.std.specs.Cmp.Lexicographic.{slice_cmp}
 use Rattle.std.specs.List.Sorted.{IsStrictlySortedBy}
 use Rattle.std.specs.Ordering.{nat_cmp}
@@ -81,7 +81,7 @@ tried_light answers width h blocks first second line so_far size through light =
         | inl before ↦ so_far.tried p q l m before
         | inr here ↦ λ other wide degree holds_p holds_q heavy.
             let same : other ≡ line = through.only other (wide ∙ sym size) degree
-                (subst (λ p. Holds other (answer_at answers p)) here.0 holds_p) (subst (λ q. Holds other (answer_at answers q)) here.1 holds_q) in
+            (subst (λ p. Holds other (answer_at answers p)) here.0 holds_p) (subst (λ q. Holds other (answer_at answers q)) here.1 holds_q) in
             absurd (light (subst (λ l. h ≤ weight l answers) same heavy))
       ];
     }
@@ -102,7 +102,7 @@ tried_heavy answers width h old new first second line so_far size through heavy 
         | inl before ↦ λ other wide degree holds_p holds_q enough. (grown (constants_of other)).1 (inl (so_far.tried p q l m before other wide degree holds_p holds_q enough))
         | inr here ↦ λ other wide degree holds_p holds_q enough.
             let same : other ≡ line = through.only other (wide ∙ sym size) degree
-                (subst (λ p. Holds other (answer_at answers p)) here.0 holds_p) (subst (λ q. Holds other (answer_at answers q)) here.1 holds_q) in
+            (subst (λ p. Holds other (answer_at answers p)) here.0 holds_p) (subst (λ q. Holds other (answer_at answers q)) here.1 holds_q) in
             (grown (constants_of other)).1 (inr (ap constants_of same))
       ];
     }
@@ -121,10 +121,10 @@ found_heavy answers width h blocks two filled all block heavy =
     let below_too : q < length answers = within-places_of test answers none 1 0 (omega (arith, count)) in
     let rises : p < q = ascending-places_of test answers none 0 (omega (arith, count)) in
     let holds : (r : ℕ) → r < length answers → test (answer_at answers r) ≡ true → Holds heavy.polynomials (answer_at answers r) =
-        λ r l t. (holds_first-Decides heavy.polynomials (answer_at answers r) (filled-at width answers r filled l ∙ sym heavy.one_a_column)).0 t in
+    λ r l t. (holds_first-Decides heavy.polynomials (answer_at answers r) (filled-at width answers r filled l ∙ sym heavy.one_a_column)).0 t in
     let found = all.tried p q rises below_too (inl below) heavy.polynomials heavy.one_a_column heavy.degree
-        (holds p below (pass-places_of test answers none 0 0 (omega (arith, count))))
-        (holds q below_too (pass-places_of test answers none 1 0 (omega (arith, count)))) heavy.enough in
+    (holds p below (pass-places_of test answers none 0 0 (omega (arith, count))))
+    (holds q below_too (pass-places_of test answers none 1 0 (omega (arith, count)))) heavy.enough in
     subst (Contains blocks) (sym heavy.constants) found
 
 -- the blocks are the agreed ones once all pairs are tried

@@ -10,14 +10,27 @@ use crate::verdict::Verdict;
 use std::alloc::{AllocError, Global};
 use wire_frames::{QueryHeader, Session, usable_answer};
 
-/// What the usable answers of a session say.
+/// What the usable answers of a session say of the block that was asked for, as [`decide`] has it for the
+/// session's numbers. All `n` records were pushed; a record that is absent, or no usable answer to the query of
+/// its own server, counts for nothing.
+///
+/// # Errors
+///
+/// `AllocError` where there is no memory for a copy of `n` payloads, for the decoder or for a block.
 pub fn judge(alloc: Global, session: &Session) -> Result<Verdict, AllocError>
     requires all { length session.now.records ≡ session.now.params.n }
     ensures verdict { IfOk result (IsVerdict session.now) }
 {
     let params = session.params();
     let usable = collect_usable(alloc, session)?;
-    decide(alloc, &usable.indices, &usable.payloads, u32::from(params.t), u32::from(params.h), params.s)
+    decide(
+        alloc,
+        &usable.indices,
+        &usable.payloads,
+        u32::from(params.t),
+        u32::from(params.h),
+        params.s,
+    )
 }
 
 // The usable answers, by ascending index.

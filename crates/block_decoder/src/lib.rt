@@ -1,4 +1,9 @@
 //! Which blocks a session's answers agree on, and the text that says so.
+//!
+//! A verdict lists exactly the blocks on which enough answers agree (Goldberg 2007), each once and ascending, or
+//! says that too few answers are usable, or that so weak an agreement bounds no list. Nothing is assumed of the
+//! servers. It isn't said which of several blocks is the one that was stored: servers enough that lie alike
+//! agree on a block of their own.
 #![tactic(auto)]
 
 mod answers;
@@ -7,7 +12,11 @@ mod judging;
 mod line;
 mod listing;
 mod plain;
+#[cfg(test)]
+mod tests;
 mod verdict;
+#[cfg(test)]
+mod worked_rows;
 mod write;
 
 pub use decoder::{bound, decide};

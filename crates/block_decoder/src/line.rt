@@ -39,8 +39,8 @@ impl Line {
         })
     }
 
-    /// Lays the line through two answers: in each column its slope is the difference of their bytes over that of
-    /// their indices.
+    /// Lays the line through two answers (Lagrange): in each column the slope is the difference of their bytes over
+    /// that of their indices, which is inverted once.
     pub fn pass_through(&mut self, first: &Answer<'_>, second: &Answer<'_>)
         requires different { first.now.index ≢ second.now.index }
         requires first_width { length first.now.payload ≡ length self.old }

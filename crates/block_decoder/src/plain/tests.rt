@@ -2,95 +2,16 @@
 
 ghost use Rattle.std.specs.Prelude.{◌≡◌, ◌*◌, ◌≤◌, length};
 
+use crate::worked_rows::{ROWS, lists};
 use crate::{Listing, Verdict, decide, plain_listing};
 use std::alloc::{AllocError, Global};
 use std::test::Fail;
-
-// Answers, what is asked of them, and the blocks that are agreed on.
-struct Row<'a> {
-    indices: &'a [u8],
-    bytes: &'a [u8],
-    t: u32,
-    h: u32,
-    s: u32,
-    blocks: &'a [&'a [u8]],
-}
-
-const ROWS: [Row<'static>; 8] = [
-    Row {
-        indices: &[1, 2, 3],
-        bytes: &[0xcf, 0xd2, 0x40, 0x73, 0xcc, 0xe5],
-        t: 1,
-        h: 2,
-        s: 2,
-        blocks: &[&[0x43, 0x44]],
-    },
-    Row {
-        indices: &[1, 2, 3],
-        bytes: &[0xcf, 0xd2, 0x40, 0x73, 0xcc, 0xe5],
-        t: 1,
-        h: 3,
-        s: 2,
-        blocks: &[&[0x43, 0x44]],
-    },
-    Row {
-        indices: &[1, 3],
-        bytes: &[0xcf, 0xd2, 0xcc, 0xe5],
-        t: 1,
-        h: 2,
-        s: 2,
-        blocks: &[&[0x43, 0x44]],
-    },
-    Row {
-        indices: &[1, 2, 3],
-        bytes: &[0xcf, 0xd2, 0x40, 0x72, 0xcc, 0xe5],
-        t: 1,
-        h: 3,
-        s: 2,
-        blocks: &[],
-    },
-    Row {
-        indices: &[1, 2, 3, 4, 5],
-        bytes: &[0x10, 0x10, 0x10, 0x17, 0x16],
-        t: 1,
-        h: 3,
-        s: 1,
-        blocks: &[&[0x10], &[0x13]],
-    },
-    Row {
-        indices: &[1, 2, 3, 4, 5],
-        bytes: &[0x10, 0x20, 0x10, 0x40, 0x10, 0x44, 0x20, 0x44, 0x40, 0x44],
-        t: 1,
-        h: 3,
-        s: 2,
-        blocks: &[],
-    },
-    Row {
-        indices: &[1, 2, 3, 4, 5, 6],
-        bytes: &[0x42, 0x41, 0x40, 0x4b, 0x49, 0x4f],
-        t: 1,
-        h: 3,
-        s: 1,
-        blocks: &[&[0x43]],
-    },
-    Row {
-        indices: &[1, 2, 3],
-        bytes: &[0x00, 0x01, 0x02],
-        t: 1,
-        h: 2,
-        s: 1,
-        blocks: &[&[0x01], &[0x07], &[0xf6]],
-    },
-];
 
 #[test]
 fn lists_the_worked_rows(rt: HostRuntime) -> Result<(), Fail> {
     for row in &ROWS {
         let listing = plain_listing(rt.alloc(), row.indices, row.bytes, row.t, row.h, row.s)?;
-        assert_eq!(rt; listing.len(), row.blocks.len());
-        for (i, block) in row.blocks.iter().enumerate() {
-            assert_eq!(rt; listing.get(i), Some(*block));
-        }
+        assert!(rt; lists(&listing, row.blocks));
     }
     Ok(())
 }

@@ -1,4 +1,4 @@
-use Rattle.std.proofs.Common.{◌≡◌, ◌≢◌, ◌*◌, ◌<◌, ◌≤◌, ℕ, List, length, AllPairs, sym, subst, ap, refl, arith}
+use Rattle.std.proofs.Common.{◌≢◌, ℕ, List, length, AllPairs, sym, subst, ap, refl, arith}
 use Rattle.wire_frames.specs.Answer.{Answer}
 use Rattle.block_decoder.specs.Agreed.{answers_of, Filled, Lists}
 use Rattle.block_decoder.proofs.Agreement.{length-answers_of, filled-answers_of, different-answers_of}
@@ -32,10 +32,9 @@ list_lines-requires-clause-agreement c =
 
 pub returns : goal.returns
 returns c =
-    let n = length-answers_of c.args.s c.args.indices.now c.args.bytes.now in
-    (
+    let n = length-answers_of c.args.s c.args.indices.now c.args.bytes.now in (
       omega (arith, n),
       rw n c.if-h-k.false,
       subst (λ (t : ℕ). Lists c.in_ok-listing.listing (answers_of c.args.s c.args.indices.now c.args.bytes.now) c.args.s t c.args.h) (sym c.requires.degree)
-      (subst (λ (answers : List Answer). Lists c.in_ok-listing.listing answers c.args.s 1 c.args.h) c.new-answers.ensures c.in_ok-listing.ensures),
+          (subst (λ (answers : List Answer). Lists c.in_ok-listing.listing answers c.args.s 1 c.args.h) c.new-answers.ensures c.in_ok-listing.ensures),
     )

@@ -1,7 +1,7 @@
-use Rattle.std.proofs.Common.{◌≡◌, ℕ, ◌+◌, ◌-◌, ◌<◌, ◌≤◌, Bool, true, false, List, length, take, count_by, refl, sym, subst, ap, ◌∙◌, arith}
+use Rattle.std.proofs.Common.{◌+◌, count_by, refl, sym, subst, ap, ◌∙◌, arith}
 use Rattle.std.proofs.lemmas.Bool.{false≢true}
 use Rattle.std.proofs.lemmas.List.{take_all}
-use Rattle.block_decoder.specs.Agreed.{Holds, holds_first, weight, answer_at}
+use Rattle.block_decoder.specs.Agreed.{Holds, holds_first}
 use Rattle.block_decoder.proofs.Places.{count_by-rest}
 use Rattle.block_decoder.proofs.Agreement.{weight_hit, weight_miss}
 use Rattle.block_decoder.proofs.decoder.is_heavy.Goals as goal
@@ -16,8 +16,7 @@ returns-then-misses_left-eq0 c =
     let answers = c.args.answers.now in
     let place = c.loop-place.place in
     let miss = weight_miss line answers place c.requires.filled (omega arith) (λ h. false≢true (sym c.if-not-holds.true ∙ c.holds.ensures.1 (subst (Holds line) (sym c.at.ensures) h))) in
-    let rest = count_by-rest (holds_first line) answers (place + 1) in
-    (
+    let rest = count_by-rest (holds_first line) answers (place + 1) in (
       λ t. absurd (false≢true t),
       λ h. absurd (omega (arith, miss, rest)),
     )
@@ -40,8 +39,7 @@ pub returns : goal.returns
 returns c =
     let line = c.args.line.now in
     let answers = c.args.answers.now in
-    let whole = ap (count_by (holds_first line)) (take_all c.loop-place.place answers (omega arith)) in
-    (
+    let whole = ap (count_by (holds_first line)) (take_all c.loop-place.place answers (omega arith)) in (
       λ t. omega (arith, whole),
       λ h. refl,
     )

@@ -1,7 +1,7 @@
-use Rattle.std.proofs.Common.{◌≡◌, ◌⊎◌, ◌↔◌, ℕ, ◌+◌, ◌<◌, ◌≤◌, List, [], length, get_or, All, Contains, sym, subst, ap, ◌∙◌, arith}
+use Rattle.std.proofs.Common.{◌≡◌, ◌⊎◌, ◌↔◌, ℕ, ◌+◌, List, [], length, Contains, sym, subst, ap, ◌∙◌, arith}
 use Rattle.std.proofs.lemmas.Bool.{false≢true}
 use Rattle.wire_frames.specs.Answer.{Answer}
-use Rattle.block_decoder.specs.Agreed.{answer_at, weight, constants_of, Filled}
+use Rattle.block_decoder.specs.Agreed.{answer_at, constants_of, Filled}
 use Rattle.block_decoder.specs.Line.{IsLineThrough}
 use Rattle.block_decoder.proofs.Agreement.{filled-at}
 use Rattle.block_decoder.proofs.Pairs.{HasTried, tried_none, tried_row, tried_rows, tried_light, tried_heavy, tried_all}
@@ -43,14 +43,14 @@ loop-second-preserved c =
     let line = c.pass_through.new.self in
     let width = c.pass_through.ensures.width ∙ c.loop-second.invariant.width in
     let through : IsLineThrough (answer_at answers c.loop-first.first) (answer_at answers c.loop-second.second) line =
-        subst (λ (a : Answer). IsLineThrough a (answer_at answers c.loop-second.second) line) c.at.ensures
-        (subst (λ (b : Answer). IsLineThrough c.at.result b line) c.at-in-loop-second.ensures c.pass_through.ensures.through) in
+    subst (λ (a : Answer). IsLineThrough a (answer_at answers c.loop-second.second) line) c.at.ensures
+    (subst (λ (b : Answer). IsLineThrough c.at.result b line) c.at-in-loop-second.ensures c.pass_through.ensures.through) in
     record {
       width = width;
       tried = elim c.if-is_heavy.branch [
         | then-is_heavy+in_ok-insert w ↦
             let grown : (block : List ℕ) → Contains w.insert.new.self block ↔ (Contains c.loop-second.listing block ⊎ (block ≡ constants_of line)) =
-                subst (λ (k : List ℕ). (block : List ℕ) → Contains w.insert.new.self block ↔ (Contains c.loop-second.listing block ⊎ (block ≡ k))) w.constants.ensures w.in_ok-insert.ensures.ok in
+            subst (λ (k : List ℕ). (block : List ℕ) → Contains w.insert.new.self block ↔ (Contains c.loop-second.listing block ⊎ (block ≡ k))) w.constants.ensures w.in_ok-insert.ensures.ok in
             subst (λ (l : List (List ℕ)). HasTried answers c.args.width c.args.h l c.loop-first.first (c.loop-second.second + 1)) (sym w.listing-is)
             (tried_heavy answers c.args.width c.args.h c.loop-second.listing w.insert.new.self c.loop-first.first c.loop-second.second line c.loop-second.invariant.tried width through
             (c.is_heavy.ensures.0 w.if-is_heavy.true) w.in_ok-insert.ensures.ascending grown)

@@ -1,5 +1,5 @@
-use Rattle.std.proofs.Common.{rules, ◌≡◌, ◌*◌, ◌<◌, length, ℕ, ◌+◌, ◌-◌, ◌≤◌, List, Fits, w64, Bor, arith, ap, ◌∙◌, sym, get_or, take, drop}
-use Rattle.block_decoder.specs.Agreed.{answers_of, answer_at}
+use Rattle.std.proofs.Common.{◌≡◌, ◌*◌, length, ℕ, ◌+◌, ◌-◌, arith, ap, ◌∙◌, sym, get_or, take, drop}
+use Rattle.block_decoder.specs.Agreed.{answer_at}
 use Rattle.block_decoder.proofs.Agreement.{length-answers_of, answer_at-answers_of, row_within}
 use Rattle.block_decoder.proofs.answers.Answers.at.Goals as goal
 

@@ -1,8 +1,6 @@
-use Rattle.std.proofs.Common.{◌≡◌, ◌≢◌, ◌<◌, ℕ, List, [], length, get_or, ap, ap₂, sym, subst, refl, ◌∙◌, arith, All}
-use Rattle.std.specs.Vec.{vec_len}
+use Rattle.std.proofs.Common.{◌≡◌, length, get_or, ap, ap₂, sym, refl, ◌∙◌, arith}
 use Rattle.std.proofs.lemmas.List.{length-set}
-use Rattle.gf256.specs.Field.{◌⊕◌, ◌⊗◌, inverse}
-use Rattle.block_decoder.specs.Line.{lines_of}
+use Rattle.gf256.specs.Field.{◌⊕◌}
 use Rattle.block_decoder.proofs.Lines.{add_not_zero, length-lines_of, length_constants, line_through, fit_more}
 use Rattle.block_decoder.proofs.line.Line.pass_through.Goals as goal
 

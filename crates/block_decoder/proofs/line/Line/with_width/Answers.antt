@@ -1,4 +1,4 @@
-use Rattle.std.proofs.Common.{length, ap, sym, ◌∙◌, ℕ, ◌≡◌, arith, replicate}
+use Rattle.std.proofs.Common.{length, ap, sym, ◌∙◌}
 use Rattle.std.proofs.lemmas.List.{length-replicate}
 use Rattle.block_decoder.proofs.Lines.{length-lines_of}
 use Rattle.block_decoder.proofs.line.Line.with_width.Goals as goal
