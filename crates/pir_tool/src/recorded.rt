@@ -70,10 +70,10 @@ fn read_pieces<P: Ports>(
 }
 
 /// Room for one piece.
-fn piece_buffer(alloc: Global) -> Result<Vec<u8>, ReplayFault>
+fn piece_buffer(alloc: Global) -> Result<Vec<u8>, AllocError>
     ensures { IfOk result (λ buffer. 0 < vec_len buffer) }
 {
-    vec![in alloc; 0; PIECE].map_err(|_| ReplayFault::Memory)
+    vec![in alloc; 0; PIECE]
 }
 
 /// The verdict on the session that Input, already open, holds to its end. It is read in pieces, and a wrong byte
@@ -87,7 +87,9 @@ pub fn replay<P: Ports>(alloc: Global, ports: &mut P) -> Result<Verdict, ReplayF
     ensures replayed { ReadTo Judged result (P.world ports.old) (P.world ports.new) }
     ensures others { Touches 0 (P.world ports.old) (P.world ports.new) }
 {
-    let mut buffer = piece_buffer(alloc)?;
+    let Ok(mut buffer) = piece_buffer(alloc) else {
+        return Err(ReplayFault::Memory);
+    };
     let session = read_pieces(alloc, ports, &mut buffer)?;
     match judge(alloc, &session) {
         Ok(verdict) => Ok(verdict),
