@@ -1,6 +1,6 @@
 -- What a run says of a session that Input holds.
-use Rattle.std.proofs.Common.{◌≡◌, ◌≢◌, ◌∙◌, ◌⊎◌, inl, inr, ℕ, List, refl, sym, subst, lit<}
-use Rattle.std.specs.Prelude.{Option, Some, None, IfSome}
+use Rattle.std.proofs.Common.{◌≡◌, ◌⊎◌, inl, inr, ℕ, List, refl, subst, lit<}
+use Rattle.std.specs.Prelude.{Option, Some, IfSome}
 use Rattle.pir_ports.specs.World.{World}
 use Rattle.wire_frames.specs.Session.{Transcript, IsSession}
 use Rattle.wire_frames.proofs.OneSession.{one_session}
@@ -9,7 +9,7 @@ use Rattle.pir_tool.specs.declared.status.Status.{Status}
 use Rattle.pir_tool.specs.declared.status.Status.TheVariants.{One, Usage, NoBlock, Several, TooFew, TooWeak, ReadFault, WriteFault, BadInput, Memory}
 use Rattle.pir_tool.specs.declared.status.Bad.TheVariants.{Session}
 use Rattle.pir_tool.specs.Replayed.{Judged, NoSession}
-use Rattle.pir_tool.specs.Outcome.{Outcome, Reported, CutShort, Refused, Unread, Answered, NoneRose}
+use Rattle.pir_tool.specs.Outcome.{Outcome, Reported, Answered, NoneRose}
 
 -- what is said where bytes are told holds of these bytes
 at_told : (P : List ℕ → Type 0) (o : Option (List ℕ)) (bytes : List ℕ) → o ≡ Some bytes → IfSome o P → P bytes

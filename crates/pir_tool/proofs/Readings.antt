@@ -3,11 +3,11 @@ use Rattle.std.proofs.Common.{◌≡◌, ◌∙◌, ℕ, ◌+◌, ◌-◌, ◌<�
 use Rattle.std.specs.Prelude.{Option, Some, None, IfSome, Ok, Err}
 use Rattle.std.proofs.lemmas.List.{length-take-le}
 use Rattle.pir_ports.specs.World.{World}
-use Rattle.pir_ports.specs.Moves.{Touches, Hands, took}
+use Rattle.pir_ports.specs.Moves.{Touches, Hands}
 use Rattle.pir_ports.specs.Whole.{Reads, IsFront}
 use Rattle.pir_ports.proofs.Cells.{reads_more, reads_end, touches_more}
-use Rattle.wire_frames.specs.Session.{Transcript, IsSession}
-use Rattle.wire_frames.specs.Beginning.{Begins, IsPlace}
+use Rattle.wire_frames.specs.Session.{Transcript}
+use Rattle.wire_frames.specs.Beginning.{IsPlace}
 use Rattle.wire_frames.specs.Reading.{Reading, SoFar, Refused, Feeds, Ends}
 use Rattle.wire_frames.specs.declared.reader.FeedFault.TheVariants.{BadSession as Wrong}
 use Rattle.wire_frames.specs.declared.reader.BadSession.{BadSession as SessionFault}

@@ -1,6 +1,6 @@
 -- What a run does to the outside, by the status that it ends with.
-use Rattle.std.specs.Prelude.{◌≡◌, ◌≢◌, ◌⊎◌, ℕ, ◌<◌, List, Some, IfSome}
-use Rattle.pir_ports.specs.World.{Cell, World}
+use Rattle.std.specs.Prelude.{◌≡◌, ◌≢◌, ◌⊎◌, ℕ, ◌<◌, List, IfSome}
+use Rattle.pir_ports.specs.World.{World}
 use Rattle.pir_ports.specs.Moves.{Rose, took, gave, named, counted}
 use Rattle.pir_ports.specs.Whole.{FailsWithin}
 use Rattle.wire_frames.specs.Session.{Transcript}
@@ -10,8 +10,7 @@ use Rattle.block_decoder.specs.declared.verdict.Verdict.{Verdict}
 use Rattle.pir_tool.specs.Table.{status_of}
 use Rattle.pir_tool.specs.Replayed.{Judged, NoSession}
 use Rattle.pir_tool.specs.declared.status.Status.{Status}
-use Rattle.pir_tool.specs.declared.status.Status.TheVariants.{One, Usage, NoBlock, Several, TooFew, TooWeak, ReadFault, WriteFault, BadInput, Memory}
-use Rattle.pir_tool.specs.declared.status.Bad.{Bad}
+use Rattle.pir_tool.specs.declared.status.Status.TheVariants.{Usage, ReadFault, WriteFault, BadInput, Memory}
 use Rattle.pir_tool.specs.declared.status.Bad.TheVariants.{Session}
 
 -- a call on the port failed in this run, or its count stands at its limit

@@ -1,7 +1,7 @@
-use Rattle.std.proofs.Common.{◌≡◌, ◌<◌, ◌≤◌, ◌+◌, ◌++◌, length, take, List, ℕ, sym, ap, subst, ◌∙◌, arith, length-append}
+use Rattle.std.proofs.Common.{arith}
 use Rattle.std.proofs.lemmas.Result.{err_from_is_err_and}
 use Rattle.pir_tool.specs.Replayed.{IsFileOf}
-use Rattle.pir_tool.proofs.Readings.{seen_stops, seen_whole, seen_short, HasSeen, seen_by, of_held, refused_front, seen_more, seen_grows}
+use Rattle.pir_tool.proofs.Readings.{seen_stops, seen_whole, seen_short, seen_more, seen_grows}
 use Rattle.pir_tool.proofs.recorded.read_pieces.Goals as goal
 
 pub pieces-preserved : goal.pieces-preserved
