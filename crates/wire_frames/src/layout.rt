@@ -1,5 +1,25 @@
 //! The parts of a session file that are numbers: its header, and what stands before the bytes of
-//! a record.
+//! a record. Both are read from the bytes that have come so far, and each field's range may depend
+//! on the numbers before it.
+//!
+//! | Places | Field of the header | Range |
+//! |---|---|---|
+//! | 0..3 | `PIRS` | fixed |
+//! | 4 | version | 1 |
+//! | 5 | scheme | 1 |
+//! | 6 | t | from 1 to `MOST_DEGREE` |
+//! | 7 | h | from t + 1 to `MOST_SERVERS` |
+//! | 8 | n | from h to `MOST_SERVERS` |
+//! | 9..11 | zero | 0 |
+//! | 12..19 | session | any |
+//! | 20..23 | r | from 1 to `MOST_ROWS` |
+//! | 24..27 | s | from 1 to `MOST_WIDTH`, with r times s at most `MOST_CELLS` |
+//!
+//! | Places | Field before a record's bytes | Range |
+//! |---|---|---|
+//! | 0 | index | that of the record, from 1 |
+//! | 1 | present | 0 or 1 |
+//! | 2..5 | length | at most 24 + s, and 0 where present is 0 |
 ghost use Rattle.std.specs.Prelude.{◌≤◌, ◌<◌, ◌^◌, length};
 ghost use Rattle.wire_frames.specs.Form.{Reads};
 ghost use Rattle.wire_frames.specs.Layout.{IsHeader, IsRecordHeader};
@@ -97,22 +117,10 @@ pub(crate) fn read_header(bytes: &[u8]) -> Result<SessionParams, usize>
     number_at(bytes, 4, VERSION)?;
     let scheme = number_at(bytes, 5, SCHEME)?;
     let t = number_at(bytes, 6, DEGREE)?;
-    let h = number_at(
-        bytes,
-        7,
-        Number {
-            least: t + 1,
-            ..SERVERS
-        },
-    )?;
-    let n = number_at(
-        bytes,
-        8,
-        Number {
-            least: h,
-            ..SERVERS
-        },
-    )?;
+    let least = t + 1;
+    let h = number_at(bytes, 7, Number { least, ..SERVERS })?;
+    let least = h;
+    let n = number_at(bytes, 8, Number { least, ..SERVERS })?;
     number_at(bytes, 9, ZERO)?;
     let session = number_at(bytes, 12, SESSION)?;
     let r = number_at(bytes, 20, ROWS)?;
