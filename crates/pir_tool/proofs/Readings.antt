@@ -6,15 +6,20 @@ use Rattle.pir_ports.specs.World.{World}
 use Rattle.pir_ports.specs.Moves.{Touches, Hands}
 use Rattle.pir_ports.specs.Whole.{Reads, IsFront}
 use Rattle.pir_ports.proofs.Cells.{reads_more, reads_end, touches_more}
-use Rattle.wire_frames.specs.Session.{Transcript}
+use Rattle.wire_frames.specs.Session.{Transcript, IsSession}
 use Rattle.wire_frames.specs.Beginning.{IsPlace}
 use Rattle.wire_frames.specs.Reading.{Reading, SoFar, Refused, Feeds, Ends}
 use Rattle.wire_frames.specs.declared.reader.FeedFault.TheVariants.{BadSession as Wrong}
 use Rattle.wire_frames.specs.declared.reader.BadSession.{BadSession as SessionFault}
-use Rattle.wire_frames.proofs.Fronts.{longest, length-begins, place_front, no_session}
+use Rattle.wire_frames.proofs.Beginnings.{begins_short}
+use Rattle.wire_frames.proofs.Fronts.{stops-front, stops-none}
 use Rattle.pir_tool.specs.declared.recorded.ReplayFault.{ReplayFault}
 use Rattle.pir_tool.specs.declared.recorded.ReplayFault.TheVariants.{ReadFault, BadSession, Memory}
 use Rattle.pir_tool.specs.Replayed.{NoSession, Took, IsFileOf, Fed, ReadTo}
+
+-- no session is longer
+abbrev pub longest : ℕ
+longest = 1048576
 
 -- the bytes that a reader has seen
 abbrev pub seen_by : Reading → List ℕ
@@ -37,8 +42,8 @@ of_held P (Some h) read is p = subst P is p
 pub refused_front : (o : Option (List ℕ)) (read : List ℕ) (place : ℕ) → IfSome o (IsFront read) → IsPlace read place → place < length read → IfSome o (NoSession place)
 refused_front None read place front is lt = tt
 refused_front (Some h) read place front is lt =
-    let there = place_front read h place front.bytes lt is in
-    record { place_is = there; none = no_session h place there (omega (arith, front.there)) }
+    let there = stops-front IsSession read h place front.bytes lt is in
+    record { place_is = there; none = stops-none IsSession h place there (omega (arith, front.there)) }
 
 -- one more piece is read, and the reader has seen it
 pub seen_more : (n : ℕ) (sub ys : List ℕ) (old v u : World) (reader new : Reading) (x : Unit {0}) → length ys ≡ length sub → HasSeen reader old v → Hands 0 n sub ys v u → Touches 0 v u
@@ -51,7 +56,7 @@ seen_more n sub ys old v u reader new x same h hands others fed =
       still = refl;
       reads = reads;
       others = touches_more 0 old v u h.others others;
-      short = length-begins seen fed'.0;
+      short = begins_short seen fed'.0;
     }
 
 -- and it has seen more than before
@@ -61,7 +66,7 @@ seen_grows n sub ys old v u reader new x some same h hands fed =
     let fed' = subst (λ (r : Reading). Feeds r (take n ys) (Ok x) new) h.still fed in
     let seen = seen_by reader ++ take n ys in
     let size : length seen ≡ length (seen_by reader) + n = length-append (seen_by reader) (take n ys) ∙ ap (λ (k : ℕ). length (seen_by reader) + k) (length-take-le n ys (omega (arith, hands.fits))) in
-    let short = length-begins seen fed'.0 in
+    let short = begins_short seen fed'.0 in
     subst (λ (r : Reading). longest - length (seen_by r) < longest - length (seen_by reader)) (sym fed'.1) (omega (arith, size, short))
 
 -- some bytes were taken where so many were read

@@ -9,7 +9,8 @@ use Rattle.wire_frames.specs.Field.{IsField, IsNumber}
 use Rattle.wire_frames.specs.Form.{Starts, StopsWithin, Reads}
 use Rattle.wire_frames.proofs.Digits.{number, number-digits}
 use Rattle.wire_frames.proofs.FieldLemmas.{length_number}
-use Rattle.wire_frames.proofs.FormLemmas.{starts-front, starts-whole, stops-at, take-take}
+use Rattle.wire_frames.proofs.FormLemmas.{starts-front, starts-whole, stops-at}
+use Rattle.std.proofs.lemmas.List.{take-take}
 
 -- a number of a field, and then what is to follow that number
 pub record Then {A : Type 0} (f : Number) (next : ℕ → List ℕ → A → Type 0) (bytes : List ℕ) (value : A) : Type 0 where

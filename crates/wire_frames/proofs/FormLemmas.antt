@@ -1,22 +1,15 @@
 -- What holds of prefixes in any form.
-use Rattle.std.proofs.Common.{◌≡◌, ℕ, zero, suc, ◌≤◌, List, [], ◌∷◌, ◌++◌, length, take, drop, All, refl, sym, subst, ap, ◌∙◌, arith, append_assoc}
+use Rattle.std.proofs.Common.{◌≡◌, ℕ, suc, ◌≤◌, List, [], ◌++◌, length, take, drop, All, sym, subst, ap, ◌∙◌, arith, append_assoc}
 use Rattle.std.proofs.Math.Seq.{drop-append_seam}
 use Rattle.std.proofs.lemmas.List.Elements.{All-drop}
 use Rattle.std.specs.Prelude.{Result, Err, IsErrAnd}
-use Rattle.std.proofs.lemmas.List.{append-nil, take-append-drop}
+use Rattle.std.proofs.lemmas.List.{append-nil, take-append-drop, take-take}
 use Rattle.std.proofs.lemmas.Result.{err_from_is_err_and}
 use Rattle.wire_frames.specs.Form.{Starts, StopsAt, Reads}
 
 -- what holds of each element holds of each behind some
 pub All-behind : {X : Type 0} (P : X → Type 0) (xs ys : List X) → All P (xs ++ ys) → All P ys
 All-behind P xs ys h = subst (All P) (drop-append_seam xs ys) (All-drop P (length xs) (xs ++ ys) h)
-
--- a prefix of a prefix
-pub take-take : (m n : ℕ) (l : List ℕ) → m ≤ n → take m (take n l) ≡ take m l
-take-take zero n l h = refl
-take-take (suc m) zero l h = absurd (omega arith)
-take-take (suc m) (suc n) [] h = refl
-take-take (suc m) (suc n) (x ∷ l) h = ap (λ (xs : List ℕ). x ∷ xs) (take-take m n l (omega arith))
 
 -- a front of a right prefix is right
 pub starts-front : {A : Type 0} (F : List ℕ → A → Type 0) (front more : List ℕ) → Starts F (front ++ more) → Starts F front

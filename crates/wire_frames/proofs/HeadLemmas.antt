@@ -6,7 +6,7 @@ use Rattle.std.proofs.lemmas.List.{append-nil, length-take-le, nil_from_length, 
 use Rattle.wire_frames.specs.Form.{Starts, StopsAt}
 use Rattle.wire_frames.specs.RecordsReader.{Refuses}
 use Rattle.wire_frames.specs.Session.{IsSession}
-use Rattle.wire_frames.proofs.FormLemmas.{take-take}
+use Rattle.std.proofs.lemmas.List.{take-take}
 
 -- what stands behind these bytes in a session has this form, as far as so many bytes go
 pub record IsBehind {A : Type 0} (F : List ℕ → A → Type 0) (size : ℕ) (front : List ℕ) : Type 0 where

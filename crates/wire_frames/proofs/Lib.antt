@@ -1,11 +1,11 @@
-mod Beginnings
+pub mod Beginnings
 mod Chains
 mod Digits
 mod FieldLemmas
-mod FormLemmas
+pub mod FormLemmas
 mod HeadLemmas
 mod LayoutLemmas
-mod Parsing
+pub mod Parsing
 mod ReaderLemmas
 mod RecordHeader
 mod RecordsReaderLemmas

@@ -22,13 +22,6 @@ use Rattle.wire_frames.proofs.FormLemmas.{starts-shorter}
 use Rattle.wire_frames.proofs.LayoutLemmas.{header_back, some_magic}
 use Rattle.wire_frames.proofs.RecordsReaderLemmas.{open_begins}
 
--- the two ways of saying that bytes begin a session
-begins_from : (bytes : List ℕ) → Starts IsSession bytes → Begins bytes
-begins_from bytes s = record { rest = s.rest; session = s.value; whole = s.whole }
-
-starts_from : (bytes : List ℕ) → Begins bytes → Starts IsSession bytes
-starts_from bytes b = record { rest = b.rest; value = b.session; whole = b.whole }
-
 -- no byte is right
 pub nothing_right : Starts IsHeader []
 nothing_right = record { rest = some_magic.rest; value = some_magic.value; whole = header_back some_magic.rest some_magic.value some_magic.whole }
@@ -81,7 +74,7 @@ pub taken_reads : (taken : ℕ) (old : State) (piece : List ℕ) (new : State) �
 taken_reads taken old piece new sound fed =
     let t = takes_of taken old piece new sound fed in
     subst (λ (reading : Reading). Feeds reading piece (Ok tt) (reading_of (taken + length piece) new)) (sym t.1.reading)
-    (begins_from (t.0 ++ piece) (sees_begins new (t.0 ++ piece) t.1.sees), sees_reading new (t.0 ++ piece) (taken + length piece) t.1.sees)
+    (sees_begins new (t.0 ++ piece) t.1.sees, sees_reading new (t.0 ++ piece) (taken + length piece) t.1.sees)
 
 -- A PIECE IS REFUSED: the place is behind the bytes before it
 refuses_place : (bytes piece : List ℕ) (right : ℕ) → Refuses bytes piece right → IsPlace (bytes ++ piece) (length bytes + right)
@@ -89,9 +82,9 @@ refuses_place bytes piece right h =
     let more = length-append bytes piece in
     record {
       within = omega (arith, h.before, more);
-      begins = subst Begins (sym (take-append-add bytes piece right)) (begins_from (bytes ++ take right piece) h.begins);
+      begins = subst Begins (sym (take-append-add bytes piece right)) h.begins;
       longest = λ n after inside b.
-          let next = starts-shorter IsSession (length bytes + (right + 1)) n (bytes ++ piece) (omega arith) (starts_from (take n (bytes ++ piece)) b) in
+          let next = starts-shorter IsSession (length bytes + (right + 1)) n (bytes ++ piece) (omega arith) b in
           h.longest (subst (Starts IsSession) (take-append-add bytes piece (right + 1)) next);
     }
 
@@ -124,7 +117,7 @@ refused_reads taken Stopped piece right new sound fed =
 ends_at_length : (bytes : List ℕ) → Starts IsSession bytes → IsPlace bytes (length bytes)
 ends_at_length bytes s = record {
   within = omega arith;
-  begins = begins_from (take (length bytes) bytes) (subst (Starts IsSession) (sym (take_all (length bytes) bytes (omega arith))) s);
+  begins = subst Begins (sym (take_all (length bytes) bytes (omega arith))) s;
   longest = λ n more inside b. omega arith;
 }
 

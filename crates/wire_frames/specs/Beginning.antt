@@ -1,15 +1,12 @@
 -- How far bytes are right: what begins some session, and the place at which bytes stop doing so.
-use Rattle.std.specs.Prelude.{ℕ, ◌<◌, ◌≤◌, List, ◌++◌, length, take}
-use Rattle.wire_frames.specs.Session.{Transcript, IsSession}
+use Rattle.std.specs.Prelude.{ℕ, List}
+use Rattle.wire_frames.specs.Form.{Starts, StopsAt}
+use Rattle.wire_frames.specs.Session.{IsSession}
 
 -- some session's file begins with these bytes
-pub record Begins (bytes : List ℕ) : Type 0 where
-  pub rest : List ℕ
-  pub session : Transcript
-  pub whole : IsSession (bytes ++ rest) session
+abbrev pub Begins : List ℕ → Type 0
+Begins bytes = Starts IsSession bytes
 
 -- the longest prefix of the bytes that begins some session has this length
-pub record IsPlace (bytes : List ℕ) (place : ℕ) : Type 0 where
-  pub within : place ≤ length bytes
-  pub begins : Begins (take place bytes)
-  pub longest : (n : ℕ) → place < n → n ≤ length bytes → Begins (take n bytes) → ⊥
+abbrev pub IsPlace : List ℕ → ℕ → Type 0
+IsPlace bytes place = StopsAt IsSession bytes place

@@ -1,6 +1,5 @@
 use Rattle.std.proofs.Common.{◌-◌, length}
-use Rattle.wire_frames.proofs.Fronts.{longest}
-use Rattle.pir_tool.proofs.Readings.{HasSeen, seen_by}
+use Rattle.pir_tool.proofs.Readings.{HasSeen, seen_by, longest}
 use Rattle.pir_tool.proofs.recorded.read_pieces.Given as goal
 
 abbrev pub invariant-pieces : goal.invariant-pieces
