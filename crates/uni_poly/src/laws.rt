@@ -1,0 +1,40 @@
+//! The laws of polynomials, each as a call whose contract is the law. A call does nothing when it runs.
+
+ghost use Rattle.std.specs.Prelude.{◌≡◌, ◌≢◌, ◌<◌, ◌≤◌, ◌+◌, length, All, AllPairs, sum};
+ghost use Rattle.std.specs.List.{AllZip};
+ghost use Rattle.gf256.specs.Polynomial.{val};
+ghost use Rattle.uni_poly.specs.Coefficients.{IsZero, IsSame, HasDegreeBelow};
+ghost use Rattle.uni_poly.specs.Taylor.{VanishesAt};
+
+/// A nonzero polynomial of degree at most `degree` has at most `degree` roots.
+pub fn roots_are_few(p: &[u8], degree: usize, roots: &[u8])
+    requires nonzero { ¬ IsZero p.now }
+    requires bounded { HasDegreeBelow p.now (degree + 1) }
+    requires zeros { All (λ a. val p.now a ≡ 0) roots.now }
+    requires distinct { AllPairs (λ a b. a ≢ b) roots.now }
+    ensures { length roots.now ≤ degree }
+{}
+
+/// A nonzero polynomial of degree at most `degree` has at most `degree` roots, each counted with its multiplicity, which
+/// stands at its place in `multiplicities`.
+pub fn roots_with_multiplicities_are_few(
+    p: &[u8],
+    degree: usize,
+    roots: &[u8],
+    multiplicities: &[u32],
+)
+    requires nonzero { ¬ IsZero p.now }
+    requires bounded { HasDegreeBelow p.now (degree + 1) }
+    requires zeros { AllZip (VanishesAt p.now) roots.now multiplicities.now }
+    requires distinct { AllPairs (λ a b. a ≢ b) roots.now }
+    ensures { sum multiplicities.now ≤ degree }
+{}
+
+/// Two polynomials of degree below the number of points at which they agree are the same.
+pub fn interpolation_is_unique(p: &[u8], q: &[u8], xs: &[u8])
+    requires p_bounded { HasDegreeBelow p.now (length xs.now) }
+    requires q_bounded { HasDegreeBelow q.now (length xs.now) }
+    requires agree { All (λ x. val p.now x ≡ val q.now x) xs.now }
+    requires distinct { AllPairs (λ x y. x ≢ y) xs.now }
+    ensures { IsSame p.now q.now }
+{}
