@@ -9,3 +9,4 @@ pub mod Series
 pub mod VanishingPolynomial
 pub mod Uniqueness
 pub mod Interpolation
+pub mod Factors

@@ -13,7 +13,9 @@ use Rattle.gf256.proofs.Powers.{mul-eq-zero}
 use Rattle.gf256.proofs.Sums.{sum_to-zero, sum_to-lt}
 use Rattle.uni_poly.specs.Coefficients.{IsBytes}
 use Rattle.uni_poly.specs.Product.{linear, product_coef, product}
-use Rattle.uni_poly.proofs.Values.{val_nil, val_cons, val_lt}
+use Rattle.uni_poly.specs.Taylor.{taylor}
+use Rattle.uni_poly.proofs.Values.{val_lt}
+use Rattle.uni_poly.proofs.Taylor.{taylor-zero}
 
 -- the coefficient one place before
 unfoldable pub before : List ℕ → ℕ → ℕ
@@ -108,18 +110,36 @@ IsBytes-product p q e =
           rw (get_or_past (map (product_coef p q) (range_with_len 0 n)) e 0 (rw length-map-range_with_len l)) (lit< tt)
     ]
 
--- ---- values
+-- ---- the Taylor series and values
 
-val-with_carry : (c : ℕ) (p : List ℕ) (r a : ℕ) → val (with_carry c p r) a ≡ c ⊗ 1 ⊕ (a ⊕ r) ⊗ val p a
-unfolding with_carry
-val-with_carry c [] r a = simp (val_cons, val_nil, ring)
-val-with_carry c (d ∷ p) r a =
-    let ih = val-with_carry d p r a in
-    simp (val_cons, ih, ring)
+with_carry-taylor_first : (c : ℕ) (p : List ℕ) (r a : ℕ) → taylor (with_carry c p r) a 0 ≡ c ⊗ 1 ⊕ (a ⊕ r) ⊗ taylor p a 0
+unfolding with_carry taylor
+with_carry-taylor_first c [] r a = simp ring
+with_carry-taylor_first c (d ∷ p) r a =
+    let ih = with_carry-taylor_first d p r a in
+    simp (ih, ring)
+
+with_carry-taylor_later : (c : ℕ) (p : List ℕ) (r a u : ℕ) → taylor (with_carry c p r) a (suc u) ≡ taylor p a u ⊕ (a ⊕ r) ⊗ taylor p a (suc u)
+unfolding with_carry taylor
+with_carry-taylor_later c [] r a u = simp ring
+with_carry-taylor_later c (d ∷ p) r a zero =
+    let ih = with_carry-taylor_later d p r a 0 in
+    let first = with_carry-taylor_first d p r a in
+    simp (ih, first, ring)
+with_carry-taylor_later c (d ∷ p) r a (suc u) =
+    let ih = with_carry-taylor_later d p r a (suc u) in
+    let before = with_carry-taylor_later d p r a u in
+    simp (ih, before, ring)
+
+-- the series of the product at another point
+pub taylor-product_linear : (p : List ℕ) (r a u : ℕ) → IsBytes p → taylor (product p (linear r)) a (suc u) ≡ taylor p a u ⊕ (a ⊕ r) ⊗ taylor p a (suc u)
+taylor-product_linear p r a u h = ap (λ q. taylor q a (suc u)) (sym (with_carry-product p r h)) ∙ with_carry-taylor_later 0 p r a u
 
 -- the value of the product is that of p times a - r
 pub val-product_linear : (p : List ℕ) (r a : ℕ) → IsBytes p → val (product p (linear r)) a ≡ (a ⊕ r) ⊗ val p a
-val-product_linear p r a h = ap (λ q. val q a) (sym (with_carry-product p r h)) ∙ val-with_carry 0 p r a ∙ simp ring
+val-product_linear p r a h =
+    sym (taylor-zero (product p (linear r)) a) ∙ ap (λ q. taylor q a 0) (sym (with_carry-product p r h))
+    ∙ with_carry-taylor_first 0 p r a ∙ ap₂ ◌⊕◌ (zero_mul 1) (ap (◌⊗◌ (a ⊕ r)) (taylor-zero p a)) ∙ zero_add _
 
 -- it is 0 at r
 pub product_linear-root : (p : List ℕ) (r : ℕ) → IsBytes p → val (product p (linear r)) r ≡ 0
@@ -130,6 +150,6 @@ pub product_linear-zero : (p : List ℕ) (r a : ℕ) → IsBytes p → val p a �
 product_linear-zero p r a h e = val-product_linear p r a h ∙ ap (◌⊗◌ (a ⊕ r)) e ∙ mul_zero _
 
 -- and nowhere else
-pub product_linear-other : (p : List ℕ) (r a : ℕ) → IsBytes p → r < 256 → a < 256 → r ≢ a → val p a ≢ 0 → val (product p (linear r)) a ≢ 0
-product_linear-other p r a h hr ha n v e =
-    v (mul-eq-zero (a ⊕ r) (val p a) (add_lt a r ha hr) (val_lt p a) (λ z. n (sym (add-eq-zero a r z))) (sym (val-product_linear p r a h) ∙ e))
+pub product_linear-other : (p : List ℕ) (r a : ℕ) → IsBytes p → r < 256 → a < 256 → r ≢ a → val (product p (linear r)) a ≡ 0 → val p a ≡ 0
+product_linear-other p r a h hr ha n e =
+    mul-eq-zero (a ⊕ r) (val p a) (add_lt a r ha hr) (val_lt p a) (λ z. n (sym (add-eq-zero a r z))) (sym (val-product_linear p r a h) ∙ e)

@@ -7,8 +7,8 @@ use Rattle.std.proofs.lemmas.List.Elements.{All-tail, All-head}
 use Rattle.gf256.specs.Polynomial.{val}
 use Rattle.uni_poly.specs.Coefficients.{HasDegreeBelow}
 use Rattle.uni_poly.specs.Taylor.{VanishesAt}
-use Rattle.uni_poly.proofs.Quotient.{quotient, IsLowZero, IsLowZero-from_zero, IsLowZero-from_quotient, HasDegreeBelow-quotient}
-use Rattle.uni_poly.proofs.Taylor.{taylor-zero, VanishesAt-same, VanishesAt-other}
+use Rattle.uni_poly.proofs.Quotient.{quotient, IsLowZero, IsLowZero-from_zero, IsLowZero-from_quotient, HasDegreeBelow-quotient, VanishesAt-same, VanishesAt-other}
+use Rattle.uni_poly.proofs.Taylor.{taylor-zero}
 
 -- a root that is taken away leaves the multiplicities of all others
 zeros-quotient : (xs ms : List ℕ) (p : List ℕ) (a : ℕ) → a < 256 → val p a ≡ 0 → All (λ x. (x < 256) × (a ≢ x)) xs

@@ -1,10 +1,12 @@
 -- The value of a polynomial.
-use Rattle.std.proofs.Common.{◌≡◌, ℕ, ◌+◌, ◌<◌, ◌≤◌, List, [], ◌∷◌, length, get_or, drop, refl, sym, ap, ap₂, ◌∙◌, lit<}
-use Rattle.std.proofs.lemmas.List.{drop_more, drop_all, get_or_past}
+use Rattle.std.proofs.Common.{◌≡◌, ℕ, ◌+◌, ◌<◌, ◌≤◌, List, [], ◌∷◌, length, get_or, drop, fold, reverse, suc, refl, sym, ap, ap₂, ◌∙◌, lit<}
+use Rattle.std.proofs.lemmas.List.{drop_more, drop_all, get_or_past, reverse-append}
+use Rattle.std.proofs.lemmas.List.Sums.{fold_push}
 use Rattle.gf256.specs.Field.{◌⊕◌, ◌⊗◌, power}
 use Rattle.gf256.specs.Sums.{sum_to}
 use Rattle.gf256.proofs.Xor.{add_comm, add_zero}
 use Rattle.gf256.proofs.FieldLaws.{mul_lt, mul_left_comm, one_mul_mul, mul_one, mul_zero, zero_mul, mul_assoc, mul_comm}
+use Rattle.uni_poly.specs.Coefficients.{IsBytes}
 use Rattle.gf256.proofs.Sums.{sum_to-same, sum_to-zero, sum_to-lt, sum_to-first, sum_to-longer, mul-sum_to}
 use Rattle.gf256.specs.Polynomial.{coef, val}
 
@@ -49,3 +51,13 @@ val_to p n a h = sum_to-longer _ (length p) n h (λ i l. ap (λ x. x ⊗ power a
 -- the value of the polynomial 1
 pub val_one : (a : ℕ) → val (1 ∷ []) a ≡ 1
 val_one a = val_cons 1 [] a ∙ ap₂ ◌⊕◌ (mul_one 1 (lit< tt)) (ap (◌⊗◌ a) (val_nil a) ∙ mul_zero a) ∙ add_zero 1
+
+-- Horner's rule: from the last coefficient down, multiply by a and add the next
+pub horner : (p : List ℕ) (a : ℕ) → IsBytes p → fold (λ value c. value ⊗ a ⊕ c) 0 (reverse p) ≡ val p a
+unfolding coef
+horner [] a h = sym (val_nil a)
+horner (c ∷ p) a h =
+    let step : ℕ → ℕ → ℕ = λ value c. value ⊗ a ⊕ c in
+    ap (fold step 0) (reverse-append (c ∷ []) p) ∙ fold_push step 0 (reverse p) c
+    ∙ ap₂ ◌⊕◌ (ap (λ v. v ⊗ a) (horner p a (λ e. h (suc e))) ∙ mul_comm (val p a) a) (sym (mul_one c (h 0)))
+    ∙ add_comm (a ⊗ val p a) (c ⊗ 1) ∙ sym (val_cons c p a)

@@ -1,9 +1,10 @@
 -- Products of polynomials.
-use Rattle.std.specs.Prelude.{ℕ, ◌+◌, ◌-◌, List, [], ◌∷◌, length, map, fold}
+use Rattle.std.specs.Prelude.{ℕ, zero, suc, ◌+◌, ◌-◌, List, [], ◌∷◌, length, map, fold}
 use Rattle.std.specs.List.{range_with_len}
 use Rattle.gf256.specs.Field.{◌⊗◌}
 use Rattle.gf256.specs.Sums.{sum_to}
 use Rattle.gf256.specs.Polynomial.{coef}
+use Rattle.uni_poly.specs.Coefficients.{IsBytes, IsSame}
 
 -- the polynomial x - a, which is x + a too
 abbrev pub linear : ℕ → List ℕ
@@ -20,3 +21,12 @@ product p q = map (product_coef p q) (range_with_len 0 (length p + length q - 1)
 -- the vanishing polynomial of xs: the product of x - a over the members a
 unfoldable pub vanishing : List ℕ → List ℕ
 vanishing xs = fold (λ p a. product p (linear a)) (1 ∷ []) xs
+
+-- p times x - a, m times
+unfoldable pub times_linear : List ℕ → ℕ → ℕ → List ℕ
+times_linear p a zero = p
+times_linear p a (suc m) = product (times_linear p a m) (linear a)
+
+-- (x - a)^m divides p
+abbrev pub HasFactor : List ℕ → ℕ → ℕ → Type 0
+HasFactor p a m = (q : List ℕ) × IsBytes q × IsSame p (times_linear q a m)

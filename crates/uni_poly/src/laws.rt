@@ -1,9 +1,10 @@
 //! The laws of polynomials, each as a call whose contract is the law. A call does nothing when it runs.
 
-ghost use Rattle.std.specs.Prelude.{◌≡◌, ◌≢◌, ◌<◌, ◌≤◌, ◌+◌, length, All, AllPairs, sum};
+ghost use Rattle.std.specs.Prelude.{◌≡◌, ◌≢◌, ◌↔◌, ◌≤◌, ◌+◌, length, All, AllPairs, Contains, sum};
 ghost use Rattle.std.specs.List.{AllZip};
 ghost use Rattle.gf256.specs.Polynomial.{val};
 ghost use Rattle.uni_poly.specs.Coefficients.{IsZero, IsSame, HasDegreeBelow};
+ghost use Rattle.uni_poly.specs.Product.{vanishing, HasFactor};
 ghost use Rattle.uni_poly.specs.Taylor.{VanishesAt};
 
 /// A nonzero polynomial of degree at most `degree` has at most `degree` roots.
@@ -37,4 +38,14 @@ pub fn interpolation_is_unique(p: &[u8], q: &[u8], xs: &[u8])
     requires agree { All (λ x. val p.now x ≡ val q.now x) xs.now }
     requires distinct { AllPairs (λ x y. x ≢ y) xs.now }
     ensures { IsSame p.now q.now }
+{}
+
+/// A polynomial vanishes at `a` with multiplicity `m` exactly where `(x - a)^m` divides it.
+pub fn multiplicity_is_of_the_factor(p: &[u8], a: u8, m: u32)
+    ensures { VanishesAt p.now a m ↔ HasFactor p.now a m }
+{}
+
+/// The roots of a vanishing polynomial are the members from which it is made.
+pub fn vanishing_roots_are_the_members(xs: &[u8], a: u8)
+    ensures { (val (vanishing xs.now) a ≡ 0) ↔ Contains xs.now a }
 {}

@@ -28,11 +28,7 @@ use std::alloc::{AllocError, Global};
 pub fn eval(p: &[u8], a: u8) -> u8
     ensures { result ≡ val p.now a }
 {
-    let mut value = 0;
-    for i in (0..p.len()).rev() {
-        value = gf256::add(gf256::mul(value, a), p[i]);
-    }
-    value
+    p.iter().rev().fold(0, |value, &c| gf256::add(gf256::mul(value, a), c))
 }
 
 /// Adds `p` to `acc`, which must be at least as long.
@@ -40,8 +36,8 @@ pub fn add_into(acc: &mut [u8], p: &[u8])
     requires { length p.now ≤ length acc.old }
     ensures { IsSum acc.new acc.old p.now }
 {
-    for i in 0..p.len() {
-        acc[i] = gf256::add(acc[i], p[i]);
+    for (i, &c) in p.iter().enumerate() {
+        acc[i] = gf256::add(acc[i], c);
     }
 }
 
@@ -93,8 +89,8 @@ fn add_scaled(acc: &mut [u8], p: &[u8], factor: u8)
     requires { length p.now ≤ length acc.old }
     ensures { IsScaledSum acc.new acc.old p.now factor }
 {
-    for i in 0..p.len() {
-        acc[i] = gf256::add(acc[i], gf256::mul(factor, p[i]));
+    for (i, &c) in p.iter().enumerate() {
+        acc[i] = gf256::add(acc[i], gf256::mul(factor, c));
     }
 }
 

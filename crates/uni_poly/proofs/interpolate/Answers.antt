@@ -23,7 +23,7 @@ meet-requires c =
     record {
       room = omega (arith, ap length basis, vanishing_take-length xs i, ap length c.deref_mut.ensures.value, c.loop-i.invariant.long);
       apart = λ e.
-          vanishing_take-next xs i (omega arith) (λ k. (c.type_inv.xs k).fits) c.requires.distinct
+          vanishing_take-next xs i (omega arith) (bytes_from_get_or xs (λ k. (c.type_inv.xs k).fits)) c.requires.distinct
           (ap (λ q. val q (get_or xs i 0)) (sym basis) ∙ e);
     }
 
