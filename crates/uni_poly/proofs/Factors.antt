@@ -29,6 +29,7 @@ quotient-product_linear p a h v (suc e) =
     let bytes = IsBytes-quotient p a in
     coef-quotient_later p a e h ∙ sym (coef-product_linear (quotient p a) a (suc e) bytes)
 
+-- its coefficients are bytes
 IsBytes-times_linear : (q : List ℕ) (a m : ℕ) → IsBytes q → IsBytes (times_linear q a m)
 unfolding times_linear
 IsBytes-times_linear q a zero h = h
@@ -50,7 +51,7 @@ times_linear-vanishes : (m a : ℕ) (q : List ℕ) → IsBytes q → VanishesAt 
 unfolding times_linear
 times_linear-vanishes zero a q h u l = absurd (omega arith)
 times_linear-vanishes (suc m) a q h zero l =
-    taylor-zero (product (times_linear q a m) (linear a)) a ∙ product_linear-root (times_linear q a m) a (IsBytes-times_linear q a m h)
+    taylor-zero (product (times_linear q a m) (linear a)) a ∙ product_linear-root (times_linear q a m) a
 times_linear-vanishes (suc m) a q h (suc u) l =
     let p = times_linear q a m in
     taylor-product_linear p a a u (IsBytes-times_linear q a m h)

@@ -10,3 +10,4 @@ pub mod VanishingPolynomial
 pub mod Uniqueness
 pub mod Interpolation
 pub mod Factors
+pub mod Products

@@ -14,8 +14,8 @@ use Rattle.gf256.proofs.Sums.{sum_to-zero, sum_to-lt}
 use Rattle.uni_poly.specs.Coefficients.{IsBytes}
 use Rattle.uni_poly.specs.Product.{linear, product_coef, product}
 use Rattle.uni_poly.specs.Taylor.{taylor}
-use Rattle.uni_poly.proofs.Values.{val_lt}
-use Rattle.uni_poly.proofs.Taylor.{taylor-zero}
+use Rattle.uni_poly.proofs.Values.{val_nil, val_cons, val_lt}
+use Rattle.uni_poly.proofs.Products.{val-product}
 
 -- the coefficient one place before
 unfoldable pub before : List ℕ → ℕ → ℕ
@@ -94,8 +94,9 @@ pub coef-product_linear : (q : List ℕ) (r e : ℕ) → IsBytes q → coef (pro
 coef-product_linear q r e h = ap (λ l. coef l e) (sym (with_carry-product q r h)) ∙ coef-with_carry q r e
 
 -- the product is one longer
-pub length-product_linear : (p : List ℕ) (r : ℕ) → IsBytes p → length (product p (linear r)) ≡ length p + 1
-length-product_linear p r h = ap length (sym (with_carry-product p r h)) ∙ length-with_carry 0 p r
+pub length-product_linear : (p : List ℕ) (r : ℕ) → length (product p (linear r)) ≡ length p + 1
+unfolding product
+length-product_linear p r = length-map-range_with_len (product_coef p (linear r)) 0 (length p + 2 - 1) ∙ omega arith
 
 -- each product has bytes for coefficients
 pub IsBytes-product : (p q : List ℕ) → IsBytes (product p q)
@@ -112,6 +113,7 @@ IsBytes-product p q e =
 
 -- ---- the Taylor series and values
 
+-- the series of c + p * (x - r), at the first place
 with_carry-taylor_first : (c : ℕ) (p : List ℕ) (r a : ℕ) → taylor (with_carry c p r) a 0 ≡ c ⊗ 1 ⊕ (a ⊕ r) ⊗ taylor p a 0
 unfolding with_carry taylor
 with_carry-taylor_first c [] r a = simp ring
@@ -119,6 +121,7 @@ with_carry-taylor_first c (d ∷ p) r a =
     let ih = with_carry-taylor_first d p r a in
     simp (ih, ring)
 
+-- and at the others
 with_carry-taylor_later : (c : ℕ) (p : List ℕ) (r a u : ℕ) → taylor (with_carry c p r) a (suc u) ≡ taylor p a u ⊕ (a ⊕ r) ⊗ taylor p a (suc u)
 unfolding with_carry taylor
 with_carry-taylor_later c [] r a u = simp ring
@@ -136,20 +139,18 @@ pub taylor-product_linear : (p : List ℕ) (r a u : ℕ) → IsBytes p → taylo
 taylor-product_linear p r a u h = ap (λ q. taylor q a (suc u)) (sym (with_carry-product p r h)) ∙ with_carry-taylor_later 0 p r a u
 
 -- the value of the product is that of p times a - r
-pub val-product_linear : (p : List ℕ) (r a : ℕ) → IsBytes p → val (product p (linear r)) a ≡ (a ⊕ r) ⊗ val p a
-val-product_linear p r a h =
-    sym (taylor-zero (product p (linear r)) a) ∙ ap (λ q. taylor q a 0) (sym (with_carry-product p r h))
-    ∙ with_carry-taylor_first 0 p r a ∙ ap₂ ◌⊕◌ (zero_mul 1) (ap (◌⊗◌ (a ⊕ r)) (taylor-zero p a)) ∙ zero_add _
+pub val-product_linear : (p : List ℕ) (r a : ℕ) → val (product p (linear r)) a ≡ (a ⊕ r) ⊗ val p a
+val-product_linear p r a = val-product p (linear r) a ∙ simp (val_cons, val_nil, ring)
 
 -- it is 0 at r
-pub product_linear-root : (p : List ℕ) (r : ℕ) → IsBytes p → val (product p (linear r)) r ≡ 0
-product_linear-root p r h = val-product_linear p r r h ∙ ap (λ x. x ⊗ val p r) (add_self r) ∙ zero_mul _
+pub product_linear-root : (p : List ℕ) (r : ℕ) → val (product p (linear r)) r ≡ 0
+product_linear-root p r = val-product_linear p r r ∙ ap (λ x. x ⊗ val p r) (add_self r) ∙ zero_mul _
 
 -- it is 0 where p is
-pub product_linear-zero : (p : List ℕ) (r a : ℕ) → IsBytes p → val p a ≡ 0 → val (product p (linear r)) a ≡ 0
-product_linear-zero p r a h e = val-product_linear p r a h ∙ ap (◌⊗◌ (a ⊕ r)) e ∙ mul_zero _
+pub product_linear-zero : (p : List ℕ) (r a : ℕ) → val p a ≡ 0 → val (product p (linear r)) a ≡ 0
+product_linear-zero p r a e = val-product_linear p r a ∙ ap (◌⊗◌ (a ⊕ r)) e ∙ mul_zero _
 
 -- and nowhere else
-pub product_linear-other : (p : List ℕ) (r a : ℕ) → IsBytes p → r < 256 → a < 256 → r ≢ a → val (product p (linear r)) a ≡ 0 → val p a ≡ 0
-product_linear-other p r a h hr ha n e =
-    mul-eq-zero (a ⊕ r) (val p a) (add_lt a r ha hr) (val_lt p a) (λ z. n (sym (add-eq-zero a r z))) (sym (val-product_linear p r a h) ∙ e)
+pub product_linear-other : (p : List ℕ) (r a : ℕ) → r < 256 → a < 256 → r ≢ a → val (product p (linear r)) a ≡ 0 → val p a ≡ 0
+product_linear-other p r a hr ha n e =
+    mul-eq-zero (a ⊕ r) (val p a) (add_lt a r ha hr) (val_lt p a) (λ z. n (sym (add-eq-zero a r z))) (sym (val-product_linear p r a) ∙ e)

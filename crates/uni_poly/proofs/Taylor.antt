@@ -35,3 +35,7 @@ taylor-same [] q a u h = sym (taylor-none q a u (λ e. sym (h e)))
 taylor-same (c ∷ p) [] a u h = taylor-none (c ∷ p) a u h
 taylor-same (c ∷ p) (d ∷ q) a zero h = ap₂ ◌⊕◌ (ap (λ x. x ⊗ 1) (h 0)) (ap (◌⊗◌ a) (taylor-same p q a 0 (λ e. h (suc e))))
 taylor-same (c ∷ p) (d ∷ q) a (suc u) h = ap₂ ◌⊕◌ (taylor-same p q a u (λ e. h (suc e))) (ap (◌⊗◌ a) (taylor-same p q a (suc u) (λ e. h (suc e))))
+
+-- nor do they change the values
+pub val-same : (p q : List ℕ) (a : ℕ) → IsSame p q → val p a ≡ val q a
+val-same p q a h = sym (taylor-zero p a) ∙ taylor-same p q a 0 h ∙ taylor-zero q a

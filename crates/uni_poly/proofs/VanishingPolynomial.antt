@@ -1,73 +1,58 @@
 -- The vanishing polynomial: its size and its zeros.
-use Rattle.std.proofs.Common.{◌≡◌, ◌≢◌, ℕ, zero, suc, ◌+◌, ◌<◌, ◌≤◌, ◌⊎◌, inl, inr, List, [], ◌∷◌, length, get_or, take, fold, All, AllPairs, Contains, sym, ap, ◌∙◌, arith, lit<}
+use Rattle.std.proofs.Common.{◌≡◌, ◌≢◌, ℕ, zero, suc, ◌+◌, ◌<◌, ◌≤◌, ◌⊎◌, inl, inr, List, [], ◌∷◌, length, get_or, take, fold, All, AllPairs, Contains, sym, ap, ◌∙◌, arith}
 use Rattle.std.proofs.lemmas.List.{get_or-take, get_or_default, length-take-le}
 use Rattle.std.proofs.lemmas.List.Elements.{All-head, All-tail, All-take}
 use Rattle.std.proofs.lemmas.Bool.{cases_eq}
 use Rattle.std.proofs.lemmas.List.Sums.{fold_more}
-use Rattle.gf256.specs.Polynomial.{coef, val}
-use Rattle.uni_poly.specs.Coefficients.{IsBytes}
+use Rattle.gf256.specs.Polynomial.{val}
 use Rattle.uni_poly.specs.Product.{linear, product, vanishing}
 use Rattle.uni_poly.proofs.Values.{val_one}
-use Rattle.uni_poly.proofs.LinearFactor.{product_linear-root, product_linear-zero, product_linear-other, length-product_linear, IsBytes-product}
+use Rattle.uni_poly.proofs.LinearFactor.{product_linear-root, product_linear-zero, product_linear-other, length-product_linear}
 
 -- p times x - a for each member a
 times_all : List ℕ → List ℕ → List ℕ
 times_all p xs = fold (λ q a. product q (linear a)) p xs
 
-IsBytes-one : IsBytes (1 ∷ [])
-unfolding coef
-IsBytes-one zero = lit< tt
-IsBytes-one (suc e) = lit< tt
-
-IsBytes-times_all : (p xs : List ℕ) → IsBytes p → IsBytes (times_all p xs)
+-- it is longer by one for each member
+length-times_all : (p xs : List ℕ) → length (times_all p xs) ≡ length p + length xs
 unfolding times_all
-IsBytes-times_all p [] h = h
-IsBytes-times_all p (x ∷ xs) h = IsBytes-times_all (product p (linear x)) xs (IsBytes-product p (linear x))
-
-length-times_all : (p xs : List ℕ) → IsBytes p → length (times_all p xs) ≡ length p + length xs
-unfolding times_all
-length-times_all p [] h = omega arith
-length-times_all p (x ∷ xs) h =
-    let ih = length-times_all (product p (linear x)) xs (IsBytes-product p (linear x)) in
-    let first = length-product_linear p x h in
+length-times_all p [] = omega arith
+length-times_all p (x ∷ xs) =
+    let ih = length-times_all (product p (linear x)) xs in
+    let first = length-product_linear p x in
     omega (arith, ih, first)
 
 -- it is 0 where p is
-times_all-zero : (p xs : List ℕ) (a : ℕ) → IsBytes p → val p a ≡ 0 → val (times_all p xs) a ≡ 0
+times_all-zero : (p xs : List ℕ) (a : ℕ) → val p a ≡ 0 → val (times_all p xs) a ≡ 0
 unfolding times_all
-times_all-zero p [] a h e = e
-times_all-zero p (x ∷ xs) a h e = times_all-zero (product p (linear x)) xs a (IsBytes-product p (linear x)) (product_linear-zero p x a h e)
+times_all-zero p [] a e = e
+times_all-zero p (x ∷ xs) a e = times_all-zero (product p (linear x)) xs a (product_linear-zero p x a e)
 
 -- it is 0 at each member
-times_all-member : (p xs : List ℕ) (k : ℕ) → IsBytes p → k < length xs → val (times_all p xs) (get_or xs k 0) ≡ 0
+times_all-member : (p xs : List ℕ) (k : ℕ) → k < length xs → val (times_all p xs) (get_or xs k 0) ≡ 0
 unfolding times_all
-times_all-member p [] k h l = absurd (omega arith)
-times_all-member p (x ∷ xs) zero h l = times_all-zero (product p (linear x)) xs x (IsBytes-product p (linear x)) (product_linear-root p x h)
-times_all-member p (x ∷ xs) (suc k) h l = times_all-member (product p (linear x)) xs k (IsBytes-product p (linear x)) (omega arith)
+times_all-member p [] k l = absurd (omega arith)
+times_all-member p (x ∷ xs) zero l = times_all-zero (product p (linear x)) xs x (product_linear-root p x)
+times_all-member p (x ∷ xs) (suc k) l = times_all-member (product p (linear x)) xs k (omega arith)
 
 -- it is 0 nowhere else
-times_all-root : (p xs : List ℕ) (a : ℕ) → IsBytes p → a < 256 → All (λ x. x < 256) xs → val (times_all p xs) a ≡ 0 → (val p a ≡ 0) ⊎ Contains xs a
+times_all-root : (p xs : List ℕ) (a : ℕ) → a < 256 → All (λ x. x < 256) xs → val (times_all p xs) a ≡ 0 → (val p a ≡ 0) ⊎ Contains xs a
 unfolding times_all
-times_all-root p [] a h l bytes e = inl e
-times_all-root p (x ∷ xs) a h l bytes e =
-    elim (times_all-root (product p (linear x)) xs a (IsBytes-product p (linear x)) l (All-tail (λ x. x < 256) x xs bytes) e) [
+times_all-root p [] a l bytes e = inl e
+times_all-root p (x ∷ xs) a l bytes e =
+    elim (times_all-root (product p (linear x)) xs a l (All-tail (λ x. x < 256) x xs bytes) e) [
       | inr later ↦ inr (suc later.0, omega (arith, later.1), later.2)
       | inl first ↦
           elim (cases_eq x a) [
             | inl same ↦ inr (0, omega arith, same)
-            | inr differ ↦ inl (product_linear-other p x a h (All-head (λ x. x < 256) x xs bytes) l differ first)
+            | inr differ ↦ inl (product_linear-other p x a (All-head (λ x. x < 256) x xs bytes) l differ first)
           ]
     ]
-
--- its coefficients are bytes
-pub IsBytes-vanishing : (xs : List ℕ) → IsBytes (vanishing xs)
-unfolding vanishing times_all
-IsBytes-vanishing xs = IsBytes-times_all (1 ∷ []) xs IsBytes-one
 
 -- it has one coefficient more than xs has members
 pub length-vanishing : (xs : List ℕ) → length (vanishing xs) ≡ length xs + 1
 unfolding vanishing times_all
-length-vanishing xs = let e = length-times_all (1 ∷ []) xs IsBytes-one in omega (arith, e)
+length-vanishing xs = let e = length-times_all (1 ∷ []) xs in omega (arith, e)
 
 -- one member more
 pub vanishing_more : (xs : List ℕ) (i : ℕ) → i < length xs → product (vanishing (take i xs)) (linear (get_or xs i 0)) ≡ vanishing (take (i + 1) xs)
@@ -77,13 +62,13 @@ vanishing_more xs i l = sym (fold_more (λ p a. product p (linear a)) (1 ∷ [])
 -- the members are roots
 pub vanishing-member : (xs : List ℕ) (k : ℕ) → k < length xs → val (vanishing xs) (get_or xs k 0) ≡ 0
 unfolding vanishing times_all
-vanishing-member xs k l = times_all-member (1 ∷ []) xs k IsBytes-one l
+vanishing-member xs k l = times_all-member (1 ∷ []) xs k l
 
 -- each byte that is a root is a member
 pub Contains-from_root : (xs : List ℕ) (a : ℕ) → a < 256 → All (λ x. x < 256) xs → val (vanishing xs) a ≡ 0 → Contains xs a
 unfolding vanishing times_all
 Contains-from_root xs a l bytes e =
-    elim (times_all-root (1 ∷ []) xs a IsBytes-one l bytes e) [
+    elim (times_all-root (1 ∷ []) xs a l bytes e) [
       | inl none ↦ let one = val_one a in absurd (omega (arith, one, none))
       | inr member ↦ member
     ]

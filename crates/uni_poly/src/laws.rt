@@ -2,10 +2,32 @@
 
 ghost use Rattle.std.specs.Prelude.{◌≡◌, ◌≢◌, ◌↔◌, ◌≤◌, ◌+◌, length, All, AllPairs, Contains, sum};
 ghost use Rattle.std.specs.List.{AllZip};
+ghost use Rattle.gf256.specs.Field.{◌⊗◌};
 ghost use Rattle.gf256.specs.Polynomial.{val};
-ghost use Rattle.uni_poly.specs.Coefficients.{IsZero, IsSame, HasDegreeBelow};
-ghost use Rattle.uni_poly.specs.Product.{vanishing, HasFactor};
+ghost use Rattle.uni_poly.specs.Coefficients.{IsZero, IsSame, IsSum, HasDegreeBelow};
+ghost use Rattle.uni_poly.specs.Product.{product, vanishing, HasFactor};
 ghost use Rattle.uni_poly.specs.Taylor.{VanishesAt};
+
+/// The product commutes.
+pub fn product_commutes(p: &[u8], q: &[u8])
+    ensures { IsSame (product p.now q.now) (product q.now p.now) }
+{}
+
+/// The product associates.
+pub fn product_associates(p: &[u8], q: &[u8], r: &[u8])
+    ensures { IsSame (product (product p.now q.now) r.now) (product p.now (product q.now r.now)) }
+{}
+
+/// The product distributes over a sum.
+pub fn product_distributes(p: &[u8], q: &[u8], r: &[u8], sum: &[u8])
+    requires { IsSum sum.now q.now r.now }
+    ensures { IsSum (product p.now sum.now) (product p.now q.now) (product p.now r.now) }
+{}
+
+/// The value of a product is the product of the values.
+pub fn value_of_a_product(p: &[u8], q: &[u8], a: u8)
+    ensures { val (product p.now q.now) a ≡ val p.now a ⊗ val q.now a }
+{}
 
 /// A nonzero polynomial of degree at most `degree` has at most `degree` roots.
 pub fn roots_are_few(p: &[u8], degree: usize, roots: &[u8])
@@ -41,7 +63,7 @@ pub fn interpolation_is_unique(p: &[u8], q: &[u8], xs: &[u8])
 {}
 
 /// A polynomial vanishes at `a` with multiplicity `m` exactly where `(x - a)^m` divides it.
-pub fn multiplicity_is_of_the_factor(p: &[u8], a: u8, m: u32)
+pub fn multiplicity_counts_factors(p: &[u8], a: u8, m: u32)
     ensures { VanishesAt p.now a m ↔ HasFactor p.now a m }
 {}
 

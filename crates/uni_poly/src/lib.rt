@@ -28,7 +28,9 @@ use std::alloc::{AllocError, Global};
 pub fn eval(p: &[u8], a: u8) -> u8
     ensures { result ≡ val p.now a }
 {
-    p.iter().rev().fold(0, |value, &c| gf256::add(gf256::mul(value, a), c))
+    p.iter()
+        .rev()
+        .fold(0, |value, &c| gf256::add(gf256::mul(value, a), c))
 }
 
 /// Adds `p` to `acc`, which must be at least as long.

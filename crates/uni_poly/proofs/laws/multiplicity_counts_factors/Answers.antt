@@ -1,6 +1,6 @@
 use Rattle.gf256.specs.Polynomial.{coef}
 use Rattle.uni_poly.proofs.Factors.{HasFactor-from_zero, VanishesAt-from_factor}
-use Rattle.uni_poly.proofs.laws.multiplicity_is_of_the_factor.Goals as goal
+use Rattle.uni_poly.proofs.laws.multiplicity_counts_factors.Goals as goal
 
 pub returns : goal.returns
 unfolding coef
