@@ -1,0 +1,14 @@
+pub mod Coefficients
+pub mod Values
+pub mod Series
+pub mod Addition
+pub mod Taylor
+pub mod Products
+pub mod LinearFactor
+pub mod Quotient
+pub mod Division
+pub mod Factors
+pub mod Multiplicity
+pub mod Uniqueness
+pub mod VanishingPolynomial
+pub mod Interpolation
