@@ -3,6 +3,7 @@
 
 use pir_tool::{OsPorts, Status, code, line, run};
 use std::env;
+use std::io::ErrorKind;
 use std::process::ExitCode;
 use std::rt::Env;
 
@@ -10,6 +11,7 @@ use std::rt::Env;
 fn words_of<R: Env + AllocGlobal>(rt: &R) -> Result<Vec<String>, Status> {
     match env::args(rt) {
         Ok(words) => words.skip(1).collect(rt.alloc()).or(Err(Status::Memory)),
+        Err(error) if error.kind() == ErrorKind::OutOfMemory => Err(Status::Memory),
         Err(_) => Err(Status::Usage),
     }
 }
