@@ -4,9 +4,9 @@ mod Digits
 mod FieldLemmas
 mod FormLemmas
 mod HeadLemmas
+mod HeaderPieces
 mod LayoutLemmas
 mod Parsing
-mod ReaderLemmas
 mod RecordHeader
 mod RecordsReaderLemmas
 mod SessionReaderLemmas
