@@ -19,7 +19,7 @@ use Rattle.pir_tool.specs.Replayed.{NoSession, Took, IsFileOf, Fed, ReadTo}
 
 -- no session is longer
 abbrev pub longest : ℕ
-longest = 1048576
+longest = 4294967296
 
 -- the bytes that a reader has seen
 abbrev pub seen_by : Reading → List ℕ

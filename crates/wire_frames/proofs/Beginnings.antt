@@ -5,6 +5,7 @@ use Rattle.std.proofs.Math.Nat.{mul-le-mul_right, suc-mul}
 use Rattle.std.proofs.Math.Seq.{take-append_seam}
 use Rattle.std.proofs.lemmas.List.{append-nil, length-replicate, take-append-drop, take-append-le}
 use Rattle.std.proofs.lemmas.List.Elements.{All-nil, All-head, All-tail, All-append, All-push, All-replicate}
+use Rattle.wire_frames.specs.declared.TheConstants.{MOST_SERVERS}
 use Rattle.wire_frames.specs.declared.session.SessionParams.{SessionParams}
 use Rattle.wire_frames.specs.Form.{Starts}
 use Rattle.wire_frames.specs.Layout.{IsHeader, IsRecordHeader, record_header}
@@ -248,11 +249,11 @@ length-records most i (x ∷ xs) fits =
     one None fits_y = omega arith
     one (Some bytes) fits_y = omega (arith, fits_y.0)
 
-pub begins_short : (bytes : List ℕ) → Starts IsSession bytes → length bytes ≤ 1048576
+pub begins_short : (bytes : List ℕ) → Starts IsSession bytes → length bytes ≤ 4294967296
 begins_short bytes s =
     let h = s.whole in
     let p = s.value.params in
     let long = length-append (header_bytes p) (records_bytes 1 s.value.records) in
     let records = length-records (24 + p.s) 1 s.value.records h.fits in
-    let few : length s.value.records * (6 + (24 + p.s)) ≤ 8 * (6 + (24 + p.s)) = mul-le-mul_right (6 + (24 + p.s)) (omega (arith, h.all, h.range.few_servers)) in
+    let few : length s.value.records * (6 + (24 + p.s)) ≤ MOST_SERVERS * (6 + (24 + p.s)) = mul-le-mul_right (6 + (24 + p.s)) (omega (arith, h.all, h.range.few_servers)) in
     omega (arith, long, records, few, h.range.shape.few_bytes, length-header p, ap length h.spelled, length-append bytes s.rest)

@@ -4,9 +4,9 @@ mod Digits
 mod FieldLemmas
 pub mod FormLemmas
 mod HeadLemmas
+mod HeaderPieces
 mod LayoutLemmas
 pub mod Parsing
-mod ReaderLemmas
 mod RecordHeader
 mod RecordsReaderLemmas
 mod SessionReaderLemmas

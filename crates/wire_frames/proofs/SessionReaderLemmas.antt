@@ -59,7 +59,7 @@ takes_of taken (Header head) piece new sound fed = (head, record { reading = ref
 takes_of taken (Records r) piece new sound fed = (bytes_so_far r, record { reading = refl; count = sound.0; sees = fed })
 takes_of taken Stopped piece new sound fed = absurd cc
 
-pub taken_fits : (taken : ℕ) (old : State) (piece : List ℕ) (new : State) → IsSound taken old → FeedsState old piece (Ok tt) new → taken + length piece ≤ 1048576
+pub taken_fits : (taken : ℕ) (old : State) (piece : List ℕ) (new : State) → IsSound taken old → FeedsState old piece (Ok tt) new → taken + length piece ≤ 4294967296
 taken_fits taken old piece new sound fed =
     let t = takes_of taken old piece new sound fed in
     omega (arith, t.1.count, length-append t.0 piece, begins_short (t.0 ++ piece) (sees_begins new (t.0 ++ piece) t.1.sees))
@@ -88,7 +88,7 @@ refuses_place bytes piece right h =
           h.longest (subst (Starts IsSession) (take-append-add bytes piece (right + 1)) next);
     }
 
-refuses_short : (bytes piece : List ℕ) (right : ℕ) → Refuses bytes piece right → length bytes + right ≤ 1048576
+refuses_short : (bytes piece : List ℕ) (right : ℕ) → Refuses bytes piece right → length bytes + right ≤ 4294967296
 refuses_short bytes piece right h =
     omega (arith, begins_short (bytes ++ take right piece) h.begins, length-append bytes (take right piece), length-take-le right piece (omega (arith, h.before)))
 

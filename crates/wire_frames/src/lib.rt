@@ -3,6 +3,9 @@
 //! An answer is usable exactly where it is the whole answer of status 0 to the query at hand, and a session holds the
 //! numbers and the records that it was given, in their order. Nothing is said of where the bytes come from: a server
 //! that lies behind a right header gives a usable answer.
+//!
+//! A reader of sessions takes a session's file in pieces, cut anywhere: the same answers come for every cut. It refuses
+//! other bytes in the first call after which they begin no session, with the length of their longest prefix that does.
 #![tactic(auto)]
 
 mod answer;

@@ -20,6 +20,7 @@ mod tests;
 #[derive(Clone, Copy, Debug, PartialEq, Eq, Error)]
 #[error("no session: wrong at byte {place}")]
 pub struct BadSession {
+    /// Counted in bytes from the first of the session.
     pub place: u64,
 }
 
@@ -28,13 +29,24 @@ pub struct BadSession {
 pub enum FeedFault {
     /// The bytes so far begin no session: `place` is the length of their longest prefix that does.
     #[error("no session: wrong at byte {place}")]
-    BadSession { place: u64 },
+    BadSession {
+        /// Counted in bytes from the first of the session.
+        place: u64,
+    },
     /// Want of memory.
     #[error("no memory")]
     Memory,
 }
 
-/// Reads a session that comes in pieces, cut anywhere.
+/// Reads a session that comes in pieces, cut anywhere. Beside the copy of the records' bytes a piece
+/// costs constant work, and one for each record that it ends.
+///
+/// ```text
+/// let mut reader = SessionReader::new();
+/// reader.feed(alloc, b"PIRS\x01")?;
+/// reader.feed(alloc, rest)?;
+/// let session = reader.end()?;
+/// ```
 #[derive(Drop)]
 pub struct SessionReader {
     // How many bytes were right so far.

@@ -1,6 +1,6 @@
 use Rattle.std.proofs.Common.{ℕ, ◌<◌, ◌≤◌, subst, arith}
 use Rattle.wire_frames.specs.RecordsReader.{bytes_so_far}
-use Rattle.wire_frames.proofs.ReaderLemmas.{piece_after, piece_refuses, piece_goes_on, whole_feeds, whole_refuses}
+use Rattle.wire_frames.proofs.HeaderPieces.{piece_after, piece_refuses, piece_goes_on, whole_feeds, whole_refuses}
 use Rattle.wire_frames.proofs.reader.feed_header.Goals as goal
 
 pub overflow_sub-result : goal.overflow_sub-result
