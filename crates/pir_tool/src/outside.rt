@@ -3,6 +3,8 @@
 mod counts;
 mod streams;
 
+ghost use Rattle.std.specs.Prelude.{◌≡◌, ℕ, slice_index, IfOk};
+
 use counts::Counts;
 use pir_ports::{Failed, Port, Ports};
 use std::alloc::AllocError;
@@ -23,7 +25,9 @@ impl<R: Files + Input + Print + AllocGlobal + Drop> OsPorts<R> {
     /// # Errors
     ///
     /// `AllocError` where there is no memory for the counts.
-    pub fn new(rt: R) -> Result<Self, AllocError> {
+    pub fn new(rt: R) -> Result<Self, AllocError>
+        ensures { IfOk result (λ ports. (q : ℕ) → slice_index ports.counts q ≡ 0) }
+    {
         let counts = Counts::new(rt.alloc())?;
         Ok(OsPorts {
             streams: Streams::new(rt),

@@ -1,6 +1,6 @@
 //! How many calls on each port failed.
 
-ghost use Rattle.std.specs.Prelude.{◌≡◌, ◌≢◌, ◌+◌, ◌-◌, ◌^◌, ℕ, slice_index, min};
+ghost use Rattle.std.specs.Prelude.{◌≡◌, ◌≢◌, ◌+◌, ◌-◌, ◌^◌, ℕ, slice_index, min, IfOk};
 ghost use Rattle.pir_ports.specs.Number.{number};
 
 use pir_ports::{Failed, Port};
@@ -28,7 +28,9 @@ impl Model for Counts {
 
 impl Counts {
     /// No failed call yet.
-    pub fn new(alloc: Global) -> Result<Self, AllocError> {
+    pub fn new(alloc: Global) -> Result<Self, AllocError>
+        ensures { IfOk result (λ counts. (q : ℕ) → slice_index counts q ≡ 0) }
+    {
         Ok(Counts {
             counts: vec![in alloc; 0; PORTS]?,
         })
