@@ -1,19 +1,20 @@
 -- The steps of a reader of records.
-use Rattle.std.proofs.Common.{◌≡◌, ℕ, ◌+◌, ◌-◌, ◌*◌, ◌<◌, ◌≤◌, List, [], ◌∷◌, ◌++◌, length, take, min, refl, sym, subst, ap, ap₂, ◌∙◌, inl, inr, arith, length-append}
+use Rattle.std.proofs.Common.{◌≡◌, ℕ, suc, ◌+◌, ◌-◌, ◌*◌, ◌<◌, ◌≤◌, List, [], ◌∷◌, ◌++◌, length, take, min, All, refl, sym, subst, ap, ap₂, ◌∙◌, inl, inr, arith, length-append}
 use Rattle.std.specs.Prelude.{Option, Some, None, Result, Err}
-use Rattle.std.proofs.Math.Nat.{suc-mul}
+use Rattle.std.proofs.Math.Nat.{mul-le-mul_right, suc-mul}
 use Rattle.std.proofs.lemmas.Bool.{cases_lt}
 use Rattle.std.proofs.lemmas.List.{append-nil}
-use Rattle.std.proofs.lemmas.List.Elements.{All-nil, All-push}
+use Rattle.std.proofs.lemmas.List.Elements.{All-append, All-nil, All-push}
 use Rattle.wire_frames.specs.declared.records_reader.RecordsReader.{RecordsReader}
 use Rattle.wire_frames.specs.declared.session.SessionParams.{SessionParams}
 use Rattle.wire_frames.specs.Form.{Starts, Reads}
 use Rattle.wire_frames.specs.Layout.{IsRecordHeader, record_header}
 use Rattle.wire_frames.specs.Limits.{IsInRange}
-use Rattle.wire_frames.specs.Records.{Kept, nothing_kept, closed_by}
+use Rattle.wire_frames.specs.Records.{Kept, nothing_kept, closed_by, extended}
 use Rattle.wire_frames.specs.RecordsReader.{IsOpen, IsSteady, IsInHeader, IsInBytes, Refuses, bytes_so_far}
 use Rattle.wire_frames.specs.Session.{Transcript, IsSession, Fits, record_bytes, session_bytes}
 use Rattle.wire_frames.proofs.Beginnings.{so_far, AllFit, records_begin, record_begins, record_part, bytes_begin, nothing_behind, record_short, bytes_short, session_bytes-push}
+use Rattle.wire_frames.proofs.Digits.{IsByte}
 use Rattle.wire_frames.proofs.HeadLemmas.{IsBehind, place_behind, head_refuses, head_goes_on}
 use Rattle.wire_frames.proofs.Parsing.{length-record_header}
 
@@ -215,3 +216,25 @@ header_goes_on r piece count i head read place t is_index is_head h all =
         nothing = λ last. absurd (omega (arith, t.few));
       };
     }
+
+-- more bytes of the next record leave the reader steady
+pub extended_steady : (r : RecordsReader) (kept : Kept) (bytes : List ℕ) (left : ℕ) → IsSteady r → All IsByte bytes → length bytes ≤ r.records.byte_room → kept ≡ extended bytes r.records
+    → IsSteady (record r { records = kept; left = left })
+extended_steady r kept bytes left steady below room is_kept =
+    let long = length-append r.records.current bytes in
+    let canonical : IsSteady (record r { records = extended bytes r.records; left = left }) = record {
+      range = steady.range;
+      few = steady.few;
+      fits = steady.fits;
+      below = All-append IsByte r.records.current bytes steady.below below;
+      record_room = steady.record_room;
+      byte_room = omega (arith, long, room, steady.byte_room);
+    } in
+    subst (λ (k : Kept). IsSteady (record r { records = k; left = left })) (sym is_kept) canonical
+
+-- there is room for what is left of the next record
+pub room_left : (r : RecordsReader) → IsSteady r → IsInBytes r → r.left ≤ r.records.byte_room
+room_left r steady part =
+    let width = 24 + r.params.s in
+    let more : suc (length r.records.closed) * width ≤ r.params.n * width = mul-le-mul_right width (omega (arith, part.few)) in
+    omega (arith, more, suc-mul (length r.records.closed) width, steady.byte_room, part.most)
