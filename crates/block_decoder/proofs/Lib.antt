@@ -1,6 +1,8 @@
-pub mod Ascending
-pub mod Places
 pub mod Agreement
+pub mod Ascending
+pub mod HexText
+pub mod Places
+pub mod TextLines
 mod Collected
 mod Lines
 mod Pairs

@@ -17,9 +17,11 @@ mod tests;
 mod verdict;
 #[cfg(test)]
 mod worked_rows;
+mod write;
 
 pub use decoder::{bound, decide};
 pub use judging::judge;
 pub use listing::Listing;
 pub use plain::plain_listing;
 pub use verdict::Verdict;
+pub use write::write_verdict;

@@ -1,5 +1,5 @@
 -- How far bytes are right: what begins some session, and the place at which bytes stop doing so.
-use Rattle.std.specs.Prelude.{◌≡◌, ℕ, ◌<◌, ◌≤◌, List, ◌++◌, length, take}
+use Rattle.std.specs.Prelude.{ℕ, ◌<◌, ◌≤◌, List, ◌++◌, length, take}
 use Rattle.wire_frames.specs.Session.{Transcript, IsSession}
 
 -- some session's file begins with these bytes

@@ -5,3 +5,8 @@ pub mod Session
 pub mod Beginning
 pub mod Reading
 pub mod Answer
+pub mod Form
+pub mod Field
+pub mod Layout
+pub mod RecordsReader
+pub mod SessionReader

@@ -6,16 +6,20 @@
 #![tactic(auto)]
 
 mod answer;
+mod field;
+mod head;
 mod header;
+mod layout;
 mod reader;
 mod records;
+mod records_reader;
 mod session;
 #[cfg(test)]
 mod tests;
 
 pub use answer::usable_answer;
 pub use header::QueryHeader;
-pub use reader::{BadSession, FeedFault, feeds};
+pub use reader::{BadSession, FeedFault, SessionReader};
 pub use session::{Session, SessionParams};
 
 /// The greatest degree of a query's polynomials, so how many servers together may learn nothing.

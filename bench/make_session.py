@@ -1,0 +1,51 @@
+#!/usr/bin/env python3
+"""Writes a recorded session with honest and lying servers to standard output.
+
+usage: make_session.py DEGREE AGREEMENT SERVERS WIDTH LIARS SEED
+
+The answers of the honest servers lie, in each column, on a random polynomial of the degree; the last LIARS servers
+answer random bytes. The field is GF(256) modulo 0x11B.
+"""
+import random
+import struct
+import sys
+
+degree, agreement, servers, width, liars, seed = map(int, sys.argv[1:7])
+rng = random.Random(seed)
+
+powers = [1]
+for _ in range(254):
+    last = powers[-1]
+    doubled = (last << 1) ^ (0x11B if last & 0x80 else 0)
+    powers.append(doubled ^ last)
+logarithms = {value: exponent for exponent, value in enumerate(powers)}
+
+
+def product(a, b):
+    if a == 0 or b == 0:
+        return 0
+    return powers[(logarithms[a] + logarithms[b]) % 255]
+
+
+tables = [bytes(product(a, b) for b in range(256)) for a in range(256)]
+coefficients = [rng.randbytes(width) for _ in range(degree + 1)]
+
+
+def answer(index):
+    if index > servers - liars:
+        return rng.randbytes(width)
+    total = bytes(width)
+    factor = 1
+    for row in coefficients:
+        scaled = row.translate(tables[factor])
+        total = bytes(x ^ y for x, y in zip(total, scaled))
+        factor = product(factor, index)
+    return total
+
+
+numbers = struct.pack(">QII", 7, 1, width)
+out = sys.stdout.buffer
+out.write(b"PIRS" + bytes([1, 1, degree, agreement, servers, 0, 0, 0]) + numbers)
+for index in range(1, servers + 1):
+    frame = b"PIRA" + bytes([1, 1, index, 0]) + numbers + answer(index)
+    out.write(struct.pack(">BBI", index, 1, len(frame)) + frame)

@@ -1,0 +1,72 @@
+-- Ports in memory.
+use Rattle.std.specs.Prelude.{ℕ, ◌+◌, ◌-◌, ◌^◌, min, Contains, List, get_or, set, replicate, Some, ◌++◌}
+use Rattle.std.specs.Option.{option_map}
+use Rattle.pir_ports.specs.declared.port.TheConstants.{PORT_COUNT}
+use Rattle.pir_ports.specs.World.{Cell, World}
+use Rattle.pir_ports.specs.MemoryCell.{MemoryCell, empty_cell}
+use Rattle.pir_ports.specs.NameLog.{NameLog, no_names, names_of, with_name}
+
+-- the most bytes that a call moves, the numbers of the calls that fail, the count of calls so far,
+-- the ports by their numbers, and the names that they were opened with
+pub record Memory : Type 0 where
+  pub cut : ℕ
+  pub fail : List ℕ
+  pub calls : ℕ
+  pub cells : List MemoryCell
+  pub log : NameLog
+
+-- one port
+abbrev pub cell_at : Memory → ℕ → MemoryCell
+cell_at m p = get_or m.cells p empty_cell
+
+-- what is told of a port that was opened with these names: everything but its room
+abbrev pub told : List (List ℕ) → MemoryCell → Cell
+told names c = record {
+  opened = Some names;
+  holds = Some c.holds;
+  accepted = Some c.accepted;
+  faults = c.faults;
+}
+
+-- what is told of ports that are these cells and were opened with these names
+abbrev pub world_from : List MemoryCell → List (ℕ × List ℕ) → World
+world_from cells names = record { at = λ p. told (names_of p names) (get_or cells p empty_cell) }
+
+-- what ports in memory tell
+abbrev pub world_of : Memory → World
+world_of m = world_from m.cells m.log.names
+
+-- what is told of the port after bytes were put behind those still to come
+abbrev pub filled : List ℕ → Cell → Cell
+filled bytes c = record c { holds = option_map (λ h. h ++ bytes) c.holds }
+
+-- ports that hold nothing and have no room, before any call, with room for so many names with so
+-- many bytes in all
+abbrev pub fresh : ℕ → List ℕ → ℕ → ℕ → Memory
+fresh cut fail names bytes = record {
+  cut = cut;
+  fail = fail;
+  calls = 0;
+  cells = replicate PORT_COUNT empty_cell;
+  log = no_names names bytes;
+}
+
+-- the memory with one port changed
+abbrev pub changed : ℕ → (MemoryCell → MemoryCell) → Memory → Memory
+changed p f m = record m { cells = set m.cells p (f (cell_at m p)) }
+
+-- the memory with one name more
+abbrev pub opened : ℕ → List ℕ → Memory → Memory
+opened p name m = record m { log = with_name p name m.log }
+
+-- the count of calls after one more
+abbrev pub next_call : ℕ → ℕ
+next_call calls = min (calls + 1) (2 ^ 64 - 1)
+
+-- the memory once one call more is counted
+abbrev pub called : Memory → Memory
+called m = record m { calls = next_call m.calls }
+
+-- the next call is one of those that fail
+abbrev pub IsDue : Memory → Type 0
+IsDue m = Contains m.fail (next_call m.calls)

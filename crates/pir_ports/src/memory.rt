@@ -1,0 +1,223 @@
+// Ports in memory.
+ghost use Rattle.std.specs.Prelude.{◌≡◌, ◌<◌, ◌≤◌, ◌-◌, ◌^◌, ◌↔◌, ℕ, [], Some, length, take, slice_get, Contains, IfOk, IfSome, OnOk, OnErr, IsErr, IsTrue, ◌⊎◌};
+ghost use Rattle.std.specs.Option.{option_copied};
+ghost use Rattle.pir_ports.specs.Number.{number};
+ghost use Rattle.pir_ports.specs.Moves.{Touches, Hands, Fails, gave, named};
+ghost use Rattle.pir_ports.specs.MemoryCell.{empty_cell, put, with_room, hand, accept, fault, moved};
+ghost use Rattle.pir_ports.specs.NameLog.{CanKeep};
+ghost use Rattle.pir_ports.specs.Memory.{Memory, world_of, cell_at, told, filled, fresh, changed, opened, next_call, called, IsDue};
+ghost use Rattle.pir_ports.specs.declared.port.TheConstants.{PORT_COUNT};
+
+use crate::cell::MemCell;
+use crate::names::Names;
+use crate::{Failed, PORT_COUNT, Port, Ports};
+use std::alloc::{AllocError, Global};
+use std::marker::Model;
+
+/// Ports in memory, which tell everything and fail only where they are asked to.
+///
+/// A call of [`Ports`] moves as many bytes as it can, but at most `cut`. It fails exactly if its
+/// number stands in `fail`, if it is an `open` whose name there is no room to keep, or if it is a
+/// `give` on a port with no room left. Numbers count the calls over all ports from 1, and stop at
+/// `2^64 - 1`. No call of [`Ports`] takes memory.
+///
+/// ```
+/// // Takes of 3 bytes at most; the second call fails; room for one name of 8 bytes.
+/// let mut ports = MemPorts::new(alloc, 3, &[2], 1, 8)?;
+/// ports.put(alloc, Port::Input, b"abcd")?;
+/// assert_eq!(ports.open(Port::Input, "letters"), Ok(()));
+/// let mut text = [0; 4];
+/// assert_eq!(ports.take(Port::Input, &mut text), Err(Failed));
+/// assert_eq!(ports.take(Port::Input, &mut text), Ok(3));
+/// assert_eq!(ports.opened_as(Port::Input, 0), Some(b"letters".as_slice()));
+/// ```
+#[derive(Drop)]
+pub struct MemPorts {
+    cut: usize,
+    fail: Vec<u64>,
+    calls: u64,
+    cells: Vec<MemCell>,
+    names: Names,
+}
+
+impl Model for MemPorts {
+    ghost use Rattle.std.specs.Prelude.{◌<◌, ◌≡◌, length};
+    ghost use Rattle.pir_ports.specs.declared.port.TheConstants.{PORT_COUNT};
+    ghost use Rattle.pir_ports.specs.Memory.{Memory};
+
+    ghost Value = { Memory };
+
+    ghost view = { λ m. record {
+      cut = m.cut;
+      fail = m.fail.items;
+      calls = m.calls;
+      cells = m.cells.items;
+      log = m.names;
+    } };
+
+    ghost invariant = { λ m. (0 < m.cut) × (length m.cells.items ≡ PORT_COUNT) };
+}
+
+// Counts one call more, and tells whether it is due to fail.
+fn is_due(calls: &mut u64, fail: &[u64]) -> bool
+    ensures calls { calls.new ≡ next_call calls.old }
+    ensures due { IsTrue result ↔ Contains fail.now calls.new }
+{
+    *calls = calls.saturating_add(1);
+    fail.contains(calls)
+}
+
+impl MemPorts {
+    /// Ports that hold nothing and have no room, with room for `names` names of `open` that have
+    /// `bytes` bytes in all. `cut` and `fail` stand above.
+    ///
+    /// # Errors
+    ///
+    /// `AllocError` if memory is short.
+    pub fn new(
+        alloc: Global,
+        cut: usize,
+        fail: &[u64],
+        names: usize,
+        bytes: usize,
+    ) -> Result<MemPorts, AllocError>
+        requires cuts { 0 < cut }
+        requires last { ¬ Contains fail.now (2 ^ 64 - 1) }
+        ensures fresh { IfOk result (λ m. m ≡ fresh cut fail.now names bytes) }
+        ensures told { IfOk result (λ m. (p : ℕ) → (world_of m).at p ≡ told [] empty_cell) }
+    {
+        let fail = fail.to_vec(alloc)?;
+        let names = Names::new(alloc, names, bytes)?;
+        let mut cells = Vec::new(alloc);
+        for _i in 0..PORT_COUNT {
+            cells.push(MemCell::new(alloc))?;
+        }
+        Ok(MemPorts {
+            cut,
+            fail,
+            calls: 0,
+            cells,
+            names,
+        })
+    }
+
+    /// Puts bytes behind those that the port has still to hand out. They lie in memory of the
+    /// allocator that `new` was given.
+    ///
+    /// # Errors
+    ///
+    /// `AllocError` if memory is short; nothing is changed then.
+    pub fn put(&mut self, _alloc: Global, p: Port, bytes: &[u8]) -> Result<(), AllocError>
+        ensures ok { OnOk result (self.new ≡ changed (number p) (put bytes.now) self.old) }
+        ensures told { OnOk result ((world_of self.new).at (number p)
+            ≡ filled bytes.now ((world_of self.old).at (number p))) }
+        ensures others { Touches (number p) (world_of self.old) (world_of self.new) }
+        ensures err { OnErr result (self.new ≡ self.old) }
+    {
+        let cell = &mut self.cells[p.number()];
+        cell.put(bytes)
+    }
+
+    /// Sets how many bytes more the port can take, and takes memory for them from the allocator that
+    /// `new` was given.
+    ///
+    /// # Errors
+    ///
+    /// `AllocError` if memory is short; nothing is changed then.
+    pub fn room(&mut self, _alloc: Global, p: Port, n: usize) -> Result<(), AllocError>
+        ensures ok { OnOk result (self.new ≡ changed (number p) (with_room n) self.old) }
+        ensures told { (world_of self.new).at (number p) ≡ (world_of self.old).at (number p) }
+        ensures others { Touches (number p) (world_of self.old) (world_of self.new) }
+        ensures err { OnErr result (self.new ≡ self.old) }
+    {
+        let cell = &mut self.cells[p.number()];
+        cell.set_room(n)
+    }
+
+    /// The bytes that the port has taken so far.
+    pub fn seen(&self, p: Port) -> &[u8]
+        ensures { ((world_of self.now).at (number p)).accepted ≡ Some result.now }
+    {
+        let cell = &self.cells[p.number()];
+        cell.accepted()
+    }
+
+    /// Name `i`, counted from 0, that the port was opened with; `None` exactly where there is none.
+    pub fn opened_as(&self, p: Port, i: usize) -> Option<&[u8]>
+        ensures { IfSome ((world_of self.now).at (number p)).opened
+            (λ names. option_copied result ≡ slice_get names i) }
+    {
+        self.names.name(p.number(), i)
+    }
+}
+
+impl Ports for MemPorts {
+    ghost world = { world_of };
+
+    fn open(&mut self, p: Port, name: &str) -> Result<(), Failed>
+        ensures ok { OnOk result ((world_of self.new).at (number p)
+            ≡ named name.now ((world_of self.old).at (number p))) }
+        ensures failed { OnErr result (Fails (number p) (world_of self.old) (world_of self.new)) }
+        ensures others { Touches (number p) (world_of self.old) (world_of self.new) }
+
+        // It fails exactly where it is due to fail or there is no room for the name.
+        ensures exactly { IsErr result ↔ (IsDue self.old ⊎ ¬ CanKeep name.now self.old.log) }
+        ensures kept { OnOk result (CanKeep name.now self.old.log) }
+        ensures opens { OnOk result (self.new ≡ opened (number p) name.now (called self.old)) }
+        ensures counts { OnErr result (self.new ≡ changed (number p) fault (called self.old)) }
+    {
+        if is_due(&mut self.calls, &self.fail) || !self.names.can_keep(name) {
+            let cell = &mut self.cells[p.number()];
+            return Err(cell.fault());
+        }
+        self.names.push(p.number(), name);
+        Ok(())
+    }
+
+    fn take(&mut self, p: Port, into: &mut [u8]) -> Result<usize, Failed>
+        requires { 0 < length into.old }
+        ensures ok { IfOk result (λ n.
+            Hands (number p) n into.old into.new (world_of self.old) (world_of self.new)) }
+        ensures end { IfOk result (λ n.
+            n ≡ 0 → IfSome ((world_of self.old).at (number p)).holds (λ h. h ≡ [])) }
+        ensures failed { OnErr result (Fails (number p) (world_of self.old) (world_of self.new)) }
+        ensures others { Touches (number p) (world_of self.old) (world_of self.new) }
+
+        // It fails exactly where it is due to fail, and hands out as much as it may.
+        ensures exactly { IsErr result ↔ IsDue self.old }
+        ensures most { IfOk result (λ n.
+            n ≡ moved self.old.cut (length into.old) (length (cell_at self.old (number p)).holds)) }
+        ensures hands { IfOk result (λ n. self.new ≡ changed (number p) (hand n) (called self.old)) }
+        ensures counts { OnErr result (self.new ≡ changed (number p) fault (called self.old)) }
+    {
+        let cell = &mut self.cells[p.number()];
+        if is_due(&mut self.calls, &self.fail) {
+            return Err(cell.fault());
+        }
+        Ok(cell.hand(self.cut, into))
+    }
+
+    fn give(&mut self, p: Port, piece: &[u8]) -> Result<usize, Failed>
+        requires { 0 < length piece.now }
+        ensures some { IfOk result (λ n. 0 < n) }
+        ensures fits { IfOk result (λ n. n ≤ length piece.now) }
+        ensures ok { IfOk result (λ n. (world_of self.new).at (number p)
+            ≡ gave (take n piece.now) ((world_of self.old).at (number p))) }
+        ensures failed { OnErr result (Fails (number p) (world_of self.old) (world_of self.new)) }
+        ensures others { Touches (number p) (world_of self.old) (world_of self.new) }
+
+        // It fails exactly where it is due to fail or has no room, and takes as much as it may.
+        ensures exactly { IsErr result ↔ (IsDue self.old ⊎ ((cell_at self.old (number p)).room ≡ 0)) }
+        ensures most { IfOk result (λ n.
+            n ≡ moved self.old.cut (length piece.now) (cell_at self.old (number p)).room) }
+        ensures accepts { IfOk result (λ n.
+            self.new ≡ changed (number p) (accept (take n piece.now)) (called self.old)) }
+        ensures counts { OnErr result (self.new ≡ changed (number p) fault (called self.old)) }
+    {
+        let cell = &mut self.cells[p.number()];
+        if is_due(&mut self.calls, &self.fail) || cell.room() == 0 {
+            return Err(cell.fault());
+        }
+        Ok(cell.accept(self.cut, piece))
+    }
+}

@@ -1,0 +1,84 @@
+use crate::{Failed, Filled, MemPorts, Port, Ports, read_exactly, write_all};
+use std::test::Fail;
+
+#[test]
+fn bytes_pass_in_any_cut(rt: HostRuntime) -> Result<(), Fail> {
+    let alloc = rt.alloc();
+    for cut in 1..=5 {
+        let mut ports = MemPorts::new(alloc, cut, &[], 0, 0)?;
+        ports.put(alloc, Port::Input, b"abc")?;
+        ports.put(alloc, Port::Input, b"defg")?;
+        ports.room(alloc, Port::Output, 7)?;
+        let mut piece = [0; 5];
+        let filled = read_exactly(&mut ports, Port::Input, &mut piece);
+        assert_eq!(rt; filled, Filled::Full, "cut {cut}");
+        assert_eq!(rt; piece.as_slice(), b"abcde".as_slice(), "cut {cut}");
+        let given = write_all(&mut ports, Port::Output, &piece);
+        assert_eq!(rt; given, Ok(()), "cut {cut}");
+
+        // The input ends within the next piece, whose end stays as it was.
+        let filled = read_exactly(&mut ports, Port::Input, &mut piece);
+        assert_eq!(rt; filled, Filled::Ended(2), "cut {cut}");
+        assert_eq!(rt; piece.as_slice(), b"fgcde".as_slice(), "cut {cut}");
+        let filled = read_exactly(&mut ports, Port::Input, &mut piece);
+        assert_eq!(rt; filled, Filled::Ended(0), "cut {cut}");
+
+        // Of the next piece as much is taken as there is room for.
+        let given = write_all(&mut ports, Port::Output, &piece);
+        assert_eq!(rt; given, Err(Failed), "cut {cut}");
+        let seen = ports.seen(Port::Output);
+        assert_eq!(rt; seen, b"abcdefg".as_slice(), "cut {cut}");
+    }
+    Ok(())
+}
+
+#[test]
+fn calls_fail_by_their_numbers(rt: HostRuntime) -> Result<(), Fail> {
+    let alloc = rt.alloc();
+    for (fail, first, second, seen) in [
+        (0, Filled::Full, Filled::Ended(0), b"abcd".as_slice()),
+        (1, Filled::Failed, Filled::Full, b"abcd".as_slice()),
+        (2, Filled::Failed, Filled::Ended(2), b"abcd".as_slice()),
+        (3, Filled::Full, Filled::Failed, b"abcd".as_slice()),
+        (4, Filled::Full, Filled::Ended(0), b"".as_slice()),
+        (5, Filled::Full, Filled::Ended(0), b"ab".as_slice()),
+    ] {
+        let mut ports = MemPorts::new(alloc, 2, &[fail], 0, 0)?;
+        ports.put(alloc, Port::Input, b"abcd")?;
+        ports.room(alloc, Port::Output, 4)?;
+        let mut piece = [0; 4];
+        let filled = read_exactly(&mut ports, Port::Input, &mut piece);
+        assert_eq!(rt; filled, first, "call {fail} fails");
+        let filled = read_exactly(&mut ports, Port::Input, &mut piece);
+        assert_eq!(rt; filled, second, "call {fail} fails");
+        let _ = write_all(&mut ports, Port::Output, b"abcd");
+        assert_eq!(rt; ports.seen(Port::Output), seen, "call {fail} fails");
+    }
+    Ok(())
+}
+
+#[test]
+fn names_are_kept_in_order(rt: HostRuntime) -> Result<(), Fail> {
+    let alloc = rt.alloc();
+    let mut ports = MemPorts::new(alloc, 1, &[2], 3, 9)?;
+    for (port, name, opened) in [
+        (Port::Input, "one", Ok(())),
+        (Port::Input, "failing", Err(Failed)),
+        (Port::Output, "two", Ok(())),
+        (Port::Input, "four", Err(Failed)),
+        (Port::Input, "six", Ok(())),
+        (Port::Output, "", Err(Failed)),
+    ] {
+        assert_eq!(rt; ports.open(port, name), opened, "{name}");
+    }
+    for (port, i, name) in [
+        (Port::Input, 0, Some(b"one".as_slice())),
+        (Port::Input, 1, Some(b"six".as_slice())),
+        (Port::Input, 2, None),
+        (Port::Output, 0, Some(b"two".as_slice())),
+        (Port::Output, 1, None),
+    ] {
+        assert_eq!(rt; ports.opened_as(port, i), name, "{port:?} {i}");
+    }
+    Ok(())
+}

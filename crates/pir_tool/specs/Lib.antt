@@ -1,0 +1,5 @@
+pub mod Form
+pub mod Table
+pub mod Replayed
+pub mod Outcome
+pub mod Counted

@@ -1,0 +1,96 @@
+//! Reads a recorded session from Input, and judges it.
+
+ghost use Rattle.std.specs.Prelude.{◌≡◌, ◌<◌, length, vec_len, IfOk};
+ghost use Rattle.pir_ports.specs.Moves.{Touches};
+ghost use Rattle.wire_frames.specs.Session.{IsSession};
+ghost use Rattle.wire_frames.specs.Reading.{Feeds};
+ghost use Rattle.pir_tool.specs.Replayed.{ReadTo, Judged, IsFileOf, Fed};
+
+use block_decoder::{Verdict, judge};
+use pir_ports::{Failed, Port, Ports};
+use std::alloc::{AllocError, Global};
+use thiserror::Error;
+use wire_frames::{BadSession, FeedFault, Session, SessionReader};
+
+/// Why a recorded session is not judged.
+#[derive(Clone, Copy, Debug, PartialEq, Eq, Error)]
+pub enum ReplayFault {
+    /// A call on Input failed.
+    #[error("a call on the input failed")]
+    ReadFault,
+    /// Input holds no session: `place` is the length of the longest prefix of its bytes that begins some session.
+    #[error("no session: wrong at byte {place}")]
+    BadSession { place: u64 },
+    /// Want of memory.
+    #[error("no memory")]
+    Memory,
+}
+
+// How many bytes are taken at once, at most.
+const PIECE: usize = 65536;
+
+/// Feeds one more piece.
+fn feed_piece(alloc: Global, reader: &mut SessionReader, piece: &[u8]) -> Result<(), ReplayFault>
+    ensures { Fed reader.old piece.now result reader.new }
+{
+    match reader.feed(alloc, piece) {
+        Ok(()) => Ok(()),
+        Err(FeedFault::BadSession { place }) => Err(ReplayFault::BadSession { place }),
+        Err(FeedFault::Memory) => Err(ReplayFault::Memory),
+    }
+}
+
+/// Reads Input to its end, or to the first piece that is refused, through the buffer.
+fn read_pieces<P: Ports>(
+    alloc: Global,
+    ports: &mut P,
+    buffer: &mut [u8],
+) -> Result<Session, ReplayFault>
+    requires { 0 < length buffer.old }
+    ensures read { ReadTo IsFileOf result (P.world ports.old) (P.world ports.new) }
+    ensures all { IfOk result (λ session. length session.records ≡ session.params.n) }
+    ensures others { Touches 0 (P.world ports.old) (P.world ports.new) }
+{
+    let mut reader = SessionReader::new();
+    'pieces: loop {
+        match ports.take(Port::Input, buffer) {
+            Ok(n) => {
+                if n == 0 {
+                    break;
+                }
+                feed_piece(alloc, &mut reader, &buffer[..n])?;
+            }
+            Err(Failed) => return Err(ReplayFault::ReadFault),
+        }
+    }
+    match reader.end() {
+        Ok(session) => Ok(session),
+        Err(BadSession { place }) => Err(ReplayFault::BadSession { place }),
+    }
+}
+
+/// Room for one piece.
+fn piece_buffer(alloc: Global) -> Result<Vec<u8>, ReplayFault>
+    ensures { IfOk result (λ buffer. 0 < vec_len buffer) }
+{
+    vec![in alloc; 0; PIECE].map_err(|_| ReplayFault::Memory)
+}
+
+/// The verdict on the session that Input, already open, holds to its end. It is read in pieces, and a wrong byte
+/// ends the reading.
+///
+/// # Errors
+///
+/// `ReadFault` only where the count of Input rose; `BadSession` exactly where Input holds no session; `Memory` for
+/// want of memory.
+pub fn replay<P: Ports>(alloc: Global, ports: &mut P) -> Result<Verdict, ReplayFault>
+    ensures replayed { ReadTo Judged result (P.world ports.old) (P.world ports.new) }
+    ensures others { Touches 0 (P.world ports.old) (P.world ports.new) }
+{
+    let mut buffer = piece_buffer(alloc)?;
+    let session = read_pieces(alloc, ports, &mut buffer)?;
+    match judge(alloc, &session) {
+        Ok(verdict) => Ok(verdict),
+        Err(AllocError) => Err(ReplayFault::Memory),
+    }
+}

@@ -1,0 +1,30 @@
+use Rattle.std.proofs.Common.{◌≡◌, ℕ, subst, arith}
+use Rattle.wire_frames.specs.Layout.{IsRecordHeader}
+use Rattle.wire_frames.proofs.Chains.{Leads, leads-start, leads-stop, no_more}
+use Rattle.wire_frames.proofs.FormLemmas.{reads-exit}
+use Rattle.wire_frames.proofs.RecordHeader.{at_len, record_into, record_back, some_present, some_len, to_present, to_len}
+use Rattle.wire_frames.proofs.layout.read_record_header.Goals as goal
+
+pub returns-in_err-number_at : goal.returns-in_err-number_at
+returns-in_err-number_at c =
+    let start = leads-start c.args.bytes.now (record_into c.args.index c.args.most (omega arith)) (record_back c.args.index c.args.most (omega arith)) in
+    reads-exit c.from_residual.result _ c.from_residual.ensures.1 (leads-stop start (λ _ _ _. some_present c.args.most) c.in_err-number_at.ensures)
+
+pub returns-in_err-present : goal.returns-in_err-present
+returns-in_err-present c =
+    let index = to_present c.args.index c.args.most c.args.bytes.now _ (omega arith) c.in_ok-number_at.ensures in
+    reads-exit c.from_residual-in_err-present.result _ c.from_residual-in_err-present.ensures.1 (leads-stop index (λ v _ _. some_len c.args.most v) c.in_err-present.ensures)
+
+pub returns-in_err-number_at-2 : goal.returns-in_err-number_at-2
+returns-in_err-number_at-2 c =
+    let present = to_len (to_present c.args.index c.args.most c.args.bytes.now _ (omega arith) c.in_ok-number_at.ensures) c.in_ok-present.ensures in
+    let none : c.in_ok-present.present ≡ 0 = c.if-present-eq0.true in
+    let absent = subst (λ (v : ℕ). Leads (IsRecordHeader c.args.index c.args.most) (at_len c.args.most v) 2 c.args.bytes.now) none present in
+    reads-exit c.from_residual-in_err-number_at-2.result _ c.from_residual-in_err-number_at-2.ensures.1 (leads-stop absent (λ _ _ _. no_more _) c.in_err-number_at-2.ensures)
+
+pub returns-in_err-len : goal.returns-in_err-len
+returns-in_err-len c =
+    let one : c.in_ok-present.present ≡ 1 = omega (arith, c.in_ok-present.ensures, c.if-present-eq0.false) in
+    let present = to_len (to_present c.args.index c.args.most c.args.bytes.now _ (omega arith) c.in_ok-number_at.ensures) c.in_ok-present.ensures in
+    let whole = subst (λ (v : ℕ). Leads (IsRecordHeader c.args.index c.args.most) (at_len c.args.most v) 2 c.args.bytes.now) one present in
+    reads-exit c.from_residual-in_err-len.result _ c.from_residual-in_err-len.ensures.1 (leads-stop whole (λ _ _ _. no_more _) c.in_err-len.ensures)

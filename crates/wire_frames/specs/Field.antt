@@ -1,0 +1,16 @@
+-- A field of a frame: a number of so many bytes, highest first, in a range.
+use Rattle.std.specs.Prelude.{◌≡◌, ℕ, ◌^◌, ◌<◌, ◌≤◌, List}
+use Rattle.std.specs.Int.{bytes_high_first}
+use Rattle.wire_frames.specs.declared.field.Number.{Number}
+
+-- a range of numbers that has some, and none of more bytes than the field has
+pub record IsField (field : Number) : Type 0 where
+  pub narrow : field.width ≤ 8
+  pub some : field.least ≤ field.most
+  pub fits : field.most < 256 ^ field.width
+
+-- the bytes spell this number of the field
+pub record IsNumber (field : Number) (bytes : List ℕ) (value : ℕ) : Type 0 where
+  pub least : field.least ≤ value
+  pub most : value ≤ field.most
+  pub spelled : bytes ≡ bytes_high_first field.width value

@@ -1,0 +1,68 @@
+//! The first bytes of something that comes in pieces.
+ghost use Rattle.std.specs.Prelude.{◌≡◌, ◌≤◌, ◌-◌, ◌++◌, [], length, take, min};
+
+use std::marker::Model;
+
+/// The bytes so far of a header, which is read once they are enough.
+#[derive(Drop)]
+pub(crate) struct Head {
+    bytes: [u8; 28],
+    len: usize,
+}
+
+impl Model for Head {
+    ghost use Rattle.std.specs.Prelude.{List, ℕ, ◌≤◌, take};
+
+    ghost Value = { List ℕ };
+
+    ghost view = { λ h. take h.len h.bytes };
+
+    ghost invariant = { λ h. h.len ≤ 28 };
+}
+
+impl Head {
+    /// No byte yet.
+    pub(crate) fn new() -> Head
+        ensures { result ≡ [] }
+    {
+        Head {
+            bytes: [0; 28],
+            len: 0,
+        }
+    }
+
+    /// How many bytes there are.
+    pub(crate) fn len(&self) -> usize
+        ensures { result ≡ length self.now }
+    {
+        self.len
+    }
+
+    /// The bytes.
+    pub(crate) fn as_slice(&self) -> &[u8]
+        ensures { result.now ≡ self.now }
+    {
+        &self.bytes[..self.len]
+    }
+
+    /// Takes bytes from the front of the piece until there are `size`, and says how many it took.
+    pub(crate) fn fill(&mut self, piece: &[u8], size: usize) -> usize
+        requires { size ≤ 28 }
+        ensures count { result ≡ min (size - length self.old) (length piece.now) }
+        ensures bytes { self.new ≡ self.old ++ take result piece.now }
+    {
+        let count = size.saturating_sub(self.len).min(piece.len());
+        let end = self.len + count;
+        self.bytes[self.len..end].copy_from_slice(&piece[..count]);
+        self.len = end;
+        count
+    }
+
+    /// Keeps the first `len` bytes alone.
+    pub(crate) fn truncate(&mut self, len: usize)
+        requires { len ≤ length self.old }
+        ensures { self.new ≡ take len self.old }
+    {
+        self.len = len;
+    }
+}

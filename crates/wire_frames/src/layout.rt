@@ -1,0 +1,153 @@
+//! The parts of a session file that are numbers: its header, and what stands before the bytes of
+//! a record.
+ghost use Rattle.std.specs.Prelude.{◌≤◌, ◌<◌, ◌^◌, length};
+ghost use Rattle.wire_frames.specs.Form.{Reads};
+ghost use Rattle.wire_frames.specs.Layout.{IsHeader, IsRecordHeader};
+
+use crate::field::{Number, number_at};
+use crate::session::SessionParams;
+use crate::{MOST_CELLS, MOST_DEGREE, MOST_ROWS, MOST_SERVERS, MOST_WIDTH};
+
+/// How many bytes the header of a session has.
+pub(crate) const HEADER_LEN: usize = 28;
+
+/// How many bytes stand before those of a record.
+pub(crate) const RECORD_HEADER_LEN: usize = 6;
+
+// `PIRS`
+const MAGIC: Number = Number {
+    width: 4,
+    least: 0x5049_5253,
+    most: 0x5049_5253,
+};
+
+const VERSION: Number = Number {
+    width: 1,
+    least: 1,
+    most: 1,
+};
+
+const SCHEME: Number = Number {
+    width: 1,
+    least: 1,
+    most: 1,
+};
+
+const DEGREE: Number = Number {
+    width: 1,
+    least: 1,
+    most: MOST_DEGREE as u64,
+};
+
+// From 1, or from the number of servers that have to agree or be there.
+const SERVERS: Number = Number {
+    width: 1,
+    least: 1,
+    most: MOST_SERVERS as u64,
+};
+
+const ZERO: Number = Number {
+    width: 3,
+    least: 0,
+    most: 0,
+};
+
+const SESSION: Number = Number {
+    width: 8,
+    least: 0,
+    most: u64::MAX,
+};
+
+const ROWS: Number = Number {
+    width: 4,
+    least: 1,
+    most: MOST_ROWS as u64,
+};
+
+const WIDTH: Number = Number {
+    width: 4,
+    least: 1,
+    most: MOST_WIDTH as u64,
+};
+
+const PRESENT: Number = Number {
+    width: 1,
+    least: 0,
+    most: 1,
+};
+
+const NO_LEN: Number = Number {
+    width: 4,
+    least: 0,
+    most: 0,
+};
+
+const LEN: Number = Number {
+    width: 4,
+    least: 0,
+    most: u32::MAX as u64,
+};
+
+/// The numbers that the header of a session spells, or the place up to which the bytes begin one.
+pub(crate) fn read_header(bytes: &[u8]) -> Result<SessionParams, usize>
+    requires { length bytes.now ≤ HEADER_LEN }
+    ensures { Reads IsHeader bytes.now result }
+{
+    number_at(bytes, 0, MAGIC)?;
+    number_at(bytes, 4, VERSION)?;
+    let scheme = number_at(bytes, 5, SCHEME)?;
+    let t = number_at(bytes, 6, DEGREE)?;
+    let h = number_at(
+        bytes,
+        7,
+        Number {
+            least: t + 1,
+            ..SERVERS
+        },
+    )?;
+    let n = number_at(
+        bytes,
+        8,
+        Number {
+            least: h,
+            ..SERVERS
+        },
+    )?;
+    number_at(bytes, 9, ZERO)?;
+    let session = number_at(bytes, 12, SESSION)?;
+    let r = number_at(bytes, 20, ROWS)?;
+    let most = WIDTH.most.min(MOST_CELLS / r);
+    let s = number_at(bytes, 24, Number { most, ..WIDTH })?;
+    Ok(SessionParams {
+        scheme: scheme as u8,
+        t: t as u8,
+        h: h as u8,
+        n: n as u8,
+        session,
+        r: r as u32,
+        s: s as u32,
+    })
+}
+
+/// What stands before the bytes of record `index`: how many bytes it has, or that it is absent. Else
+/// the place up to which the bytes begin such a header.
+pub(crate) fn read_record_header(bytes: &[u8], index: u8, most: u32) -> Result<Option<u32>, usize>
+    requires { length bytes.now ≤ RECORD_HEADER_LEN }
+    ensures { Reads (IsRecordHeader index most) bytes.now result }
+{
+    let index = index as u64;
+    let most = most as u64;
+    let number = Number {
+        width: 1,
+        least: index,
+        most: index,
+    };
+    number_at(bytes, 0, number)?;
+    let present = number_at(bytes, 1, PRESENT)?;
+    if present == 0 {
+        number_at(bytes, 2, NO_LEN)?;
+        return Ok(None);
+    }
+    let len = number_at(bytes, 2, Number { most, ..LEN })?;
+    Ok(Some(len as u32))
+}
