@@ -1,0 +1,13 @@
+pub mod Values
+pub mod Addition
+pub mod LinearFactor
+pub mod Quotient
+pub mod Division
+pub mod Taylor
+pub mod Multiplicity
+pub mod Series
+pub mod VanishingPolynomial
+pub mod Uniqueness
+pub mod Interpolation
+pub mod Factors
+pub mod Products

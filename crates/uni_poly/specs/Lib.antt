@@ -1,0 +1,5 @@
+pub mod Coefficients
+pub mod Product
+pub mod Division
+pub mod Interpolation
+pub mod Taylor
