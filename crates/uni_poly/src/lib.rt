@@ -7,11 +7,14 @@
 //! names, and want of memory is its only error. [`laws`] has what is known of roots: how many there are, each counted
 //! with its multiplicity, and that interpolation has one answer.
 //!
+//! [`steps`] has the counter by which the crates above bound their work.
+//!
 //! Not promised: anything of time. The methods are the schoolbook's, and `interpolate` and `vanishing` take a number of
 //! products that grows with the square of the number of points.
 #![tactic(auto)]
 
 pub mod laws;
+pub mod steps;
 #[cfg(test)]
 mod tests;
 
