@@ -1,4 +1,5 @@
 pub mod Agreement
+pub mod ChoiceTable
 pub mod Ascending
 pub mod HexText
 pub mod Places

@@ -6,3 +6,6 @@ pub mod Text
 pub mod Numbered
 pub mod Gains
 pub mod Usable
+pub mod Choices
+pub mod Lagrange
+pub mod Candidate

@@ -7,8 +7,11 @@
 #![tactic(auto)]
 
 mod answers;
+mod candidate;
+mod choices;
 mod decoder;
 mod judging;
+mod lagrange;
 mod line;
 mod listing;
 mod plain;
