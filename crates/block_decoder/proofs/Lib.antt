@@ -1,7 +1,10 @@
 pub mod Agreement
 pub mod ChoiceTable
+pub mod Columns
+pub mod Combination
 pub mod Ascending
 pub mod HexText
+pub mod Marks
 pub mod Places
 pub mod TextLines
 mod Collected

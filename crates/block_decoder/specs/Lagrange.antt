@@ -1,5 +1,6 @@
 -- Lagrange interpolation: the value of a polynomial anywhere, by its values at enough points.
-use Rattle.std.specs.Prelude.{◌≡◌, ◌≢◌, ℕ, ◌<◌, List, [], length, map, replicate, slice_index, slice_index_or, slice_set, All, AllPairs, Contains, Bool, true, ◌==◌, Option, Some, None, MatchOption, Vec, Global}
+use Rattle.std.specs.Prelude.{◌≡◌, ◌≢◌, ℕ, ◌<◌, ⊤, List, [], length, map, replicate, slice_index, slice_index_or, slice_set, All, AllPairs, Contains, Bool, true, ◌==◌, Option, Some, None, MatchOption, Vec}
+use Rattle.std.specs.Global.{Global}
 use Rattle.gf256.specs.Field.{◌⊗◌}
 use Rattle.gf256.specs.Sums.{sum_to}
 use Rattle.gf256.specs.Polynomial.{coef, val, IsPolynomial}
@@ -50,7 +51,7 @@ takes (Some coefficients) bytes byte = combination coefficients.items bytes == b
 pub record IsLagrange (answers : List Answer) (places at_zero : List ℕ) (at_answers : List (Option (Vec ℕ Global))) : Type 0 where
   pub zero_size : length at_zero ≡ length places
   pub size : length at_answers ≡ length answers
-  pub sizes : All (λ o. MatchOption o (Unit {0}) (λ v. length v.items ≡ length places)) at_answers
+  pub sizes : All (λ o. MatchOption o ⊤ (λ v. length v.items ≡ length places)) at_answers
   pub polynomial : (bytes : List ℕ) → length bytes ≡ length places → All (λ b. b < 256) bytes
       → (p : List ℕ) × Interpolates (indices_at answers places) bytes p × (combination at_zero bytes ≡ coef p 0)
       × ((place : ℕ) → place < length answers → MatchOption (slice_index_or at_answers place None) (Contains places place) (λ v. combination v.items bytes ≡ val p (answer_at answers place).index))

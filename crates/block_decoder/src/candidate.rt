@@ -1,6 +1,6 @@
 //! The block that a choice of answers tells, and the answers that agree on it.
 
-ghost use Rattle.std.specs.Prelude.{◌≡◌, ◌+◌, ◌<◌, ◌≤◌, ◌↔◌, ◌&&◌, ℕ, List, true, false, None, MatchOption, All, length, slice_index, slice_index_or, count_by, IsTrue, IfOk, EachIndex};
+ghost use Rattle.std.specs.Prelude.{◌≡◌, ◌+◌, ◌<◌, ◌≤◌, ◌↔◌, ◌&&◌, ⊤, ℕ, List, true, false, None, MatchOption, All, length, slice_index, slice_index_or, count_by, IsTrue, IfOk, EachIndex};
 ghost use Rattle.block_decoder.specs.Agreed.{answer_at, constants_of, weight, Filled};
 ghost use Rattle.block_decoder.specs.Candidate.{HasRoom};
 ghost use Rattle.block_decoder.specs.Lagrange.{bytes_at, takes, AreChosen, HasColumns, IsLagrange, IsThrough};

@@ -1,6 +1,6 @@
 //! Lagrange interpolation through chosen answers.
 
-ghost use Rattle.std.specs.Prelude.{◌≡◌, ◌≢◌, ◌<◌, length, map, slice_index_or, All, AllPairs, Contains, IfOk, None, MatchOption};
+ghost use Rattle.std.specs.Prelude.{◌≡◌, ◌≢◌, ◌<◌, ⊤, length, map, slice_index_or, All, AllPairs, Contains, IfOk, None, MatchOption};
 ghost use Rattle.gf256.specs.Polynomial.{val};
 ghost use Rattle.block_decoder.specs.Agreed.{answer_at};
 ghost use Rattle.block_decoder.specs.Lagrange.{combination, indices_at, AreChosen, IsBasis, IsLagrange, takes};
