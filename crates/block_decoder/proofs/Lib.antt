@@ -8,8 +8,7 @@ pub mod Marks
 pub mod Places
 pub mod TextLines
 mod Collected
-mod Lines
-mod Pairs
+mod Tried
 pub mod Numbered
 pub mod Weight
 pub mod Continues

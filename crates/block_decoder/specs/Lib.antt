@@ -1,5 +1,4 @@
 pub mod Agreed
-pub mod Line
 pub mod Numbers
 pub mod Verdict
 pub mod Text

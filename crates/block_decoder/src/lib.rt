@@ -12,7 +12,6 @@ mod choices;
 mod decoder;
 mod judging;
 mod lagrange;
-mod line;
 mod listing;
 mod plain;
 #[cfg(test)]
