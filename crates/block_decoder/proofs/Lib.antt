@@ -1,11 +1,14 @@
 pub mod Agreement
+pub mod ChoiceTable
+pub mod Columns
+pub mod Combination
 pub mod Ascending
 pub mod HexText
+pub mod Marks
 pub mod Places
 pub mod TextLines
 mod Collected
-mod Lines
-mod Pairs
+mod Tried
 pub mod Numbered
 pub mod Weight
 pub mod Continues

@@ -38,7 +38,7 @@ module _ (ps : List (List ℕ)) (a : Answer) (long : length ps ≤ length a.payl
       not_true false n = refl
 
 -- where polynomials hold, the first of them do
-holds_first-append : (ps qs : List (List ℕ)) (a : Answer) → holds_first (ps ++ qs) a ≡ true → holds_first ps a ≡ true
+pub holds_first-append : (ps qs : List (List ℕ)) (a : Answer) → holds_first (ps ++ qs) a ≡ true → holds_first ps a ≡ true
 holds_first-append ps qs a h =
     let f : List ℕ → ℕ = λ p. val p a.index in
     let n = length-append ps qs in

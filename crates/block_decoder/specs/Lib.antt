@@ -1,8 +1,10 @@
 pub mod Agreed
-pub mod Line
 pub mod Numbers
 pub mod Verdict
 pub mod Text
 pub mod Numbered
 pub mod Gains
 pub mod Usable
+pub mod Choices
+pub mod Lagrange
+pub mod Candidate

@@ -1,6 +1,6 @@
 //! The answers of a session, as they lie in two slices.
 
-ghost use Rattle.std.specs.Prelude.{◌≡◌, ◌*◌, ◌<◌, length};
+ghost use Rattle.std.specs.Prelude.{◌≡◌, ◌*◌, ◌<◌, length, slice_index};
 ghost use Rattle.block_decoder.specs.Agreed.{answers_of, answer_at};
 
 use std::marker::Model;
@@ -86,5 +86,14 @@ impl<'a> Answers<'a> {
             index: self.indices[place],
             payload: &self.bytes[from..from + self.width],
         }
+    }
+
+    /// The byte of the answer at a place, in a column.
+    pub fn byte(&self, place: usize, column: usize) -> u8
+        requires place { place < length self.now }
+        requires column { column < length (answer_at self.now place).payload }
+        ensures { result ≡ slice_index (answer_at self.now place).payload column }
+    {
+        self.at(place).payload()[column]
     }
 }

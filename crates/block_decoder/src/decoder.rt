@@ -1,16 +1,22 @@
-//! Finds the agreed blocks, by the line through each pair of answers.
+//! Finds the agreed blocks, by the polynomials through each choice of answers.
 
-ghost use Rattle.std.specs.Prelude.{◌≡◌, ◌≢◌, ◌*◌, ◌^◌, ◌<◌, ◌≤◌, ◌↔◌, length, All, AllPairs, IsTrue, IfOk};
+ghost use Rattle.std.specs.Prelude.{◌≡◌, ◌≢◌, ◌+◌, ◌*◌, ◌^◌, ◌<◌, ◌≤◌, ◌⊎◌, length, All, IfOk};
 ghost use Rattle.std.specs.List.Sorted.{IsStrictlyIncreasing};
-ghost use Rattle.block_decoder.specs.Agreed.{answers_of, Filled, Lists, weight};
+ghost use Rattle.block_decoder.specs.Agreed.{answers_of, Lists};
+ghost use Rattle.block_decoder.specs.Choices.{binomial};
+ghost use Rattle.block_decoder.specs.Lagrange.{HasColumns};
 ghost use Rattle.block_decoder.specs.Numbers.{bound_of};
 ghost use Rattle.block_decoder.specs.Verdict.{IsDecided};
 
 use crate::answers::Answers;
-use crate::line::Line;
+use crate::candidate::Candidate;
+use crate::choices::choices_of;
+use crate::lagrange::Lagrange;
 use crate::listing::Listing;
 use crate::verdict::Verdict;
 use std::alloc::{AllocError, Global};
+use std::sync::ledger::Ledger;
+use uni_poly::steps::Steps;
 
 /// What k answers say of the block that was asked for (Goldberg 2007): the blocks on which `h` of them or more
 /// agree. Answers agree on a block where, in every column, they lie on one polynomial of degree at most `t`, and
@@ -20,31 +26,34 @@ use std::alloc::{AllocError, Global};
 /// payloads in the same order, `s` bytes each. The verdict is `TooFew` where k < `h`, else `TooWeak` where
 /// `h * h <= k * t`, else `Listed`.
 ///
-/// It lays a line through each pair of answers, so `t` is 1 and k at most 8, and counts the answers on it: the
-/// work is pairs times columns times answers. Memory is taken for two buffers of `s` bytes, and for the blocks
-/// that are listed.
+/// It tries each choice of `t` + 1 of the answers, of which there are at most 8, and ends a choice as soon as too few
+/// answers can hold. A step of `cols` is a column interpolated for a choice, which takes `t` + 1 products for the
+/// constant, and as many for each other answer that still holds. Memory is taken for the table of choices, for one
+/// block, for the Lagrange coefficients of a choice, and for the blocks that are listed; none column by column.
 ///
 /// The answers 1, 2, 3 with the payloads `cfd2`, `4073`, `cce5` (t 1, h 3, s 2) agree on the block `4344`.
 ///
 /// # Errors
 ///
-/// `AllocError` where there is no memory for the buffers or for a block.
-pub fn decide(
+/// `AllocError` where there is no memory for one of these.
+pub fn decide<C: Ledger>(
     alloc: Global,
     indices: &[u8],
     bytes: &[u8],
     t: u32,
     h: u32,
     s: u32,
+    cols: &mut Steps<C>,
 ) -> Result<Verdict, AllocError>
     requires ascending { IsStrictlyIncreasing indices.now }
     requires nonzero { All (λ a. a ≢ 0) indices.now }
     requires few { length indices.now ≤ 8 }
-    requires degree { t ≡ 1 }
-    requires agreement { (t < h) × (h ≤ 32) }
+    requires agreement { (1 ≤ t) × (t < h) × (h ≤ 32) }
     requires width { (1 ≤ s) × (s ≤ 2 ^ 16) }
     requires fit { length bytes.now ≡ length indices.now * s }
-    ensures { IfOk result (IsDecided (answers_of s indices.now bytes.now) s t h) }
+    ensures verdict { IfOk result (IsDecided (answers_of s indices.now bytes.now) s t h) }
+    ensures cols { cols.new ≤ cols.old + s * binomial (length indices.now) (t + 1) }
+    ensures unlisted { (length indices.now < h) ⊎ (h * h ≤ length indices.now * t) → cols.new ≡ cols.old }
 {
     let k = indices.len() as u32;
     if k < h {
@@ -54,52 +63,35 @@ pub fn decide(
         return Ok(Verdict::TooWeak { k, t, h });
     }
     let answers = Answers::new(indices, bytes, s as usize);
-    let listing = list_lines(alloc, &answers, s as usize, h as usize)?;
+    let listing = list_agreed(alloc, &answers, s as usize, t as usize, h as usize, cols)?;
     Ok(Verdict::Listed(listing))
 }
 
-// The agreed blocks. Each hides behind the line through some two of the answers that agree, since no other line
-// goes through both.
-fn list_lines(
+// The agreed blocks. Each hides behind the polynomials through some `t` + 1 of the answers that agree, since no others
+// of that degree go through all of these.
+fn list_agreed<C: Ledger>(
     alloc: Global,
     answers: &Answers<'_>,
     width: usize,
+    t: usize,
     h: usize,
+    cols: &mut Steps<C>,
 ) -> Result<Listing, AllocError>
-    requires different { AllPairs (λ a b. a.index ≢ b.index) answers.now }
-    requires filled { Filled width answers.now }
-    requires agreement { (2 ≤ h) × (h ≤ length answers.now) }
-    ensures { IfOk result (λ l. Lists l answers.now width 1 h) }
+    requires columns { HasColumns width answers.now }
+    requires agreement { (t < h) × (h ≤ length answers.now) }
+    ensures blocks { IfOk result (λ l. Lists l answers.now width t h) }
+    ensures cols { cols.new ≤ cols.old + width * binomial (length answers.now) (t + 1) }
 {
+    let table = choices_of(alloc, answers.len(), t + 1)?;
+    let mut candidate = Candidate::with_room(alloc, width, t + 1, answers.len())?;
     let mut listing = Listing::new(alloc);
-    let mut line = Line::with_width(alloc, width)?;
-    for first in 0..answers.len() {
-        for second in first + 1..answers.len() {
-            line.pass_through(&answers.at(first), &answers.at(second));
-            if is_heavy(&line, answers, h) {
-                listing.insert(alloc, line.constants())?;
-            }
+    for places in &table {
+        let lagrange = Lagrange::new(alloc, answers, places)?;
+        if candidate.interpolate(answers, places, &lagrange, h, cols) {
+            listing.insert(alloc, candidate.block())?;
         }
     }
     Ok(listing)
-}
-
-// Whether at least `h` answers lie on the line. It stops as soon as too few are left.
-fn is_heavy(line: &Line, answers: &Answers<'_>, h: usize) -> bool
-    requires filled { Filled (length line.now) answers.now }
-    requires enough { h ≤ length answers.now }
-    ensures { IsTrue result ↔ (h ≤ weight line.now answers.now) }
-{
-    let mut misses_left = answers.len() - h;
-    for place in 0..answers.len() {
-        if !line.holds(&answers.at(place)) {
-            if misses_left == 0 {
-                return false;
-            }
-            misses_left -= 1;
-        }
-    }
-    true
 }
 
 /// Johnson's count of the blocks on which `h` of `k` answers can agree, with polynomials of degree at most `t`:

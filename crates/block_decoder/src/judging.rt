@@ -1,25 +1,34 @@
 //! The verdict on a session.
 
-ghost use Rattle.std.specs.Prelude.{◌≡◌, ◌≤◌, length, IfOk};
+ghost use Rattle.std.specs.Prelude.{◌≡◌, ◌+◌, ◌*◌, ◌≤◌, length, IfOk};
 ghost use Rattle.std.specs.Option.{option_copied};
+ghost use Rattle.wire_frames.specs.Answer.{answers};
+ghost use Rattle.block_decoder.specs.Choices.{binomial};
 ghost use Rattle.block_decoder.specs.Verdict.{IsVerdict};
 ghost use Rattle.block_decoder.specs.Usable.{IsCollected, payload_of};
 
 use crate::decoder::decide;
 use crate::verdict::Verdict;
 use std::alloc::{AllocError, Global};
+use std::sync::ledger::Ledger;
+use uni_poly::steps::Steps;
 use wire_frames::{QueryHeader, Session, usable_answer};
 
 /// What the usable answers of a session say of the block that was asked for, as [`decide`] has it for the
 /// session's numbers. All `n` records were pushed; a record that is absent, or no usable answer to the query of
-/// its own server, counts for nothing.
+/// its own server, counts for nothing. `cols` counts as it does there.
 ///
 /// # Errors
 ///
 /// `AllocError` where there is no memory for a copy of `n` payloads, for the decoder or for a block.
-pub fn judge(alloc: Global, session: &Session) -> Result<Verdict, AllocError>
+pub fn judge<C: Ledger>(
+    alloc: Global,
+    session: &Session,
+    cols: &mut Steps<C>,
+) -> Result<Verdict, AllocError>
     requires all { length session.now.records ≡ session.now.params.n }
     ensures verdict { IfOk result (IsVerdict session.now) }
+    ensures cols { cols.new ≤ cols.old + session.now.params.s * binomial (length (answers session.now)) (session.now.params.t + 1) }
 {
     let params = session.params();
     let usable = collect_usable(alloc, session)?;
@@ -30,6 +39,7 @@ pub fn judge(alloc: Global, session: &Session) -> Result<Verdict, AllocError>
         u32::from(params.t),
         u32::from(params.h),
         params.s,
+        cols,
     )
 }
 

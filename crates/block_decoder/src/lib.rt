@@ -7,9 +7,11 @@
 #![tactic(auto)]
 
 mod answers;
+mod candidate;
+mod choices;
 mod decoder;
 mod judging;
-mod line;
+mod lagrange;
 mod listing;
 mod plain;
 #[cfg(test)]

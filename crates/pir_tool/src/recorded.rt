@@ -9,7 +9,9 @@ ghost use Rattle.pir_tool.specs.Replayed.{ReadTo, Judged, IsFileOf, Fed};
 use block_decoder::{Verdict, judge};
 use pir_ports::{Failed, Port, Ports};
 use std::alloc::{AllocError, Global};
+use std::sync::ledger::Ledger;
 use thiserror::Error;
+use uni_poly::steps::Steps;
 use wire_frames::{BadSession, FeedFault, Session, SessionReader};
 
 /// Why a recorded session is not judged.
@@ -77,13 +79,17 @@ fn piece_buffer(alloc: Global) -> Result<Vec<u8>, AllocError>
 }
 
 /// The verdict on the session that Input, already open, holds to its end. It is read in pieces, and a wrong byte
-/// ends the reading.
+/// ends the reading. `cols` counts the columns that are interpolated.
 ///
 /// # Errors
 ///
 /// `ReadFault` only where the count of Input rose; `BadSession` exactly where Input holds no session; `Memory` for
 /// want of memory.
-pub fn replay<P: Ports>(alloc: Global, ports: &mut P) -> Result<Verdict, ReplayFault>
+pub fn replay<C: Ledger, P: Ports>(
+    alloc: Global,
+    ports: &mut P,
+    cols: &mut Steps<C>,
+) -> Result<Verdict, ReplayFault>
     ensures replayed { ReadTo Judged result (P.world ports.old) (P.world ports.new) }
     ensures others { Touches 0 (P.world ports.old) (P.world ports.new) }
 {
@@ -91,7 +97,7 @@ pub fn replay<P: Ports>(alloc: Global, ports: &mut P) -> Result<Verdict, ReplayF
         return Err(ReplayFault::Memory);
     };
     let session = read_pieces(alloc, ports, &mut buffer)?;
-    match judge(alloc, &session) {
+    match judge(alloc, &session, cols) {
         Ok(verdict) => Ok(verdict),
         Err(AllocError) => Err(ReplayFault::Memory),
     }

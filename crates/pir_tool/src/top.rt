@@ -1,6 +1,6 @@
 //! The top call.
 
-ghost use Rattle.std.specs.Prelude.{◌≡◌, ◌≢◌, ◌⊎◌, ◌↔◌, List, ℕ, Some, map, string_bytes};
+ghost use Rattle.std.specs.Prelude.{◌≡◌, ◌≢◌, ◌<◌, ◌⊎◌, ◌↔◌, List, ℕ, Some, map, string_bytes};
 ghost use Rattle.wire_frames.specs.Session.{Transcript, IsSession};
 ghost use Rattle.pir_ports.specs.Moves.{Touches};
 ghost use Rattle.pir_tool.specs.Form.{IsReplay, word_at};
@@ -14,6 +14,9 @@ use crate::words::read_words;
 use block_decoder::{Verdict, write_verdict};
 use pir_ports::{Failed, Port, Ports};
 use std::alloc::Global;
+use std::marker::Brand;
+use std::sync::ledger::{Blank, Ledger};
+use uni_poly::steps::Steps;
 
 /// The status that a verdict is.
 fn status_by(verdict: &Verdict) -> Status
@@ -45,15 +48,17 @@ fn report<P: Ports>(ports: &mut P, verdict: &Verdict) -> Status
     }
 }
 
-/// Judges the session in a file.
-fn replay_file<P: Ports>(alloc: Global, name: &str, ports: &mut P) -> Status
+/// Judges the session in a file. The blank is for the counter of columns, which nobody reads here.
+fn replay_file<C: Ledger, P: Ports>(alloc: Global, cols: Blank, name: &str, ports: &mut P) -> Status
+    requires cols { (cols.name ≡ C.name) × (cols.parts ≡ C.parts) × (0 < cols.parts) }
     ensures outcome { Outcome name.now result (P.world ports.old) (P.world ports.new) }
     ensures others { TouchesStreams (P.world ports.old) (P.world ports.new) }
 {
     let Ok(()) = ports.open(Port::Input, name) else {
         return Status::ReadFault;
     };
-    match replay(alloc, ports) {
+    let mut cols: Steps<C> = Steps::new(cols);
+    match replay(alloc, ports, &mut cols) {
         Ok(verdict) => report(ports, &verdict),
         Err(ReplayFault::ReadFault) => Status::ReadFault,
         Err(ReplayFault::BadSession { place }) => Status::BadInput(Bad::Session { place }),
@@ -82,7 +87,7 @@ pub fn run<R, P: Ports>(_rt: &R, alloc: Global, words: &[String], ports: &mut P)
         → NoneRose (P.world ports.old) (P.world ports.new) → ((place : ℕ) × (result ≡ Status.BadInput (Bad.Session place)) × NoSession place bytes) ⊎ (result ≡ Status.Memory) }
 {
     match read_words(words) {
-        Some(name) => replay_file(alloc, name, ports),
+        Some(name) => replay_file::<Brand, P>(alloc, Blank::new(1), name, ports),
         None => Status::Usage,
     }
 }
