@@ -1,5 +1,5 @@
 -- What reading a recorded session to its end, and judging it, gives.
-use Rattle.std.specs.Prelude.{◌≡◌, ℕ, List, IfSome, Result, Ok, Err}
+use Rattle.std.specs.Prelude.{◌≤◌, ◌+◌, ◌*◌, length, Some, ◌≡◌, ℕ, List, IfSome, Result, Ok, Err}
 use Rattle.pir_ports.specs.World.{World}
 use Rattle.pir_ports.specs.Moves.{took}
 use Rattle.pir_ports.specs.Whole.{FailsAfter}
@@ -7,6 +7,8 @@ use Rattle.wire_frames.specs.Session.{Transcript, IsSession}
 use Rattle.wire_frames.specs.Beginning.{IsPlace}
 use Rattle.wire_frames.specs.Reading.{Reading, Feeds}
 use Rattle.wire_frames.specs.declared.reader.FeedFault.TheVariants.{BadSession as Wrong, Memory as NoMemory}
+use Rattle.wire_frames.specs.Answer.{answers}
+use Rattle.block_decoder.specs.Choices.{binomial}
 use Rattle.block_decoder.specs.Verdict.{IsVerdict}
 use Rattle.block_decoder.specs.declared.verdict.Verdict.{Verdict}
 use Rattle.pir_tool.specs.declared.recorded.ReplayFault.{ReplayFault}
@@ -45,3 +47,9 @@ Fed old piece (Ok x) new = Feeds old piece (Ok x) new
 Fed old piece (Err (BadSession place)) new = Feeds old piece (Err (Wrong place)) new
 Fed old piece (Err ReadFault) new = ⊥
 Fed old piece (Err Memory) new = Feeds old piece (Err NoMemory) new
+
+-- where Input held a session, no more steps were taken than its width times the number of choices of t + 1 of its
+-- usable answers
+abbrev pub StepsWithin : ℕ → ℕ → World → Type 0
+StepsWithin before now world = (bytes : List ℕ) (session : Transcript) → (world.at 0).holds ≡ Some bytes → IsSession bytes session
+    → now ≤ before + session.params.s * binomial (length (answers session)) (session.params.t + 1)

@@ -4,7 +4,7 @@ ghost use Rattle.std.specs.Prelude.{◌≡◌, ◌<◌, length, vec_len, IfOk};
 ghost use Rattle.pir_ports.specs.Moves.{Touches};
 ghost use Rattle.wire_frames.specs.Session.{IsSession};
 ghost use Rattle.wire_frames.specs.Reading.{Feeds};
-ghost use Rattle.pir_tool.specs.Replayed.{ReadTo, Judged, IsFileOf, Fed};
+ghost use Rattle.pir_tool.specs.Replayed.{ReadTo, Judged, IsFileOf, Fed, StepsWithin};
 
 use block_decoder::{Verdict, judge};
 use pir_ports::{Failed, Port, Ports};
@@ -92,6 +92,7 @@ pub fn replay<C: Ledger, P: Ports>(
 ) -> Result<Verdict, ReplayFault>
     ensures replayed { ReadTo Judged result (P.world ports.old) (P.world ports.new) }
     ensures others { Touches 0 (P.world ports.old) (P.world ports.new) }
+    ensures cols { StepsWithin cols.old cols.new (P.world ports.old) }
 {
     let Ok(mut buffer) = piece_buffer(alloc) else {
         return Err(ReplayFault::Memory);
