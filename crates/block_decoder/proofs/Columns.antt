@@ -1,18 +1,19 @@
 -- The polynomials through chosen answers, column by column.
-use Rattle.std.proofs.Common.{◌≡◌, ◌≢◌, ℕ, zero, suc, ◌+◌, ◌<◌, ◌≤◌, Bool, true, List, [], ◌∷◌, length, map, get_or, All, AllPairs, Contains, eqb, Option, Some, None, MatchOption, Vec, Global, refl, sym, ap, ap₂, subst, ◌∙◌, arith, lit<, inl, inr}
+use Rattle.std.proofs.Common.{◌≡◌, ◌≢◌, ℕ, zero, suc, ◌+◌, ◌*◌, ◌<◌, ◌≤◌, Bool, true, List, [], ◌∷◌, length, map, take, drop, get_or, All, AllPairs, Contains, eqb, Option, Some, None, MatchOption, Vec, Global, refl, sym, ap, ap₂, subst, ◌∙◌, arith, lit<, inl, inr}
 use Rattle.std.specs.Prelude.{⊤}
 use Rattle.std.specs.List.{range_with_len}
+use Rattle.std.specs.List.Sorted.{IsStrictlyIncreasing}
 use Rattle.std.proofs.lemmas.List.{ext_get_or, get_or-map, length-map, get_or_default, get_or_past}
 use Rattle.std.proofs.lemmas.List.FromFn.{length-map-range_with_len, get_or-map-range_with_len}
-use Rattle.std.proofs.lemmas.List.Elements.{All-from_get_or, All-map, All-contains}
+use Rattle.std.proofs.lemmas.List.Elements.{All-from_get_or, All-map, All-contains, All-cons, All-nil, All-take, All-drop}
 use Rattle.std.proofs.lemmas.Bool.{cases_lt, eq-eqb}
 use Rattle.gf256.specs.Polynomial.{coef, val, IsPolynomial}
 use Rattle.uni_poly.specs.Interpolation.{Interpolates}
 use Rattle.uni_poly.proofs.Uniqueness.{same_list}
 use Rattle.wire_frames.specs.Answer.{Answer}
-use Rattle.block_decoder.specs.Agreed.{answer_at, Holds}
+use Rattle.block_decoder.specs.Agreed.{answers_of, answer_at, Holds}
 use Rattle.block_decoder.specs.Lagrange.{combination, indices_at, bytes_at, takes, HasColumns, AreChosen, IsBasis, IsLagrange, IsThrough}
-use Rattle.block_decoder.proofs.Agreement.{filled-at}
+use Rattle.block_decoder.proofs.Agreement.{filled-at, filled-answers_of, different-answers_of}
 use Rattle.block_decoder.proofs.Combination.{combined, combination_is, val_at_zero, basis_sizes, interpolates}
 
 -- polynomials hold at an answer where each takes its byte
@@ -99,6 +100,28 @@ through_from_columns answers width t places polynomials columns chosen count siz
           same_list (indices_at answers places) (bytes_at answers places c) (get_or other c []) (get_or polynomials c []) (indices_small width answers places columns chosen)
           (indices_differ answers places columns.different chosen) (interpolates_column answers width t places other c count same degree agree l) (each c l));
     }
+
+-- the answers that stand in two slices have columns
+bytes-answers_of : (width : ℕ) (indices bytes : List ℕ) → All (λ b. b < 256) bytes → All (λ (a : Answer). All (λ b. b < 256) a.payload) (answers_of width indices bytes)
+bytes-answers_of width [] bytes h = All-nil (λ (a : Answer). All (λ b. b < 256) a.payload)
+bytes-answers_of width (index ∷ indices) bytes h =
+    All-cons (λ (a : Answer). All (λ b. b < 256) a.payload) (record { index = index; payload = take width bytes }) (answers_of width indices (drop width bytes))
+    (All-take (λ b. b < 256) width bytes h) (bytes-answers_of width indices (drop width bytes) (All-drop (λ b. b < 256) width bytes h))
+
+indices-answers_of : (width : ℕ) (indices bytes : List ℕ) → All (λ x. x < 256) indices → All (λ (a : Answer). a.index < 256) (answers_of width indices bytes)
+indices-answers_of width [] bytes h = All-nil (λ (a : Answer). a.index < 256)
+indices-answers_of width (index ∷ indices) bytes h =
+    All-cons (λ (a : Answer). a.index < 256) (record { index = index; payload = take width bytes }) (answers_of width indices (drop width bytes))
+    (h 0 0 (omega arith)) (indices-answers_of width indices (drop width bytes) (λ i d l. h (suc i) d (omega (arith, l))))
+
+pub columns-answers_of : (width : ℕ) (indices bytes : List ℕ) → IsStrictlyIncreasing indices → length bytes ≡ length indices * width → All (λ x. x < 256) indices → All (λ b. b < 256) bytes
+    → HasColumns width (answers_of width indices bytes)
+columns-answers_of width indices bytes ascending fit small_indices small_bytes = record {
+  filled = filled-answers_of width indices bytes fit;
+  bytes = bytes-answers_of width indices bytes small_bytes;
+  indices = indices-answers_of width indices bytes small_indices;
+  different = different-answers_of width indices bytes ascending;
+}
 
 -- ---- the Lagrange coefficients
 
