@@ -9,11 +9,8 @@ use Rattle.pir_tool.specs.declared.status.Status.{Status}
 use Rattle.pir_tool.specs.declared.status.Status.TheVariants.{One, Usage, NoBlock, Several, TooFew, TooWeak, ReadFault, WriteFault, BadInput, Memory}
 use Rattle.pir_tool.specs.declared.status.Bad.TheVariants.{Session}
 use Rattle.pir_tool.specs.Replayed.{Judged, NoSession}
+use Rattle.pir_tool.proofs.Readings.{at_told}
 use Rattle.pir_tool.specs.Outcome.{Outcome, Reported, Answered, NoneRose}
-
--- what is said where bytes are told holds of these bytes
-at_told : (P : List ℕ → Type 0) (o : Option (List ℕ)) (bytes : List ℕ) → o ≡ Some bytes → IfSome o P → P bytes
-at_told P o bytes is p = subst (λ (x : Option (List ℕ)). IfSome x P) is p
 
 -- the verdict reported is that of the session
 answered_by : (name : List ℕ) (status : Status) (old new : World) (bytes : List ℕ) (session : Transcript) → (old.at 0).holds ≡ Some bytes → IsSession bytes session → Reported name status old new → Answered session status old new

@@ -33,6 +33,10 @@ pub record HasSeen (reader : Reading) (old new : World) : Type 0 where
   pub others : Touches 0 old new
   pub short : length (seen_by reader) ≤ longest
 
+-- what is said where bytes are told holds of these bytes
+pub at_told : (P : List ℕ → Type 0) (o : Option (List ℕ)) (bytes : List ℕ) → o ≡ Some bytes → IfSome o P → P bytes
+at_told P o bytes is p = subst (λ (x : Option (List ℕ)). IfSome x P) is p
+
 -- what holds of the bytes read holds of those that were held
 pub of_held : (P : List ℕ → Type 0) (o : Option (List ℕ)) (read : List ℕ) → IfSome o (λ h. read ≡ h) → P read → IfSome o P
 of_held P None read is p = tt

@@ -15,30 +15,37 @@ const SESSION: [u8; 124] = [
     0x03, 0x01, 0x00, 0x00, 0x00, 0x1a, 0x50, 0x49, 0x52, 0x41, 0x01, 0x01, 0x03, 0x00, 0x00, 0x00, 0x00, 0x00, 0x00, 0x00, 0x00, 0x07, 0x00, 0x00, 0x00, 0x02, 0x00, 0x00, 0x00, 0x02, 0xcc, 0xe5,
 ];
 
-/// A session of degree 1 with session number 7 and two rows: the payload of each server, or none where it is silent.
-fn session_of(
-    alloc: Global,
+/// A recorded session with number 7 and two rows, and what its replay says.
+#[derive(Drop)]
+struct Row {
+    degree: u8,
     agreement: u8,
     width: u8,
-    payloads: &[Option<&[u8]>],
-) -> Result<Vec<u8>, AllocError> {
-    let servers = u8::try_from(payloads.len()).unwrap_or(0);
-    let numbers = [0, 0, 0, 0, 0, 0, 0, 7, 0, 0, 0, 2, 0, 0, 0, width];
+    // The payload of each server in hexadecimal, or `-` where it is silent.
+    payloads: &'static str,
+    status: Status,
+    text: &'static str,
+}
+
+/// The bytes of the row's session.
+fn session_of(alloc: Global, row: &Row) -> Result<Vec<u8>, Fail> {
+    let servers = row.payloads.split_whitespace().count();
+    let numbers = [0, 0, 0, 0, 0, 0, 0, 7, 0, 0, 0, 2, 0, 0, 0, row.width];
     let mut bytes = Vec::from_slice(alloc, b"PIRS")?;
-    bytes.extend_from_slice(&[1, 1, 1, agreement, servers, 0, 0, 0])?;
+    bytes.extend_from_slice(&[1, 1, row.degree, row.agreement])?;
+    bytes.extend_from_slice(&[u8::try_from(servers).unwrap_or(0), 0, 0, 0])?;
     bytes.extend_from_slice(&numbers)?;
     let mut index = 0u8;
-    for payload in payloads {
+    for payload in row.payloads.split_whitespace() {
         index = index.wrapping_add(1);
-        match payload {
-            Some(payload) => {
-                bytes.extend_from_slice(&[index, 1, 0, 0, 0, width.wrapping_add(24)])?;
-                bytes.extend_from_slice(b"PIRA")?;
-                bytes.extend_from_slice(&[1, 1, index, 0])?;
-                bytes.extend_from_slice(&numbers)?;
-                bytes.extend_from_slice(payload)?;
-            }
-            None => bytes.extend_from_slice(&[index, 0, 0, 0, 0, 0])?,
+        if payload == "-" {
+            bytes.extend_from_slice(&[index, 0, 0, 0, 0, 0])?;
+        } else {
+            bytes.extend_from_slice(&[index, 1, 0, 0, 0, row.width.wrapping_add(24)])?;
+            bytes.extend_from_slice(b"PIRA")?;
+            bytes.extend_from_slice(&[1, 1, index, 0])?;
+            bytes.extend_from_slice(&numbers)?;
+            bytes.extend_from_slice(&hex::decode(alloc, payload)?)?;
         }
     }
     Ok(bytes)
@@ -70,103 +77,34 @@ fn ports_with(
 fn worked_sessions(rt: HostRuntime) -> Result<(), Fail> {
     let alloc = rt.alloc();
     let words = words_of(alloc, &["replay", "-"])?;
-    let rows: [(u8, u8, &[Option<&[u8]>], Status, &[u8]); 10] = [
-        (
-            2,
-            2,
-            &[Some(b"\xcf\xd2"), Some(b"\x40\x73"), Some(b"\xcc\xe5")],
-            Status::One,
-            b"blocks 1\n4344\n",
-        ),
-        (
-            3,
-            2,
-            &[Some(b"\xcf\xd2"), Some(b"\x40\x73"), Some(b"\xcc\xe5")],
-            Status::One,
-            b"blocks 1\n4344\n",
-        ),
-        (
-            2,
-            2,
-            &[Some(b"\xcf\xd2"), None, Some(b"\xcc\xe5")],
-            Status::One,
-            b"blocks 1\n4344\n",
-        ),
-        (
-            3,
-            2,
-            &[Some(b"\xcf\xd2"), Some(b"\x40\x72"), Some(b"\xcc\xe5")],
-            Status::NoBlock,
-            b"blocks 0\n",
-        ),
-        (
-            3,
-            1,
-            &[
-                Some(b"\x10"),
-                Some(b"\x10"),
-                Some(b"\x10"),
-                Some(b"\x17"),
-                Some(b"\x16"),
-            ],
-            Status::Several,
-            b"blocks 2\n10\n13\n",
-        ),
-        (
-            3,
-            2,
-            &[
-                Some(b"\x10\x20"),
-                Some(b"\x10\x40"),
-                Some(b"\x10\x44"),
-                Some(b"\x20\x44"),
-                Some(b"\x40\x44"),
-            ],
-            Status::NoBlock,
-            b"blocks 0\n",
-        ),
-        (
-            3,
-            1,
-            &[
-                Some(b"\x42"),
-                Some(b"\x41"),
-                Some(b"\x40"),
-                Some(b"\x4b"),
-                Some(b"\x49"),
-                Some(b"\x4f"),
-            ],
-            Status::One,
-            b"blocks 1\n43\n",
-        ),
-        (
-            2,
-            1,
-            &[Some(b"\x00"), Some(b"\x01"), Some(b"\x02")],
-            Status::Several,
-            b"blocks 3\n01\n07\nf6\n",
-        ),
-        (
-            2,
-            2,
-            &[None, None, None],
-            Status::TooFew { k: 0, h: 2 },
-            b"too few 0 2\n",
-        ),
-        (
-            2,
-            1,
-            &[Some(b"\x43"), Some(b"\x43"), Some(b"\x43"), Some(b"\x43")],
-            Status::TooWeak { k: 4, t: 1, h: 2 },
-            b"too weak 4 1 2\n",
-        ),
+    #[rattlefmt::skip]
+    let rows = [
+        Row { degree: 1, agreement: 2, width: 2, payloads: "cfd2 4073 cce5", status: Status::One, text: "blocks 1\n4344\n" },
+        Row { degree: 1, agreement: 3, width: 2, payloads: "cfd2 4073 cce5", status: Status::One, text: "blocks 1\n4344\n" },
+        Row { degree: 1, agreement: 2, width: 2, payloads: "cfd2 - cce5", status: Status::One, text: "blocks 1\n4344\n" },
+        Row { degree: 1, agreement: 3, width: 2, payloads: "cfd2 4072 cce5", status: Status::NoBlock, text: "blocks 0\n" },
+        Row { degree: 1, agreement: 3, width: 1, payloads: "10 10 10 17 16", status: Status::Several, text: "blocks 2\n10\n13\n" },
+        Row { degree: 3, agreement: 5, width: 1, payloads: "42 4b 4c 03 16 3a 29 74", status: Status::One, text: "blocks 1\n43\n" },
+        Row { degree: 1, agreement: 3, width: 2, payloads: "1020 1040 1044 2044 4044", status: Status::NoBlock, text: "blocks 0\n" },
+        Row { degree: 1, agreement: 3, width: 1, payloads: "42 41 40 4b 49 4f", status: Status::One, text: "blocks 1\n43\n" },
+        Row { degree: 1, agreement: 2, width: 1, payloads: "00 01 02", status: Status::Several, text: "blocks 3\n01\n07\nf6\n" },
+        Row { degree: 2, agreement: 3, width: 2, payloads: "cfd2 4073 cce5", status: Status::One, text: "blocks 1\n4344\n" },
+        Row { degree: 1, agreement: 2, width: 2, payloads: "- - -", status: Status::TooFew { k: 0, h: 2 }, text: "too few 0 2\n" },
+        Row { degree: 1, agreement: 2, width: 1, payloads: "43 43 43 43", status: Status::TooWeak { k: 4, t: 1, h: 2 }, text: "too weak 4 1 2\n" },
+        Row { degree: 2, agreement: 3, width: 2, payloads: "4344 4344 4344 4344 4344", status: Status::TooWeak { k: 5, t: 2, h: 3 }, text: "too weak 5 2 3\n" },
     ];
-    for (agreement, width, payloads, status, text) in rows {
-        let session = session_of(alloc, agreement, width, payloads)?;
+    for row in &rows {
+        let session = session_of(alloc, row)?;
         for cut in [1, 5, 100000] {
             let mut ports = ports_with(alloc, cut, &[], &session, 100)?;
-            assert_eq!(rt; run(&rt, alloc, &words, &mut ports), status, "for {text:?}");
-            assert_eq!(rt; ports.seen(Port::Output), text);
+            let status = run(&rt, alloc, &words, &mut ports);
+            let payloads = row.payloads;
+            assert_eq!(rt; status, row.status, "for {payloads}");
+            assert_eq!(rt;
+                ports.seen(Port::Output),
+                row.text.as_bytes(),
+                "for {payloads}"
+            );
             assert_eq!(rt; ports.opened_as(Port::Input, 0), Some(b"-".as_slice()));
         }
     }
@@ -185,7 +123,9 @@ fn altered_sessions(rt: HostRuntime) -> Result<(), Fail> {
         (23, 0, 23),
         (33, 0x1b, 33),
         (29, 0, 33),
-        (6, 2, 6),
+        (6, 2, 7),
+        (6, 8, 6),
+        (8, 9, 8),
     ] {
         let mut session = SESSION;
         session[at] = byte;

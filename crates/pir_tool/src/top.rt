@@ -5,7 +5,7 @@ ghost use Rattle.wire_frames.specs.Session.{Transcript, IsSession};
 ghost use Rattle.pir_ports.specs.Moves.{Touches};
 ghost use Rattle.pir_tool.specs.Form.{IsReplay, word_at};
 ghost use Rattle.pir_tool.specs.Table.{status_of};
-ghost use Rattle.pir_tool.specs.Replayed.{NoSession};
+ghost use Rattle.pir_tool.specs.Replayed.{Judged, NoSession, ReadTo};
 ghost use Rattle.pir_tool.specs.Outcome.{Outcome, Answered, NoneRose, TouchesStreams, Told};
 
 use crate::recorded::{ReplayFault, replay};
@@ -48,17 +48,29 @@ fn report<P: Ports>(ports: &mut P, verdict: &Verdict) -> Status
     }
 }
 
-/// Judges the session in a file. The blank is for the counter of columns, which nobody reads here.
-fn replay_file<C: Ledger, P: Ports>(alloc: Global, cols: Blank, name: &str, ports: &mut P) -> Status
-    requires cols { (cols.name ≡ C.name) × (cols.parts ≡ C.parts) × (0 < cols.parts) }
+/// Judges the session in Input, with a counter of columns that nobody reads, made of the blank.
+fn replay_once<C: Ledger, P: Ports>(
+    alloc: Global,
+    blank: Blank,
+    ports: &mut P,
+) -> Result<Verdict, ReplayFault>
+    requires blank { (blank.name ≡ C.name) × (blank.parts ≡ C.parts) × (0 < blank.parts) }
+    ensures replayed { ReadTo Judged result (P.world ports.old) (P.world ports.new) }
+    ensures others { Touches 0 (P.world ports.old) (P.world ports.new) }
+{
+    let mut cols: Steps<C> = Steps::new(blank);
+    replay(alloc, ports, &mut cols)
+}
+
+/// Judges the session in a file.
+fn replay_file<P: Ports>(alloc: Global, name: &str, ports: &mut P) -> Status
     ensures outcome { Outcome name.now result (P.world ports.old) (P.world ports.new) }
     ensures others { TouchesStreams (P.world ports.old) (P.world ports.new) }
 {
     let Ok(()) = ports.open(Port::Input, name) else {
         return Status::ReadFault;
     };
-    let mut cols: Steps<C> = Steps::new(cols);
-    match replay(alloc, ports, &mut cols) {
+    match replay_once::<Brand, P>(alloc, Blank::new(1), ports) {
         Ok(verdict) => report(ports, &verdict),
         Err(ReplayFault::ReadFault) => Status::ReadFault,
         Err(ReplayFault::BadSession { place }) => Status::BadInput(Bad::Session { place }),
@@ -87,7 +99,7 @@ pub fn run<R, P: Ports>(_rt: &R, alloc: Global, words: &[String], ports: &mut P)
         → NoneRose (P.world ports.old) (P.world ports.new) → ((place : ℕ) × (result ≡ Status.BadInput (Bad.Session place)) × NoSession place bytes) ⊎ (result ≡ Status.Memory) }
 {
     match read_words(words) {
-        Some(name) => replay_file::<Brand, P>(alloc, Blank::new(1), name, ports),
+        Some(name) => replay_file(alloc, name, ports),
         None => Status::Usage,
     }
 }

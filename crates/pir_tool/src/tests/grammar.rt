@@ -49,7 +49,7 @@ pub fn place_by_format(bytes: &[u8]) -> Option<u64> {
     scan.number(4, 0x50495253, 0x50495253);
     scan.number(1, 1, 1);
     scan.number(1, 1, 1);
-    let degree = scan.number(1, 1, 1);
+    let degree = scan.number(1, 1, 7);
     let agreement = scan.number(1, degree.saturating_add(1), 8);
     let servers = scan.number(1, agreement, 8);
     scan.number(3, 0, 0);

@@ -1,6 +1,6 @@
 use Rattle.std.proofs.Common.{◌≡◌, ◌+◌, ◌*◌, ◌≤◌, ℕ, List, length, inl, inr, refl, sym, subst, ap, ◌∙◌, arith}
 use Rattle.wire_frames.specs.Answer.{Answer}
-use Rattle.uni_poly.proofs.Uniqueness.{bytes_from_get_or}
+use Rattle.uni_poly.proofs.Coefficients.{bytes_from_get_or}
 use Rattle.block_decoder.specs.Agreed.{answers_of, Lists}
 use Rattle.block_decoder.specs.Choices.{binomial}
 use Rattle.block_decoder.specs.Lagrange.{HasColumns}
