@@ -23,7 +23,7 @@ pub use reader::{BadSession, FeedFault, SessionReader};
 pub use session::{Session, SessionParams};
 
 /// The greatest degree of a query's polynomials, so how many servers together may learn nothing.
-pub const MOST_DEGREE: u8 = 1;
+pub const MOST_DEGREE: u8 = 7;
 
 /// The greatest number of servers.
 pub const MOST_SERVERS: u8 = 8;
