@@ -1,5 +1,7 @@
 mod grammar;
 
+ghost use Rattle.std.specs.Prelude.{◌<◌};
+
 use crate::{Bad, Status, run};
 use grammar::place_by_format;
 use pir_ports::{MemPorts, Port};
@@ -59,15 +61,20 @@ fn words_of(alloc: Global, texts: &[&str]) -> Result<Vec<String>, AllocError> {
     Ok(words)
 }
 
-/// Ports whose Input holds these bytes and whose Output has so much room. The calls numbered in `fail` fail.
+/// Ports whose Input holds these bytes and whose Output has so much room. The call with the number `fail` fails.
 fn ports_with(
     alloc: Global,
     cut: usize,
-    fail: &[u64],
+    fail: Option<u32>,
     input: &[u8],
     room: usize,
-) -> Result<MemPorts, AllocError> {
-    let mut ports = MemPorts::new(alloc, cut, fail, 2, 64)?;
+) -> Result<MemPorts, AllocError>
+    requires { 0 < cut }
+{
+    let mut ports = match fail {
+        Some(call) => MemPorts::new(alloc, cut, &[u64::from(call)], 2, 64)?,
+        None => MemPorts::new(alloc, cut, &[], 2, 64)?,
+    };
     ports.put(alloc, Port::Input, input)?;
     ports.room(alloc, Port::Output, room)?;
     Ok(ports)
@@ -96,7 +103,7 @@ fn worked_sessions(rt: HostRuntime) -> Result<(), Fail> {
     for row in &rows {
         let session = session_of(alloc, row)?;
         for cut in [1, 5, 100000] {
-            let mut ports = ports_with(alloc, cut, &[], &session, 100)?;
+            let mut ports = ports_with(alloc, cut, None, &session, 100)?;
             let status = run(&rt, alloc, &words, &mut ports);
             let payloads = row.payloads;
             assert_eq!(rt; status, row.status, "for {payloads}");
@@ -129,7 +136,7 @@ fn altered_sessions(rt: HostRuntime) -> Result<(), Fail> {
     ] {
         let mut session = SESSION;
         session[at] = byte;
-        let mut ports = ports_with(alloc, 7, &[], &session, 100)?;
+        let mut ports = ports_with(alloc, 7, None, &session, 100)?;
         let status = run(&rt, alloc, &words, &mut ports);
         assert_eq!(rt;
             status,
@@ -139,7 +146,7 @@ fn altered_sessions(rt: HostRuntime) -> Result<(), Fail> {
         assert_eq!(rt; ports.seen(Port::Output), b"".as_slice());
     }
     for len in 0..124 {
-        let mut ports = ports_with(alloc, 1, &[], &SESSION[..len], 100)?;
+        let mut ports = ports_with(alloc, 1, None, &SESSION[..len], 100)?;
         let status = run(&rt, alloc, &words, &mut ports);
         assert_eq!(rt;
             status,
@@ -149,7 +156,7 @@ fn altered_sessions(rt: HostRuntime) -> Result<(), Fail> {
     }
     let mut longer = Vec::from_slice(alloc, &SESSION)?;
     longer.push(0)?;
-    let mut ports = ports_with(alloc, 1000, &[], &longer, 100)?;
+    let mut ports = ports_with(alloc, 1000, None, &longer, 100)?;
     let status = run(&rt, alloc, &words, &mut ports);
     assert_eq!(rt; status, Status::BadInput(Bad::Session { place: 124 }));
     Ok(())
@@ -165,7 +172,7 @@ fn unusable_answers(rt: HostRuntime) -> Result<(), Fail> {
         session[i] = SESSION[i + 32];
         session[i + 32] = SESSION[i];
     }
-    let mut ports = ports_with(alloc, 9, &[], &session, 100)?;
+    let mut ports = ports_with(alloc, 9, None, &session, 100)?;
     assert_eq!(rt;
         run(&rt, alloc, &words, &mut ports),
         Status::TooFew { k: 1, h: 2 }
@@ -175,7 +182,7 @@ fn unusable_answers(rt: HostRuntime) -> Result<(), Fail> {
     let mut session = SESSION;
     session[7] = 3;
     session[113] = 8;
-    let mut ports = ports_with(alloc, 9, &[], &session, 100)?;
+    let mut ports = ports_with(alloc, 9, None, &session, 100)?;
     assert_eq!(rt;
         run(&rt, alloc, &words, &mut ports),
         Status::TooFew { k: 2, h: 3 }
@@ -190,11 +197,11 @@ fn faults(rt: HostRuntime) -> Result<(), Fail> {
     let words = words_of(alloc, &["replay", "-"])?;
     // Call 1 opens Input, call 2 takes from it.
     for call in [1, 2] {
-        let mut ports = ports_with(alloc, 1000, &[call], &SESSION, 100)?;
+        let mut ports = ports_with(alloc, 1000, Some(call), &SESSION, 100)?;
         assert_eq!(rt; run(&rt, alloc, &words, &mut ports), Status::ReadFault);
         assert_eq!(rt; ports.seen(Port::Output), b"".as_slice());
     }
-    let mut ports = ports_with(alloc, 1000, &[], &SESSION, 3)?;
+    let mut ports = ports_with(alloc, 1000, None, &SESSION, 3)?;
     assert_eq!(rt; run(&rt, alloc, &words, &mut ports), Status::WriteFault);
     assert_eq!(rt; ports.seen(Port::Output), b"blo".as_slice());
     Ok(())
@@ -213,7 +220,7 @@ fn words_without_form(rt: HostRuntime) -> Result<(), Fail> {
     ];
     for texts in rows {
         let words = words_of(alloc, texts)?;
-        let mut ports = ports_with(alloc, 1000, &[], &SESSION, 100)?;
+        let mut ports = ports_with(alloc, 1000, None, &SESSION, 100)?;
         assert_eq!(rt; run(&rt, alloc, &words, &mut ports), Status::Usage);
         assert_eq!(rt; ports.opened_as(Port::Input, 0), None);
         assert_eq!(rt; ports.seen(Port::Output), b"".as_slice());
@@ -229,7 +236,7 @@ fn each_byte_replaced(rt: HostRuntime) -> Result<(), Fail> {
         for byte in [0, 1, 2, 3, 4, 8, 9, 16, 26, 27, 64, 128, 255] {
             let mut session = SESSION;
             session[at] = byte;
-            let mut ports = ports_with(alloc, 31, &[], &session, 100)?;
+            let mut ports = ports_with(alloc, 31, None, &session, 100)?;
             let status = run(&rt, alloc, &words, &mut ports);
             let place = match status {
                 Status::BadInput(Bad::Session { place }) => Some(place),
@@ -248,7 +255,7 @@ fn each_call_failing(rt: HostRuntime) -> Result<(), Fail> {
     let text = b"blocks 1\n4344\n".as_slice();
     // With a cut of 1: call 1 opens, calls 2 to 126 take 124 bytes and the end, calls 127 to 140 give the text.
     for call in 1..150 {
-        let mut ports = ports_with(alloc, 1, &[call], &SESSION, 100)?;
+        let mut ports = ports_with(alloc, 1, Some(call), &SESSION, 100)?;
         let status = run(&rt, alloc, &words, &mut ports);
         let (wanted, written) = match call {
             1..=126 => (Status::ReadFault, 0),
@@ -267,7 +274,7 @@ fn each_room(rt: HostRuntime) -> Result<(), Fail> {
     let words = words_of(alloc, &["replay", "-"])?;
     let text = b"blocks 1\n4344\n".as_slice();
     for room in 0..15 {
-        let mut ports = ports_with(alloc, 1000, &[], &SESSION, room)?;
+        let mut ports = ports_with(alloc, 1000, None, &SESSION, room)?;
         let status = run(&rt, alloc, &words, &mut ports);
         let wanted = if room == 14 {
             Status::One

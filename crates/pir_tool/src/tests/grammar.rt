@@ -69,7 +69,8 @@ pub fn place_by_format(bytes: &[u8]) -> Option<u64> {
             0
         };
         let len = scan.number(4, 0, most);
-        scan.bytes(if scan.right { len } else { 0 });
+        let right = scan.right;
+        scan.bytes(if right { len } else { 0 });
     }
     if scan.right && scan.at == bytes.len() {
         None
