@@ -119,7 +119,11 @@ pub fn write_verdict<P: Ports>(ports: &mut P, verdict: &Verdict) -> Result<(), F
         Verdict::Listed(listing) => write_listing(ports, listing),
         Verdict::TooFew { k, h } => write_line(ports, "too few", &[u64::from(*k), u64::from(*h)]),
         Verdict::TooWeak { k, t, h } => {
-            write_line(ports, "too weak", &[u64::from(*k), u64::from(*t), u64::from(*h)])
+            write_line(
+                ports,
+                "too weak",
+                &[u64::from(*k), u64::from(*t), u64::from(*h)],
+            )
         }
     }
 }

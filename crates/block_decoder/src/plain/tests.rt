@@ -147,7 +147,9 @@ fn agrees_with_the_search_by_choices(rt: HostRuntime) -> Result<(), Fail> {
                 (3, &left[..], 2, 1),
                 (4, &right[..], 3, 1),
             ] {
-                let blocks = count_of_both(rt.alloc(), count, bytes, 1, h, s)?.ok_or("they differ")?;
+                let blocks = count_of_both(rt.alloc(), count, bytes, 1, h, s)?.ok_or(
+                    "they differ",
+                )?;
                 seen[blocks.min(3)] = true;
             }
         }

@@ -26,7 +26,7 @@ pub returns-in_err-write_block-clause-written : goal.returns-in_err-write_block-
 returns-in_err-write_block-clause-written g c =
     let item = ap block_line (c.deref.ensures.value ∙ ap (λ (b : Vec ℕ Global). b.items) c.block-item.is) in
     let whole = flat_map-map block_line (λ (b : Vec ℕ Global). b.items) c.args.blocks.now
-        ∙ flat_map-pieces (λ (b : Vec ℕ Global). block_line b.items) c.args.blocks.now c.loop-block.block-index c.block-item.result c.loop-block-test.true in
+    ∙ flat_map-pieces (λ (b : Vec ℕ Global). block_line b.items) c.args.blocks.now c.loop-block.block-index c.block-item.result c.loop-block-test.true in
     let p = err_from_is_err_and c.from_residual.result c.from_residual.ensures.1 in
     rw (p.1, whole, ← item) (written_cut 1 _ _ _ _ _ _ c.loop-block.invariant.so_far c.in_err-write_block.ensures.written)
 
