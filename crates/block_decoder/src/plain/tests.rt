@@ -135,7 +135,7 @@ fn agrees_with_the_search_by_choices(rt: HostRuntime) -> Result<(), Fail> {
     let mut draw = Draw { state: 1 };
     // Whether none, one, two, or three blocks were listed at some session.
     let mut seen = [false; 4];
-    for _ in 0..1u8 {
+    for _ in 0..14u8 {
         for kind in [Kind::Anyhow, Kind::OnOneLineButOne, Kind::OnTwoLines] {
             let left = column(&mut draw, kind);
             let right = column(&mut draw, kind);
@@ -154,7 +154,7 @@ fn agrees_with_the_search_by_choices(rt: HostRuntime) -> Result<(), Fail> {
             }
         }
     }
-    //X
+    assert!(rt; seen.iter().all(|seen| *seen));
     Ok(())
 }
 
