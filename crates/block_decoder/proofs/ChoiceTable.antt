@@ -1,6 +1,6 @@
 -- The table of choices: its length, that each choice stands in it, and that nothing else does.
-use Rattle.std.proofs.Common.{◌≡◌, ◌≢◌, ℕ, zero, suc, ◌+◌, ◌-◌, ◌<◌, ◌≤◌, List, [], ◌∷◌, ◌++◌, length, map, take, get_or, All, AllPairs, Contains, refl, sym, ap, ap₂, subst, ◌∙◌, arith, length-append, inl, inr}
-use Rattle.std.proofs.lemmas.List.{length-map, take_more, take_all, get_or-take, length-take-le, map-append, get_or-map, get_or_default}
+use Rattle.std.proofs.Common.{◌≡◌, ◌≢◌, ℕ, zero, suc, ◌+◌, ◌-◌, ◌<◌, List, [], ◌∷◌, ◌++◌, length, map, take, get_or, All, AllPairs, Contains, refl, sym, ap, ap₂, subst, ◌∙◌, arith, length-append, inl, inr}
+use Rattle.std.proofs.lemmas.List.{length-map, take_more, take_all, get_or-take, length-take-le, get_or-map, get_or_default}
 use Rattle.std.proofs.lemmas.List.Elements.{All-append, All-map, All-cons, All-nil, Contains-append_left, Contains-append_right}
 use Rattle.std.proofs.lemmas.List.Quantifiers.{all_pairs_push}
 use Rattle.std.proofs.lemmas.Bool.{cases_lt}

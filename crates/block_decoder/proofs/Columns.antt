@@ -1,5 +1,5 @@
 -- The polynomials through chosen answers, column by column.
-use Rattle.std.proofs.Common.{◌≡◌, ◌≢◌, ℕ, zero, suc, ◌+◌, ◌*◌, ◌<◌, ◌≤◌, Bool, true, List, [], ◌∷◌, length, map, take, drop, get_or, All, AllPairs, Contains, eqb, Option, Some, None, MatchOption, Vec, Global, refl, sym, ap, ap₂, subst, ◌∙◌, arith, lit<, inl, inr}
+use Rattle.std.proofs.Common.{◌≡◌, ◌≢◌, ℕ, suc, ◌+◌, ◌*◌, ◌<◌, List, [], ◌∷◌, length, map, take, drop, get_or, All, AllPairs, Contains, eqb, Option, Some, None, MatchOption, Vec, Global, refl, sym, ap, subst, ◌∙◌, arith, lit<, inl, inr}
 use Rattle.std.specs.Prelude.{⊤}
 use Rattle.std.specs.List.{range_with_len}
 use Rattle.std.specs.List.Sorted.{IsStrictlyIncreasing}
@@ -162,8 +162,8 @@ is_lagrange answers places basis at_zero at_answers b zeros size each =
             through,
             ap (λ vs. combination vs bytes) zeros ∙ at 0 ∙ val_at_zero p through.bytes,
             λ k l.
-            match_weaker (get_or at_answers k None) (Contains places k) (Contains places k) (λ (v : Vec ℕ Global). v.items ≡ map (λ (b : Vec ℕ Global). val b.items (answer_at answers k).index) basis)
-            (λ (v : Vec ℕ Global). combination v.items bytes ≡ val p (answer_at answers k).index) (λ c. c) (λ v e. ap (λ vs. combination vs bytes) e ∙ at (answer_at answers k).index) (each k l),
+                match_weaker (get_or at_answers k None) (Contains places k) (Contains places k) (λ (v : Vec ℕ Global). v.items ≡ map (λ (b : Vec ℕ Global). val b.items (answer_at answers k).index) basis)
+                (λ (v : Vec ℕ Global). combination v.items bytes ≡ val p (answer_at answers k).index) (λ c. c) (λ v e. ap (λ vs. combination vs bytes) e ∙ at (answer_at answers k).index) (each k l),
           );
     }
 
@@ -176,8 +176,8 @@ some_through answers width t places at_zero at_answers columns chosen count lagr
     let polynomials = map column (range_with_len 0 width) in (
       polynomials,
       through_from_columns answers width t places polynomials columns chosen count (length-map-range_with_len column 0 width)
-      (λ c l. subst (Interpolates (indices_at answers places) (bytes_at answers places c)) (sym (get_or-map-range_with_len column 0 width c c [] l (omega arith)))
-      (lagrange.polynomial (bytes_at answers places c) (size c) (bytes_small width answers places c columns chosen)).1),
+          (λ c l. subst (Interpolates (indices_at answers places) (bytes_at answers places c)) (sym (get_or-map-range_with_len column 0 width c c [] l (omega arith)))
+          (lagrange.polynomial (bytes_at answers places c) (size c) (bytes_small width answers places c columns chosen)).1),
     )
 
 -- whether a column's polynomial takes a byte, once its value is known

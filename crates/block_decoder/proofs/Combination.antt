@@ -1,19 +1,18 @@
 -- The combination of a basis with bytes: its values, and that it is the one polynomial through the points.
-use Rattle.std.proofs.Common.{◌≡◌, ◌≢◌, ℕ, zero, suc, ◌+◌, ◌<◌, List, [], ◌∷◌, length, map, replicate, get_or, All, AllPairs, refl, sym, ap, ap₂, subst, ◌∙◌, arith, lit<, inl, inr}
+use Rattle.std.proofs.Common.{◌≡◌, ◌≢◌, ℕ, zero, suc, ◌<◌, List, [], ◌∷◌, length, map, replicate, get_or, All, refl, sym, ap, ap₂, subst, ◌∙◌, arith, inl, inr}
 use Rattle.std.specs.List.{range_with_len}
-use Rattle.std.proofs.Math.ListN.{set}
-use Rattle.std.proofs.lemmas.List.{get_or-map, get_or-set_same, get_or-set_other, get_or-replicate, length-replicate, get_or_default, length-map}
+use Rattle.std.proofs.lemmas.List.{get_or-map, get_or-set_same, get_or-set_other, get_or-replicate, length-replicate, length-map}
 use Rattle.std.proofs.lemmas.List.FromFn.{length-map-range_with_len, get_or-map-range_with_len}
 use Rattle.std.proofs.lemmas.List.Elements.{All-from_get_or}
 use Rattle.std.proofs.lemmas.Bool.Decides.{eqb_tells}
 use Rattle.gf256.specs.Field.{◌⊕◌, ◌⊗◌, power}
 use Rattle.gf256.specs.Sums.{sum_to}
-use Rattle.gf256.specs.Polynomial.{coef, val, IsPolynomial}
-use Rattle.gf256.proofs.FieldLaws.{ring, mul_lt, mul_one, one_mul, zero_mul, mul_comm, mul_assoc}
+use Rattle.gf256.specs.Polynomial.{coef, val}
+use Rattle.gf256.proofs.FieldLaws.{mul_lt, mul_one, one_mul, zero_mul, mul_comm, mul_assoc}
 use Rattle.gf256.proofs.Xor.{add_zero, zero_add}
 use Rattle.gf256.proofs.Sums.{sum_to-same, sum_to-zero, sum_to-lt, sum_to-swap, sum_to-mul}
 use Rattle.uni_poly.specs.Interpolation.{Interpolates}
-use Rattle.uni_poly.proofs.Values.{val_cons, val_lt}
+use Rattle.uni_poly.proofs.Values.{val_cons}
 use Rattle.block_decoder.specs.Lagrange.{combination, unit, IsBasis}
 
 -- a sum with one term

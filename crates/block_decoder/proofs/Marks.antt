@@ -1,6 +1,6 @@
 -- Which answers polynomials hold at, marked column by column.
-use Rattle.std.proofs.Common.{◌≡◌, ◌≢◌, ℕ, suc, ◌+◌, ◌<◌, ◌≤◌, ◌&&◌, ◌⊎◌, Bool, true, false, cond, Option, None, Vec, Global, List, [], ◌∷◌, ◌++◌, length, map, take, drop, get_or, eqb, count_by, refl, sym, ap, ap₂, subst, ◌∙◌, arith, inl, inr, lit<, below_more}
-use Rattle.std.proofs.lemmas.List.{ext_get_or, get_or-map, length-map, take_all, take_more, get_or-take, length-take-le, length-append, take-append-drop, get_or_append_left, get_or-set_same, get_or-set_other}
+use Rattle.std.proofs.Common.{◌≡◌, ◌≢◌, ℕ, suc, ◌+◌, ◌<◌, ◌≤◌, ◌&&◌, ◌⊎◌, Bool, true, false, cond, Option, None, Vec, Global, List, [], ◌∷◌, ◌++◌, length, map, take, drop, get_or, eqb, count_by, refl, sym, ap, ap₂, subst, ◌∙◌, arith, inl, inr, below_more}
+use Rattle.std.proofs.lemmas.List.{ext_get_or, get_or-map, length-map, take_more, get_or-take, length-take-le, length-append, take-append-drop, get_or_append_left, get_or-set_same, get_or-set_other}
 use Rattle.std.proofs.Math.ListN.{set}
 use Rattle.std.proofs.Math.Seq.{get_or-append_seam}
 use Rattle.std.proofs.lemmas.List.Sums.{sum_by-cons}

@@ -8,8 +8,8 @@ ghost use Rattle.block_decoder.specs.Lagrange.{bytes_at, takes, AreChosen, HasCo
 use crate::answers::Answers;
 use crate::lagrange::Lagrange;
 use std::alloc::{AllocError, Global};
-use uni_poly::steps::Steps;
 use std::sync::ledger::Ledger;
+use uni_poly::steps::Steps;
 
 /// A block that may be agreed on: the constants of the polynomials through some chosen answers. Its room serves one
 /// choice after another.
@@ -119,7 +119,9 @@ impl Candidate {
             && takes (slice_index_or lagrange.now.at_answers.items place None) self.old.bytes.items (slice_index (answer_at answers.now place).payload column))) }
     {
         for place in 0..self.holds.len() {
-            if self.holds[place] && !lagrange.takes(place, &self.bytes, answers.byte(place, column)) {
+            if self.holds[place]
+                && !lagrange.takes(place, &self.bytes, answers.byte(place, column))
+            {
                 self.holds[place] = false;
             }
         }

@@ -7,11 +7,7 @@ use std::alloc::{AllocError, Global};
 
 /// Every choice of `chosen` of the first `count` places, each ascending: those without the last place, then those with
 /// it. It calls itself to a depth of `count`.
-pub fn choices_of(
-    alloc: Global,
-    count: usize,
-    chosen: usize,
-) -> Result<Vec<Vec<usize>>, AllocError>
+pub fn choices_of(alloc: Global, count: usize, chosen: usize) -> Result<Vec<Vec<usize>>, AllocError>
     ensures { IfOk result (λ v. map (λ places. places.items) v.items ≡ choices count chosen) }
 {
     let mut all = Vec::new(alloc);

@@ -65,11 +65,7 @@ impl Lagrange {
 }
 
 // The indices of the answers at these places.
-fn indices_of(
-    alloc: Global,
-    answers: &Answers<'_>,
-    places: &[usize],
-) -> Result<Vec<u8>, AllocError>
+fn indices_of(alloc: Global, answers: &Answers<'_>, places: &[usize]) -> Result<Vec<u8>, AllocError>
     requires within { All (λ p. p < length answers.now) places.now }
     ensures { IfOk result (λ v. v.items ≡ indices_at answers.now places.now) }
 {

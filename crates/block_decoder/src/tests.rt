@@ -1,17 +1,20 @@
 // The worked rows, and sessions that are judged.
 
-ghost use Rattle.std.specs.Prelude.{◌≤◌};
+ghost use Rattle.std.specs.Prelude.{◌≡◌, ◌<◌, ◌≤◌};
 
-use crate::worked_rows::{ROWS, lists};
-use crate::{Verdict, bound, decide, judge};
+use crate::worked_rows::{ROWS, decided, lists};
+use crate::{Verdict, bound, judge};
 use std::alloc::{AllocError, Global};
+use std::marker::Brand;
+use std::sync::ledger::{Blank, Ledger};
 use std::test::Fail;
+use uni_poly::steps::Steps;
 use wire_frames::{Session, SessionParams};
 
 #[test]
 fn decides_the_worked_rows(rt: HostRuntime) -> Result<(), Fail> {
     for row in &ROWS {
-        let verdict = decide(rt.alloc(), row.indices, row.bytes, row.t, row.h, row.s)?;
+        let verdict = decided(rt.alloc(), row.indices, row.bytes, row.t, row.h, row.s)?;
         assert!(rt; matches!(&verdict, Verdict::Listed(listing) if lists(listing, row.blocks)));
     }
     Ok(())
@@ -19,9 +22,9 @@ fn decides_the_worked_rows(rt: HostRuntime) -> Result<(), Fail> {
 
 #[test]
 fn tells_too_few_from_too_weak(rt: HostRuntime) -> Result<(), Fail> {
-    let none = decide(rt.alloc(), &[], &[], 1, 2, 1)?;
+    let none = decided(rt.alloc(), &[], &[], 1, 2, 1)?;
     assert!(rt; matches!(none, Verdict::TooFew { k: 0, h: 2 }));
-    let weak = decide(rt.alloc(), &[1, 2, 3, 4], &[0x43; 4], 1, 2, 1)?;
+    let weak = decided(rt.alloc(), &[1, 2, 3, 4], &[0x43; 4], 1, 2, 1)?;
     assert!(rt; matches!(weak, Verdict::TooWeak { k: 4, t: 1, h: 2 }));
     Ok(())
 }
@@ -46,6 +49,19 @@ const THIRD_OF_SESSION_8: &[u8; 26] =
 fn judged(alloc: Global, h: u8, records: [Option<&[u8; 26]>; 3]) -> Result<Verdict, AllocError>
     requires { (2 ≤ h) × (h ≤ 3) }
 {
+    judged_in_steps::<Brand>(Blank::new(1), alloc, h, records)
+}
+
+fn judged_in_steps<C: Ledger>(
+    cols: Blank,
+    alloc: Global,
+    h: u8,
+    records: [Option<&[u8; 26]>; 3],
+) -> Result<Verdict, AllocError>
+    requires cols { (cols.name ≡ C.name) × (cols.parts ≡ C.parts) × (0 < cols.parts) }
+    requires agreement { (2 ≤ h) × (h ≤ 3) }
+{
+    let mut cols: Steps<C> = Steps::new(cols);
     let params = SessionParams {
         scheme: 1,
         t: 1,
@@ -62,7 +78,7 @@ fn judged(alloc: Global, h: u8, records: [Option<&[u8; 26]>; 3]) -> Result<Verdi
             None => session.push_record(None),
         }
     }
-    judge(alloc, &session)
+    judge(alloc, &session, &mut cols)
 }
 
 #[test]

@@ -1,6 +1,13 @@
-//! Worked examples, for the tests of both programs.
+//! Worked examples, for the tests of both programs, and the decoder for callers that don't ask for its steps.
 
-use crate::Listing;
+ghost use Rattle.std.specs.Prelude.{◌≡◌, ◌≢◌, ◌*◌, ◌^◌, ◌<◌, ◌≤◌, length, All};
+ghost use Rattle.std.specs.List.Sorted.{IsStrictlyIncreasing};
+
+use crate::{Listing, Verdict, decide};
+use std::alloc::{AllocError, Global};
+use std::marker::Brand;
+use std::sync::ledger::{Blank, Ledger};
+use uni_poly::steps::Steps;
 
 // Answers, what is asked of them, and the blocks that are agreed on.
 pub struct Row<'a> {
@@ -12,7 +19,7 @@ pub struct Row<'a> {
     pub blocks: &'a [&'a [u8]],
 }
 
-pub const ROWS: [Row<'static>; 8] = [
+pub const ROWS: [Row<'static>; 10] = [
     Row {
         indices: &[1, 2, 3],
         bytes: &[0xcf, 0xd2, 0x40, 0x73, 0xcc, 0xe5],
@@ -77,7 +84,63 @@ pub const ROWS: [Row<'static>; 8] = [
         s: 1,
         blocks: &[&[0x01], &[0x07], &[0xf6]],
     },
+    Row {
+        indices: &[1, 2, 3, 4, 5, 6, 7, 8],
+        bytes: &[0x42, 0x4b, 0x4c, 0x03, 0x16, 0x3a, 0x29, 0x74],
+        t: 3,
+        h: 5,
+        s: 1,
+        blocks: &[&[0x43]],
+    },
+    Row {
+        indices: &[1, 2, 3],
+        bytes: &[0xcf, 0xd2, 0x40, 0x73, 0xcc, 0xe5],
+        t: 2,
+        h: 3,
+        s: 2,
+        blocks: &[&[0x43, 0x44]],
+    },
 ];
+
+// What the decoder says, whatever steps it takes.
+pub fn decided(
+    alloc: Global,
+    indices: &[u8],
+    bytes: &[u8],
+    t: u32,
+    h: u32,
+    s: u32,
+) -> Result<Verdict, AllocError>
+    requires ascending { IsStrictlyIncreasing indices.now }
+    requires nonzero { All (λ a. a ≢ 0) indices.now }
+    requires few { length indices.now ≤ 8 }
+    requires agreement { (1 ≤ t) × (t < h) × (h ≤ 32) }
+    requires width { (1 ≤ s) × (s ≤ 2 ^ 16) }
+    requires fit { length bytes.now ≡ length indices.now * s }
+{
+    decided_in_steps::<Brand>(Blank::new(1), alloc, indices, bytes, t, h, s)
+}
+
+fn decided_in_steps<C: Ledger>(
+    cols: Blank,
+    alloc: Global,
+    indices: &[u8],
+    bytes: &[u8],
+    t: u32,
+    h: u32,
+    s: u32,
+) -> Result<Verdict, AllocError>
+    requires cols { (cols.name ≡ C.name) × (cols.parts ≡ C.parts) × (0 < cols.parts) }
+    requires ascending { IsStrictlyIncreasing indices.now }
+    requires nonzero { All (λ a. a ≢ 0) indices.now }
+    requires few { length indices.now ≤ 8 }
+    requires agreement { (1 ≤ t) × (t < h) × (h ≤ 32) }
+    requires width { (1 ≤ s) × (s ≤ 2 ^ 16) }
+    requires fit { length bytes.now ≡ length indices.now * s }
+{
+    let mut cols: Steps<C> = Steps::new(cols);
+    decide(alloc, indices, bytes, t, h, s, &mut cols)
+}
 
 // Whether the listing is these blocks, in this order.
 pub fn lists(listing: &Listing, blocks: &[&[u8]]) -> bool {

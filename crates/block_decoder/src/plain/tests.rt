@@ -1,17 +1,19 @@
-// The worked rows, and a comparison with the search by pairs.
+// The worked rows of degree 1, and a comparison with the search by choices.
 
-ghost use Rattle.std.specs.Prelude.{◌≡◌, ◌*◌, ◌≤◌, length};
+ghost use Rattle.std.specs.Prelude.{◌*◌, ◌<◌, ◌≤◌, length};
 
-use crate::worked_rows::{ROWS, lists};
-use crate::{Listing, Verdict, decide, plain_listing};
+use crate::worked_rows::{ROWS, decided, lists};
+use crate::{Listing, Verdict, plain_listing};
 use std::alloc::{AllocError, Global};
 use std::test::Fail;
 
 #[test]
 fn lists_the_worked_rows(rt: HostRuntime) -> Result<(), Fail> {
     for row in &ROWS {
-        let listing = plain_listing(rt.alloc(), row.indices, row.bytes, row.t, row.h, row.s)?;
-        assert!(rt; lists(&listing, row.blocks));
+        if row.t == 1 {
+            let listing = plain_listing(rt.alloc(), row.indices, row.bytes, row.t, row.h, row.s)?;
+            assert!(rt; lists(&listing, row.blocks));
+        }
     }
     Ok(())
 }
@@ -104,34 +106,65 @@ fn are_same(a: &Listing, b: &Listing) -> bool {
     a.len() == b.len() && (0..a.len()).all(|i| a.get(i) == b.get(i))
 }
 
-// How many blocks both programs list; `None` where they differ.
-fn count_of_both(alloc: Global, bytes: &[u8], s: u32) -> Result<Option<usize>, AllocError>
+// How many blocks both programs list at the first answers; `None` where they differ.
+fn count_of_both(
+    alloc: Global,
+    count: usize,
+    bytes: &[u8],
+    t: u32,
+    h: u32,
+    s: u32,
+) -> Result<Option<usize>, AllocError>
+    requires few { count ≤ 5 }
+    requires degree { (1 ≤ t) × (t ≤ 2) }
+    requires agreement { (t < h) × (h ≤ 5) }
     requires width { (1 ≤ s) × (s ≤ 2) }
-    requires fit { length bytes.now ≡ 5 * s }
+    requires fit { count * s ≤ length bytes.now }
 {
-    let plain = plain_listing(alloc, &INDICES, bytes, 1, 3, s)?;
-    match decide(alloc, &INDICES, bytes, 1, 3, s)? {
+    let indices = &INDICES[..count];
+    let bytes = &bytes[..count * s as usize];
+    let plain = plain_listing(alloc, indices, bytes, t, h, s)?;
+    match decided(alloc, indices, bytes, t, h, s)? {
         Verdict::Listed(listing) if are_same(&listing, &plain) => Ok(Some(plain.len())),
         _ => Ok(None),
     }
 }
 
 #[test]
-fn agrees_with_the_search_by_pairs(rt: HostRuntime) -> Result<(), Fail> {
+fn agrees_with_the_search_by_choices(rt: HostRuntime) -> Result<(), Fail> {
     let mut draw = Draw { state: 1 };
-    // Whether none, one, or several blocks were listed at some session.
-    let mut seen = [false; 3];
-    for _ in 0..5u8 {
+    // Whether none, one, two, or three blocks were listed at some session.
+    let mut seen = [false; 4];
+    for _ in 0..14u8 {
         for kind in [Kind::Anyhow, Kind::OnOneLineButOne, Kind::OnTwoLines] {
             let left = column(&mut draw, kind);
             let right = column(&mut draw, kind);
             let both = side_by_side(&left, &right);
-            for (bytes, s) in [(&left[..], 1), (&right[..], 1), (&both[..], 2)] {
-                let count = count_of_both(rt.alloc(), bytes, s)?.ok_or("they differ")?;
-                seen[count.min(2)] = true;
+            for (count, bytes, h, s) in [
+                (5, &left[..], 3, 1),
+                (5, &right[..], 3, 1),
+                (5, &both[..], 3, 2),
+                (3, &left[..], 2, 1),
+                (4, &right[..], 3, 1),
+            ] {
+                let blocks = count_of_both(rt.alloc(), count, bytes, 1, h, s)?.ok_or(
+                    "they differ",
+                )?;
+                seen[blocks.min(3)] = true;
             }
         }
     }
-    assert!(rt; seen[0] && seen[1] && seen[2]);
+    assert!(rt; seen.iter().all(|seen| *seen));
+    Ok(())
+}
+
+#[test]
+fn agrees_at_degree_two(rt: HostRuntime) -> Result<(), Fail> {
+    let mut draw = Draw { state: 2 };
+    for kind in [Kind::Anyhow, Kind::OnOneLineButOne] {
+        let bytes = column(&mut draw, kind);
+        let blocks = count_of_both(rt.alloc(), 4, &bytes, 2, 3, 1)?;
+        assert!(rt; blocks.is_some());
+    }
     Ok(())
 }

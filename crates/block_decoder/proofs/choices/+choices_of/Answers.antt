@@ -1,4 +1,4 @@
-use Rattle.std.proofs.Common.{◌≡◌, ◌≢◌, ◌∷◌, ◌++◌, [], ℕ, ◌+◌, ◌-◌, ◌<◌, length, map, take, get_or, List, Vec, Global, refl, arith, sym, ap, ap₂, subst, ◌∙◌, append_assoc}
+use Rattle.std.proofs.Common.{◌≡◌, ◌∷◌, ◌++◌, [], ℕ, ◌+◌, ◌-◌, ◌<◌, length, map, take, get_or, List, Vec, Global, arith, sym, ap, ap₂, ◌∙◌, append_assoc}
 use Rattle.std.proofs.lemmas.List.{length-map, take_more, take_all, map-append, get_or-map, append-nil}
 use Rattle.block_decoder.specs.Choices.{choices}
 use Rattle.block_decoder.proofs.ChoiceTable.{choices_none, choices_empty, choices_some}

@@ -4,12 +4,11 @@ use Rattle.std.proofs.lemmas.Bool.{false≢true}
 use Rattle.std.proofs.lemmas.List.{get_or-map, length-map, take_more, take_all}
 use Rattle.wire_frames.specs.Answer.{Answer}
 use Rattle.block_decoder.specs.Agreed.{constants_of}
-use Rattle.block_decoder.specs.Candidate.{HasRoom}
 use Rattle.block_decoder.specs.Choices.{choices, binomial}
 use Rattle.block_decoder.specs.Lagrange.{AreChosen, IsLagrange, IsThrough}
 use Rattle.block_decoder.proofs.ChoiceTable.{IsChoice, only_choices, length-choices}
 use Rattle.block_decoder.proofs.Columns.{some_through}
-use Rattle.block_decoder.proofs.Tried.{HasTried, tried_none, tried_light, tried_heavy, tried_all}
+use Rattle.block_decoder.proofs.Tried.{HasTried, tried_light, tried_heavy, tried_all}
 use Rattle.block_decoder.proofs.decoder.list_agreed.Goals as goal
 use Rattle.block_decoder.proofs.decoder.list_agreed.Goals.{then-interpolate+in_ok-insert, else-interpolate}
 

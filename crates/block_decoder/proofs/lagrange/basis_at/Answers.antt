@@ -1,9 +1,9 @@
-use Rattle.std.proofs.Common.{◌≡◌, ◌++◌, ◌∷◌, ℕ, ◌+◌, ◌<◌, [], List, Vec, Global, length, map, get_or, below_more, sym, ap, ap₂, subst, ◌∙◌, arith, length-append}
+use Rattle.std.proofs.Common.{◌≡◌, ◌++◌, ◌∷◌, ℕ, ◌+◌, ◌<◌, [], List, Vec, Global, length, map, get_or, below_more, sym, ap, subst, ◌∙◌, arith, length-append}
 use Rattle.std.proofs.lemmas.List.{map-append, length-map, get_or_append_left}
 use Rattle.std.proofs.Math.Seq.{get_or-append_seam}
 use Rattle.std.proofs.Math.ListN.{set}
 use Rattle.uni_poly.specs.Interpolation.{Interpolates}
-use Rattle.block_decoder.specs.Lagrange.{unit, IsBasis}
+use Rattle.block_decoder.specs.Lagrange.{unit}
 use Rattle.block_decoder.proofs.lagrange.basis_at.Goals as goal
 
 -- a polynomial more

@@ -1,4 +1,4 @@
-use Rattle.std.proofs.Common.{◌≡◌, ℕ, ◌+◌, get_or, refl, sym, ap, ap₂, subst, ◌∙◌, arith, add-one, length}
+use Rattle.std.proofs.Common.{◌≡◌, ℕ, ◌+◌, get_or, refl, sym, ap, ap₂, ◌∙◌, arith, add-one, length}
 use Rattle.gf256.specs.Field.{◌⊕◌, ◌⊗◌}
 use Rattle.gf256.specs.Sums.{sum_to}
 use Rattle.block_decoder.specs.Lagrange.{combination}

@@ -1,6 +1,5 @@
-use Rattle.std.proofs.Common.{◌≡◌, length}
 use Rattle.block_decoder.proofs.tests.judged.Given as goal
 
--- so many records of so many are pushed
-abbrev pub invariant-loop-record : goal.invariant-loop-record
-invariant-loop-record l = (l.session.params ≡ l.initial.session.params) × (length l.session.records ≡ l.record-index)
+-- the steps are counted in the blank's own ledger
+abbrev pub ghosts-judged_in_steps : goal.ghosts-judged_in_steps
+ghosts-judged_in_steps a = record { name = a.cols.name; parts = a.cols.parts }

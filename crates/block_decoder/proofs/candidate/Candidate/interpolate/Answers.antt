@@ -1,4 +1,4 @@
-use Rattle.std.proofs.Common.{◌≡◌, ◌+◌, ◌<◌, ◌≤◌, ◌&&◌, ℕ, List, Bool, true, false, None, length, get_or, count_by, refl, sym, ap, subst, ◌∙◌, arith}
+use Rattle.std.proofs.Common.{◌≡◌, ◌+◌, ◌<◌, ◌≤◌, ◌&&◌, ℕ, List, false, None, length, get_or, refl, sym, ap, subst, ◌∙◌, arith}
 use Rattle.std.proofs.Math.ListN.{set}
 use Rattle.std.proofs.lemmas.Bool.{false≢true}
 use Rattle.std.proofs.lemmas.List.{length-set, length-map, take_all}
@@ -35,7 +35,7 @@ returns-then-count-h-clause-told g c =
     let width = c.clear.new.self.constants.ok.0 in
     let below : column < length c.args.self.now.constants.items = omega (arith, c.loop-column-test.true, c.len-column-end.ensures, width, ap length c.clear.ensures.constants) in
     let marked : (t : ℕ) (polynomials : List (List ℕ)) → length places ≡ t + 1 → IsThrough answers (length c.args.self.now.constants.items) t places polynomials
-        → AreMarked answers polynomials (column + 1) c.test.new.self.constants.items c.test.new.self.holds.items =
+    → AreMarked answers polynomials (column + 1) c.test.new.self.constants.items c.test.new.self.holds.items =
     λ t polynomials count through.
     marked_next answers (length c.args.self.now.constants.items) t places c.args.lagrange.now.at_zero.items c.args.lagrange.now.at_answers.items polynomials column
     c.loop-column.self.constants.items c.test.new.self.constants.items c.read.new.self.bytes.items c.loop-column.self.holds.items c.test.new.self.holds.items c.constant.result
@@ -63,7 +63,7 @@ loop-column-preserved g c =
     let width = c.clear.new.self.constants.ok.0 in
     let below : column < length c.args.self.now.constants.items = omega (arith, c.loop-column-test.true, c.len-column-end.ensures, width, ap length c.clear.ensures.constants) in
     let marked : (t : ℕ) (polynomials : List (List ℕ)) → length places ≡ t + 1 → IsThrough answers (length c.args.self.now.constants.items) t places polynomials
-        → AreMarked answers polynomials (column + 1) c.test.new.self.constants.items c.test.new.self.holds.items =
+    → AreMarked answers polynomials (column + 1) c.test.new.self.constants.items c.test.new.self.holds.items =
     λ t polynomials count through.
     marked_next answers (length c.args.self.now.constants.items) t places c.args.lagrange.now.at_zero.items c.args.lagrange.now.at_answers.items polynomials column
     c.loop-column.self.constants.items c.test.new.self.constants.items c.read.new.self.bytes.items c.loop-column.self.holds.items c.test.new.self.holds.items c.constant.result

@@ -3,7 +3,7 @@ use Rattle.std.proofs.lemmas.List.{get_or_append_left}
 use Rattle.std.proofs.Math.Seq.{get_or-append_seam}
 use Rattle.gf256.specs.Polynomial.{val}
 use Rattle.block_decoder.specs.Agreed.{answer_at}
-use Rattle.block_decoder.specs.Lagrange.{indices_at, IsBasis}
+use Rattle.block_decoder.specs.Lagrange.{IsBasis}
 use Rattle.block_decoder.proofs.Columns.{indices_differ, is_lagrange}
 use Rattle.block_decoder.proofs.lagrange.Lagrange.new.Goals as goal
 
