@@ -1,4 +1,4 @@
-use Rattle.std.proofs.Common.{◌≡◌, ◌<◌, ◌++◌, length, get_or, set, take, drop, replicate, ap, sym, subst, ◌∙◌, arith, below_more, take_at, length-set}
+use Rattle.std.proofs.Common.{◌≡◌, ◌++◌, length, get_or, set, take, drop, replicate, ap, sym, subst, ◌∙◌, arith, below_more, take_at, length-set}
 use Rattle.std.proofs.lemmas.List.{length-replicate}
 use Rattle.linear_solve.specs.Kernel.{component, inner, IsKernelVector}
 use Rattle.linear_solve.specs.Echelon.{columns_of, rows_of, IsEchelon, AreKilled, IsFree}

@@ -1,4 +1,4 @@
-use Rattle.std.proofs.Common.{◌≡◌, ◌<◌, length, get_or, ap, sym, subst, ◌∙◌, below_more, arith}
+use Rattle.std.proofs.Common.{◌<◌, length, get_or, ap, sym, subst, ◌∙◌, below_more, arith}
 use Rattle.linear_solve.specs.Kernel.{component}
 use Rattle.linear_solve.specs.Echelon.{columns_of, rows_of, row_at, IsMultipleAdded}
 use Rattle.linear_solve.proofs.Pivots.{column-is, row-is, length-rows_of}

@@ -1,9 +1,6 @@
-use Rattle.std.proofs.Common.{◌≡◌, ◌≢◌, ℕ, ◌+◌, ◌<◌, length, get_or, MatchOption, Some, sum, replicate, set, ap, sym, subst, ◌∙◌, arith, below_more, length-set}
+use Rattle.std.proofs.Common.{◌≡◌, ◌≢◌, ℕ, ◌<◌, length, get_or, MatchOption, sum, ap, sym, subst, ◌∙◌, arith, below_more, length-set}
 use Rattle.std.specs.Option.{IsSome}
-use Rattle.std.proofs.lemmas.List.{length-replicate}
-use Rattle.std.proofs.lemmas.List.Folds.{sum_by-replicate}
 use Rattle.linear_solve.specs.Kernel.{component}
-use Rattle.linear_solve.specs.Echelon.{columns_of}
 use Rattle.linear_solve.proofs.FirstNonzero.{first_nonzero-is, first_nonzero-some, get_or-cleared, get_or-cleared-le, sum-cleared}
 use Rattle.linear_solve.proofs.Pivots.{column-is, length-columns_of}
 use Rattle.linear_solve.proofs.echelon.free_column.Goals as goal

@@ -1,4 +1,3 @@
-use Rattle.std.proofs.Common.{rules}
 use Rattle.linear_solve.proofs.Places.{zero_matrix}
 use Rattle.linear_solve.proofs.table.Table.new.Goals as goal
 
