@@ -6,7 +6,7 @@ use Rattle.gf256.specs.Field.{◌⊕◌, ◌⊗◌}
 use Rattle.gf256.proofs.Xor.{add_zero, zero_add}
 use Rattle.gf256.proofs.FieldLaws.{ring, mul_zero, mul_one}
 use Rattle.linear_solve.specs.Kernel.{component, inner}
-use Rattle.linear_solve.specs.Echelon.{row_at, IsMultipleAdded, IsEchelon, AreKilled, IsReduced, IsTaken}
+use Rattle.linear_solve.specs.Echelon.{row_at, IsMultipleAdded, IsEchelon, SendToZero, IsReduced, IsTaken}
 use Rattle.linear_solve.proofs.InnerProducts.{inner-multiple_added}
 
 -- a byte to which its product with a 1 is added
@@ -21,23 +21,27 @@ stays_cleared new old other f c h o e = h c ∙ ap₂ (λ x y. x ⊕ f ⊗ y) o 
 pub gets_cleared : (new old other : List ℕ) (c : ℕ) → IsMultipleAdded new old other (component old c) → component other c ≡ 1 → component new c < 256 → component new c ≡ 0
 gets_cleared new old other c h o b = clears (component new c) (component old c) (component other c) b o (h c)
 
--- a row that v is sent to zero by changes no inner product with v
+-- adding a multiple of a row that sends v to zero changes no inner product with v
 pub same_inner : (new old other v : List ℕ) (f n : ℕ) → IsMultipleAdded new old other f → inner (component other) v n ≡ 0 → inner (component new) v n ≡ inner (component old) v n
 same_inner new old other v f n h z =
     inner-multiple_added (component new) (component old) (component other) f v n h
     ∙ ap (λ x. inner (component old) v n ⊕ f ⊗ x) z ∙ ap (◌⊕◌ (inner (component old) v n)) (mul_zero f) ∙ add_zero _
 
+-- a row that was there
 row-before : (rs : List (List ℕ)) (r : List ℕ) (t : ℕ) → t < length rs → row_at (rs ++ r ∷ []) t ≡ row_at rs t
 unfolding row_at
 row-before rs r t l = get_or_append_left rs (r ∷ []) [] t l
 
+-- the row that was added
 row-last : (rs : List (List ℕ)) (r : List ℕ) (t : ℕ) → t ≡ length rs → row_at (rs ++ r ∷ []) t ≡ r
 unfolding row_at
 row-last rs r t e = get_or_at rs r [] [] t (sym e)
 
+-- a column that was there
 column-before : (cs : List ℕ) (c t : ℕ) → t < length cs → get_or (cs ++ c ∷ []) t 0 ≡ get_or cs t 0
 column-before cs c t l = get_or_append_left cs (c ∷ []) 0 t l
 
+-- the column that was added
 column-last : (cs : List ℕ) (c t : ℕ) → t ≡ length cs → get_or (cs ++ c ∷ []) t 0 ≡ c
 column-last cs c t e = get_or_at cs c [] 0 t (sym e)
 
@@ -77,8 +81,8 @@ module _ (cs : List ℕ) (rs : List (List ℕ)) (r old : List ℕ) (c : ℕ) (E 
         | inr b ↦ let n = longer in ap₂ component (row-last rs r t (omega arith)) (column-before cs c s (omega arith)) ∙ R.none s (omega arith)
       ]
 
-  kills_before : (v : List ℕ) → AreKilled (rs ++ r ∷ []) (length old) v → AreKilled rs (length old) v
-  kills_before v k t l = let n = longer in ap (λ x. inner (component x) v (length old)) (sym (row-before rs r t l)) ∙ k t (omega arith)
+  sends_before : (v : List ℕ) → SendToZero (rs ++ r ∷ []) (length old) v → SendToZero rs (length old) v
+  sends_before v k t l = let n = longer in ap (λ x. inner (component x) v (length old)) (sym (row-before rs r t l)) ∙ k t (omega arith)
 
   taken : IsTaken (cs ++ c ∷ []) (rs ++ r ∷ []) rs old
   taken = record {
@@ -90,16 +94,16 @@ module _ (cs : List ℕ) (rs : List (List ℕ)) (r old : List ℕ) (c : ℕ) (E 
       none = none_at;
     };
     grows = let n = longer in omega arith;
-    kills = λ v k.
-        let b = kills_before v k in
+    sends_to_zero = λ v k.
+        let b = sends_before v k in
         let n = longer in
         (b, R.stands v b (ap (λ x. inner (component x) v (length old)) (sym (row-last rs r (length rs) refl)) ∙ k (length rs) (omega arith)));
   }
 
 -- a row that is a combination of the others needs no row of its own
 pub not_taken : (cs : List ℕ) (rs : List (List ℕ)) (old : List ℕ) → IsEchelon cs rs (length old)
-    → ((v : List ℕ) → AreKilled rs (length old) v → inner (component old) v (length old) ≡ 0) → IsTaken cs rs rs old
-not_taken cs rs old e h = record { echelon = e; grows = omega arith; kills = λ v k. (k, h v k) }
+    → ((v : List ℕ) → SendToZero rs (length old) v → inner (component old) v (length old) ≡ 0) → IsTaken cs rs rs old
+not_taken cs rs old e h = record { echelon = e; grows = omega arith; sends_to_zero = λ v k. (k, h v k) }
 
 -- the same over lists that are known by equations
 pub taken_by : (cs cs' : List ℕ) (rs rs' : List (List ℕ)) (r new old row : List ℕ) (c : ℕ)

@@ -12,9 +12,11 @@ use Rattle.linear_solve.specs.Kernel.{component}
 abbrev nonzero : ℕ → Bool
 nonzero x = not (nat_eq x 0)
 
+-- it fails at 0 alone
 nonzero-no : (x : ℕ) → nonzero x ≡ false → x ≡ 0
 nonzero-no x e = grind (arith, common_steps)
 
+-- it passes at no 0
 nonzero-yes : (x : ℕ) → nonzero x ≡ true → x ≢ 0
 nonzero-yes x e z = grind (arith, common_steps)
 

@@ -48,7 +48,7 @@ inner-scaled f g c v n e =
     sum_to-same (λ k. f k ⊗ component v k) (λ k. c ⊗ (g k ⊗ component v k)) n (λ k l. ap (λ x. x ⊗ component v k) (e k) ∙ simp ring)
     ∙ sym (mul-sum_to c _ n)
 
--- where the factor has an inverse, what sends the multiple to zero sends the row there
+-- where the factor has an inverse, a vector that the multiple sends to zero is sent there by the row
 pub unscaled : (f g : ℕ → ℕ) (a c : ℕ) (v : List ℕ) (n : ℕ) → ((k : ℕ) → f k ≡ g k ⊗ c) → a ⊗ c ≡ 1 → inner f v n ≡ 0 → inner g v n ≡ 0
 unscaled f g a c v n e o z =
     sym (one_mul _ (inner_lt g v n)) ∙ ap (λ x. x ⊗ inner g v n) (sym o) ∙ mul_assoc a c (inner g v n) ∙ ap (◌⊗◌ a) (sym (inner-scaled f g c v n e) ∙ z) ∙ mul_zero a

@@ -1,4 +1,4 @@
-mod InnerProducts
+pub mod InnerProducts
 mod Pivots
 mod FirstNonzero
 mod Elimination

@@ -17,15 +17,15 @@ module _ (cs : List ℕ) (rs : List (List ℕ)) (v : List ℕ) (n : ℕ) (E : Is
       inner-set (component (row_at rs s)) v (get_or cs t 0) d n c (omega arith)
 
   -- then the row sends the vector to zero
-  pub kills_this : component v (get_or cs t 0) ≡ 0 → inner (component (row_at rs t)) (set v (get_or cs t 0) d) n ≡ 0
-  kills_this z =
+  pub sends_this : component v (get_or cs t 0) ≡ 0 → inner (component (row_at rs t)) (set v (get_or cs t 0) d) n ≡ 0
+  sends_this z =
       let o = inner (component (row_at rs t)) v n in
       changed t ∙ ap₂ (λ x y. o ⊕ x ⊗ (d ⊕ y)) (E.one t l) z
       ∙ ap (◌⊕◌ o) (ap (◌⊗◌ 1) (add_zero d ∙ is) ∙ one_mul o (inner_lt _ v n)) ∙ add_self o
 
   -- and a later row that sent the vector to zero still does
-  pub kills_later : (s : ℕ) → t < s → s < length rs → inner (component (row_at rs s)) v n ≡ 0 → inner (component (row_at rs s)) (set v (get_or cs t 0) d) n ≡ 0
-  kills_later s h k z =
+  pub sends_later : (s : ℕ) → t < s → s < length rs → inner (component (row_at rs s)) v n ≡ 0 → inner (component (row_at rs s)) (set v (get_or cs t 0) d) n ≡ 0
+  sends_later s h k z =
       changed s ∙ ap₂ (λ x y. x ⊕ y ⊗ (d ⊕ component v (get_or cs t 0))) z (E.none t s h k) ∙ ap (◌⊕◌ 0) (zero_mul _) ∙ zero_add 0
 
 -- no two rows have one column
@@ -70,5 +70,6 @@ module _ (v w : List ℕ) (n free : ℕ) (z : v ≡ replicate n 0) (e : w ≡ se
   pub unit_here : component w free ≡ 1
   unit_here = ap (λ x. component x free) (e ∙ ap (λ x. set x free 1) z) ∙ component-set_same (replicate n 0) free 1 (rw length-replicate l)
 
+-- 1 isn't 0
 pub one_not_zero : ◌≢◌ {A = ℕ} 1 0
 one_not_zero e = omega arith

@@ -28,23 +28,23 @@ pub record IsEchelon (columns : List ℕ) (rows : List (List ℕ)) (n : ℕ) : T
   pub one : (t : ℕ) → t < length rows → component (row_at rows t) (slice_index columns t) ≡ 1
   pub none : (s t : ℕ) → s < t → t < length rows → component (row_at rows t) (slice_index columns s) ≡ 0
 
--- the inner product of each row, of n entries, with v is 0
-abbrev pub AreKilled : List (List ℕ) → ℕ → List ℕ → Type 0
-AreKilled rows n v = (t : ℕ) → t < length rows → inner (component (row_at rows t)) v n ≡ 0
+-- the rows, of n entries, send v to zero: the inner product of each with v is 0
+abbrev pub SendToZero : List (List ℕ) → ℕ → List ℕ → Type 0
+SendToZero rows n v = (t : ℕ) → t < length rows → inner (component (row_at rows t)) v n ≡ 0
 
--- `new` has 1 in column c and 0 in the columns of the rows, and what sends the rows and `new` to zero sends `old` there
+-- `new` has 1 in column c and 0 in the columns of the rows, and a vector that the rows and `new` send to zero is sent there by `old`
 pub record IsReduced (new old columns : List ℕ) (rows : List (List ℕ)) (c : ℕ) : Type 0 where
   pub long : length new ≡ length old
   pub inside : c < length old
   pub one : component new c ≡ 1
   pub none : (t : ℕ) → t < length rows → component new (slice_index columns t) ≡ 0
-  pub stands : (v : List ℕ) → AreKilled rows (length old) v → inner (component new) v (length old) ≡ 0 → inner (component old) v (length old) ≡ 0
+  pub stands : (v : List ℕ) → SendToZero rows (length old) v → inner (component new) v (length old) ≡ 0 → inner (component old) v (length old) ≡ 0
 
--- the rows after one more row was taken in: what sends them to zero sends the rows before, and that row, to zero
+-- the rows after one more row was taken in: a vector that they send to zero is sent there by the rows before and by that row
 pub record IsTaken (columns : List ℕ) (rows before : List (List ℕ)) (row : List ℕ) : Type 0 where
   pub echelon : IsEchelon columns rows (length row)
   pub grows : length rows ≤ length before + 1
-  pub kills : (v : List ℕ) → AreKilled rows (length row) v → AreKilled before (length row) v × (inner (component row) v (length row) ≡ 0)
+  pub sends_to_zero : (v : List ℕ) → SendToZero rows (length row) v → SendToZero before (length row) v × (inner (component row) v (length row) ≡ 0)
 
 -- k is in range, and none of the columns
 pub record IsFree (columns : List ℕ) (width k : ℕ) : Type 0 where

@@ -17,4 +17,4 @@ pub record IsKernelVector (v : List ℕ) (m : Matrix) : Type 0 where
   pub size : length v ≡ m.cols
   pub bytes : (k : ℕ) → component v k < 256
   pub nonzero : (k : ℕ) × (k < m.cols) × (component v k ≢ 0)
-  pub killed : (i : ℕ) → i < m.rows → inner (entry m i) v m.cols ≡ 0
+  pub sent_to_zero : (i : ℕ) → i < m.rows → inner (entry m i) v m.cols ≡ 0

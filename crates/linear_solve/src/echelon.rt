@@ -1,8 +1,8 @@
 //! Gauss's elimination, a row at a time, and the solution from the last row back to the first.
 
-ghost use Rattle.std.specs.Prelude.{ℕ, List, ◌≡◌, ◌<◌, ◌≤◌, length, slice_index, IfOk, MatchOption};
+ghost use Rattle.std.specs.Prelude.{ℕ, List, ◌≡◌, ◌<◌, length, slice_index, IfOk, MatchOption};
 ghost use Rattle.linear_solve.specs.Kernel.{component, inner};
-ghost use Rattle.linear_solve.specs.Echelon.{columns_of, rows_of, IsEchelon, AreKilled, IsReduced, IsTaken, IsFree};
+ghost use Rattle.linear_solve.specs.Echelon.{columns_of, rows_of, IsEchelon, SendToZero, IsReduced, IsTaken, IsFree};
 
 use crate::row::{add_multiple, first_nonzero, inner_product, scale};
 use std::alloc::{AllocError, Global};
@@ -17,7 +17,7 @@ pub(crate) struct PivotRow {
 /// Clears the columns of the pivots in `row`, by adding multiples of theirs.
 fn clear(row: &mut [u8], pivots: &[PivotRow])
     requires { IsEchelon (columns_of pivots.now) (rows_of pivots.now) (length row.old) }
-    ensures same { (v : List ℕ) → AreKilled (rows_of pivots.now) (length row.old) v
+    ensures same { (v : List ℕ) → SendToZero (rows_of pivots.now) (length row.old) v
         → inner (component row.new) v (length row.old) ≡ inner (component row.old) v (length row.old) }
     ensures cleared { (t : ℕ) → t < length pivots.now → component row.new (slice_index (columns_of pivots.now) t) ≡ 0 }
 {
@@ -27,12 +27,12 @@ fn clear(row: &mut [u8], pivots: &[PivotRow])
     }
 }
 
-/// Clears the columns of the pivots in `row`, and gives it a 1 in the column of the result. It has none where the row
-/// is a combination of theirs.
+/// Clears the columns of the pivots in `row`, and scales it to have 1 in the first column that isn't 0 then, which is
+/// the result. There is none where the row is a combination of theirs.
 fn reduce(row: &mut [u8], pivots: &[PivotRow]) -> Option<usize>
     requires { IsEchelon (columns_of pivots.now) (rows_of pivots.now) (length row.old) }
     ensures { MatchOption result
-        ((v : List ℕ) → AreKilled (rows_of pivots.now) (length row.old) v → inner (component row.old) v (length row.old) ≡ 0)
+        ((v : List ℕ) → SendToZero (rows_of pivots.now) (length row.old) v → inner (component row.old) v (length row.old) ≡ 0)
         (λ c. IsReduced row.new row.old (columns_of pivots.now) (rows_of pivots.now) c) }
 {
     clear(row, pivots);
@@ -82,7 +82,7 @@ pub(crate) fn solve_back(v: &mut [u8], pivots: &[PivotRow])
     requires echelon { IsEchelon (columns_of pivots.now) (rows_of pivots.now) (length v.old) }
     requires clear { (t : ℕ) → t < length pivots.now → component v.old (slice_index (columns_of pivots.now) t) ≡ 0 }
     ensures bytes { (k : ℕ) → component v.new k < 256 }
-    ensures killed { AreKilled (rows_of pivots.now) (length v.old) v.new }
+    ensures sent_to_zero { SendToZero (rows_of pivots.now) (length v.old) v.new }
     ensures kept { (k : ℕ) → IsFree (columns_of pivots.now) (length v.old) k → component v.new k ≡ component v.old k }
 {
     for t in (0..pivots.len()).rev() {

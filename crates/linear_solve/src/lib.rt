@@ -7,7 +7,7 @@
 //! inner product with each row is 0. Want of memory is the only error.
 //!
 //! Not promised: which of the many vectors it is, and anything of time. The method is Gauss's elimination: about
-//! `rows * rows * cols` products, and memory for one more table.
+//! half of `rows * rows * cols` products, and memory for one more table.
 #![tactic(auto)]
 
 mod echelon;
@@ -16,7 +16,7 @@ mod table;
 #[cfg(test)]
 mod tests;
 
-ghost use Rattle.std.specs.Prelude.{ℕ, ◌≡◌, ◌<◌, IfOk};
+ghost use Rattle.std.specs.Prelude.{◌<◌, IfOk};
 ghost use Rattle.linear_solve.specs.Kernel.{IsKernelVector};
 
 use std::alloc::{AllocError, Global};

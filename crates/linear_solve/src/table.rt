@@ -1,7 +1,7 @@
 //! A matrix of bytes.
 
-ghost use Rattle.std.specs.Prelude.{ℕ, ◌≡◌, ◌<◌, ◌≤◌, ◌*◌, ◌^◌, length, take, drop, IfOk};
-ghost use Rattle.linear_solve.specs.Matrix.{Matrix, entry, IsZeroMatrix, IsWithEntry};
+ghost use Rattle.std.specs.Prelude.{◌≡◌, ◌<◌, ◌≤◌, ◌*◌, ◌^◌, length, take, drop, IfOk};
+ghost use Rattle.linear_solve.specs.Matrix.{entry, IsZeroMatrix, IsWithEntry};
 
 use std::alloc::{AllocError, Global};
 use std::marker::Model;
@@ -16,7 +16,7 @@ pub struct Table {
 }
 
 impl Model for Table {
-    ghost use Rattle.std.specs.Prelude.{◌≡◌, ◌*◌, ◌≤◌, ◌^◌, length};
+    ghost use Rattle.std.specs.Prelude.{◌≡◌, ◌*◌, length};
     ghost use Rattle.linear_solve.specs.Matrix.{Matrix};
 
     ghost Value = { Matrix };

@@ -1,7 +1,7 @@
 use Rattle.std.proofs.Common.{◌≡◌, ◌++◌, length, get_or, set, take, drop, replicate, ap, sym, subst, ◌∙◌, arith, below_more, take_at, length-set}
 use Rattle.std.proofs.lemmas.List.{length-replicate}
 use Rattle.linear_solve.specs.Kernel.{component, inner, IsKernelVector}
-use Rattle.linear_solve.specs.Echelon.{columns_of, rows_of, IsEchelon, AreKilled, IsFree}
+use Rattle.linear_solve.specs.Echelon.{columns_of, rows_of, IsEchelon, SendToZero, IsFree}
 use Rattle.linear_solve.proofs.Pivots.{length-rows_of, length-columns_of, no_pivots, no_rows}
 use Rattle.linear_solve.proofs.Places.{inner-row}
 use Rattle.linear_solve.proofs.Solution.{unit_other, unit_here, one_not_zero}
@@ -13,7 +13,7 @@ loop-i-init c =
     record {
       echelon = rw e (no_pivots c.args.table.now.cols);
       few = rw e (let z = no_rows in omega arith);
-      kills = λ v k j l. absurd (omega arith);
+      sends_to_zero = λ v k j l. absurd (omega arith);
     }
 
 pub loop-i-preserved : goal.loop-i-preserved
@@ -27,9 +27,9 @@ loop-i-preserved c =
     record {
       echelon = subst (IsEchelon (columns_of new) (rows_of new)) c.row.ensures.width T.echelon;
       few = omega (arith, T.grows, c.loop-i.invariant.few);
-      kills = λ v k.
-          let both = subst (λ w. AreKilled (rows_of new) w v → AreKilled (rows_of old) w v × (inner (component row) v w ≡ 0)) c.row.ensures.width (T.kills v) k in
-          below_more _ _ (c.loop-i.invariant.kills v both.0)
+      sends_to_zero = λ v k.
+          let both = subst (λ w. SendToZero (rows_of new) w v → SendToZero (rows_of old) w v × (inner (component row) v w ≡ 0)) c.row.ensures.width (T.sends_to_zero v) k in
+          below_more _ _ (c.loop-i.invariant.sends_to_zero v both.0)
           (sym (inner-row m v i) ∙ ap (λ x. inner (component x) v m.cols) (sym c.row.ensures.cells) ∙ both.1);
     }
 
@@ -65,10 +65,10 @@ returns c =
     let kept = c.solve_back.ensures.kept free (subst (λ k. IsFree (columns_of ps) k free) (sym width) apart) in
     let one = kept ∙ unit_here c.in_ok-v.v.items start n free z c.deref_mut.ensures.value F.inside in
     let rs = ap rows_of c.deref-2.ensures.value in
-    let killed = subst (λ r. AreKilled r n w) rs (subst (λ k. AreKilled (rows_of ps) k w) width c.solve_back.ensures.killed) in
+    let sent_to_zero = subst (λ r. SendToZero r n w) rs (subst (λ k. SendToZero (rows_of ps) k w) width c.solve_back.ensures.sent_to_zero) in
     subst (λ x. IsKernelVector x m) (sym whole) record {
       size = long;
       bytes = c.solve_back.ensures.bytes;
       nonzero = (free, F.inside, λ e. one_not_zero (sym one ∙ e));
-      killed = λ i l. c.loop-i.invariant.kills w killed i (omega (arith, l, c.rows-i-end.ensures));
+      sent_to_zero = λ i l. c.loop-i.invariant.sends_to_zero w sent_to_zero i (omega (arith, l, c.rows-i-end.ensures));
     }

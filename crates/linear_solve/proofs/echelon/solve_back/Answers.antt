@@ -4,14 +4,14 @@ use Rattle.linear_solve.specs.Kernel.{component, inner}
 use Rattle.linear_solve.specs.Echelon.{columns_of, rows_of, row_at}
 use Rattle.linear_solve.proofs.InnerProducts.{inner_lt}
 use Rattle.linear_solve.proofs.Pivots.{column-is, row-is, length-rows_of, length-columns_of}
-use Rattle.linear_solve.proofs.Solution.{kills_this, kills_later, other_column, component-set_other, component-set-lt}
+use Rattle.linear_solve.proofs.Solution.{sends_this, sends_later, other_column, component-set_other, component-set-lt}
 use Rattle.linear_solve.proofs.echelon.solve_back.Goals as goal
 
 pub loop-t-init : goal.loop-t-init
 unfolding component
 loop-t-init c = record {
   bytes = λ k. (c.type_inv.v k).fits;
-  killed = λ s h k. absurd (omega (arith, h, k));
+  sent_to_zero = λ s h k. absurd (omega (arith, h, k));
   clear = c.requires.clear;
   kept = λ k f. refl;
 }
@@ -52,15 +52,15 @@ loop-t-preserved c =
     c.inner_product-value.ensures ∙ ap (λ r. inner (component r) v (length r)) row ∙ ap (inner (component (row_at rs t)) v) (E.wide t here) in
     record {
       bytes = λ k. component-set-lt v _ d k (omega (arith, column, E.inside t here, c.loop-t.auto.v)) (rw is (inner_lt _ v n)) (c.loop-t.invariant.bytes k);
-      killed = λ s h k.
+      sent_to_zero = λ s h k.
           rw column
           elim (cases_eq s t) [
-            | inl e ↦ subst (λ j. inner (component (row_at rs j)) (set v (get_or cs t 0) d) n ≡ 0) (sym e) (kills_this cs rs v n E c.loop-t.auto.v t here d is (c.loop-t.invariant.clear t (omega arith)))
-            | inr e ↦ kills_later cs rs v n E c.loop-t.auto.v t here d is s (omega (arith, h, e)) (omega (arith, many, k)) (c.loop-t.invariant.killed s (omega (arith, h, e)) k)
+            | inl e ↦ subst (λ j. inner (component (row_at rs j)) (set v (get_or cs t 0) d) n ≡ 0) (sym e) (sends_this cs rs v n E c.loop-t.auto.v t here d is (c.loop-t.invariant.clear t (omega arith)))
+            | inr e ↦ sends_later cs rs v n E c.loop-t.auto.v t here d is s (omega (arith, h, e)) (omega (arith, many, k)) (c.loop-t.invariant.sent_to_zero s (omega (arith, h, e)) k)
           ];
       clear = λ s h. rw column (component-set_other v (get_or cs t 0) d (get_or cs s 0) (other_column cs rs n E s t h here) ∙ c.loop-t.invariant.clear s (omega arith));
       kept = λ k f. rw column (component-set_other v (get_or cs t 0) d k (λ e. f.apart t (omega (arith, length-columns_of ps, l)) (sym e)) ∙ c.loop-t.invariant.kept k f);
     }
 
-pub returns-clause-killed : goal.returns-clause-killed
-returns-clause-killed c = λ t l. c.loop-t.invariant.killed t (omega arith) (omega (arith, l, length-rows_of c.args.pivots.now))
+pub returns-clause-sent_to_zero : goal.returns-clause-sent_to_zero
+returns-clause-sent_to_zero c = λ t l. c.loop-t.invariant.sent_to_zero t (omega arith) (omega (arith, l, length-rows_of c.args.pivots.now))
