@@ -1,0 +1,3 @@
+pub mod Binomials
+pub mod Derivatives
+pub mod Hasse
