@@ -1,3 +1,5 @@
 pub mod Binomials
 pub mod Derivatives
 pub mod Hasse
+pub mod Degree
+pub mod Strip

@@ -3,11 +3,13 @@
 
 mod row;
 
-ghost use Rattle.std.specs.Prelude.{◌≡◌, ◌<◌, length, map};
-ghost use Rattle.bi_poly.specs.Rows.{row as row_of};
+ghost use Rattle.std.specs.Prelude.{◌≡◌, ◌<◌, ◌≤◌, length, map, MatchOption, IfOk};
+ghost use Rattle.bi_poly.specs.Rows.{row as row_of, column, IsZero, IsWithinLimits};
+ghost use Rattle.bi_poly.specs.Degree.{IsWeightedDegree, IsOrderInX, without_first};
 ghost use Rattle.bi_poly.specs.Hasse.{hasse};
 
-use crate::row::{derivative, is_odd_binomial};
+use crate::row::{coefficient, degree, derivative, drop_first, is_odd_binomial, order};
+use std::alloc::{AllocError, Global};
 use std::marker::Model;
 
 /// A polynomial in two variables.
@@ -68,5 +70,67 @@ impl BiPoly {
             power = gf256::mul(power, b);
         }
         sum
+    }
+
+    /// The weighted degree.
+    pub fn weighted_degree(&self, t: u32) -> Option<u64>
+        requires limits { IsWithinLimits self.now }
+        requires weight { t ≤ 254 }
+        ensures { MatchOption result (IsZero self.now) (IsWeightedDegree self.now t) }
+    {
+        let mut greatest = None;
+        for j in 0..self.len() {
+            if let Some(i) = degree(self.row(j)) {
+                let weight = i as u64 + t as u64 * j as u64;
+                greatest = Some(greatest.unwrap_or(0).max(weight));
+            }
+        }
+        greatest
+    }
+
+    /// The lowest power of x.
+    fn order_in_x(&self) -> Option<usize>
+        ensures { MatchOption result (IsZero self.now) (IsOrderInX self.now) }
+    {
+        let mut least = None;
+        for j in 0..self.len() {
+            if let Some(i) = order(self.row(j)) {
+                least = Some(least.unwrap_or(i).min(i));
+            }
+        }
+        least
+    }
+
+    /// Divides by the greatest power of x.
+    pub fn strip_x(&mut self) -> u64
+        requires { ¬ IsZero self.old }
+        ensures order { IsOrderInX self.old result }
+        ensures quotient { self.new ≡ without_first result self.old }
+    {
+        let Some(order) = self.order_in_x() else {
+            return 0;
+        };
+        for row in self.rows.iter_mut() {
+            drop_first(row, order);
+        }
+        order as u64
+    }
+
+    /// Column `i`.
+    fn column(&self, alloc: Global, i: usize) -> Result<Vec<u8>, AllocError>
+        ensures { IfOk result (λ v. v.items ≡ column self.now i) }
+    {
+        let mut made = Vec::new(alloc);
+        for j in 0..self.len() {
+            made.push(coefficient(self.row(j), i))?;
+        }
+        Ok(made)
+    }
+
+    /// Q(0, y).
+    pub fn at_zero(&self, alloc: Global) -> Result<Vec<u8>, AllocError>
+        ensures { IfOk result (λ v. v.items ≡ column self.now 0) }
+    {
+        self.column(alloc, 0)
     }
 }

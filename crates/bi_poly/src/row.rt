@@ -1,6 +1,9 @@
 //! What is done to one row.
 
-ghost use Rattle.std.specs.Prelude.{◌≡◌, if◌then◌else◌};
+ghost use Rattle.std.specs.Prelude.{◌≡◌, if◌then◌else◌, drop, MatchOption};
+ghost use Rattle.gf256.specs.Polynomial.{coef};
+ghost use Rattle.uni_poly.specs.Coefficients.{IsZero};
+ghost use Rattle.bi_poly.specs.Degree.{IsDegree, IsOrder};
 ghost use Rattle.bi_poly.specs.Hasse.{binomial_parity, derivative};
 
 /// Whether the binomial coefficient of `n` over `k` is odd: exactly where the bits of `k` are among those of `n`.
@@ -23,4 +26,44 @@ pub fn derivative(p: &[u8], u: usize, a: u8) -> u8
         power = gf256::mul(power, a);
     }
     sum
+}
+
+/// The coefficient of `p` at `x^i`.
+pub fn coefficient(p: &[u8], i: usize) -> u8
+    ensures { result ≡ coef p.now i }
+{
+    p.get(i).copied().unwrap_or(0)
+}
+
+/// The degree of `p`.
+pub fn degree(p: &[u8]) -> Option<usize>
+    ensures { MatchOption result (IsZero p.now) (IsDegree p.now) }
+{
+    for i in (0..p.len()).rev() {
+        if p[i] != 0 {
+            return Some(i);
+        }
+    }
+    None
+}
+
+/// The lowest power of x.
+pub fn order(p: &[u8]) -> Option<usize>
+    ensures { MatchOption result (IsZero p.now) (IsOrder p.now) }
+{
+    for i in 0..p.len() {
+        if p[i] != 0 {
+            return Some(i);
+        }
+    }
+    None
+}
+
+/// Takes the first `n` coefficients of `p` away.
+pub fn drop_first(p: &mut Vec<u8>, n: usize)
+    ensures { p.new.items ≡ drop n p.old.items }
+{
+    let n = n.min(p.len());
+    p.copy_within(n.., 0);
+    p.truncate(p.len() - n);
 }
