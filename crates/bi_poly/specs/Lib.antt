@@ -1,3 +1,4 @@
 pub mod Rows
 pub mod Hasse
 pub mod Degree
+pub mod Substitution

@@ -1,13 +1,19 @@
 //! Polynomials in two variables over GF(256).
 #![tactic(auto)]
 
+mod product;
 mod row;
+#[cfg(test)]
+mod tests;
 
 ghost use Rattle.std.specs.Prelude.{◌≡◌, ◌<◌, ◌≤◌, length, map, MatchOption, IfOk};
-ghost use Rattle.bi_poly.specs.Rows.{row as row_of, column, IsZero, IsWithinLimits};
+ghost use Rattle.std.specs.List.{range_with_len};
+ghost use Rattle.bi_poly.specs.Rows.{row as row_of, column, IsZero, IsWithinLimits, IsWidth, IsTransposed};
 ghost use Rattle.bi_poly.specs.Degree.{IsWeightedDegree, IsOrderInX, without_first};
 ghost use Rattle.bi_poly.specs.Hasse.{hasse};
+ghost use Rattle.bi_poly.specs.Substitution.{IsAtPoly, IsShiftedRoot, shifted_row};
 
+use crate::product::multiply_and_add;
 use crate::row::{coefficient, degree, derivative, drop_first, is_odd_binomial, order};
 use std::alloc::{AllocError, Global};
 use std::marker::Model;
@@ -132,5 +138,69 @@ impl BiPoly {
         ensures { IfOk result (λ v. v.items ≡ column self.now 0) }
     {
         self.column(alloc, 0)
+    }
+
+    /// Q(x, phi(x)).
+    pub fn at_poly(&self, alloc: Global, phi: &[u8]) -> Result<Vec<u8>, AllocError>
+        requires { length phi.now ≤ 255 }
+        ensures { IfOk result (λ v. IsAtPoly self.now phi.now v.items) }
+    {
+        let mut made = Vec::new(alloc);
+        for j in (0..self.len()).rev() {
+            made = multiply_and_add(alloc, phi, &made, self.row(j))?;
+        }
+        Ok(made)
+    }
+
+    /// The length of the longest row.
+    fn width(&self) -> usize
+        ensures { IsWidth self.now result }
+    {
+        let mut width = 0;
+        for j in 0..self.len() {
+            width = width.max(self.row(j).len());
+        }
+        width
+    }
+
+    /// The polynomial with x and y exchanged.
+    fn transposed(&self, alloc: Global) -> Result<BiPoly, AllocError>
+        ensures { IfOk result (IsTransposed self.now) }
+    {
+        let mut columns = Vec::new(alloc);
+        for i in 0..self.width() {
+            columns.push(self.column(alloc, i)?)?;
+        }
+        Ok(BiPoly { rows: columns })
+    }
+
+    /// Row `j` of the shifted polynomial, where this one is its transpose.
+    fn shifted_row(&self, alloc: Global, j: usize, gamma: u8) -> Result<Vec<u8>, AllocError>
+        ensures { IfOk result (λ v. v.items ≡ shifted_row self.now gamma j) }
+    {
+        let mut made = vec![in alloc; 0; j]?;
+        for i in 0..self.len() {
+            made.push(derivative(self.row(i), j, gamma))?;
+        }
+        Ok(made)
+    }
+
+    /// The first `count` rows of it.
+    fn shifted_rows(&self, alloc: Global, count: usize, gamma: u8) -> Result<BiPoly, AllocError>
+        ensures { IfOk result (λ s. s ≡ map (shifted_row self.now gamma) (range_with_len 0 count)) }
+    {
+        let mut rows = Vec::new(alloc);
+        for j in 0..count {
+            rows.push(self.shifted_row(alloc, j, gamma)?)?;
+        }
+        Ok(BiPoly { rows })
+    }
+
+    /// Q(x, x * y + gamma).
+    pub fn shift_root(&self, alloc: Global, gamma: u8) -> Result<BiPoly, AllocError>
+        ensures { IfOk result (IsShiftedRoot self.now gamma) }
+    {
+        let columns = self.transposed(alloc)?;
+        columns.shifted_rows(alloc, self.len(), gamma)
     }
 }
