@@ -6,3 +6,5 @@ pub mod Strip
 pub mod Multiplication
 pub mod Composition
 pub mod Shift
+pub mod Zeros
+pub mod Expansion

@@ -2,3 +2,4 @@ pub mod Rows
 pub mod Hasse
 pub mod Degree
 pub mod Substitution
+pub mod Expansion

@@ -1,6 +1,7 @@
 //! Polynomials in two variables over GF(256).
 #![tactic(auto)]
 
+pub mod laws;
 mod product;
 mod row;
 #[cfg(test)]
