@@ -1,13 +1,13 @@
 -- The polynomial q(x, phi(x)), by Horner's rule.
-use Rattle.std.proofs.Common.{◌≡◌, ℕ, zero, suc, ◌+◌, ◌<◌, ◌≤◌, List, [], ◌∷◌, length, get_or, drop, refl, sym, ap, ap₂, ◌∙◌, arith}
+use Rattle.std.proofs.Common.{◌≡◌, ℕ, zero, suc, ◌+◌, ◌<◌, ◌≤◌, List, [], ◌∷◌, length, drop, refl, sym, ap, ap₂, ◌∙◌}
 use Rattle.std.proofs.lemmas.List.{drop_more, drop_all}
-use Rattle.gf256.specs.Field.{◌⊕◌, ◌⊗◌}
+use Rattle.gf256.specs.Field.{◌⊕◌}
 use Rattle.gf256.specs.Sums.{sum_to}
 use Rattle.gf256.specs.Polynomial.{coef}
 use Rattle.gf256.proofs.Xor.{zero_add, add_comm}
 use Rattle.gf256.proofs.FieldLaws.{mul_zero}
 use Rattle.gf256.proofs.Sums.{sum_to-first, sum_to-same}
-use Rattle.uni_poly.specs.Product.{product, product_coef}
+use Rattle.uni_poly.specs.Product.{product_coef}
 use Rattle.uni_poly.proofs.Series.{ext, times, tail, plus, times-plus_r, times_comm}
 use Rattle.uni_poly.proofs.Products.{coef-product, coef-product_times}
 use Rattle.bi_poly.specs.Rows.{row}

@@ -6,7 +6,7 @@ use Rattle.std.specs.Ordering.{ord_max, nat_cmp}
 use Rattle.std.proofs.lemmas.Bool.Decides.{nat_tests}
 use Rattle.std.proofs.Math.Nat.{max-eq_left, max-eq_right, min-eq_left, min-eq_right, le-max_left, le-max_right}
 use Rattle.std.proofs.lemmas.List.{get_or_past}
-use Rattle.std.proofs.lemmas.Bool.{cases_lt, cases_eq}
+use Rattle.std.proofs.lemmas.Bool.{cases_lt}
 use Rattle.gf256.specs.Polynomial.{coef}
 use Rattle.uni_poly.specs.Coefficients as one
 use Rattle.bi_poly.specs.Rows.{row, cell, IsZero}

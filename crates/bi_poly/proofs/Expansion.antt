@@ -1,6 +1,6 @@
 -- A polynomial is the sum of its Taylor coefficients at a times the powers of x - a.
-use Rattle.std.proofs.Common.{◌≡◌, ℕ, zero, suc, ◌+◌, ◌<◌, ◌≤◌, List, [], ◌∷◌, map, length, get_or, refl, sym, ap, ap₂, ◌∙◌, arith, inl, inr, lit<}
-use Rattle.std.proofs.lemmas.List.{get_or-map, get_or_past, length-map}
+use Rattle.std.proofs.Common.{◌≡◌, ℕ, zero, suc, ◌<◌, ◌≤◌, List, [], ◌∷◌, length, refl, sym, ap, ap₂, ◌∙◌, arith, inl, inr, lit<}
+use Rattle.std.proofs.lemmas.List.{get_or_past, length-map}
 use Rattle.std.proofs.lemmas.Bool.{cases_lt}
 use Rattle.gf256.specs.Field.{◌⊕◌, ◌⊗◌}
 use Rattle.gf256.specs.Sums.{sum_to}
@@ -9,7 +9,7 @@ use Rattle.gf256.proofs.Xor.{sums, add_zero, zero_add}
 use Rattle.gf256.proofs.FieldLaws.{ring, add_mul, mul_lt, mul_one, mul_zero, zero_mul}
 use Rattle.gf256.proofs.Sums.{sum_to-first, sum_to-same, sum_to-add, sum_to-zero}
 use Rattle.uni_poly.specs.Coefficients.{IsBytes}
-use Rattle.uni_poly.specs.Product.{product, linear, times_linear}
+use Rattle.uni_poly.specs.Product.{linear, times_linear}
 use Rattle.uni_poly.specs.Taylor.{taylor}
 use Rattle.uni_poly.proofs.LinearFactor.{before, coef-product_linear, IsBytes-product}
 use Rattle.uni_poly.proofs.Taylor.{taylor_lt}
@@ -19,7 +19,6 @@ use Rattle.bi_poly.specs.Expansion.{linear_power, expansion_coef}
 use Rattle.bi_poly.proofs.Derivatives.{taylor-derivative}
 use Rattle.bi_poly.proofs.Hasse.{derivatives, coef-derivatives, hasse-derivative}
 use Rattle.bi_poly.proofs.Shift.{taylor-past}
-use Rattle.bi_poly.proofs.Degree.{cell-past}
 
 -- the powers of x - a have bytes as coefficients
 IsBytes-linear_power : (a u : ℕ) → IsBytes (times_linear (1 ∷ []) a u)

@@ -1,5 +1,5 @@
 -- The Hasse derivative in two variables is one in y of those in x.
-use Rattle.std.proofs.Common.{◌≡◌, ℕ, ◌+◌, ◌-◌, ◌<◌, ◌≤◌, List, [], map, length, get_or, sym, ap, ap₂, ◌∙◌, arith}
+use Rattle.std.proofs.Common.{◌≡◌, ℕ, ◌+◌, ◌-◌, ◌<◌, ◌≤◌, List, [], map, length, sym, ap, ◌∙◌, arith}
 use Rattle.std.proofs.lemmas.List.{get_or-map, length-map}
 use Rattle.gf256.specs.Field.{◌⊕◌, ◌⊗◌, power}
 use Rattle.gf256.specs.Sums.{sum_to}

@@ -1,10 +1,10 @@
 -- The coefficients of a product, as the code finds them.
-use Rattle.std.proofs.Common.{◌≡◌, ℕ, ◌+◌, ◌-◌, ◌<◌, ◌≤◌, List, map, length, get_or, min, max, sym, ap, ap₂, ◌∙◌, arith, inl, inr, zero-add, add-one, refl}
+use Rattle.std.proofs.Common.{◌≡◌, ℕ, ◌+◌, ◌-◌, ◌≤◌, List, [], ◌∷◌, ◌++◌, map, length, min, sym, ap, ap₂, ◌∙◌, arith, inl, inr, zero-add, add-one, refl}
 use Rattle.std.specs.List.{range_with_len}
-use Rattle.std.proofs.Math.Nat.{min-eq_left, min-eq_right, le-max_left, le-max_right}
+use Rattle.std.proofs.Math.Nat.{min-eq_left, min-eq_right}
 use Rattle.std.proofs.lemmas.Bool.{cases_lt}
 use Rattle.std.proofs.lemmas.List.{get_or_past}
-use Rattle.std.proofs.lemmas.List.FromFn.{get_or-map-range_with_len, length-map-range_with_len}
+use Rattle.std.proofs.lemmas.List.FromFn.{get_or-map-range_with_len, length-map-range_with_len, map-range_with_len_more}
 use Rattle.gf256.specs.Field.{◌⊕◌, ◌⊗◌}
 use Rattle.gf256.specs.Sums.{sum_to}
 use Rattle.gf256.specs.Polynomial.{coef}
@@ -50,6 +50,12 @@ product_coef-past p q e l =
 -- coefficient e of p * q + r
 unfoldable pub sum_coef : List ℕ → List ℕ → List ℕ → ℕ → ℕ
 sum_coef p q r e = product_coef p q e ⊕ coef r e
+
+-- one coefficient more
+pub sum_coef-more : (p q r v : List ℕ) (e x : ℕ) → v ≡ map (sum_coef p q r) (range_with_len 0 e) → x ≡ product_coef p q e ⊕ coef r e
+    → v ++ x ∷ [] ≡ map (sum_coef p q r) (range_with_len 0 (e + 1))
+unfolding sum_coef
+sum_coef-more p q r v e x h k = ap₂ (λ l y. l ++ y ∷ []) h k ∙ sym (map-range_with_len_more (sum_coef p q r) 0 e e (zero-add e))
 
 -- a list of coefficients of p * q + r that is long enough is p * q + r
 pub coef-multiply_and_add : (p q r v : List ℕ) (n : ℕ) → v ≡ map (sum_coef p q r) (range_with_len 0 n)

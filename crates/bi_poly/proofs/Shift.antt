@@ -1,8 +1,8 @@
 -- The rows of q(x, x * y + gamma).
-use Rattle.std.proofs.Common.{◌≡◌, ℕ, zero, suc, ◌+◌, ◌-◌, ◌<◌, ◌≤◌, List, [], ◌∷◌, ◌++◌, map, length, replicate, get_or, refl, sym, ap, ap₂, subst, ◌∙◌, arith, inl, inr, zero-add, length-append}
+use Rattle.std.proofs.Common.{◌≡◌, ℕ, zero, suc, ◌+◌, ◌-◌, ◌<◌, ◌≤◌, List, [], ◌∷◌, map, length, replicate, get_or, refl, sym, ap, ap₂, ◌∙◌, arith, inl, inr, zero-add, length-append}
 use Rattle.std.specs.List.{range_with_len}
 use Rattle.std.proofs.lemmas.Bool.{cases_lt}
-use Rattle.std.proofs.lemmas.List.{get_or_past, get_or-map, length-map, get_or-replicate, length-replicate, get_or_append_left, get_or-append-add, get_or-append_right}
+use Rattle.std.proofs.lemmas.List.{get_or_past, get_or-map, length-map, get_or-replicate, length-replicate, get_or_append_left, get_or-append_right}
 use Rattle.std.proofs.lemmas.List.FromFn.{get_or-map-range_with_len, length-map-range_with_len}
 use Rattle.gf256.specs.Field.{◌⊕◌, ◌⊗◌}
 use Rattle.gf256.specs.Polynomial.{coef}
@@ -10,7 +10,7 @@ use Rattle.gf256.proofs.Xor.{zero_add}
 use Rattle.gf256.proofs.FieldLaws.{mul_zero}
 use Rattle.uni_poly.specs.Taylor.{taylor}
 use Rattle.uni_poly.proofs.Taylor.{taylor-same}
-use Rattle.bi_poly.specs.Rows.{row, cell, column, IsWidth, IsTransposed}
+use Rattle.bi_poly.specs.Rows.{row, cell, column, IsTransposed}
 use Rattle.bi_poly.specs.Hasse.{derivative}
 use Rattle.bi_poly.specs.Substitution.{IsShiftedRoot, shifted_row}
 use Rattle.bi_poly.proofs.Derivatives.{taylor-derivative}

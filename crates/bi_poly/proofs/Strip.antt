@@ -1,9 +1,9 @@
 -- The rows lose their first coefficients one after another.
-use Rattle.std.proofs.Common.{◌≡◌, ℕ, ◌+◌, ◌<◌, ◌≤◌, List, [], map, length, drop, set, get_or, refl, sym, ap, subst, ◌∙◌, arith, inl, inr, length-set, get_or-set_same, get_or-set_other, ext_get_or}
-use Rattle.std.proofs.Math.Seq.{map-set}
-use Rattle.std.proofs.lemmas.List.{get_or-map, length-map}
+use Rattle.std.proofs.Common.{◌≡◌, ℕ, ◌+◌, ◌<◌, ◌≤◌, List, [], length, drop, set, get_or, refl, sym, ap, ◌∙◌, arith, inl, inr, length-set, get_or-set_same, get_or-set_other, ext_get_or}
+use Rattle.std.proofs.lemmas.List.{get_or-map, length-map, get_or_past, get_or-drop}
 use Rattle.std.proofs.lemmas.Bool.{cases_lt, cases_eq}
-use Rattle.bi_poly.specs.Rows.{row}
+use Rattle.gf256.specs.Polynomial.{coef}
+use Rattle.bi_poly.specs.Rows.{row, cell}
 use Rattle.bi_poly.specs.Degree.{without_first}
 
 -- the rows below i have lost their first n coefficients, and the others are as they were
@@ -36,3 +36,15 @@ pub stripped-all : (n i : ℕ) (now before : List (List ℕ)) → length before 
 stripped-all n i now before l h =
     ext_get_or [] now (without_first n before) (h.size ∙ sym (length-map before (drop n)))
     (λ k m. let size = h.size in h.done k (omega arith) ∙ sym (get_or-map (drop n) before k [] [] (omega arith)))
+
+-- the coefficient of what is left at x ^ i * y ^ j was at x ^ (n + i) * y ^ j
+pub cell-without_first : (n : ℕ) (q : List (List ℕ)) (j i : ℕ) → cell (without_first n q) j i ≡ cell q j (n + i)
+unfolding cell coef
+cell-without_first n q j i =
+    elim (cases_lt j (length q)) [
+      | inl within ↦ ap (λ r. get_or r i 0) (get_or-map (drop n) q j [] [] within) ∙ get_or-drop n (row q j) i 0
+      | inr past ↦
+          let size = length-map q (drop n) in
+          ap (λ r. get_or r i 0) (get_or_past (without_first n q) j [] (omega arith))
+          ∙ sym (ap (λ r. get_or r (n + i) 0) (get_or_past q j [] past))
+    ]

@@ -11,7 +11,7 @@ use Rattle.uni_poly.proofs.Series.{times, tail, scale, times-plus_l, times-plus_
 use Rattle.uni_poly.proofs.Addition.{add_list, coef-add_list}
 use Rattle.uni_poly.proofs.Products.{scale_list, coef-scale_list}
 use Rattle.uni_poly.proofs.Taylor.{taylor_lt, taylor-zero, taylor-same}
-use Rattle.bi_poly.specs.Hasse.{derivative, hasse, HasZero}
+use Rattle.bi_poly.specs.Hasse.{hasse, HasZero}
 use Rattle.bi_poly.specs.Substitution.{IsAtPoly}
 use Rattle.bi_poly.proofs.Derivatives.{taylor-derivative}
 use Rattle.bi_poly.proofs.Hasse.{derivatives, hasse-derivative}

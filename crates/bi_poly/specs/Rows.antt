@@ -15,6 +15,10 @@ cell q j i = coef (row q j) i
 abbrev pub IsZero : List (List ℕ) → Type 0
 IsZero q = (j i : ℕ) → cell q j i ≡ 0
 
+-- each coefficient is a byte
+abbrev pub AreBytes : List (List ℕ) → Type 0
+AreBytes q = (j i : ℕ) → cell q j i < 256
+
 -- column i, a polynomial in y: what stands before x ^ i
 abbrev pub column : List (List ℕ) → ℕ → List ℕ
 column q i = map (λ r. coef r i) q

@@ -1,15 +1,29 @@
-//! The laws of polynomials in two variables, each as a call whose contract is the law. A call does nothing that is seen when it runs.
+//! The laws of polynomials in two variables, each as a call whose contract is the law. A call changes nothing.
 
 ghost use Rattle.std.specs.Prelude.{ℕ, ◌≡◌, ◌≤◌, length};
 ghost use Rattle.gf256.specs.Polynomial.{val};
+ghost use Rattle.uni_poly.specs.Coefficients.{IsBytes};
 ghost use Rattle.uni_poly.specs.Product.{HasFactor};
-ghost use Rattle.bi_poly.specs.Rows.{row, cell};
+ghost use Rattle.bi_poly.specs.Rows.{row, cell, AreBytes};
 ghost use Rattle.bi_poly.specs.Hasse.{HasZero};
 ghost use Rattle.bi_poly.specs.Expansion.{expansion_coef};
 ghost use Rattle.bi_poly.specs.Substitution.{IsAtPoly};
 
 use crate::BiPoly;
-use crate::row::coefficient;
+
+/// The coefficients of one row are bytes.
+fn row_has_bytes(p: &[u8])
+    ensures { IsBytes p.now }
+{}
+
+/// The coefficients are bytes. It looks at each row once, since a contract sees the rows as lists of numbers.
+pub fn coefficients_are_bytes(q: &BiPoly)
+    ensures { AreBytes q.now }
+{
+    for j in 0..q.len() {
+        row_has_bytes(q.row(j));
+    }
+}
 
 /// A zero of multiplicity `m` of `q` at `(a, phi(a))` gives `composed`, which is `q(x, phi(x))`, the factor `(x - a)^m`
 /// (Guruswami and Sudan 1999).
@@ -19,13 +33,10 @@ pub fn zero_gives_a_factor(q: &BiPoly, phi: &[u8], composed: &[u8], a: u8, m: u3
     ensures { HasFactor composed.now a m }
 {}
 
-/// The coefficient of `q` at `x^i * y^j` is that of the sum of its Hasse derivatives of order `(u, v)` at `(a, b)` times
-/// `(x - a)^u * (y - b)^v`, over each `u` below a number `n` that no row is longer than, and each row `v`.
-pub fn polynomial_is_its_expansion(q: &BiPoly, a: u8, b: u8, j: usize, i: usize)
-    ensures { (n : ℕ) → ((k : ℕ) → length (row q.now k) ≤ n) → expansion_coef q.now a b n j i ≡ cell q.now j i }
+/// A polynomial is the sum of its Hasse derivatives of order `(u, v)` at `(a, b)` times `(x - a)^u * (y - b)^v`, over
+/// each `u` below a number `n` that no row is longer than, and each row `v` (Hasse 1936).
+pub fn polynomial_is_its_expansion(q: &BiPoly, a: u8, b: u8)
+    ensures { (n : ℕ) → ((j : ℕ) → length (row q.now j) ≤ n) → (j i : ℕ) → expansion_coef q.now a b n j i ≡ cell q.now j i }
 {
-    if j < q.len() {
-        // What it gives is known to be a byte.
-        coefficient(q.row(j), i);
-    }
+    coefficients_are_bytes(q);
 }

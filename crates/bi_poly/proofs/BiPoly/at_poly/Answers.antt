@@ -1,9 +1,7 @@
-use Rattle.std.proofs.Common.{◌≡◌, ◌+◌, ◌-◌, ℕ, [], length, get_or, drop, sym, ap, ap₂, subst, ◌∙◌, arith}
-use Rattle.std.proofs.lemmas.List.{get_or_past}
+use Rattle.std.proofs.Common.{◌≡◌, ◌+◌, ◌-◌, get_or, drop, sym, ap, ap₂, ◌∙◌, arith}
 use Rattle.gf256.specs.Field.{◌⊕◌}
 use Rattle.gf256.specs.Polynomial.{coef}
 use Rattle.uni_poly.specs.Product.{product_coef}
-use Rattle.bi_poly.specs.Rows.{row}
 use Rattle.bi_poly.proofs.Composition.{at_series, at_series-drop, at_series-end, at_poly_coef-series}
 use Rattle.bi_poly.proofs.BiPoly.at_poly.Goals as goal
 

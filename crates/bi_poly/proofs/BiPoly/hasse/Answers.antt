@@ -1,6 +1,5 @@
-use Rattle.std.proofs.Common.{◌≡◌, ◌+◌, ◌-◌, if◌then◌else◌, refl, sym, ap, ap₂, ◌∙◌, arith}
-use Rattle.gf256.specs.Field.{◌⊕◌, ◌⊗◌, power}
-use Rattle.bi_poly.specs.Rows.{row}
+use Rattle.std.proofs.Common.{if◌then◌else◌, sym, ap, ap₂, ◌∙◌, arith}
+use Rattle.gf256.specs.Field.{◌⊕◌, ◌⊗◌}
 use Rattle.bi_poly.specs.Hasse.{derivative}
 use Rattle.bi_poly.proofs.Derivatives.{derivative_to-start, derivative_to-even, power-start, power-next}
 use Rattle.bi_poly.proofs.Hasse.{derivatives, hasse-odd, hasse-all}

@@ -1,7 +1,5 @@
-use Rattle.std.proofs.Common.{◌+◌, min, Some, None, sym, ap, subst, ◌∙◌, arith}
-use Rattle.std.specs.Option.{unwrap_or}
+use Rattle.std.proofs.Common.{◌+◌, min, sym, ap, subst, ◌∙◌, arith}
 use Rattle.std.specs.Prelude.{MatchOption}
-use Rattle.std.specs.Ordering.{ord_min, nat_cmp}
 use Rattle.uni_poly.specs.Coefficients as one
 use Rattle.bi_poly.specs.Degree.{IsOrder}
 use Rattle.bi_poly.proofs.Degree.{IsZeroBelow, IsOrderBelow, order-none, order-some, order-all}

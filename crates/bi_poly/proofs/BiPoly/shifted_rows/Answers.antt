@@ -1,4 +1,4 @@
-use Rattle.std.proofs.Common.{◌≡◌, ◌+◌, ◌++◌, ◌∷◌, List, ℕ, [], map, sym, ap, ap₂, ◌∙◌, arith, zero-add, Vec, Global}
+use Rattle.std.proofs.Common.{◌++◌, ◌∷◌, List, ℕ, [], map, sym, ap, ap₂, ◌∙◌, zero-add, Vec, Global}
 use Rattle.std.proofs.lemmas.List.{map-append}
 use Rattle.std.proofs.lemmas.List.FromFn.{map-range_with_len_more}
 use Rattle.bi_poly.specs.Substitution.{shifted_row}

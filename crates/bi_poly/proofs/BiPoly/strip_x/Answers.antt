@@ -1,4 +1,4 @@
-use Rattle.std.proofs.Common.{◌≡◌, ◌+◌, List, ℕ, [], map, length, drop, get_or, set, sym, ap, subst, ◌∙◌, arith, take_at, Vec, Global}
+use Rattle.std.proofs.Common.{◌+◌, List, ℕ, [], map, drop, sym, ap, subst, ◌∙◌, arith, take_at, Vec, Global}
 use Rattle.std.proofs.Math.Seq.{map-set}
 use Rattle.std.proofs.lemmas.List.{get_or-map, length-map}
 use Rattle.bi_poly.specs.Degree.{without_first}

@@ -2,7 +2,6 @@ use Rattle.std.proofs.Common.{◌+◌, ◌*◌, max, sym, ap, subst, ◌∙◌, 
 use Rattle.std.specs.Prelude.{MatchOption, length}
 use Rattle.uni_poly.specs.Coefficients as one
 use Rattle.bi_poly.specs.Degree.{IsDegree}
-use Rattle.bi_poly.specs.Rows.{row}
 use Rattle.bi_poly.proofs.Degree.{IsZeroBelow, IsWeightBelow, weight-none, weight-some, weight-all, weight-fits, degree-inside, ord_max-nat}
 use Rattle.bi_poly.proofs.BiPoly.weighted_degree.Goals as goal
 use Rattle.bi_poly.proofs.BiPoly.weighted_degree.Goals.{in-Some, in_default}

@@ -1,4 +1,4 @@
-use Rattle.std.proofs.Common.{◌-◌, get_or, sym, ap, ap₂, ◌∙◌, arith}
+use Rattle.std.proofs.Common.{get_or, sym, ap, ap₂, ◌∙◌, arith}
 use Rattle.gf256.specs.Field.{◌⊕◌, ◌⊗◌}
 use Rattle.gf256.specs.Polynomial.{coef}
 use Rattle.bi_poly.proofs.Multiplication.{product_to-none, product_to-more, product_to-all}

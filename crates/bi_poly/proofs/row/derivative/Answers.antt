@@ -1,7 +1,7 @@
-use Rattle.std.proofs.Common.{◌≡◌, ◌+◌, ◌-◌, if◌then◌else◌, get_or, refl, sym, ap, ap₂, ◌∙◌, arith}
-use Rattle.gf256.specs.Field.{◌⊕◌, ◌⊗◌, power}
+use Rattle.std.proofs.Common.{if◌then◌else◌, get_or, sym, ap, ap₂, ◌∙◌, arith}
+use Rattle.gf256.specs.Field.{◌⊕◌, ◌⊗◌}
 use Rattle.gf256.specs.Polynomial.{coef}
-use Rattle.bi_poly.proofs.Derivatives.{derivative_to, derivative_to-start, derivative_to-odd, derivative_to-even, derivative_to-all, power-start, power-next}
+use Rattle.bi_poly.proofs.Derivatives.{derivative_to-start, derivative_to-odd, derivative_to-even, derivative_to-all, power-start, power-next}
 use Rattle.bi_poly.proofs.row.derivative.Goals as goal
 use Rattle.bi_poly.proofs.row.derivative.Goals.{then-is_odd_binomial, else-is_odd_binomial}
 
