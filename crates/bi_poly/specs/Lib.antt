@@ -1,0 +1,5 @@
+pub mod Rows
+pub mod Hasse
+pub mod Degree
+pub mod Substitution
+pub mod Expansion

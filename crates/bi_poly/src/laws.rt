@@ -1,0 +1,42 @@
+//! The laws of polynomials in two variables, each as a call whose contract is the law. A call changes nothing.
+
+ghost use Rattle.std.specs.Prelude.{ℕ, ◌≡◌, ◌≤◌, length};
+ghost use Rattle.gf256.specs.Polynomial.{val};
+ghost use Rattle.uni_poly.specs.Coefficients.{IsBytes};
+ghost use Rattle.uni_poly.specs.Product.{HasFactor};
+ghost use Rattle.bi_poly.specs.Rows.{row, cell, AreBytes};
+ghost use Rattle.bi_poly.specs.Hasse.{HasZero};
+ghost use Rattle.bi_poly.specs.Expansion.{expansion_coef};
+ghost use Rattle.bi_poly.specs.Substitution.{IsAtPoly};
+
+use crate::BiPoly;
+
+/// The coefficients of one row are bytes.
+fn row_has_bytes(p: &[u8])
+    ensures { IsBytes p.now }
+{}
+
+/// The coefficients are bytes. It looks at each row once, since a contract sees the rows as lists of numbers.
+pub fn coefficients_are_bytes(q: &BiPoly)
+    ensures { AreBytes q.now }
+{
+    for j in 0..q.len() {
+        row_has_bytes(q.row(j));
+    }
+}
+
+/// A zero of multiplicity `m` of `q` at `(a, phi(a))` gives `composed`, which is `q(x, phi(x))`, the factor `(x - a)^m`
+/// (Guruswami and Sudan 1999).
+pub fn zero_gives_a_factor(q: &BiPoly, phi: &[u8], composed: &[u8], a: u8, m: u32)
+    requires zero { HasZero q.now a (val phi.now a) m }
+    requires composed { IsAtPoly q.now phi.now composed.now }
+    ensures { HasFactor composed.now a m }
+{}
+
+/// A polynomial is the sum of its Hasse derivatives of order `(u, v)` at `(a, b)` times `(x - a)^u * (y - b)^v`, over
+/// each `u` below a number `n` that no row is longer than, and each row `v` (Hasse 1936).
+pub fn polynomial_is_its_expansion(q: &BiPoly, a: u8, b: u8)
+    ensures { (n : ℕ) → ((j : ℕ) → length (row q.now j) ≤ n) → (j i : ℕ) → expansion_coef q.now a b n j i ≡ cell q.now j i }
+{
+    coefficients_are_bytes(q);
+}

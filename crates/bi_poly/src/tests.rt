@@ -1,0 +1,48 @@
+use crate::BiPoly;
+use std::alloc::{AllocError, Global};
+
+/// The polynomial with these rows.
+fn from_slices(alloc: Global, slices: &[&[u8]]) -> Result<BiPoly, AllocError> {
+    let mut rows = Vec::new(alloc);
+    for slice in slices {
+        rows.push(Vec::from_slice(alloc, slice)?)?;
+    }
+    Ok(BiPoly::from_rows(rows))
+}
+
+/// `y^2 + (1 + x)*y + x`, which is `(y - x) * (y - 1)`, so that `x` and `1` are what stands for y where it is 0.
+fn two_roots(alloc: Global) -> Result<BiPoly, AllocError> {
+    from_slices(alloc, &[&[0x00, 0x01], &[0x01, 0x01], &[0x01]])
+}
+
+#[test]
+fn two_roots_worked(rt: HostRuntime) -> Result<(), AllocError> {
+    let alloc = rt.alloc();
+    let q = two_roots(alloc)?;
+    assert_eq!(rt; q.weighted_degree(1), Some(2));
+    assert_eq!(rt; q.hasse(1, 0, 0x00, 0x03), 0x02);
+    for phi in [[0x01, 0x00], [0x00, 0x01]] {
+        let value = q.at_poly(alloc, &phi)?;
+        for &c in &value {
+            assert_eq!(rt; c, 0);
+        }
+    }
+
+    let mut shifted = q.shift_root(alloc, 0x01)?;
+    assert_eq!(rt; shifted.rows().len(), 3);
+    assert_eq!(rt; shifted.weighted_degree(0), Some(2));
+    assert_eq!(rt; shifted.hasse(1, 1, 0, 0), 0x01);
+    assert_eq!(rt; shifted.hasse(2, 1, 0, 0), 0x01);
+    assert_eq!(rt; shifted.hasse(2, 2, 0, 0), 0x01);
+    assert_eq!(rt; shifted.strip_x(), 1);
+    let constant = shifted.at_zero(alloc)?;
+    assert_eq!(rt; constant.as_slice(), [0x00, 0x01, 0x00].as_slice());
+    Ok(())
+}
+
+#[test]
+fn zero_has_no_degree(rt: HostRuntime) -> Result<(), AllocError> {
+    let zero = from_slices(rt.alloc(), &[&[], &[0x00, 0x00]])?;
+    assert_eq!(rt; zero.weighted_degree(1), None);
+    Ok(())
+}
