@@ -13,7 +13,7 @@ use Rattle.gf256.proofs.Sums.{sum_to-zero}
 use Rattle.uni_poly.specs.Coefficients.{IsSame, IsSum}
 use Rattle.uni_poly.specs.Product.{product_coef, product}
 use Rattle.uni_poly.proofs.Series.{ext, times, plus, tail, times-sum, times_comm, times_assoc, times-plus_r}
-use Rattle.uni_poly.proofs.Values.{val_nil, val_cons, val_lt}
+use Rattle.uni_poly.proofs.Values.{val_nil, val_cons}
 use Rattle.uni_poly.proofs.Taylor.{val-same}
 use Rattle.uni_poly.proofs.Addition.{add_list, coef-add_list, val-add_list}
 

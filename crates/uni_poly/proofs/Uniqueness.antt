@@ -1,21 +1,15 @@
 -- Two polynomials that agree at more points than their degree are the same.
-use Rattle.std.proofs.Common.{◌≡◌, ◌≢◌, ℕ, zero, suc, ◌<◌, ◌≤◌, List, length, replicate, get_or, All, AllPairs, sym, ap, ap₂, ◌∙◌, arith, inl, inr, lit<, ext_get_or}
-use Rattle.std.proofs.lemmas.List.{get_or_past, get_or_default}
-use Rattle.std.proofs.lemmas.List.Elements.{All-from_get_or}
-use Rattle.std.proofs.lemmas.Bool.{cases_lt}
+use Rattle.std.proofs.Common.{◌≡◌, ◌≢◌, ℕ, ◌<◌, List, length, get_or, All, AllPairs, sym, ap, ap₂, ◌∙◌, arith}
+use Rattle.std.proofs.lemmas.List.{get_or_default}
 use Rattle.gf256.specs.Field.{◌⊕◌, ◌⊗◌}
-use Rattle.gf256.specs.Polynomial.{coef, val}
+use Rattle.gf256.specs.Polynomial.{val}
 use Rattle.gf256.proofs.Xor.{zero_add, add_self, add-eq-zero}
 use Rattle.gf256.proofs.FieldLaws.{mul_one, add_mul}
 use Rattle.uni_poly.specs.Coefficients.{IsBytes, IsSame, HasDegreeBelow}
 use Rattle.uni_poly.specs.Interpolation.{Interpolates}
 use Rattle.uni_poly.proofs.Addition.{add_list, coef-add_list, val-add_list}
 use Rattle.uni_poly.proofs.Multiplicity.{too_many_roots}
-
--- the degree is below the length
-pub HasDegreeBelow-length : (p : List ℕ) (n : ℕ) → length p ≤ n → HasDegreeBelow p n
-unfolding coef
-HasDegreeBelow-length p n h e l = get_or_past p e 0 (omega arith)
+use Rattle.uni_poly.proofs.Coefficients.{HasDegreeBelow-length, list_from_same, IsBytes-from_all}
 
 -- their sum has too many roots
 pub same_polynomial : (p q xs : List ℕ) → IsBytes p → IsBytes q → HasDegreeBelow p (length xs) → HasDegreeBelow q (length xs)
@@ -26,24 +20,6 @@ same_polynomial p q xs bp bq hp hq bytes d h e =
     (λ e l. coef-add_list p q e ∙ ap₂ ◌⊕◌ (hp e l) (hq e l) ∙ zero_add 0) in
     add-eq-zero _ _ (sym (ap₂ ◌⊕◌ (mul_one _ (bp e)) (mul_one _ (bq e))) ∙ sym (add_mul _ _ 1) ∙ ap (λ x. x ⊗ 1) (sym (coef-add_list p q e)) ∙ low e)
 
--- two lists of one length that are the same polynomial are equal
-pub list_from_same : (p q : List ℕ) → length p ≡ length q → IsSame p q → p ≡ q
-unfolding coef
-list_from_same p q e h = ext_get_or 0 p q e (λ i l. h i)
-
--- each element of a list from which bytes are read is a byte
-pub bytes_from_get_or : (xs : List ℕ) → ((k : ℕ) → get_or xs k 0 < 256) → All (λ x. x < 256) xs
-bytes_from_get_or xs h = All-from_get_or (λ x. x < 256) xs 0 (λ k l. h k)
-
--- each coefficient of a list of bytes is one
-pub IsBytes-from_all : (p : List ℕ) → All (λ c. c < 256) p → IsBytes p
-unfolding coef
-IsBytes-from_all p h e =
-    elim (cases_lt e (length p)) [
-      | inl l ↦ h e 0 l
-      | inr l ↦ rw (get_or_past p e 0 l) (lit< tt)
-    ]
-
 -- two polynomials with a coefficient for each point that pass through all points are equal
 pub same_list : (xs ys p q : List ℕ) → All (λ x. x < 256) xs → AllPairs (λ x y. x ≢ y) xs → Interpolates xs ys p → Interpolates xs ys q → p ≡ q
 same_list xs ys p q bytes d hp hq =
@@ -53,10 +29,3 @@ same_list xs ys p q bytes d hp hq =
     (same_polynomial p q xs (IsBytes-from_all p hp.bytes) (IsBytes-from_all q hq.bytes)
     (HasDegreeBelow-length p (length xs) (omega (arith, np))) (HasDegreeBelow-length q (length xs) (omega (arith, nq))) bytes d
     (λ k e l. rw (get_or_default xs k e 0 l) (hp.through k l ∙ sym (hq.through k l))))
-
--- a list of zeros is one of bytes
-pub IsBytes-zeros : (n : ℕ) → IsBytes (replicate n 0)
-unfolding coef
-IsBytes-zeros zero e = lit< tt
-IsBytes-zeros (suc n) zero = lit< tt
-IsBytes-zeros (suc n) (suc e) = IsBytes-zeros n e

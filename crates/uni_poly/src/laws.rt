@@ -38,8 +38,8 @@ pub fn roots_are_few(p: &[u8], degree: usize, roots: &[u8])
     ensures { length roots.now ≤ degree }
 {}
 
-/// A nonzero polynomial of degree at most `degree` has at most `degree` roots, each counted with its multiplicity, which
-/// stands at its place in `multiplicities`.
+/// A nonzero polynomial of degree at most `degree` has at most `degree` roots, each counted with its multiplicity, that
+/// at its place in `multiplicities`.
 pub fn roots_with_multiplicities_are_few(
     p: &[u8],
     degree: usize,

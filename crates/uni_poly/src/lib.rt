@@ -4,8 +4,8 @@
 //! nothing.
 //!
 //! Promised: each call gives exactly the sum, product, quotient, value or interpolating polynomial that its contract
-//! names, and want of memory is its only error. [`laws`] has what is known of roots: how many there are, each counted
-//! with its multiplicity, and that interpolation has one answer.
+//! names, and want of memory is its only error. [`laws`] has the laws of the product and of roots: how many there are, each
+//! counted with its multiplicity, and that interpolation has one answer.
 //!
 //! [`steps`] has the counter by which the crates above bound their work.
 //!
@@ -115,7 +115,8 @@ fn meet(made: &mut [u8], basis: &[u8], x: u8, y: u8)
 
 /// The one polynomial of degree below the number of points that takes the value `ys[i]` at each `xs[i]`, with as many
 /// coefficients as there are points. There must be a point, and no two may have one `x`. That through `(01, cf)` and
-/// `(02, 40)` is `43 8c`. The method is Newton's: each point adds a multiple of the vanishing polynomial of those before.
+/// `(02, 40)` is `43 8c`. The method is Newton's: each point adds a multiple of the vanishing polynomial of those
+/// before.
 pub fn interpolate(alloc: Global, xs: &[u8], ys: &[u8]) -> Result<Vec<u8>, AllocError>
     requires same_length { length xs.now ≡ length ys.now }
     requires some { 0 < length xs.now }

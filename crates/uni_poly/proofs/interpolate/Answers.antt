@@ -3,7 +3,8 @@ use Rattle.gf256.specs.Polynomial.{coef, val}
 use Rattle.uni_poly.specs.Coefficients.{IsBytes}
 use Rattle.uni_poly.specs.Product.{product, linear, vanishing}
 use Rattle.uni_poly.proofs.VanishingPolynomial.{vanishing_more, vanishing_take-length, vanishing_take-before, vanishing_take-next}
-use Rattle.uni_poly.proofs.Uniqueness.{same_list, bytes_from_get_or, IsBytes-zeros}
+use Rattle.uni_poly.proofs.Coefficients.{bytes_from_get_or, IsBytes-zeros}
+use Rattle.uni_poly.proofs.Uniqueness.{same_list}
 use Rattle.uni_poly.proofs.interpolate.Goals as goal
 
 pub loop-i-init : goal.loop-i-init

@@ -1,5 +1,6 @@
 use Rattle.gf256.specs.Polynomial.{coef}
-use Rattle.uni_poly.proofs.Uniqueness.{same_polynomial, bytes_from_get_or}
+use Rattle.uni_poly.proofs.Coefficients.{bytes_from_get_or}
+use Rattle.uni_poly.proofs.Uniqueness.{same_polynomial}
 use Rattle.uni_poly.proofs.laws.interpolation_is_unique.Goals as goal
 
 pub returns : goal.returns

@@ -3,7 +3,7 @@ use Rattle.std.proofs.lemmas.Bool.{cases_lt}
 use Rattle.gf256.specs.Polynomial.{coef}
 use Rattle.uni_poly.proofs.Multiplicity.{too_many_roots}
 use Rattle.uni_poly.proofs.Quotient.{IsZero-from_low}
-use Rattle.uni_poly.proofs.Uniqueness.{bytes_from_get_or}
+use Rattle.uni_poly.proofs.Coefficients.{bytes_from_get_or}
 use Rattle.uni_poly.proofs.laws.roots_are_few.Goals as goal
 
 pub returns : goal.returns

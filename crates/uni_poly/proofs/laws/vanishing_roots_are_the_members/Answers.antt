@@ -1,4 +1,4 @@
-use Rattle.uni_poly.proofs.Uniqueness.{bytes_from_get_or}
+use Rattle.uni_poly.proofs.Coefficients.{bytes_from_get_or}
 use Rattle.uni_poly.proofs.VanishingPolynomial.{Contains-from_root, root_from_Contains}
 use Rattle.uni_poly.proofs.laws.vanishing_roots_are_the_members.Goals as goal
 
