@@ -1,6 +1,6 @@
 use Rattle.std.proofs.Common.{◌+◌, ◌*◌, ◌≤◌, List, length, refl, sym, subst, ap, ◌∙◌, arith}
 use Rattle.wire_frames.specs.Answer.{Answer}
-use Rattle.uni_poly.proofs.Uniqueness.{bytes_from_get_or}
+use Rattle.uni_poly.proofs.Coefficients.{bytes_from_get_or}
 use Rattle.block_decoder.specs.Agreed.{Lists}
 use Rattle.block_decoder.specs.Choices.{binomial}
 use Rattle.block_decoder.specs.Lagrange.{HasColumns}
