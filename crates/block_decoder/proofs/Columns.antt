@@ -1,14 +1,15 @@
 -- The polynomials through chosen answers, column by column.
-use Rattle.std.proofs.Common.{◌≡◌, ◌≢◌, ℕ, suc, ◌+◌, ◌*◌, ◌<◌, List, [], ◌∷◌, length, map, take, drop, get_or, All, AllPairs, Contains, eqb, Option, Some, None, MatchOption, Vec, Global, refl, sym, ap, subst, ◌∙◌, arith, lit<, inl, inr}
+use Rattle.std.proofs.Common.{◌≡◌, ◌≢◌, ℕ, suc, ◌+◌, ◌*◌, ◌<◌, List, [], ◌∷◌, length, map, take, drop, get_or, All, AllPairs, Contains, eqb, Option, Some, None, MatchOption, Vec, Global, refl, sym, ap, subst, ◌∙◌, arith}
 use Rattle.std.specs.Prelude.{⊤}
 use Rattle.std.specs.List.{range_with_len}
 use Rattle.std.specs.List.Sorted.{IsStrictlyIncreasing}
-use Rattle.std.proofs.lemmas.List.{ext_get_or, get_or-map, length-map, get_or_default, get_or_past}
+use Rattle.std.proofs.lemmas.List.{ext_get_or, get_or-map, length-map, get_or_default}
 use Rattle.std.proofs.lemmas.List.FromFn.{length-map-range_with_len, get_or-map-range_with_len}
 use Rattle.std.proofs.lemmas.List.Elements.{All-from_get_or, All-map, All-contains, All-cons, All-nil, All-take, All-drop}
-use Rattle.std.proofs.lemmas.Bool.{cases_lt, eq-eqb}
+use Rattle.std.proofs.lemmas.Bool.{eq-eqb}
 use Rattle.gf256.specs.Polynomial.{coef, val, IsPolynomial}
 use Rattle.uni_poly.specs.Interpolation.{Interpolates}
+use Rattle.uni_poly.proofs.Coefficients.{IsBytes-from_all}
 use Rattle.uni_poly.proofs.Uniqueness.{same_list}
 use Rattle.wire_frames.specs.Answer.{Answer}
 use Rattle.block_decoder.specs.Agreed.{answers_of, answer_at, Holds}
@@ -29,6 +30,7 @@ column_of_holds polynomials x ys e i h = ap (λ l. get_or l i 0) e ∙ get_or-ma
 
 -- ---- the points of the chosen answers
 
+-- the indices and the bytes of chosen answers are bytes, and the indices differ
 indices_small : (width : ℕ) (answers : List Answer) (places : List ℕ) → HasColumns width answers → AreChosen answers places → All (λ x. x < 256) (indices_at answers places)
 indices_small width answers places columns chosen =
     All-map (λ x. x < 256) (λ place. (answer_at answers place).index) places
@@ -43,17 +45,11 @@ indices_differ answers places different chosen = λ i j d before within same.
     let second = get_or-map f places j 0 d l in
     different (get_or places i 0) (get_or places j 0) (record { index = 0; payload = [] }) (chosen.ascending i j 0 before l) (chosen.within j 0 l) (sym first ∙ same ∙ second)
 
-small_at : (xs : List ℕ) (i : ℕ) → All (λ x. x < 256) xs → get_or xs i 0 < 256
-small_at xs i h =
-    elim (cases_lt i (length xs)) [
-      | inl l ↦ h i 0 l
-      | inr l ↦ rw (get_or_past xs i 0 l) (lit< tt)
-    ]
-
 bytes_small : (width : ℕ) (answers : List Answer) (places : List ℕ) (column : ℕ) → HasColumns width answers → AreChosen answers places → All (λ x. x < 256) (bytes_at answers places column)
+unfolding coef
 bytes_small width answers places column columns chosen =
     All-map (λ x. x < 256) (λ place. get_or (answer_at answers place).payload column 0) places
-    (λ i d l. small_at (answer_at answers (get_or places i d)).payload column (columns.bytes (get_or places i d) (record { index = 0; payload = [] }) (chosen.within i d l)))
+    (λ i d l. IsBytes-from_all (answer_at answers (get_or places i d)).payload (columns.bytes (get_or places i d) (record { index = 0; payload = [] }) (chosen.within i d l)) column)
 
 -- where polynomials hold at the chosen answers, each interpolates its column
 interpolates_column : (answers : List Answer) (width t : ℕ) (places : List ℕ) (polynomials : List (List ℕ)) (column : ℕ) → length places ≡ t + 1 → length polynomials ≡ width

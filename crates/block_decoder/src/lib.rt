@@ -1,9 +1,10 @@
 //! Which blocks a session's answers agree on, and the text that says so.
 //!
 //! A verdict lists exactly the blocks on which enough answers agree (Goldberg 2007), each once and ascending, or
-//! says that too few answers are usable, or that so weak an agreement bounds no list. Nothing is assumed of the
-//! servers. It isn't said which of several blocks is the one that was stored: servers enough that lie alike
-//! agree on a block of their own.
+//! says that too few answers are usable, or that so weak an agreement bounds no list. That holds for any degree, at
+//! most 8 answers, and whatever the servers do; the columns that are interpolated are counted, and bounded. It isn't
+//! said which of several blocks is the one that was stored: servers enough that lie alike agree on a block of their
+//! own.
 #![tactic(auto)]
 
 mod answers;
