@@ -1,18 +1,24 @@
 -- What stands for y in q(x, x * y + gamma) stands for y in q after gamma, one place on (Roth and Ruckenstein 2000).
-use Rattle.std.proofs.Common.{◌≡◌, ℕ, zero, suc, ◌+◌, ◌-◌, ◌<◌, ◌≤◌, List, [], ◌∷◌, length, refl, sym, ap, ap₂, subst, ◌∙◌, arith, inl, inr}
+use Rattle.std.proofs.Common.{◌≡◌, ℕ, zero, suc, ◌+◌, ◌-◌, ◌<◌, ◌≤◌, List, [], ◌∷◌, length, drop, le_refl, refl, sym, ap, ap₂, subst, ◌∙◌, arith, inl, inr}
 use Rattle.std.proofs.lemmas.Bool.{cases_lt}
-use Rattle.std.proofs.lemmas.List.{length-map}
+use Rattle.std.proofs.lemmas.List.{length-map, get_or-map}
 use Rattle.gf256.specs.Field.{◌⊕◌, ◌⊗◌}
 use Rattle.gf256.specs.Polynomial.{coef}
 use Rattle.gf256.proofs.Xor.{add_zero, zero_add, add_swap, sums}
-use Rattle.gf256.proofs.FieldLaws.{ring, mul_zero, mul_one, mul_add}
+use Rattle.gf256.proofs.FieldLaws.{mul_zero, zero_mul, mul_one, mul_add}
 use Rattle.uni_poly.specs.Taylor.{taylor}
 use Rattle.uni_poly.proofs.Series.{ext, times, tail, plus, scale, times-plus_r}
-use Rattle.bi_poly.specs.Rows.{row, cell, column, AreBytes}
+use Rattle.bi_poly.specs.Rows.{cell, column, AreBytes, IsZero}
 use Rattle.bi_poly.specs.Substitution.{at_poly_coef, IsShiftedRoot}
 use Rattle.bi_poly.proofs.Composition.{at_series, at_poly_coef-series, times-zero}
 use Rattle.bi_poly.proofs.Shift.{taylor-past}
 use Rattle.bi_poly.proofs.Zeros.{times-scale_r}
+use Rattle.bi_poly.specs.Degree.{IsOrderInX, without_first}
+use Rattle.bi_poly.specs.Expansion.{linear_power}
+use Rattle.bi_poly.proofs.Degree.{cell-past}
+use Rattle.bi_poly.proofs.Strip.{cell-without_first}
+use Rattle.bi_poly.proofs.Expansion.{expansion}
+use Rattle.gf256.proofs.Sums.{sum_to-zero}
 
 -- a series times x
 unfoldable pub later : (ℕ → ℕ) → ℕ → ℕ
@@ -199,3 +205,50 @@ peeled q s c phi b h e =
     ∙ at_rows-same (cell s) (shifted q c) (coef phi) (length q) e (cell-shifted q s c h)
     ∙ shifted-series q c phi e b
     ∙ sym (at_poly_coef-series q (c ∷ phi) e)
+
+-- each row times x ^ d
+at_rows-spread : (s : ℕ → ℕ → ℕ) (f : ℕ → ℕ) (n d e : ℕ) → at_rows (λ j. spread (s j) d) f n e ≡ spread (at_rows s f n) d e
+unfolding spread
+at_rows-spread s f n zero e = refl
+at_rows-spread s f n (suc d) e =
+    at_rows-later (λ j. spread (s j) d) f n e
+    ∙ ap (λ g. later g e) (ext (at_rows (λ j. spread (s j) d) f n) (spread (at_rows s f n) d) (at_rows-spread s f n d))
+
+-- where x ^ d divides q, the rows of q are those of the quotient times x ^ d
+cell-divided : (q : List (List ℕ)) (d : ℕ) → ((j i : ℕ) → i < d → cell q j i ≡ 0) → (j e : ℕ) → cell q j e ≡ spread (cell (without_first d q) j) d e
+cell-divided q d h j e =
+    elim (cases_lt e d) [
+      | inl low ↦ h j e low ∙ sym (spread-low (cell (without_first d q) j) d e low)
+      | inr high ↦
+          let k : e ≡ d + (e - d) = omega arith in
+          ap (cell q j) k ∙ sym (spread-high (cell (without_first d q) j) d e high ∙ cell-without_first d q j (e - d))
+    ]
+
+-- where x ^ d divides q, q(x, phi(x)) is x ^ d times that of the quotient: so what stands for y where one is 0 does where
+-- the other is
+pub stripped-at_poly : (q : List (List ℕ)) (d : ℕ) (phi : List ℕ) → IsOrderInX q d → (e : ℕ) → at_poly_coef q phi e ≡ spread (at_poly_coef (without_first d q) phi) d e
+stripped-at_poly q d phi h e =
+    let s = without_first d q in
+    at_poly_coef-series q phi e ∙ at_rows-series q (coef phi) e
+    ∙ at_rows-same (cell q) (λ j. spread (cell s j) d) (coef phi) (length q) e (cell-divided q d h.lowest)
+    ∙ at_rows-spread (cell s) (coef phi) (length q) d e
+    ∙ ap (λ g. spread g d e)
+    (ext (at_rows (cell s) (coef phi) (length q)) (at_poly_coef s phi)
+    (λ i. ap (λ n. at_rows (cell s) (coef phi) n i) (sym (length-map q (drop d))) ∙ sym (at_poly_coef-series s phi i ∙ at_rows-series s (coef phi) i)))
+
+-- a polynomial whose Taylor series is 0 is 0
+zero_from_taylor : (p : List ℕ) (a j : ℕ) → ((u : ℕ) → taylor p a u ≡ 0) → coef p j < 256 → coef p j ≡ 0
+zero_from_taylor p a j h l =
+    sym (mul_one (coef p j) l) ∙ sym (expansion p a (length p) j (le_refl (length p)))
+    ∙ sum_to-zero _ (length p) (λ v k. ap (λ x. x ⊗ linear_power a v j) (h v) ∙ zero_mul _)
+
+-- q(x, x * y + gamma) is 0 only where q is
+pub zero_from_shifted : (q s : List (List ℕ)) (c : ℕ) → AreBytes q → IsShiftedRoot q c s → IsZero s → IsZero q
+unfolding cell coef
+zero_from_shifted q s c b h z j i =
+    elim (cases_lt j (length q)) [
+      | inl within ↦
+          let at : coef (column q i) j ≡ cell q j i = get_or-map (λ r. coef r i) q j [] 0 within in
+          sym at ∙ zero_from_taylor (column q i) c j (λ u. sym (h.each u i) ∙ z u (i + u)) (subst (λ x. x < 256) (sym at) (b j i))
+      | inr past ↦ cell-past q j i past
+    ]

@@ -4,7 +4,7 @@ ghost use Rattle.std.specs.Prelude.{ℕ, ◌≡◌, ◌≤◌, ◌∷◌, length
 ghost use Rattle.gf256.specs.Polynomial.{val};
 ghost use Rattle.uni_poly.specs.Coefficients.{IsBytes};
 ghost use Rattle.uni_poly.specs.Product.{HasFactor};
-ghost use Rattle.bi_poly.specs.Rows.{row, cell, AreBytes};
+ghost use Rattle.bi_poly.specs.Rows.{row, cell, AreBytes, IsZero};
 ghost use Rattle.bi_poly.specs.Hasse.{HasZero};
 ghost use Rattle.bi_poly.specs.Expansion.{expansion_coef};
 ghost use Rattle.bi_poly.specs.Substitution.{IsAtPoly, IsShiftedRoot, at_poly_coef};
@@ -46,6 +46,14 @@ pub fn polynomial_is_its_expansion(q: &BiPoly, a: u8, b: u8)
 pub fn shift_takes_the_constant_off(q: &BiPoly, shifted: &BiPoly, gamma: u8, phi: &[u8])
     requires { IsShiftedRoot q.now gamma shifted.now }
     ensures { (e : ℕ) → at_poly_coef shifted.now phi.now e ≡ at_poly_coef q.now (gamma ∷ phi.now) e }
+{
+    coefficients_are_bytes(q);
+}
+
+/// Where `shifted`, which is `q(x, x*y + gamma)`, is 0, `q` is.
+pub fn shift_is_zero_only_of_zero(q: &BiPoly, shifted: &BiPoly, gamma: u8)
+    requires { IsShiftedRoot q.now gamma shifted.now }
+    ensures { IsZero shifted.now → IsZero q.now }
 {
     coefficients_are_bytes(q);
 }
