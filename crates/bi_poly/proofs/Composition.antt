@@ -19,7 +19,7 @@ at_series [] f e = 0
 at_series (r ∷ q) f e = coef r e ⊕ times f (at_series q f) e
 
 -- a product with 0
-times-zero : (f : ℕ → ℕ) (e : ℕ) → times f (λ i. 0) e ≡ 0
+pub times-zero : (f : ℕ → ℕ) (e : ℕ) → times f (λ i. 0) e ≡ 0
 unfolding times
 times-zero f zero = mul_zero _
 times-zero f (suc e) = ap₂ ◌⊕◌ (mul_zero _) (times-zero (tail f) e) ∙ zero_add 0

@@ -7,4 +7,5 @@ pub mod Multiplication
 pub mod Composition
 pub mod Shift
 pub mod Zeros
+pub mod Peeling
 pub mod Expansion

@@ -134,7 +134,7 @@ times-low f g zero h = ap (◌⊗◌ (f 0)) (h 0 (omega arith)) ∙ mul_zero _
 times-low f g (suc e) h = ap₂ ◌⊕◌ (ap (◌⊗◌ (f 0)) (h (suc e) (omega arith)) ∙ mul_zero _) (times-low (tail f) g e (λ i l. h i (omega arith))) ∙ zero_add 0
 
 -- a product with a multiple
-times-scale_r : (c : ℕ) (f g : ℕ → ℕ) (e : ℕ) → times f (scale c g) e ≡ c ⊗ times f g e
+pub times-scale_r : (c : ℕ) (f g : ℕ → ℕ) (e : ℕ) → times f (scale c g) e ≡ c ⊗ times f g e
 times-scale_r c f g e = times_comm f (scale c g) e ∙ times-scale_l c g f e ∙ ap (◌⊗◌ c) (times_comm g f e)
 
 -- what psi has no constant keeps the order

@@ -1,13 +1,13 @@
 //! The laws of polynomials in two variables, each as a call whose contract is the law. A call changes nothing.
 
-ghost use Rattle.std.specs.Prelude.{ℕ, ◌≡◌, ◌≤◌, length};
+ghost use Rattle.std.specs.Prelude.{ℕ, ◌≡◌, ◌≤◌, ◌∷◌, length};
 ghost use Rattle.gf256.specs.Polynomial.{val};
 ghost use Rattle.uni_poly.specs.Coefficients.{IsBytes};
 ghost use Rattle.uni_poly.specs.Product.{HasFactor};
-ghost use Rattle.bi_poly.specs.Rows.{row, cell, AreBytes};
+ghost use Rattle.bi_poly.specs.Rows.{row, cell, AreBytes, IsZero};
 ghost use Rattle.bi_poly.specs.Hasse.{HasZero};
 ghost use Rattle.bi_poly.specs.Expansion.{expansion_coef};
-ghost use Rattle.bi_poly.specs.Substitution.{IsAtPoly};
+ghost use Rattle.bi_poly.specs.Substitution.{IsAtPoly, IsShiftedRoot, at_poly_coef};
 
 use crate::BiPoly;
 
@@ -37,6 +37,23 @@ pub fn zero_gives_a_factor(q: &BiPoly, phi: &[u8], composed: &[u8], a: u8, m: u3
 /// each `u` below a number `n` that no row is longer than, and each row `v` (Hasse 1936).
 pub fn polynomial_is_its_expansion(q: &BiPoly, a: u8, b: u8)
     ensures { (n : ℕ) → ((j : ℕ) → length (row q.now j) ≤ n) → (j i : ℕ) → expansion_coef q.now a b n j i ≡ cell q.now j i }
+{
+    coefficients_are_bytes(q);
+}
+
+/// What `shifted`, which is `q(x, x*y + gamma)`, becomes where `phi` stands for y is what `q` becomes where
+/// `gamma + x * phi` does, so that the one is 0 exactly where the other is (Roth and Ruckenstein 2000).
+pub fn shift_takes_the_constant_off(q: &BiPoly, shifted: &BiPoly, gamma: u8, phi: &[u8])
+    requires { IsShiftedRoot q.now gamma shifted.now }
+    ensures { (e : ℕ) → at_poly_coef shifted.now phi.now e ≡ at_poly_coef q.now (gamma ∷ phi.now) e }
+{
+    coefficients_are_bytes(q);
+}
+
+/// Where `shifted`, which is `q(x, x*y + gamma)`, is 0, `q` is.
+pub fn shift_is_zero_only_of_zero(q: &BiPoly, shifted: &BiPoly, gamma: u8)
+    requires { IsShiftedRoot q.now gamma shifted.now }
+    ensures { IsZero shifted.now → IsZero q.now }
 {
     coefficients_are_bytes(q);
 }
