@@ -11,7 +11,7 @@ python3 "$top/bench/make_session.py" "$degree" "$agreement" 8 65536 2 1 >"$work/
 head -c 60 "$work/text"
 echo
 python3 - "$top/crates/pir/out/pir" "$work/session" "$runs" <<'PY'
-import resource, subprocess, sys, time
+import re, subprocess, sys, time
 program, session, runs = sys.argv[1], sys.argv[2], int(sys.argv[3])
 def best(words):
     times = []
@@ -20,8 +20,16 @@ def best(words):
         subprocess.run(words, stdout=subprocess.DEVNULL)
         times.append(time.perf_counter() - start)
     return min(times)
+# A text with a block is longer than a pipe holds, so the program waits for its reader: it has decoded, and still
+# stands.
+def peak():
+    with subprocess.Popen([program, "replay", session], stdout=subprocess.PIPE) as run:
+        run.stdout.read(1)
+        with open(f"/proc/{run.pid}/status") as status:
+            memory = re.search(r"VmHWM:\s*(\d+) kB", status.read())
+        run.stdout.read()
+    return f"{memory.group(1)} KiB" if memory else "not seen"
 digest = best(["sha256sum", session])
 replay = best([program, "replay", session])
-memory = resource.getrusage(resource.RUSAGE_CHILDREN).ru_maxrss
-print(f"replay {replay * 1000:.1f} ms, sha256sum {digest * 1000:.1f} ms, ratio {replay / digest:.1f}, peak {memory} KiB")
+print(f"replay {replay * 1000:.1f} ms, sha256sum {digest * 1000:.1f} ms, ratio {replay / digest:.1f}, peak {peak()}")
 PY

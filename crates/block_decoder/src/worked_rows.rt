@@ -9,7 +9,7 @@ use std::marker::Brand;
 use std::sync::ledger::{Blank, Ledger};
 use uni_poly::steps::Steps;
 
-// Answers, what is asked of them, and the blocks that are agreed on.
+/// Answers, what is asked of them, and the blocks that are agreed on.
 pub struct Row<'a> {
     pub indices: &'a [u8],
     pub bytes: &'a [u8],
@@ -102,7 +102,7 @@ pub const ROWS: [Row<'static>; 10] = [
     },
 ];
 
-// What the decoder says, whatever steps it takes.
+/// What the decoder says, whatever steps it takes.
 pub fn decided(
     alloc: Global,
     indices: &[u8],
@@ -142,7 +142,7 @@ fn decided_in_steps<C: Ledger>(
     decide(alloc, indices, bytes, t, h, s, &mut cols)
 }
 
-// Whether the listing is these blocks, in this order.
+/// Whether the listing is these blocks, in this order.
 pub fn lists(listing: &Listing, blocks: &[&[u8]]) -> bool {
     listing.len() == blocks.len()
         && blocks

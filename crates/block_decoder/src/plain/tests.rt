@@ -3,7 +3,7 @@
 ghost use Rattle.std.specs.Prelude.{◌*◌, ◌<◌, ◌≤◌, length};
 
 use crate::worked_rows::{ROWS, decided, lists};
-use crate::{Listing, Verdict, plain_listing};
+use crate::{Listing, Verdict, bound, plain_listing};
 use std::alloc::{AllocError, Global};
 use std::test::Fail;
 
@@ -133,8 +133,9 @@ fn count_of_both(
 #[test]
 fn agrees_with_the_search_by_choices(rt: HostRuntime) -> Result<(), Fail> {
     let mut draw = Draw { state: 1 };
-    // Whether none, one, two, or three blocks were listed at some session.
+    // Whether none, one, two, or three blocks were listed at some session, and as many as Johnson's bound has.
     let mut seen = [false; 4];
+    let mut at_bound = false;
     for _ in 0..14u8 {
         for kind in [Kind::Anyhow, Kind::OnOneLineButOne, Kind::OnTwoLines] {
             let left = column(&mut draw, kind);
@@ -151,10 +152,12 @@ fn agrees_with_the_search_by_choices(rt: HostRuntime) -> Result<(), Fail> {
                     "they differ",
                 )?;
                 seen[blocks.min(3)] = true;
+                at_bound = at_bound || blocks == bound(count as u32, 1, h) as usize;
             }
         }
     }
     assert!(rt; seen.iter().all(|seen| *seen));
+    assert!(rt; at_bound);
     Ok(())
 }
 
