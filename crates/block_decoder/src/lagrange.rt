@@ -95,7 +95,11 @@ fn basis_at(alloc: Global, xs: &[u8]) -> Result<Vec<Vec<u8>>, AllocError>
 fn values_at(alloc: Global, basis: &[Vec<u8>], x: u8) -> Result<Vec<u8>, AllocError>
     ensures { IfOk result (λ v. v.items ≡ map (λ p. val p.items x) basis.now) }
 {
-    basis.iter().map(|p| uni_poly::eval(p, x)).collect(alloc)
+    let mut values = Vec::with_capacity(alloc, basis.len())?;
+    for p in basis {
+        values.push(uni_poly::eval(p, x))?;
+    }
+    Ok(values)
 }
 
 // The values of the basis at the index of the answer at a place. At a chosen one nothing has to be computed.

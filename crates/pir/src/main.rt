@@ -9,11 +9,16 @@ use std::rt::Env;
 
 /// The words after the program's name. Words that are no UTF-8 have no form.
 fn words_of<R: Env + AllocGlobal>(rt: &R) -> Result<Vec<String>, Status> {
-    match env::args(rt) {
-        Ok(words) => words.skip(1).collect(rt.alloc()).or(Err(Status::Memory)),
-        Err(error) if error.kind() == ErrorKind::OutOfMemory => Err(Status::Memory),
-        Err(_) => Err(Status::Usage),
+    let args = match env::args(rt) {
+        Ok(args) => args,
+        Err(error) if error.kind() == ErrorKind::OutOfMemory => return Err(Status::Memory),
+        Err(_) => return Err(Status::Usage),
+    };
+    let mut words = Vec::new(rt.alloc());
+    for word in args.skip(1) {
+        words.push(word).or(Err(Status::Memory))?;
     }
+    Ok(words)
 }
 
 fn main(rt: HostRuntime) -> ExitCode {
