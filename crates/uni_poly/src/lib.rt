@@ -9,8 +9,6 @@
 //!
 //! [`steps`] has the counter by which the crates above bound their work.
 //!
-//! [`steps`] has the counter by which the crates above bound their work.
-//!
 //! Not promised: anything of time. The methods are the schoolbook's, and `interpolate` and `vanishing` take a number of
 //! products that grows with the square of the number of points.
 #![tactic(auto)]
