@@ -8,8 +8,8 @@ use Rattle.block_decoder.specs.Verdict.{IsVerdict}
 use Rattle.pir_tool.specs.declared.status.Status.{Status}
 use Rattle.pir_tool.specs.declared.status.Status.TheVariants.{One, Usage, NoBlock, Several, TooFew, TooWeak, ReadFault, WriteFault, BadInput, Memory}
 use Rattle.pir_tool.specs.declared.status.Bad.TheVariants.{Session}
-use Rattle.pir_tool.specs.Replayed.{Judged, NoSession}
-use Rattle.pir_tool.proofs.Readings.{at_told}
+use Rattle.replay.specs.Replayed.{Judged, NoSession}
+use Rattle.replay.proofs.Readings.{at_told}
 use Rattle.pir_tool.specs.Outcome.{Outcome, Reported, Answered, NoneRose}
 
 -- the verdict reported is that of the session

@@ -1,5 +1,4 @@
 pub mod Form
 pub mod Table
-pub mod Replayed
 pub mod Outcome
 pub mod Counted

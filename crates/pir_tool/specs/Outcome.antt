@@ -8,7 +8,7 @@ use Rattle.block_decoder.specs.Verdict.{IsVerdict}
 use Rattle.block_decoder.specs.Text.{text}
 use Rattle.block_decoder.specs.declared.verdict.Verdict.{Verdict}
 use Rattle.pir_tool.specs.Table.{status_of}
-use Rattle.pir_tool.specs.Replayed.{Judged, NoSession}
+use Rattle.replay.specs.Replayed.{Judged, NoSession}
 use Rattle.pir_tool.specs.declared.status.Status.{Status}
 use Rattle.pir_tool.specs.declared.status.Status.TheVariants.{Usage, ReadFault, WriteFault, BadInput, Memory}
 use Rattle.pir_tool.specs.declared.status.Bad.TheVariants.{Session}

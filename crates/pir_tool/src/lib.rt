@@ -2,13 +2,11 @@
 #![tactic(auto)]
 
 mod outside;
-mod recorded;
 mod status;
 mod top;
 mod words;
 
 pub use outside::OsPorts;
-pub use recorded::{ReplayFault, replay};
 pub use status::{Bad, Status, code, line};
 pub use top::run;
 

@@ -5,14 +5,14 @@ ghost use Rattle.wire_frames.specs.Session.{Transcript, IsSession};
 ghost use Rattle.pir_ports.specs.Moves.{Touches};
 ghost use Rattle.pir_tool.specs.Form.{IsReplay, word_at};
 ghost use Rattle.pir_tool.specs.Table.{status_of};
-ghost use Rattle.pir_tool.specs.Replayed.{Judged, NoSession, ReadTo};
+ghost use Rattle.replay.specs.Replayed.{Judged, NoSession, ReadTo};
 ghost use Rattle.pir_tool.specs.Outcome.{Outcome, Answered, NoneRose, TouchesStreams, Told};
 
-use crate::recorded::{ReplayFault, replay};
 use crate::status::{Bad, Status};
 use crate::words::read_words;
 use block_decoder::{Verdict, write_verdict};
 use pir_ports::{Failed, Port, Ports};
+use replay::{ReplayFault, replay};
 use std::alloc::Global;
 use std::marker::Brand;
 use std::sync::ledger::{Blank, Ledger};

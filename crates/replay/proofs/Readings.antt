@@ -13,9 +13,9 @@ use Rattle.wire_frames.specs.declared.reader.FeedFault.TheVariants.{BadSession a
 use Rattle.wire_frames.specs.declared.reader.BadSession.{BadSession as SessionFault}
 use Rattle.wire_frames.proofs.Beginnings.{begins_short}
 use Rattle.wire_frames.proofs.Fronts.{stops-front, stops-none}
-use Rattle.pir_tool.specs.declared.recorded.ReplayFault.{ReplayFault}
-use Rattle.pir_tool.specs.declared.recorded.ReplayFault.TheVariants.{ReadFault, BadSession, Memory}
-use Rattle.pir_tool.specs.Replayed.{NoSession, Took, IsFileOf, Fed, ReadTo}
+use Rattle.replay.specs.declared.ReplayFault.{ReplayFault}
+use Rattle.replay.specs.declared.ReplayFault.TheVariants.{ReadFault, BadSession, Memory}
+use Rattle.replay.specs.Replayed.{NoSession, Took, IsFileOf, Fed, ReadTo}
 
 -- no session is longer
 abbrev pub longest : ℕ

@@ -11,8 +11,8 @@ use Rattle.wire_frames.specs.Answer.{answers}
 use Rattle.block_decoder.specs.Choices.{binomial}
 use Rattle.block_decoder.specs.Verdict.{IsVerdict}
 use Rattle.block_decoder.specs.declared.verdict.Verdict.{Verdict}
-use Rattle.pir_tool.specs.declared.recorded.ReplayFault.{ReplayFault}
-use Rattle.pir_tool.specs.declared.recorded.ReplayFault.TheVariants.{ReadFault, BadSession, Memory}
+use Rattle.replay.specs.declared.ReplayFault.{ReplayFault}
+use Rattle.replay.specs.declared.ReplayFault.TheVariants.{ReadFault, BadSession, Memory}
 
 -- the bytes are the file of a session
 abbrev pub IsFileOf : Transcript → List ℕ → Type 0

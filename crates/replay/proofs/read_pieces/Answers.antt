@@ -1,8 +1,8 @@
 use Rattle.std.proofs.Common.{arith}
 use Rattle.std.proofs.lemmas.Result.{err_from_is_err_and}
-use Rattle.pir_tool.specs.Replayed.{IsFileOf}
-use Rattle.pir_tool.proofs.Readings.{seen_stops, seen_whole, seen_short, seen_more, seen_grows}
-use Rattle.pir_tool.proofs.recorded.read_pieces.Goals as goal
+use Rattle.replay.specs.Replayed.{IsFileOf}
+use Rattle.replay.proofs.Readings.{seen_stops, seen_whole, seen_short, seen_more, seen_grows}
+use Rattle.replay.proofs.read_pieces.Goals as goal
 
 pub pieces-preserved : goal.pieces-preserved
 pieces-preserved g c = seen_more _ _ _ _ _ _ _ _ _ c.take.auto.into c.pieces.invariant c.in-Ok.ensures.ok c.take.ensures.others c.in_ok-feed_piece-in-Ok.ensures

@@ -1,10 +1,20 @@
-//! Reads a recorded session from Input, and judges it.
+//! Replays a recorded session: reads it from Input to its end, and judges it.
+//!
+//! Promised: the verdict is that of the session that Input held; bytes that are no session are refused, with the length
+//! of their longest prefix that begins one; no port but Input is touched; and the columns that are interpolated are
+//! counted, and bounded.
+//!
+//! Not promised: that memory is found, or that Input ever answers.
+#![tactic(auto)]
+
+#[cfg(test)]
+mod tests;
 
 ghost use Rattle.std.specs.Prelude.{◌≡◌, ◌<◌, length, vec_len, IfOk};
 ghost use Rattle.pir_ports.specs.Moves.{Touches};
 ghost use Rattle.wire_frames.specs.Session.{IsSession};
 ghost use Rattle.wire_frames.specs.Reading.{Feeds};
-ghost use Rattle.pir_tool.specs.Replayed.{ReadTo, Judged, IsFileOf, Fed, StepsWithin};
+ghost use Rattle.replay.specs.Replayed.{ReadTo, Judged, IsFileOf, Fed, StepsWithin};
 
 use block_decoder::{Verdict, judge};
 use pir_ports::{Failed, Port, Ports};

@@ -1,6 +1,6 @@
 use Rattle.std.proofs.Common.{◌-◌, length}
-use Rattle.pir_tool.proofs.Readings.{HasSeen, seen_by, longest}
-use Rattle.pir_tool.proofs.recorded.read_pieces.Given as goal
+use Rattle.replay.proofs.Readings.{HasSeen, seen_by, longest}
+use Rattle.replay.proofs.read_pieces.Given as goal
 
 abbrev pub invariant-pieces : goal.invariant-pieces
 invariant-pieces g l = HasSeen l.reader (g.P.Ports.world l.initial.ports) (g.P.Ports.world l.ports)

@@ -3,9 +3,9 @@ use Rattle.wire_frames.specs.Session.{Transcript}
 use Rattle.wire_frames.specs.Answer.{answers}
 use Rattle.wire_frames.proofs.OneSession.{one_session}
 use Rattle.block_decoder.specs.Choices.{binomial}
-use Rattle.pir_tool.specs.Replayed.{IsFileOf}
-use Rattle.pir_tool.proofs.Readings.{at_told}
-use Rattle.pir_tool.proofs.recorded.replay.Goals as goal
+use Rattle.replay.specs.Replayed.{IsFileOf}
+use Rattle.replay.proofs.Readings.{at_told}
+use Rattle.replay.proofs.replay.Goals as goal
 
 pub returns-in-Ok-judge-clause-cols : goal.returns-in-Ok-judge-clause-cols
 returns-in-Ok-judge-clause-cols g c = λ bytes session told whole.
