@@ -1,3 +1,4 @@
+pub mod Answering
 pub mod Beginnings
 mod Chains
 mod Digits

@@ -1,6 +1,7 @@
 -- The ranges of the numbers in frames and session files. They are widened here, and nowhere else.
 use Rattle.std.specs.Prelude.{ℕ, ◌*◌, ◌^◌, ◌<◌, ◌≤◌, ◌≡◌}
 use Rattle.wire_frames.specs.declared.TheConstants.{MOST_DEGREE, MOST_SERVERS, MOST_ROWS, MOST_WIDTH, MOST_CELLS}
+use Rattle.wire_frames.specs.declared.header.QueryHeader.{QueryHeader}
 use Rattle.wire_frames.specs.declared.session.SessionParams.{SessionParams}
 
 -- so many rows of so many bytes
@@ -22,3 +23,12 @@ pub record IsInRange (p : SessionParams) : Type 0 where
   pub few_servers : p.n ≤ MOST_SERVERS
   pub session : p.session < 2 ^ 64
   pub shape : IsShape p.r p.s
+
+-- the numbers that a query may have: scheme 1 or 2, and an index that is not 0
+pub record IsQuery (q : QueryHeader) : Type 0 where
+  pub some_scheme : 1 ≤ q.scheme
+  pub two_schemes : q.scheme ≤ 2
+  pub some_index : 1 ≤ q.index
+  pub few_indices : q.index ≤ 255
+  pub session : q.session < 2 ^ 64
+  pub shape : IsShape q.r q.s

@@ -1,11 +1,19 @@
 //! The 24 bytes that begin a query and an answer.
 ghost use Rattle.std.specs.Prelude.{◌≡◌};
-ghost use Rattle.wire_frames.specs.Header.{answer_header};
+ghost use Rattle.std.specs.Int.{bytes_high_first};
+ghost use Rattle.wire_frames.specs.Header.{frame_header, query_header, answer_header, answer_to};
+ghost use Rattle.wire_frames.specs.Limits.{IsQuery};
 
 use byteorder::{BigEndian, ByteOrder};
 
 // The version of queries and answers.
 const VERSION: u8 = 1;
+
+// `PIRQ`
+const QUERY_MAGIC: u32 = 0x5049_5251;
+
+// `PIRA`
+const ANSWER_MAGIC: u32 = 0x5049_5241;
 
 /// What a query says before its payload.
 #[derive(Clone, Copy, Debug, PartialEq, Eq)]
@@ -22,18 +30,47 @@ pub struct QueryHeader {
     pub s: u32,
 }
 
-/// The header of the answer with this status to a query with this header.
-pub fn answer_header(query: &QueryHeader, status: u8) -> [u8; 24]
-    ensures { result ≡ answer_header query.now status }
+/// The header of a frame, with its letters and its byte at place 7.
+fn frame_header(magic: u32, query: &QueryHeader, seventh: u8) -> [u8; 24]
+    ensures { result ≡ frame_header (bytes_high_first 4 magic) query.now seventh }
 {
     let mut header = [0; 24];
-    header[..4].copy_from_slice(b"PIRA");
+    header[..4].copy_from_slice(&magic.to_be_bytes());
     header[4] = VERSION;
     header[5] = query.scheme;
     header[6] = query.index;
-    header[7] = status;
+    header[7] = seventh;
     BigEndian::write_u64(&mut header[8..], query.session);
     BigEndian::write_u32(&mut header[16..], query.r);
     BigEndian::write_u32(&mut header[20..], query.s);
     header
+}
+
+/// The header of the answer with this status to a query with this header.
+pub fn answer_header(query: &QueryHeader, status: u8) -> [u8; 24]
+    ensures { result ≡ answer_header query.now status }
+{
+    frame_header(ANSWER_MAGIC, query, status)
+}
+
+/// Writes the 24 bytes that begin a query: `PIRQ`, version 1, the scheme, the index, 0, the session, the rows and the
+/// width. The header's numbers must be in their ranges: scheme 1 or 2, an index that is not 0, from 1 to `MOST_ROWS` rows
+/// of from 1 to `MOST_WIDTH` bytes, of at most `MOST_CELLS` bytes together. It takes no memory.
+pub fn write_query_header(header: &QueryHeader, out: &mut [u8; 24])
+    requires { IsQuery header.now }
+    ensures { out.new ≡ query_header header.now }
+{
+    *out = frame_header(QUERY_MAGIC, header, 0);
+}
+
+/// Writes the 24 bytes that begin the answer with this status to a query: `PIRA`, version 1, the query's scheme and
+/// index, the status, and the query's session, rows and width. The query's bytes are taken as they came, whether they are
+/// the header of a query or not. It takes no memory.
+pub fn write_answer_header(query: &[u8; 24], status: u8, out: &mut [u8; 24])
+    ensures { out.new ≡ answer_to query.now status }
+{
+    *out = *query;
+    out[..4].copy_from_slice(&ANSWER_MAGIC.to_be_bytes());
+    out[4] = VERSION;
+    out[7] = status;
 }

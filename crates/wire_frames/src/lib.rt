@@ -21,7 +21,7 @@ mod session;
 mod tests;
 
 pub use answer::usable_answer;
-pub use header::QueryHeader;
+pub use header::{QueryHeader, write_answer_header, write_query_header};
 pub use reader::{BadSession, FeedFault, SessionReader};
 pub use session::{Session, SessionParams};
 

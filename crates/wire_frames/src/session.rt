@@ -64,6 +64,14 @@ impl Session {
         Session { params, records }
     }
 
+    /// Sets the number of the session, and nothing else. No record may have been pushed yet. It takes no memory.
+    pub fn set_session(&mut self, session: u64)
+        requires { self.old.records ≡ [] }
+        ensures { self.new ≡ record self.old { params = record self.old.params { session = session } } }
+    {
+        self.params.session = session;
+    }
+
     /// Adds the record of the next server: the bytes that it answered, at most `24 + s` of them, or `None` where a call
     /// failed. An answer of no bytes is present too. It takes no memory.
     pub fn push_record(&mut self, bytes: Option<&[u8]>)

@@ -1,4 +1,6 @@
-use crate::{QueryHeader, Session, SessionParams, usable_answer};
+use crate::{
+    QueryHeader, Session, SessionParams, usable_answer, write_answer_header, write_query_header,
+};
 use std::alloc::AllocError;
 
 const ASKED: QueryHeader = QueryHeader {
@@ -10,6 +12,43 @@ const ASKED: QueryHeader = QueryHeader {
 };
 
 const FRAME: [u8; 26] = *b"PIRA\x01\x01\x01\0\0\0\0\0\0\0\0\x07\0\0\0\x02\0\0\0\x02\xcf\xd2";
+
+const QUERY: [u8; 24] = *b"PIRQ\x01\x01\x01\0\0\0\0\0\0\0\0\x07\0\0\0\x02\0\0\0\x02";
+
+#[test]
+fn headers_of_queries(rt: HostRuntime) {
+    let second = b"PIRQ\x01\x01\x02\0\0\0\0\0\0\0\0\x07\0\0\0\x02\0\0\0\x02";
+    let third = b"PIRQ\x01\x01\x03\0\0\0\0\0\0\0\0\x07\0\0\0\x02\0\0\0\x02";
+    for (index, bytes) in [(1, &QUERY), (2, second), (3, third)] {
+        let mut out = [0xff; 24];
+        write_query_header(&QueryHeader { index, ..ASKED }, &mut out);
+        assert_eq!(rt; out, *bytes, "server {index}");
+    }
+}
+
+#[test]
+fn headers_of_answers(rt: HostRuntime) {
+    let other_shape = b"PIRQ\x01\x01\x01\0\0\0\0\0\0\0\0\x07\0\0\0\x03\0\0\0\x02";
+    let wrong_letter = b"QIRQ\x01\x01\x01\0\0\0\0\0\0\0\0\x07\0\0\0\x02\0\0\0\x02";
+    let other_scheme = b"PIRQ\x01\x02\x01\0\0\0\0\0\0\0\0\x07\0\0\0\x02\0\0\0\x02";
+    let to_other_shape = b"PIRA\x01\x01\x01\x02\0\0\0\0\0\0\0\x07\0\0\0\x03\0\0\0\x02";
+    let to_wrong_letter = b"PIRA\x01\x01\x01\x01\0\0\0\0\0\0\0\x07\0\0\0\x02\0\0\0\x02";
+    let to_other_scheme = b"PIRA\x01\x02\x01\x03\0\0\0\0\0\0\0\x07\0\0\0\x02\0\0\0\x02";
+    for (query, status, answer) in [
+        (
+            &QUERY,
+            0,
+            b"PIRA\x01\x01\x01\0\0\0\0\0\0\0\0\x07\0\0\0\x02\0\0\0\x02",
+        ),
+        (other_shape, 2, to_other_shape),
+        (wrong_letter, 1, to_wrong_letter),
+        (other_scheme, 3, to_other_scheme),
+    ] {
+        let mut out = [0xff; 24];
+        write_answer_header(query, status, &mut out);
+        assert_eq!(rt; out, *answer, "status {status}");
+    }
+}
 
 #[test]
 fn answers_of_the_formats(rt: HostRuntime) {
@@ -67,6 +106,7 @@ fn records_stand_where_they_were_pushed(rt: HostRuntime) -> Result<(), AllocErro
         s: 2,
     };
     let mut session = Session::new(rt.alloc(), params)?;
+    session.set_session(8);
     assert_eq!(rt; session.record_count(), 0);
     session.push_record(Some(&FRAME));
     session.push_record(None);
@@ -79,11 +119,15 @@ fn records_stand_where_they_were_pushed(rt: HostRuntime) -> Result<(), AllocErro
     ] {
         assert_eq!(rt; session.record_at(i), record, "record {i}");
     }
-    assert_eq!(rt; session.params(), params);
+    let renumbered = SessionParams {
+        session: 8,
+        ..params
+    };
+    assert_eq!(rt; session.params(), renumbered);
     assert_eq!(rt;
         (session.scheme(), session.t(), session.h(), session.n()),
         (1, 1, 2, 3)
     );
-    assert_eq!(rt; (session.session(), session.r(), session.s()), (7, 2, 2));
+    assert_eq!(rt; (session.session(), session.r(), session.s()), (8, 2, 2));
     Ok(())
 }
