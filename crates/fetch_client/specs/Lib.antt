@@ -1,0 +1,4 @@
+pub mod Plan
+pub mod Sent
+pub mod Asked
+pub mod Fetched

@@ -1,0 +1,27 @@
+//! The random bytes.
+
+ghost use Rattle.std.specs.Prelude.{◌≡◌, ◌<◌, length};
+ghost use Rattle.pir_ports.specs.Moves.{Touches};
+ghost use Rattle.fetch_client.specs.Tossed.{TakesCoins};
+
+use crate::plan::FetchFault;
+use pir_ports::{Filled, Port, Ports, read_exactly};
+
+/// Fills `coins` from Coins, which is open.
+///
+/// # Errors
+///
+/// `CoinsFault` only where the count of Coins rose; `CoinsEnded` exactly where there are fewer bytes, with their number.
+pub(crate) fn take_coins<P: Ports>(ports: &mut P, coins: &mut [u8]) -> Result<(), FetchFault>
+    requires { 0 < length coins.old }
+    ensures taken { TakesCoins result coins.old coins.new (P.world ports.old) (P.world ports.new) }
+    ensures others { Touches 3 (P.world ports.old) (P.world ports.new) }
+{
+    match read_exactly(ports, Port::Coins, coins) {
+        Filled::Full => Ok(()),
+        Filled::Ended(taken) => Err(FetchFault::CoinsEnded {
+            taken: taken as u64,
+        }),
+        Filled::Failed => Err(FetchFault::CoinsFault),
+    }
+}
