@@ -1,4 +1,3 @@
 pub mod Form
 pub mod Table
 pub mod Outcome
-pub mod Counted
