@@ -1,4 +1,5 @@
 pub mod Plan
 pub mod Sent
 pub mod Asked
+pub mod Tossed
 pub mod Fetched

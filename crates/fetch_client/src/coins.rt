@@ -1,10 +1,12 @@
 //! The random bytes.
 
-ghost use Rattle.std.specs.Prelude.{◌≡◌, ◌<◌, length};
+ghost use Rattle.std.specs.Prelude.{◌≡◌, ◌<◌, ◌≤◌, length};
 ghost use Rattle.pir_ports.specs.Moves.{Touches};
+ghost use Rattle.fetch_client.specs.Sent.{session_number};
 ghost use Rattle.fetch_client.specs.Tossed.{TakesCoins};
 
 use crate::plan::FetchFault;
+use byteorder::{BigEndian, ByteOrder};
 use pir_ports::{Filled, Port, Ports, read_exactly};
 
 /// Fills `coins` from Coins, which is open.
@@ -14,7 +16,7 @@ use pir_ports::{Filled, Port, Ports, read_exactly};
 /// `CoinsFault` only where the count of Coins rose; `CoinsEnded` exactly where there are fewer bytes, with their number.
 pub(crate) fn take_coins<P: Ports>(ports: &mut P, coins: &mut [u8]) -> Result<(), FetchFault>
     requires { 0 < length coins.old }
-    ensures taken { TakesCoins result coins.old coins.new (P.world ports.old) (P.world ports.new) }
+    ensures taken { TakesCoins (length coins.old) result coins.new (P.world ports.old) (P.world ports.new) }
     ensures others { Touches 3 (P.world ports.old) (P.world ports.new) }
 {
     match read_exactly(ports, Port::Coins, coins) {
@@ -24,4 +26,13 @@ pub(crate) fn take_coins<P: Ports>(ports: &mut P, coins: &mut [u8]) -> Result<()
         }),
         Filled::Failed => Err(FetchFault::CoinsFault),
     }
+}
+
+/// The number of the session: that in the first 8 coins, highest first.
+#[tactic(auto, unfolding(crate::specs::Sent::session_number))]
+pub(crate) fn session_number_of(coins: &[u8]) -> u64
+    requires { 8 ≤ length coins.now }
+    ensures { result ≡ session_number coins.now }
+{
+    BigEndian::read_u64(coins)
 }

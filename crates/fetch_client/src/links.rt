@@ -1,21 +1,23 @@
 //! The links to the servers.
 
-ghost use Rattle.std.specs.Prelude.{◌≡◌, ◌<◌, ◌≤◌, ◌+◌, ◌*◌, ℕ, [], length, map, take, string_bytes, slice_index_or, IfSome, Option, None, Some};
-ghost use Rattle.std.specs.Option.{option_map, option_copied};
+ghost use Rattle.std.specs.Prelude.{◌≡◌, ◌<◌, ◌≤◌, ◌+◌, [], length, map, take, string_bytes, IfSome};
+ghost use Rattle.std.specs.Option.{option_map};
 ghost use Rattle.pir_ports.specs.Moves.{Touches};
 ghost use Rattle.pir_ports.specs.Each.{TouchesRange};
+ghost use Rattle.wire_frames.specs.Header.{query_header};
 ghost use Rattle.fetch_client.specs.Plan.{IsPlan, params_of, need};
 ghost use Rattle.fetch_client.specs.Sent.{header_to, sent, session_number};
 ghost use Rattle.fetch_client.specs.Asked.{Asked};
-ghost use Rattle.fetch_client.specs.Fetched.{AskedEach};
+ghost use Rattle.fetch_client.specs.Fetched.{AsksNext, AskedEach};
 
+use crate::coins::session_number_of;
 use crate::plan::FetchPlan;
 use pir_ports::{Filled, Port, Ports, read_exactly, write_all};
 use shamir_share::query_into;
 use wire_frames::{QueryHeader, Session, write_query_header};
 
 // How many bytes stand before the payload of a query.
-pub(crate) const QUERY_HEADER_LEN: usize = 24;
+const HEADER_LEN: usize = 24;
 
 /// Writes the header of the query to server `index`.
 fn write_header(plan: &FetchPlan, coins: &[u8], index: u8, out: &mut [u8])
@@ -32,7 +34,111 @@ fn write_header(plan: &FetchPlan, coins: &[u8], index: u8, out: &mut [u8])
         r: plan.r,
         s: plan.s,
     };
-    let mut bytes = [0; QUERY_HEADER_LEN];
+    let mut bytes = [0; HEADER_LEN];
     write_query_header(&header, &mut bytes);
     out.copy_from_slice(&bytes);
+}
+
+/// Writes the frame that server `index` is sent.
+fn write_frame(plan: &FetchPlan, coins: &[u8], index: u8, frame: &mut [u8])
+    requires plan { IsPlan plan.now }
+    requires coins { length coins.now ≡ need plan.now }
+    requires index { 1 ≤ index }
+    requires room { length frame.old ≡ 24 + plan.now.r }
+    ensures { frame.new ≡ sent plan.now coins.now index }
+{
+    let (header, query) = frame.split_at_mut(HEADER_LEN);
+    write_header(plan, coins, index, header);
+    query_into(
+        &coins[8..],
+        u32::from(plan.t),
+        plan.r,
+        plan.block,
+        index,
+        query,
+    );
+}
+
+/// Asks one server: opens its link, sends it the frame, and fills `answer` with what comes, up to its end. It says how many
+/// bytes came, and `None` where a call on the link failed.
+fn ask<P: Ports>(
+    ports: &mut P,
+    index: u8,
+    address: &str,
+    frame: &[u8],
+    answer: &mut [u8],
+) -> Option<usize>
+    requires frame { 0 < length frame.now }
+    requires answer { 0 < length answer.old }
+    ensures fits { IfSome result (λ n. n ≤ length answer.new) }
+    ensures asked { Asked address.now frame.now (length answer.old) (option_map (λ n. take n answer.new) result) ((P.world ports.old).at (256 + index)) ((P.world ports.new).at (256 + index)) }
+    ensures others { Touches (256 + index) (P.world ports.old) (P.world ports.new) }
+{
+    let link = Port::Link(index);
+    let Ok(()) = ports.open(link, address) else {
+        return None;
+    };
+    let Ok(()) = write_all(ports, link, frame) else {
+        return None;
+    };
+    match read_exactly(ports, link, answer) {
+        Filled::Full => Some(answer.len()),
+        Filled::Ended(came) => Some(came),
+        Filled::Failed => None,
+    }
+}
+
+/// Asks the server after those that the session has records of, and adds its record.
+fn ask_next<P: Ports>(
+    plan: &FetchPlan,
+    coins: &[u8],
+    address: &str,
+    ports: &mut P,
+    frame: &mut [u8],
+    answer: &mut [u8],
+    session: &mut Session,
+)
+    requires plan { IsPlan plan.now }
+    requires coins { length coins.now ≡ need plan.now }
+    requires frame { length frame.old ≡ 24 + plan.now.r }
+    requires answer { length answer.old ≡ 24 + plan.now.s }
+    requires params { session.old.params ≡ params_of plan.now (session_number coins.now) }
+    requires few { length session.old.records < plan.now.n }
+    ensures asked { AsksNext plan.now address.now coins.now session.old session.new (P.world ports.old) (P.world ports.new) }
+    ensures others { Touches (257 + length session.old.records) (P.world ports.old) (P.world ports.new) }
+{
+    let index = session.record_count() as u8 + 1;
+    write_frame(plan, coins, index, frame);
+    match ask(ports, index, address, frame, answer) {
+        Some(came) => session.push_record(Some(&answer[..came])),
+        None => session.push_record(None),
+    }
+}
+
+/// Asks every server, one after the other, and adds its record to the session. No server is left out, whatever the others
+/// answer.
+pub(crate) fn ask_all<P: Ports>(
+    plan: &FetchPlan,
+    coins: &[u8],
+    addresses: &[String],
+    ports: &mut P,
+    frame: &mut [u8],
+    answer: &mut [u8],
+    session: &mut Session,
+)
+    requires plan { IsPlan plan.now }
+    requires coins { length coins.now ≡ need plan.now }
+    requires addresses { length addresses.now ≡ plan.now.n }
+    requires frame { length frame.old ≡ 24 + plan.now.r }
+    requires answer { length answer.old ≡ 24 + plan.now.s }
+    requires params { session.old.params ≡ params_of plan.now (session_number coins.now) }
+    requires fresh { session.old.records ≡ [] }
+    ensures params { session.new.params ≡ session.old.params }
+    ensures whole { length session.new.records ≡ plan.now.n }
+    ensures links { AskedEach plan.now (map string_bytes addresses.now) coins.now plan.now.n session.new (P.world ports.old) (P.world ports.new) }
+    ensures others { TouchesRange 257 plan.now.n (P.world ports.old) (P.world ports.new) }
+{
+    'links: for address in addresses {
+        ask_next(plan, coins, address, ports, frame, answer, session);
+    }
 }

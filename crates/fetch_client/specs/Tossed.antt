@@ -1,0 +1,27 @@
+-- The coins of a fetch.
+use Rattle.std.specs.Prelude.{◌≡◌, ℕ, ◌<◌, List, length, take, All, IfSome, Result, Ok, Err}
+use Rattle.pir_ports.specs.World.{World}
+use Rattle.pir_ports.specs.Moves.{took}
+use Rattle.pir_ports.specs.Whole.{FailsAfter}
+use Rattle.fetch_client.specs.declared.plan.FetchFault.{FetchFault}
+use Rattle.fetch_client.specs.declared.plan.FetchFault.TheVariants.{CoinsFault, CoinsEnded, Memory}
+
+-- so many coins were taken: the first that Coins held
+pub record Tosses (need : ℕ) (coins : List ℕ) (old new : World) : Type 0 where
+  pub size : length coins ≡ need
+  pub bytes : All (λ b. b < 256) coins
+  pub cell : new.at 3 ≡ took need (old.at 3)
+  pub told : IfSome (old.at 3).holds (λ held. coins ≡ take need held)
+
+-- Coins ended after so many bytes, fewer than are needed
+pub record RunsOut (need taken : ℕ) (old new : World) : Type 0 where
+  pub fewer : taken < need
+  pub cell : new.at 3 ≡ took taken (old.at 3)
+  pub all : IfSome (old.at 3).holds (λ held. length held ≡ taken)
+
+-- what taking so many coins answers
+abbrev pub TakesCoins : ℕ → Result (Unit {0}) FetchFault → List ℕ → World → World → Type 0
+TakesCoins need (Ok _) coins old new = Tosses need coins old new
+TakesCoins need (Err CoinsFault) coins old new = FailsAfter 3 old new
+TakesCoins need (Err (CoinsEnded taken)) coins old new = RunsOut need taken old new
+TakesCoins need (Err Memory) coins old new = ⊥

@@ -1,0 +1,93 @@
+//! One fetch.
+
+ghost use Rattle.std.specs.Prelude.{◌≡◌, ◌≤◌, ◌+◌, ◌*◌, length, map, string_bytes, IfOk, vec_len, []};
+ghost use Rattle.wire_frames.specs.Answer.{answers};
+ghost use Rattle.block_decoder.specs.Choices.{binomial};
+ghost use Rattle.fetch_client.specs.Plan.{IsPlan, params_of, need};
+ghost use Rattle.fetch_client.specs.Fetched.{Fetches, TouchesLinks};
+
+use crate::coins::{session_number_of, take_coins};
+use crate::links::ask_all;
+use crate::plan::{FetchFault, FetchPlan};
+use block_decoder::{Verdict, judge};
+use pir_ports::Ports;
+use std::alloc::{AllocError, Global};
+use std::sync::ledger::Ledger;
+use uni_poly::steps::Steps;
+use wire_frames::Session;
+
+// The memory that a fetch takes before anything is touched: a session with no record yet, and room for the coins, for one
+// query and for one answer.
+#[derive(Drop)]
+struct Room {
+    session: Session,
+    coins: Vec<u8>,
+    frame: Vec<u8>,
+    answer: Vec<u8>,
+}
+
+fn room_for(alloc: Global, plan: &FetchPlan) -> Result<Room, AllocError>
+    requires { IsPlan plan.now }
+    ensures session { IfOk result (λ room. room.session ≡ record { params = params_of plan.now 0; records = [] }) }
+    ensures coins { IfOk result (λ room. vec_len room.coins ≡ need plan.now) }
+    ensures frame { IfOk result (λ room. vec_len room.frame ≡ 24 + plan.now.r) }
+    ensures answer { IfOk result (λ room. vec_len room.answer ≡ 24 + plan.now.s) }
+{
+    let rows = plan.r as usize;
+    Ok(Room {
+        session: Session::new(alloc, plan.params())?,
+        coins: vec![in alloc; 0; 8 + rows * usize::from(plan.t)]?,
+        frame: vec![in alloc; 0; 24 + rows]?,
+        answer: vec![in alloc; 0; 24 + plan.s as usize]?,
+    })
+}
+
+/// Fetches one block: takes the coins, asks every server, and judges what they answered. Coins is open already; there is
+/// one address for each server, in the order of their indices. `cols` counts the columns that are interpolated.
+///
+/// All memory but that for judging is taken first. Then the coins are taken, `8 + r * t` bytes: the number of the session,
+/// and `t` for each row. Then each server in turn is sent its query, and up to `24 + s` bytes of its answer are taken. A
+/// server whose link fails has no record; none is left out, and no byte that is sent depends on an answer.
+///
+/// # Errors
+///
+/// `CoinsFault` only where the count of Coins rose; `CoinsEnded` exactly where there are fewer coins, with their number; at
+/// both no server was asked. `Memory` for want of memory, before anything was touched or when all were asked.
+pub fn fetch<C: Ledger, P: Ports>(
+    alloc: Global,
+    plan: &FetchPlan,
+    addresses: &[String],
+    ports: &mut P,
+    cols: &mut Steps<C>,
+) -> Result<(Session, Verdict), FetchFault>
+    requires plan { IsPlan plan.now }
+    requires addresses { length addresses.now ≡ plan.now.n }
+    ensures fetched { Fetches plan.now (map string_bytes addresses.now) result (P.world ports.old) (P.world ports.new) }
+    ensures others { TouchesLinks plan.now.n (P.world ports.old) (P.world ports.new) }
+    ensures cols { IfOk result (λ both. cols.new ≤ cols.old + plan.now.s * binomial (length (answers both.0)) (plan.now.t + 1)) }
+{
+    let Ok(mut room) = room_for(alloc, plan) else {
+        return Err(FetchFault::Memory);
+    };
+    take_coins(ports, &mut room.coins)?;
+    let Room {
+        mut session,
+        coins,
+        mut frame,
+        mut answer,
+    } = room;
+    session.set_session(session_number_of(&coins));
+    ask_all(
+        plan,
+        &coins,
+        addresses,
+        ports,
+        &mut frame,
+        &mut answer,
+        &mut session,
+    );
+    match judge(alloc, &session, cols) {
+        Ok(verdict) => Ok((session, verdict)),
+        Err(AllocError) => Err(FetchFault::Memory),
+    }
+}
