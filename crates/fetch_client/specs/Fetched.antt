@@ -12,7 +12,7 @@ use Rattle.fetch_client.specs.declared.plan.FetchFault.{FetchFault}
 use Rattle.fetch_client.specs.declared.plan.FetchFault.TheVariants.{CoinsFault, CoinsEnded, Memory}
 use Rattle.fetch_client.specs.Plan.{params_of, need}
 use Rattle.fetch_client.specs.Sent.{sent, session_number}
-use Rattle.fetch_client.specs.Tossed.{Tosses, RunsOut}
+use Rattle.fetch_client.specs.Tossed.{Tossed, RunsOut}
 use Rattle.fetch_client.specs.Asked.{Asked}
 
 -- one more server was asked, and its record is the last
@@ -26,30 +26,31 @@ abbrev pub AskedEach : FetchPlan → List (List ℕ) → List ℕ → ℕ → Tr
 AskedEach p addresses coins n session old new = Each (λ i. Asked (slice_index_or addresses i []) (sent p coins (i + 1)) (24 + p.s) (slice_index_or session.records i None)) 257 n old new
 
 -- every server was asked, with these coins, and this is the session
-pub record AskedAll (p : FetchPlan) (addresses : List (List ℕ)) (coins : List ℕ) (session : Transcript) (old new : World) : Type 0 where
-  pub tossed : Tosses (need p) coins old new
+pub record AsksAll (p : FetchPlan) (addresses : List (List ℕ)) (coins : List ℕ) (session : Transcript) (old new : World) : Type 0 where
   pub params : session.params ≡ params_of p (session_number coins)
   pub whole : length session.records ≡ p.n
   pub links : AskedEach p addresses coins p.n session old new
 
--- every server was asked, with some coins, in some session
-pub record AskedSome (p : FetchPlan) (addresses : List (List ℕ)) (old new : World) : Type 0 where
+-- coins were taken, and every server was asked with them, in some session
+pub record AsksSome (p : FetchPlan) (addresses : List (List ℕ)) (old new : World) : Type 0 where
   pub coins : List ℕ
   pub session : Transcript
-  pub asked : AskedAll p addresses coins session old new
+  pub tossed : Tossed (need p) coins (old.at 3) (new.at 3)
+  pub asked : AsksAll p addresses coins session old new
 
--- every server was asked, this is the session, and this its verdict
+-- coins were taken, every server was asked with them, this is the session, and this its verdict
 pub record Concludes (p : FetchPlan) (addresses : List (List ℕ)) (session : Transcript) (verdict : Verdict) (old new : World) : Type 0 where
   pub coins : List ℕ
-  pub asked : AskedAll p addresses coins session old new
+  pub tossed : Tossed (need p) coins (old.at 3) (new.at 3)
+  pub asked : AsksAll p addresses coins session old new
   pub judged : IsVerdict session verdict
 
 -- what a fetch answers, and what it did then. Without the coins no server is asked
 abbrev pub Fetches : FetchPlan → List (List ℕ) → Result (Transcript × Verdict) FetchFault → World → World → Type 0
 Fetches p addresses (Ok both) old new = Concludes p addresses both.0 both.1 old new
 Fetches p addresses (Err CoinsFault) old new = FailsAfter 3 old new × Touches 3 old new
-Fetches p addresses (Err (CoinsEnded taken)) old new = RunsOut (need p) taken old new × Touches 3 old new
-Fetches p addresses (Err Memory) old new = (new ≡ old) ⊎ AskedSome p addresses old new
+Fetches p addresses (Err (CoinsEnded taken)) old new = RunsOut (need p) taken (old.at 3) (new.at 3) × Touches 3 old new
+Fetches p addresses (Err Memory) old new = (new ≡ old) ⊎ AsksSome p addresses old new
 
 -- no port but Coins and the first n links is touched
 pub record TouchesLinks (n : ℕ) (old new : World) : Type 0 where

@@ -1,27 +1,27 @@
 -- The coins of a fetch.
 use Rattle.std.specs.Prelude.{◌≡◌, ℕ, ◌<◌, List, length, take, All, IfSome, Result, Ok, Err}
-use Rattle.pir_ports.specs.World.{World}
+use Rattle.pir_ports.specs.World.{Cell, World}
 use Rattle.pir_ports.specs.Moves.{took}
 use Rattle.pir_ports.specs.Whole.{FailsAfter}
 use Rattle.fetch_client.specs.declared.plan.FetchFault.{FetchFault}
 use Rattle.fetch_client.specs.declared.plan.FetchFault.TheVariants.{CoinsFault, CoinsEnded, Memory}
 
--- so many coins were taken: the first that Coins held
-pub record Tosses (need : ℕ) (coins : List ℕ) (old new : World) : Type 0 where
+-- so many coins were taken: the first that the port held
+pub record Tossed (need : ℕ) (coins : List ℕ) (old new : Cell) : Type 0 where
   pub size : length coins ≡ need
   pub bytes : All (λ b. b < 256) coins
-  pub cell : new.at 3 ≡ took need (old.at 3)
-  pub told : IfSome (old.at 3).holds (λ held. coins ≡ take need held)
+  pub cell : new ≡ took need old
+  pub told : IfSome old.holds (λ held. coins ≡ take need held)
 
--- Coins ended after so many bytes, fewer than are needed
-pub record RunsOut (need taken : ℕ) (old new : World) : Type 0 where
+-- the port ended after so many bytes, fewer than are needed
+pub record RunsOut (need taken : ℕ) (old new : Cell) : Type 0 where
   pub fewer : taken < need
-  pub cell : new.at 3 ≡ took taken (old.at 3)
-  pub all : IfSome (old.at 3).holds (λ held. length held ≡ taken)
+  pub cell : new ≡ took taken old
+  pub all : IfSome old.holds (λ held. length held ≡ taken)
 
--- what taking so many coins answers
+-- what taking so many coins from Coins answers
 abbrev pub TakesCoins : ℕ → Result (Unit {0}) FetchFault → List ℕ → World → World → Type 0
-TakesCoins need (Ok _) coins old new = Tosses need coins old new
+TakesCoins need (Ok _) coins old new = Tossed need coins (old.at 3) (new.at 3)
 TakesCoins need (Err CoinsFault) coins old new = FailsAfter 3 old new
-TakesCoins need (Err (CoinsEnded taken)) coins old new = RunsOut need taken old new
+TakesCoins need (Err (CoinsEnded taken)) coins old new = RunsOut need taken (old.at 3) (new.at 3)
 TakesCoins need (Err Memory) coins old new = ⊥
