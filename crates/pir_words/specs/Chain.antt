@@ -3,7 +3,6 @@ use Rattle.std.specs.Prelude.{Bool, Option, None, option_and_then, if◌then◌e
 
 infixr 10 ◌>>=◌
 infixr 10 ◌>>◌
-
 -- what is read with a value, where there is one
 abbrev pub ◌>>=◌ : {A B : Type 0} → Option A → (A → Option B) → Option B
 value >>= next = option_and_then next value
