@@ -1,0 +1,5 @@
+pub mod Chains
+pub mod Digits
+pub mod Entered
+pub mod InRanges
+pub mod Parsing

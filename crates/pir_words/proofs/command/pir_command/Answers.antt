@@ -1,0 +1,16 @@
+use Rattle.std.proofs.Common.{◌≡◌, ◌∙◌, true, ap, ap₂}
+use Rattle.std.proofs.lemmas.Result.{IfOk-weaker}
+use Rattle.clap.specs.Words.{App, app_of, with_subcommand}
+use Rattle.clap.specs.Simple.{app_of_fields}
+use Rattle.pir_words.specs.Command.{bare, pir}
+use Rattle.pir_words.proofs.command.pir_command.Goals as goal
+
+pub returns : goal.returns
+unfolding pir
+returns c =
+    let above = λ (a : App). a.top in
+    let top_is : app_of c.no_binary_name-top.result ≡ bare = ap app_of_fields c.no_binary_name-top.ensures
+    ∙ ap (λ (a : App). record a { top = record a.top { no_binary_name = true } }) c.new.ensures.app in
+    let replay_is = c.in_ok-with_replay.ensures.shape c.in_ok-replay.ensures.local ∙ ap₂ with_subcommand top_is (ap above c.in_ok-replay.ensures.app) in
+    IfOk-weaker c.subcommand-2.result _ _ (λ r h. h.shape c.in_ok-fetch.ensures.local
+    ∙ ap₂ with_subcommand replay_is (ap above c.in_ok-fetch.ensures.app)) c.subcommand-2.ensures

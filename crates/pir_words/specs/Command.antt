@@ -1,0 +1,51 @@
+-- The command line as `clap` sees it.
+use Rattle.std.specs.Prelude.{Bool, true, false, Some, codes}
+use Rattle.clap.specs.Words.{App, Rule, Text, new_app, new_rule, with_rule, with_subcommand}
+use Rattle.clap.specs.declared.builder.action.ArgAction.TheVariants.{Set, Append}
+
+-- `--NAME VALUE`
+abbrev pub option_rule : Text → Bool → Rule
+option_rule name required = record (new_rule name) {
+  long = Some name;
+  required = required;
+  action = Some Set;
+}
+
+-- a command with one more option
+abbrev pub with_option : App → Text → Bool → App
+with_option app name required = with_rule app (option_rule name required)
+
+-- one word
+abbrev pub operand_rule : Text → Rule
+operand_rule name = record (new_rule name) { required = true; action = Some Set }
+
+-- one word or more
+abbrev pub operands_rule : Text → Rule
+operands_rule name = record (new_rule name) { required = true; action = Some Append }
+
+-- `replay FILE`
+unfoldable pub replay_app : App
+replay_app = with_rule (new_app (codes "replay")) (operand_rule (codes "file"))
+
+-- `fetch --rows R --width S --block B --degree T --agree H ADDRESS..`
+unfoldable pub fetch_app : App
+fetch_app =
+    let rows = with_option (new_app (codes "fetch")) (codes "rows") true in
+    let width = with_option rows (codes "width") true in
+    let block = with_option width (codes "block") true in
+    let scheme = with_option block (codes "scheme") false in
+    let degree = with_option scheme (codes "degree") false in
+    let agree = with_option degree (codes "agree") false in
+    let coins = with_option agree (codes "coins") false in
+    let keep = with_option coins (codes "record") false in
+    with_rule keep (operands_rule (codes "addresses"))
+
+-- `pir` with no command, whose words begin after the program's name
+abbrev pub bare : App
+bare = let a = new_app (codes "pir") in record a { top = record a.top { no_binary_name = true } }
+
+-- `pir` with its commands
+unfoldable pub pir : App
+pir =
+    let replay = with_subcommand bare replay_app.top in
+    with_subcommand replay fetch_app.top

@@ -1,0 +1,52 @@
+-- Which words have a form, and which command they ask for.
+use Rattle.std.specs.Prelude.{ℕ, ◌≡◌, ◌==◌, Bool, true, false, List, length, Option, Some, None, Result, Ok, Err, codes, if◌then◌else◌}
+use Rattle.std.specs.Str.{bytes_eq}
+use Rattle.clap.specs.Words.{Row, Text, fault_of, subcommand_of}
+use Rattle.clap.specs.declared.error.kind.ErrorKind.{ErrorKind}
+use Rattle.clap.specs.declared.error.kind.ErrorKind.TheVariants.{OutOfMemory}
+use Rattle.pir_words.specs.Chain.{◌>>=◌, ◌>>◌}
+use Rattle.pir_words.specs.Command.{pir}
+use Rattle.pir_words.specs.ReplayForm.{replay_of}
+use Rattle.pir_words.specs.FetchForm.{IsFetch, fetch_of}
+use Rattle.pir_words.specs.declared.asked.Asked.{Asked}
+use Rattle.pir_words.specs.declared.asked.Asked.TheVariants.{Replay, Fetch}
+use Rattle.pir_words.specs.declared.asked.WordsFault.{WordsFault}
+use Rattle.pir_words.specs.declared.asked.WordsFault.TheVariants.{Usage, Memory}
+
+-- an error of `clap` is want of memory
+abbrev pub is_memory : ErrorKind → Bool
+is_memory OutOfMemory = true
+is_memory _ = false
+
+-- the command of this name, with what the words give to its arguments
+unfoldable pub asked_by : Text → List Row → Option Asked
+asked_by name m =
+    if bytes_eq name (codes "replay") then replay_of m
+    else (if bytes_eq name (codes "fetch") then fetch_of m else None)
+
+-- the command that a parse entered
+unfoldable pub asked_in : Option (Text × List Row) → Option Asked
+asked_in entered = do
+  (name, m) ← entered
+  asked_by name m
+
+-- `clap` finds no fault in the words
+unfoldable pub are_taken : List Text → Bool
+are_taken words = length (fault_of pir words) == 0
+
+-- the command that the words ask for, where they have a form
+unfoldable pub asked_of : List Text → Option Asked
+asked_of words = do
+  are_taken words
+  asked_in (subcommand_of pir words)
+
+-- the answer to words that ask for this command, or for none: exactly that, or want of memory
+abbrev pub Answers : Option Asked → Result Asked WordsFault → Type 0
+Answers wanted (Ok asked) = wanted ≡ Some asked
+Answers wanted (Err Usage) = wanted ≡ None
+Answers wanted (Err Memory) = Unit {0}
+
+-- the values of a command are in their ranges
+abbrev pub InRange : Asked → Type 0
+InRange (Replay file) = Unit {0}
+InRange (Fetch scheme r s b t h coins keep addresses) = IsFetch scheme r s b t h (length addresses)

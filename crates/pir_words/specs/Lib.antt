@@ -1,0 +1,7 @@
+pub mod Chain
+pub mod Numbers
+pub mod Ranges
+pub mod Command
+pub mod ReplayForm
+pub mod FetchForm
+pub mod Form

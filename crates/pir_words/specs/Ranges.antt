@@ -1,0 +1,46 @@
+-- The values that several commands have, each in its range.
+use Rattle.std.specs.Prelude.{ℕ, ◌*◌, ◌&&◌, List, Option, Some, codes, nat_lt, nat_le, unwrap_or}
+use Rattle.std.specs.Str.{bytes_eq}
+use Rattle.clap.specs.Words.{Row, Text, first_of}
+use Rattle.wire_frames.specs.declared.TheConstants.{MOST_DEGREE, MOST_ROWS, MOST_WIDTH, MOST_CELLS}
+use Rattle.pir_words.specs.Chain.{◌>>=◌, ◌>>◌}
+use Rattle.pir_words.specs.Numbers.{limited, number_in}
+use Rattle.pir_words.specs.declared.ranges.Sizes.{Sizes}
+use Rattle.pir_words.specs.declared.ranges.Sharing.{Sharing}
+
+-- the rows of a database and their width
+unfoldable pub sizes_in : List Row → Option Sizes
+sizes_in m = do
+  rows ← limited (codes "rows") 1 MOST_ROWS m
+  width ← limited (codes "width") 1 MOST_WIDTH m
+  nat_le (rows * width) MOST_CELLS
+  Some (record { rows = rows; width = width })
+
+-- a block of so many rows
+unfoldable pub block_in : ℕ → List Row → Option ℕ
+block_in rows m = do
+  block ← number_in (codes "block") m
+  nat_lt block rows
+  Some block
+
+-- the number of a scheme that can be named
+unfoldable pub scheme_named : Text → Option ℕ
+scheme_named name = do
+  bytes_eq name (codes "shamir")
+  Some 1
+
+-- the scheme, Shamir's where none is named
+unfoldable pub scheme_in : List Row → Option ℕ
+scheme_in m = scheme_named (unwrap_or (first_of (codes "scheme") m) (codes "shamir"))
+
+-- the degree t and the agreement h of n servers, 1 <= t < h <= n
+unfoldable pub sharing_in : ℕ → List Row → Option Sharing
+sharing_in n m = do
+  t ← limited (codes "degree") 1 MOST_DEGREE m
+  h ← number_in (codes "agree") m
+  nat_lt t h && nat_le h n
+  Some (record { degree = t; agree = h })
+
+-- the file that random bytes come from
+unfoldable pub coins_in : List Row → Text
+coins_in m = unwrap_or (first_of (codes "coins") m) (codes "/dev/urandom")

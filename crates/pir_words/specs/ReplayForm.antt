@@ -1,0 +1,12 @@
+-- The form of `replay`.
+use Rattle.std.specs.Prelude.{List, Option, Some, codes}
+use Rattle.clap.specs.Words.{Row, first_of}
+use Rattle.pir_words.specs.Chain.{◌>>=◌}
+use Rattle.pir_words.specs.declared.asked.Asked.{Asked}
+use Rattle.pir_words.specs.declared.asked.Asked.TheVariants.{Replay}
+
+-- `replay` with its file
+unfoldable pub replay_of : List Row → Option Asked
+replay_of m = do
+  file ← first_of (codes "file") m
+  Some (Replay file)

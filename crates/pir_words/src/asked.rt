@@ -1,0 +1,46 @@
+//! What words can ask for.
+
+use crate::text::{Text, Texts};
+use thiserror::Error;
+
+/// A command with its values.
+#[derive(Drop)]
+pub enum Asked {
+    /// Judge the session that a file holds.
+    Replay {
+        /// The file's name; `-` is standard input.
+        file: Text,
+    },
+    /// Fetch a block of a database that several servers hold.
+    Fetch {
+        /// The scheme's number: 1, Shamir's.
+        scheme: u8,
+        /// How many rows the database has.
+        rows: u32,
+        /// How many bytes a row has.
+        width: u32,
+        /// The row to fetch, counted from 0.
+        block: u32,
+        /// The degree t: so many servers together learn nothing.
+        degree: u8,
+        /// How many answers have to agree.
+        agree: u8,
+        /// The file that random bytes come from.
+        coins: Text,
+        /// The file in which the session is kept, if it is.
+        keep: Option<Text>,
+        /// The address of each server.
+        addresses: Texts,
+    },
+}
+
+/// Why words give no command.
+#[derive(Debug, Drop, Error)]
+pub enum WordsFault {
+    /// The words have no form.
+    #[error("the words have no form")]
+    Usage,
+    /// Memory is short.
+    #[error("no memory")]
+    Memory,
+}

@@ -1,0 +1,68 @@
+//! The command line, built for `clap`.
+
+ghost use Rattle.std.specs.Prelude.{◌≡◌, Bool, false, IfOk};
+ghost use Rattle.clap.specs.Words.{app_of};
+ghost use Rattle.clap.specs.declared.builder.command.Command.TheViews.{out-Command};
+ghost use Rattle.pir_words.specs.Command.{with_option, replay_app, fetch_app, pir};
+
+use clap::{Arg, ArgAction, Command};
+use std::alloc::{AllocError, Global};
+
+/// One more option, `--NAME VALUE`.
+fn with_option<'a>(
+    alloc: Global,
+    command: Command<'a>,
+    name: &'a str,
+    required: bool,
+) -> Result<Command<'a>, AllocError>
+    ensures app { IfOk result (λ c. app_of c ≡ with_option (app_of command.entry) name.entry.now required) }
+    ensures local { IfOk result (λ c. (out-Command c).has_globals ≡ (out-Command command.entry).has_globals) }
+{
+    let option = Arg::new(alloc, name)
+        .long(name)
+        .required(required)
+        .action(ArgAction::Set);
+    command.arg(option)
+}
+
+/// `replay`.
+fn replay_command<'a>(alloc: Global) -> Result<Command<'a>, AllocError>
+    ensures app { IfOk result (λ c. app_of c ≡ replay_app) }
+    ensures local { IfOk result (λ c. (out-Command c).has_globals ≡ false) }
+{
+    let file = Arg::new(alloc, "file")
+        .required(true)
+        .action(ArgAction::Set);
+    Command::new(alloc, "replay").arg(file)
+}
+
+/// `fetch`.
+fn fetch_command<'a>(alloc: Global) -> Result<Command<'a>, AllocError>
+    ensures app { IfOk result (λ c. app_of c ≡ fetch_app) }
+    ensures local { IfOk result (λ c. (out-Command c).has_globals ≡ false) }
+{
+    let start = Command::new(alloc, "fetch");
+    let rows = with_option(alloc, start, "rows", true)?;
+    let width = with_option(alloc, rows, "width", true)?;
+    let block = with_option(alloc, width, "block", true)?;
+    let scheme = with_option(alloc, block, "scheme", false)?;
+    let degree = with_option(alloc, scheme, "degree", false)?;
+    let agree = with_option(alloc, degree, "agree", false)?;
+    let coins = with_option(alloc, agree, "coins", false)?;
+    let keep = with_option(alloc, coins, "record", false)?;
+    let addresses = Arg::new(alloc, "addresses")
+        .required(true)
+        .action(ArgAction::Append);
+    keep.arg(addresses)
+}
+
+/// `pir` with its commands. The words come without the program's name.
+pub fn pir_command<'a>(alloc: Global) -> Result<Command<'a>, AllocError>
+    ensures { IfOk result (λ c. app_of c ≡ pir) }
+{
+    let top = Command::new(alloc, "pir").no_binary_name(true);
+    let replay = replay_command(alloc)?;
+    let fetch = fetch_command(alloc)?;
+    let with_replay = top.subcommand(replay)?;
+    with_replay.subcommand(fetch)
+}

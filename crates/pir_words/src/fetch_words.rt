@@ -1,0 +1,65 @@
+//! The words of `fetch`.
+
+ghost use Rattle.std.specs.Prelude.{◌≡◌, ◌≤◌, IfSome, length, map, option_map};
+ghost use Rattle.wire_frames.specs.declared.TheConstants.{MOST_SERVERS};
+ghost use Rattle.pir_words.specs.Numbers.{given};
+ghost use Rattle.pir_words.specs.FetchForm.{addresses_in, fetch_of};
+ghost use Rattle.pir_words.specs.Form.{Answers};
+
+use crate::asked::{Asked, WordsFault};
+use crate::ranges::{block_at, coins_at, scheme_at, sharing_at, sizes_at};
+use crate::text::Texts;
+use crate::values::{kept, owned, text_at, texts_at};
+use clap::ArgMatches;
+use std::alloc::Global;
+use wire_frames::MOST_SERVERS;
+
+/// The addresses, of no more servers than there may be.
+#[tactic(auto, unfolding(crate::specs::FetchForm::addresses_in))]
+fn addresses_at<'a, 'b>(matches: &'b ArgMatches<'a>) -> Option<&'b [&'a str]>
+    ensures value { option_map (λ s. map (λ v. v.now) s.now) result ≡ addresses_in (given matches.now) }
+    ensures few { IfSome result (λ s. length s.now ≤ MOST_SERVERS) }
+{
+    let addresses = texts_at(matches, "addresses")?;
+    if addresses.len() <= usize::from(MOST_SERVERS) {
+        Some(addresses)
+    } else {
+        None
+    }
+}
+
+/// `fetch` with its values, each in its range.
+#[tactic(auto, unfolding(crate::specs::FetchForm::fetch_of))]
+pub fn read_fetch(alloc: Global, matches: &ArgMatches) -> Result<Asked, WordsFault>
+    ensures { Answers (fetch_of (given matches.now)) result }
+{
+    let Some(sizes) = sizes_at(matches) else {
+        return Err(WordsFault::Usage);
+    };
+    let Some(block) = block_at(matches, sizes.rows) else {
+        return Err(WordsFault::Usage);
+    };
+    let Some(scheme) = scheme_at(matches) else {
+        return Err(WordsFault::Usage);
+    };
+    let Some(addresses) = addresses_at(matches) else {
+        return Err(WordsFault::Usage);
+    };
+    let Some(sharing) = sharing_at(matches, addresses.len() as u8) else {
+        return Err(WordsFault::Usage);
+    };
+    let coins = owned(alloc, coins_at(matches))?;
+    let keep = kept(alloc, text_at(matches, "record"))?;
+    let addresses = Texts::new(alloc, addresses).map_err(|_| WordsFault::Memory)?;
+    Ok(Asked::Fetch {
+        scheme,
+        rows: sizes.rows,
+        width: sizes.width,
+        block,
+        degree: sharing.degree,
+        agree: sharing.agree,
+        coins,
+        keep,
+        addresses,
+    })
+}

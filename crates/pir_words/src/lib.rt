@@ -1,0 +1,90 @@
+//! The words of the command line.
+//!
+//! Words give a command with its values exactly where they have its form, and are a faulty command line exactly where
+//! they have none; either may give way to want of memory. The form is what `clap` takes by the commands that are built
+//! here, with each value in its range. Nothing is said of what a file or an address is: any text is one.
+#![tactic(auto)]
+
+ghost use Rattle.std.specs.Prelude.{◌≡◌, Bool, true, false, IfErr, IfOk, if◌then◌else◌, map, string_bytes};
+ghost use Rattle.clap.specs.Words.{kind_of, subcommand_of, subcommand_rows_of};
+ghost use Rattle.pir_words.specs.Numbers.{given};
+ghost use Rattle.pir_words.specs.Command.{pir};
+ghost use Rattle.pir_words.specs.Form.{Answers, InRange, are_taken, asked_by, asked_in, asked_of, is_memory};
+
+mod asked;
+mod command;
+mod fetch_words;
+mod ranges;
+mod replay_words;
+#[cfg(test)]
+mod tests;
+mod text;
+mod values;
+
+pub use asked::{Asked, WordsFault};
+use clap::error::ErrorKind;
+use clap::{ArgMatches, Error};
+use command::pir_command;
+use fetch_words::read_fetch;
+use replay_words::read_replay;
+use std::alloc::Global;
+pub use text::{Text, Texts};
+
+/// What a parse that doesn't end with matches comes to.
+fn fault_by(error: Error) -> WordsFault
+    ensures { result ≡ (if is_memory (kind_of error) then WordsFault.Memory else WordsFault.Usage) }
+{
+    match error.kind() {
+        ErrorKind::OutOfMemory => WordsFault::Memory,
+        _ => WordsFault::Usage,
+    }
+}
+
+/// The matches of the words, where they have some.
+fn parse<'a>(alloc: Global, words: &'a [String]) -> Result<ArgMatches<'a>, WordsFault>
+    ensures taken { IfOk result (λ m. are_taken (map string_bytes words.entry.now) ≡ true) }
+    ensures entered { IfOk result (λ m. subcommand_rows_of m ≡ subcommand_of pir (map string_bytes words.entry.now)) }
+    ensures err { IfErr result (λ e. e ≡ WordsFault.Usage → are_taken (map string_bytes words.entry.now) ≡ false) }
+{
+    let command = match pir_command(alloc) {
+        Ok(command) => command,
+        Err(_) => return Err(WordsFault::Memory),
+    };
+    match command.try_get_matches_from(words) {
+        Ok(matches) => Ok(matches),
+        Err(error) => Err(fault_by(error)),
+    }
+}
+
+/// The command of this name, with the values that the matches have for its arguments.
+#[tactic(auto, unfolding(crate::specs::Form::asked_by))]
+fn read_command(alloc: Global, name: &str, matches: &ArgMatches) -> Result<Asked, WordsFault>
+    ensures { Answers (asked_by name.now (given matches.now)) result }
+{
+    match name {
+        "replay" => read_replay(alloc, matches),
+        "fetch" => read_fetch(alloc, matches),
+        _ => Err(WordsFault::Usage),
+    }
+}
+
+/// The command that the matches ask for.
+fn read_matches(alloc: Global, matches: &ArgMatches) -> Result<Asked, WordsFault>
+    ensures { Answers (asked_in (subcommand_rows_of matches.now)) result }
+{
+    match matches.subcommand() {
+        Some((name, inner)) => read_command(alloc, name, inner),
+        None => Err(WordsFault::Usage),
+    }
+}
+
+/// The command that the words ask for, which come without the program's name.
+pub fn read_words(alloc: Global, words: &[String]) -> Result<Asked, WordsFault>
+    ensures form { Answers (asked_of (map string_bytes words.now)) result }
+    ensures ranges { IfOk result InRange }
+{
+    match parse(alloc, words) {
+        Ok(matches) => read_matches(alloc, &matches),
+        Err(fault) => Err(fault),
+    }
+}

@@ -1,0 +1,97 @@
+//! The values that several commands have, each in its range.
+
+ghost use Rattle.std.specs.Prelude.{◌≡◌};
+ghost use Rattle.pir_words.specs.Numbers.{given};
+ghost use Rattle.pir_words.specs.Ranges.{block_in, coins_in, scheme_in, scheme_named, sharing_in, sizes_in};
+
+use crate::values::{limited_at, number_at, text_at};
+use clap::ArgMatches;
+use wire_frames::{MOST_CELLS, MOST_DEGREE, MOST_ROWS, MOST_WIDTH};
+
+/// The sizes of a database.
+#[derive(Clone, Copy)]
+pub struct Sizes {
+    pub rows: u32,
+    pub width: u32,
+}
+
+/// The degree of a query's polynomials, and how many answers have to agree.
+#[derive(Clone, Copy)]
+pub struct Sharing {
+    pub degree: u8,
+    pub agree: u8,
+}
+
+/// The rows of a database and their width.
+#[tactic(auto, unfolding(crate::specs::Ranges::sizes_in))]
+pub fn sizes_at(matches: &ArgMatches) -> Option<Sizes>
+    ensures { result ≡ sizes_in (given matches.now) }
+{
+    let rows = limited_at(matches, "rows", 1, u64::from(MOST_ROWS))?;
+    let width = limited_at(matches, "width", 1, u64::from(MOST_WIDTH))?;
+    if rows * width <= MOST_CELLS {
+        Some(Sizes {
+            rows: rows as u32,
+            width: width as u32,
+        })
+    } else {
+        None
+    }
+}
+
+/// The block, one of so many rows.
+#[tactic(auto, unfolding(crate::specs::Ranges::block_in))]
+pub fn block_at(matches: &ArgMatches, rows: u32) -> Option<u32>
+    ensures { result ≡ block_in rows (given matches.now) }
+{
+    let block = number_at(matches, "block")?;
+    if block < u64::from(rows) {
+        Some(block as u32)
+    } else {
+        None
+    }
+}
+
+/// The number of a scheme by its name.
+#[tactic(auto, unfolding(crate::specs::Ranges::scheme_named))]
+fn scheme_of(name: &str) -> Option<u8>
+    ensures { result ≡ scheme_named name.now }
+{
+    match name {
+        "shamir" => Some(1),
+        _ => None,
+    }
+}
+
+/// The scheme, Shamir's where none is named.
+#[tactic(auto, unfolding(crate::specs::Ranges::scheme_in))]
+pub fn scheme_at(matches: &ArgMatches) -> Option<u8>
+    ensures { result ≡ scheme_in (given matches.now) }
+{
+    scheme_of(text_at(matches, "scheme").unwrap_or("shamir"))
+}
+
+/// The degree and the agreement of `servers` servers.
+#[tactic(auto, unfolding(crate::specs::Ranges::sharing_in))]
+pub fn sharing_at(matches: &ArgMatches, servers: u8) -> Option<Sharing>
+    ensures { result ≡ sharing_in servers (given matches.now) }
+{
+    let degree = limited_at(matches, "degree", 1, u64::from(MOST_DEGREE))?;
+    let agree = number_at(matches, "agree")?;
+    if degree < agree && agree <= u64::from(servers) {
+        Some(Sharing {
+            degree: degree as u8,
+            agree: agree as u8,
+        })
+    } else {
+        None
+    }
+}
+
+/// The file that random bytes come from.
+#[tactic(auto, unfolding(crate::specs::Ranges::coins_in))]
+pub fn coins_at<'a>(matches: &ArgMatches<'a>) -> &'a str
+    ensures { result.now ≡ coins_in (given matches.now) }
+{
+    text_at(matches, "coins").unwrap_or("/dev/urandom")
+}

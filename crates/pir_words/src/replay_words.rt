@@ -1,0 +1,22 @@
+//! The words of `replay`.
+
+ghost use Rattle.pir_words.specs.Numbers.{given};
+ghost use Rattle.pir_words.specs.ReplayForm.{replay_of};
+ghost use Rattle.pir_words.specs.Form.{Answers};
+
+use crate::asked::{Asked, WordsFault};
+use crate::values::{owned, text_at};
+use clap::ArgMatches;
+use std::alloc::Global;
+
+/// `replay` with its file.
+#[tactic(auto, unfolding(crate::specs::ReplayForm::replay_of))]
+pub fn read_replay(alloc: Global, matches: &ArgMatches) -> Result<Asked, WordsFault>
+    ensures { Answers (replay_of (given matches.now)) result }
+{
+    let Some(file) = text_at(matches, "file") else {
+        return Err(WordsFault::Usage);
+    };
+    let file = owned(alloc, file)?;
+    Ok(Asked::Replay { file })
+}

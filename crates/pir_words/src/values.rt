@@ -1,0 +1,89 @@
+//! What the words give to an argument: texts and numbers.
+
+ghost use Rattle.std.specs.Prelude.{◌≡◌, ◌≤◌, IfErr, IfOk, IfSome, map, option_map};
+ghost use Rattle.std.specs.List.{list_all};
+ghost use Rattle.clap.specs.Words.{all_of, first_of};
+ghost use Rattle.pir_words.specs.Numbers.{given, is_digit, limited, number, number_in};
+
+use crate::asked::WordsFault;
+use crate::text::Text;
+use clap::ArgMatches;
+use std::alloc::Global;
+
+/// The word of an argument.
+pub fn text_at<'a>(matches: &ArgMatches<'a>, id: &str) -> Option<&'a str>
+    ensures { option_map (λ s. s.now) result ≡ first_of id.now (given matches.now) }
+{
+    matches.get_str(id)
+}
+
+/// The words of an argument.
+pub fn texts_at<'a, 'b>(matches: &'b ArgMatches<'a>, id: &str) -> Option<&'b [&'a str]>
+    ensures { option_map (λ s. map (λ v. v.now) s.now) result ≡ all_of id.now (given matches.now) }
+{
+    matches.get_raw(id)
+}
+
+/// Whether there are decimal digits alone: no sign, and no blank.
+fn are_digits(text: &[u8]) -> bool
+    ensures { result ≡ list_all is_digit text.now }
+{
+    for c in text {
+        if !c.is_ascii_digit() {
+            return false;
+        }
+    }
+    true
+}
+
+/// The number that decimal digits write, below `2^64`.
+#[tactic(auto, unfolding(crate::specs::Numbers::number))]
+fn number_of(text: &str) -> Option<u64>
+    ensures { result ≡ number text.now }
+{
+    if !are_digits(text.as_bytes()) {
+        return None;
+    }
+    text.parse().ok()
+}
+
+/// The number of an option.
+#[tactic(auto, unfolding(crate::specs::Numbers::number_in))]
+pub fn number_at(matches: &ArgMatches, id: &str) -> Option<u64>
+    ensures { result ≡ number_in id.now (given matches.now) }
+{
+    number_of(text_at(matches, id)?)
+}
+
+/// The number of an option, where it is from `least` to `most`.
+#[tactic(auto, unfolding(crate::specs::Numbers::limited))]
+pub fn limited_at(matches: &ArgMatches, id: &str, least: u64, most: u64) -> Option<u64>
+    ensures value { result ≡ limited id.now least most (given matches.now) }
+    ensures bounds { IfSome result (λ n. (least ≤ n) × (n ≤ most)) }
+{
+    let n = number_at(matches, id)?;
+    if least <= n && n <= most {
+        Some(n)
+    } else {
+        None
+    }
+}
+
+/// A copy of a word.
+pub fn owned(alloc: Global, text: &str) -> Result<Text, WordsFault>
+    ensures ok { IfOk result (λ t. t ≡ text.now) }
+    ensures err { IfErr result (λ e. e ≡ WordsFault.Memory) }
+{
+    Text::new(alloc, text).map_err(|_| WordsFault::Memory)
+}
+
+/// A copy of a word that may be left out.
+pub fn kept(alloc: Global, text: Option<&str>) -> Result<Option<Text>, WordsFault>
+    ensures ok { IfOk result (λ t. t ≡ option_map (λ s. s.now) text.entry) }
+    ensures err { IfErr result (λ e. e ≡ WordsFault.Memory) }
+{
+    match text {
+        Some(text) => Ok(Some(owned(alloc, text)?)),
+        None => Ok(None),
+    }
+}
