@@ -71,6 +71,17 @@ interpolates_column answers width t places polynomials column count size degree 
           ∙ sym (get_or-map g places i 0 0 k);
     }
 
+-- polynomials that hold at the same t + 1 answers are equal
+pub same_polynomials : (answers : List Answer) (width t : ℕ) (places : List ℕ) (ps qs : List (List ℕ)) → HasColumns width answers → AreChosen answers places → length places ≡ t + 1
+    → length ps ≡ width → length qs ≡ width → All (IsPolynomial t) ps → All (IsPolynomial t) qs
+    → All (λ p. Holds ps (answer_at answers p)) places → All (λ p. Holds qs (answer_at answers p)) places → ps ≡ qs
+same_polynomials answers width t places ps qs columns chosen count wide_p wide_q degree_p degree_q agree_p agree_q =
+    ext_get_or [] ps qs (wide_p ∙ sym wide_q) (λ c h.
+    let l : c < width = omega (arith, h, wide_p) in
+    same_list (indices_at answers places) (bytes_at answers places c) (get_or ps c []) (get_or qs c []) (indices_small width answers places columns chosen)
+    (indices_differ answers places columns.different chosen)
+    (interpolates_column answers width t places ps c count wide_p degree_p agree_p l) (interpolates_column answers width t places qs c count wide_q degree_q agree_q l))
+
 -- polynomials that interpolate each column are those through the chosen answers
 through_from_columns : (answers : List Answer) (width t : ℕ) (places : List ℕ) (polynomials : List (List ℕ)) → HasColumns width answers → AreChosen answers places → length places ≡ t + 1
     → length polynomials ≡ width → ((column : ℕ) → column < width → Interpolates (indices_at answers places) (bytes_at answers places column) (get_or polynomials column []))
