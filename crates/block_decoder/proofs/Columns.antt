@@ -10,12 +10,14 @@ use Rattle.std.proofs.lemmas.Bool.{eq-eqb}
 use Rattle.gf256.specs.Polynomial.{coef, val, IsPolynomial}
 use Rattle.uni_poly.specs.Interpolation.{Interpolates}
 use Rattle.uni_poly.proofs.Coefficients.{IsBytes-from_all}
+use Rattle.uni_poly.proofs.Combination.{combined}
+use Rattle.uni_poly.proofs.Values.{val_at_zero}
 use Rattle.uni_poly.proofs.Uniqueness.{same_list}
 use Rattle.wire_frames.specs.Answer.{Answer}
 use Rattle.block_decoder.specs.Agreed.{answers_of, answer_at, Holds}
 use Rattle.block_decoder.specs.Lagrange.{combination, indices_at, bytes_at, takes, HasColumns, AreChosen, IsBasis, IsLagrange, IsThrough}
 use Rattle.block_decoder.proofs.Agreement.{filled-at, filled-answers_of, different-answers_of}
-use Rattle.block_decoder.proofs.Combination.{combined, combination_is, val_at_zero, basis_sizes, interpolates}
+use Rattle.block_decoder.proofs.Combination.{combination_is, basis_sizes, interpolates}
 
 -- polynomials hold at an answer where each takes its byte
 pub holds_by_column : (polynomials : List (List ℕ)) (x : ℕ) (ys : List ℕ) → length ys ≡ length polynomials
