@@ -32,6 +32,10 @@ when_some : (t : Bool) (x b : List ℕ) → cond t (Some x) None ≡ Some b → 
 when_some true x b e = (refl, cc)
 when_some false x b e = absurd (cc)
 
+-- a usable answer's payload stands behind its header
+pub usable_payload : (bytes payload : List ℕ) (q : QueryHeader) → usable bytes q ≡ Some payload → drop 24 bytes ≡ payload
+usable_payload bytes payload q e = (when_some (bytes_eq (take 24 bytes) (answer_header q 0) && nat_eq (length bytes) (24 + q.s)) (drop 24 bytes) payload e).1
+
 -- a usable answer has a byte for each column
 pub usable_size : (bytes payload : List ℕ) (q : QueryHeader) → usable bytes q ≡ Some payload → length payload ≡ q.s
 usable_size bytes payload q e =
@@ -47,7 +51,7 @@ size_if_some None payload q e = absurd (cc)
 size_if_some (Some bytes) payload q e = usable_size bytes payload q e
 
 -- the first record's answer in front of the others
-answers_from-cons : (i : ℕ) (p : SessionParams) (x : Option (List ℕ)) (records : List (Option (List ℕ)))
+pub answers_from-cons : (i : ℕ) (p : SessionParams) (x : Option (List ℕ)) (records : List (Option (List ℕ)))
     → answers_from i p (x ∷ records) ≡ with_answer i (option_and_then (λ bytes. usable bytes (asked p i)) x) (answers_from (i + 1) p records)
 answers_from-cons i p None records = refl
 answers_from-cons i p (Some bytes) records = refl

@@ -10,12 +10,14 @@ use Rattle.std.proofs.lemmas.Bool.{eq-eqb}
 use Rattle.gf256.specs.Polynomial.{coef, val, IsPolynomial}
 use Rattle.uni_poly.specs.Interpolation.{Interpolates}
 use Rattle.uni_poly.proofs.Coefficients.{IsBytes-from_all}
+use Rattle.uni_poly.proofs.Combination.{combined}
+use Rattle.uni_poly.proofs.Values.{val_at_zero}
 use Rattle.uni_poly.proofs.Uniqueness.{same_list}
 use Rattle.wire_frames.specs.Answer.{Answer}
 use Rattle.block_decoder.specs.Agreed.{answers_of, answer_at, Holds}
 use Rattle.block_decoder.specs.Lagrange.{combination, indices_at, bytes_at, takes, HasColumns, AreChosen, IsBasis, IsLagrange, IsThrough}
 use Rattle.block_decoder.proofs.Agreement.{filled-at, filled-answers_of, different-answers_of}
-use Rattle.block_decoder.proofs.Combination.{combined, combination_is, val_at_zero, basis_sizes, interpolates}
+use Rattle.block_decoder.proofs.Combination.{combination_is, basis_sizes, interpolates}
 
 -- polynomials hold at an answer where each takes its byte
 pub holds_by_column : (polynomials : List (List ℕ)) (x : ℕ) (ys : List ℕ) → length ys ≡ length polynomials
@@ -70,6 +72,17 @@ interpolates_column answers width t places polynomials column count size degree 
           ∙ sym (column_of_holds polynomials (f (get_or places i 0)) (answer_at answers (get_or places i 0)).payload (agree i 0 k) column h)
           ∙ sym (get_or-map g places i 0 0 k);
     }
+
+-- polynomials that hold at the same t + 1 answers are equal
+pub same_polynomials : (answers : List Answer) (width t : ℕ) (places : List ℕ) (ps qs : List (List ℕ)) → HasColumns width answers → AreChosen answers places → length places ≡ t + 1
+    → length ps ≡ width → length qs ≡ width → All (IsPolynomial t) ps → All (IsPolynomial t) qs
+    → All (λ p. Holds ps (answer_at answers p)) places → All (λ p. Holds qs (answer_at answers p)) places → ps ≡ qs
+same_polynomials answers width t places ps qs columns chosen count wide_p wide_q degree_p degree_q agree_p agree_q =
+    ext_get_or [] ps qs (wide_p ∙ sym wide_q) (λ c h.
+    let l : c < width = omega (arith, h, wide_p) in
+    same_list (indices_at answers places) (bytes_at answers places c) (get_or ps c []) (get_or qs c []) (indices_small width answers places columns chosen)
+    (indices_differ answers places columns.different chosen)
+    (interpolates_column answers width t places ps c count wide_p degree_p agree_p l) (interpolates_column answers width t places qs c count wide_q degree_q agree_q l))
 
 -- polynomials that interpolate each column are those through the chosen answers
 through_from_columns : (answers : List Answer) (width t : ℕ) (places : List ℕ) (polynomials : List (List ℕ)) → HasColumns width answers → AreChosen answers places → length places ≡ t + 1

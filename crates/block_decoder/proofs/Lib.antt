@@ -11,4 +11,6 @@ mod Collected
 mod Tried
 pub mod Numbered
 pub mod Weight
+pub mod OneBlock
+pub mod UsableAnswers
 pub mod Continues

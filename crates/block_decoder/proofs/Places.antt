@@ -1,12 +1,12 @@
 -- The places of a list at which a test holds, and how many they are.
-use Rattle.std.proofs.Common.{◌≡◌, ℕ, suc, ◌+◌, ◌-◌, ◌<◌, ◌≤◌, Bool, true, List, [], ◌∷◌, length, get_or, take, drop, count_by, cond, filter, All, AllPairs, refl, sym, ap, ap₂, ◌∙◌, arith}
+use Rattle.std.proofs.Common.{◌≡◌, ℕ, suc, ◌+◌, ◌-◌, ◌<◌, ◌≤◌, Bool, true, false, List, [], ◌∷◌, length, get_or, take, drop, count_by, cond, filter, ◌&&◌, All, AllPairs, refl, sym, ap, ap₂, subst, ◌∙◌, arith}
 use Rattle.std.specs.List.{range_with_len}
 use Rattle.std.specs.List.Sorted.{IsStrictlyIncreasing}
 use Rattle.std.proofs.lemmas.List.Elements.{All-from_get_or, All-filter, filter_passes}
 use Rattle.std.proofs.lemmas.List.FromFn.{length-range_with_len, get_or-range_with_len}
 use Rattle.std.proofs.lemmas.List.Kept.{IsStrictlyIncreasing-filter, AllPairs-from_increasing}
 use Rattle.std.proofs.lemmas.List.Sums.{count_by_more_yes, length-filter, sum_by-cons, sum_by-take-le, sum_by-take-drop, count_by-le-length}
-use Rattle.std.proofs.lemmas.List.{take-take, length-drop}
+use Rattle.std.proofs.lemmas.List.{take-take, length-drop, length-take, get_or-take}
 
 -- one if the test passed
 abbrev one_if : Bool → ℕ
@@ -86,3 +86,28 @@ count_by-rest test xs n =
     let rest = count_by-le-length test (drop n xs) in
     let size = length-drop n xs in
     omega (arith, parts, rest, size)
+
+-- a beginning of pairwise related elements is pairwise related
+pub AllPairs-take : {X : Type 0} (R : X → X → Type 0) (n : ℕ) (xs : List X) → AllPairs R xs → AllPairs R (take n xs)
+AllPairs-take R n xs h = λ i j d before within.
+    let size = length-take n xs in
+    let l : j < n = omega (arith, within, size) in
+    let m : j < length xs = omega (arith, within, size) in
+    let k : i < n = omega (arith, l, before) in
+    subst (λ x. R x (get_or (take n xs) j d)) (sym (get_or-take n xs i d k)) (subst (R (get_or xs i d)) (sym (get_or-take n xs j d l)) (h i j d before m))
+
+both_or_one : (a b : Bool) → one_if a + one_if b ≤ 1 + one_if (a && b)
+both_or_one true true = omega arith
+both_or_one true false = omega arith
+both_or_one false b = grind arith
+
+-- where two tests pass at many elements, they pass together at some
+pub count_by_both : {X : Type 0} (p q : X → Bool) (xs : List X) → count_by p xs + count_by q xs ≤ length xs + count_by (λ x. p x && q x) xs
+count_by_both p q [] = omega arith
+count_by_both p q (x ∷ xs) =
+    let first = sum_by-cons (λ x. one_if (p x)) x xs in
+    let second = sum_by-cons (λ x. one_if (q x)) x xs in
+    let both = sum_by-cons (λ x. one_if (p x && q x)) x xs in
+    let here = both_or_one (p x) (q x) in
+    let ih = count_by_both p q xs in
+    omega (arith, first, second, both, here, ih)

@@ -15,3 +15,9 @@ IsDecided all width t h (Listed blocks) = (h ≤ length all) × (length all * t 
 -- the verdict on a session, by its usable answers
 abbrev pub IsVerdict : Transcript → Verdict → Type 0
 IsVerdict session verdict = IsDecided (answers session) session.params.s session.params.t session.params.h verdict
+
+-- the verdict lists one block, or none
+abbrev pub ListsAtMostOne : Verdict → Type 0
+ListsAtMostOne (TooFew k agree) = ⊥
+ListsAtMostOne (TooWeak k degree agree) = ⊥
+ListsAtMostOne (Listed blocks) = length blocks ≤ 1

@@ -4,7 +4,7 @@
 //! says that too few answers are usable, or that so weak an agreement bounds no list. That holds for any degree, at
 //! most 8 answers, and whatever the servers do; the columns that are interpolated are counted, and bounded. It isn't
 //! said which of several blocks is the one that was stored: servers enough that lie alike agree on a block of their
-//! own.
+//! own. [`laws`] has that there is one at most where `2h > k + t`, for k answers of which h agree with degree t.
 #![tactic(auto)]
 
 mod answers;
@@ -13,6 +13,7 @@ mod choices;
 mod decoder;
 mod judging;
 mod lagrange;
+pub mod laws;
 mod listing;
 mod plain;
 #[cfg(test)]

@@ -2,6 +2,7 @@ pub mod Coefficients
 pub mod Values
 pub mod Series
 pub mod Addition
+pub mod Combination
 pub mod Taylor
 pub mod Products
 pub mod LinearFactor

@@ -1,5 +1,5 @@
 -- The value of a polynomial.
-use Rattle.std.proofs.Common.{◌≡◌, ℕ, ◌+◌, ◌<◌, ◌≤◌, List, [], ◌∷◌, length, get_or, drop, fold, reverse, suc, refl, sym, ap, ap₂, ◌∙◌, lit<}
+use Rattle.std.proofs.Common.{◌≡◌, ℕ, ◌+◌, ◌<◌, ◌≤◌, List, [], ◌∷◌, length, get_or, drop, fold, reverse, suc, refl, sym, ap, ap₂, ◌∙◌, lit<, All, arith}
 use Rattle.std.proofs.lemmas.List.{drop_more, drop_all, get_or_past, reverse-append}
 use Rattle.std.proofs.lemmas.List.Sums.{fold_push}
 use Rattle.gf256.specs.Field.{◌⊕◌, ◌⊗◌, power}
@@ -51,6 +51,12 @@ val_to p n a h = sum_to-longer _ (length p) n h (λ i l. ap (λ x. x ⊗ power a
 -- the value of the polynomial 1
 pub val_one : (a : ℕ) → val (1 ∷ []) a ≡ 1
 val_one a = val_cons 1 [] a ∙ ap₂ ◌⊕◌ (mul_one 1 (lit< tt)) (ap (◌⊗◌ a) (val_nil a) ∙ mul_zero a) ∙ add_zero 1
+
+-- the value at 0 is the constant
+pub val_at_zero : (p : List ℕ) → All (λ c. c < 256) p → val p 0 ≡ coef p 0
+unfolding val coef sum_to
+val_at_zero [] bytes = refl
+val_at_zero (c ∷ p) bytes = val_cons c p 0 ∙ ap₂ ◌⊕◌ (mul_one c (bytes 0 0 (omega arith))) (zero_mul (val p 0)) ∙ add_zero c
 
 -- Horner's rule: from the last coefficient down, multiply by a and add the next
 pub horner : (p : List ℕ) (a : ℕ) → IsBytes p → fold (λ value c. value ⊗ a ⊕ c) 0 (reverse p) ≡ val p a

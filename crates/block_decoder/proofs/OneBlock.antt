@@ -1,0 +1,102 @@
+-- Where the answers that agree are many, they agree on one block at most.
+use Rattle.std.proofs.Common.{◌≡◌, ℕ, ◌+◌, ◌-◌, ◌*◌, ◌<◌, ◌≤◌, ◌&&◌, Bool, true, List, [], length, take, get_or, count_by, All, Contains, sym, ap, subst, ◌∙◌, arith, inl, inr}
+use Rattle.std.specs.declared.cmp.Ordering.{Ordering}
+use Rattle.std.specs.declared.cmp.Ordering.TheVariants.{Less, Greater}
+use Rattle.std.specs.Cmp.Lexicographic.{slice_cmp}
+use Rattle.std.specs.Ordering.{nat_cmp, ordering_reverse}
+use Rattle.std.proofs.Math.Nat.{mul-le-mul_left}
+use Rattle.std.proofs.lemmas.Bool.{and_parts, cases_lt}
+use Rattle.std.proofs.lemmas.Cmp.{nat_list_cmp_total}
+use Rattle.std.proofs.lemmas.List.{length-take-le}
+use Rattle.std.proofs.lemmas.List.Elements.{All-take, Contains-get_or}
+use Rattle.std.proofs.lemmas.List.Kept.{AllPairs-from_increasing}
+use Rattle.std.proofs.lemmas.Map.Keys.{Less-from_sorted}
+use Rattle.gf256.specs.Polynomial.{IsPolynomial}
+use Rattle.wire_frames.specs.Answer.{Answer}
+use Rattle.block_decoder.specs.Agreed.{answer_at, Holds, constants_of, Agreed, Lists, holds_first}
+use Rattle.block_decoder.specs.Lagrange.{HasColumns, AreChosen}
+use Rattle.block_decoder.specs.Verdict.{IsDecided, ListsAtMostOne}
+use Rattle.block_decoder.specs.declared.verdict.Verdict.{Verdict}
+use Rattle.block_decoder.specs.declared.verdict.Verdict.TheVariants.{Listed, TooFew, TooWeak}
+use Rattle.block_decoder.proofs.Agreement.{filled-at, heavy_from_agreed, holds_first-Decides}
+use Rattle.block_decoder.proofs.Columns.{same_polynomials}
+use Rattle.block_decoder.proofs.Places.{places_of, ascending-places_of, within-places_of, pass-places_of, length-places_of, AllPairs-take, count_by_both}
+
+-- polynomials that hold together at more than t answers are equal
+pub same_from_overlap : (answers : List Answer) (width t : ℕ) (ps qs : List (List ℕ)) → HasColumns width answers → length ps ≡ width → length qs ≡ width → All (IsPolynomial t) ps → All (IsPolynomial t) qs
+    → t < count_by (λ a. holds_first ps a && holds_first qs a) answers → ps ≡ qs
+same_from_overlap answers width t ps qs columns wide_p wide_q degree_p degree_q many =
+    let none : Answer = record { index = 0; payload = [] } in
+    let test : Answer → Bool = λ a. holds_first ps a && holds_first qs a in
+    let all = places_of test answers none in
+    let n = length-places_of test answers none in
+    let within = within-places_of test answers none in
+    let pass = pass-places_of test answers none in
+    let size : length (take (t + 1) all) ≡ t + 1 = length-take-le (t + 1) all (omega (arith, n, many)) in
+    let chosen : AreChosen answers (take (t + 1) all) =
+    record {
+      ascending = AllPairs-take (λ p q. p < q) (t + 1) all (AllPairs-from_increasing all (ascending-places_of test answers none));
+      within = All-take (λ p. p < length answers) (t + 1) all within;
+    } in
+    let holds : (rs : List (List ℕ)) → length rs ≡ width → ((a : Answer) → test a ≡ true → holds_first rs a ≡ true) → All (λ p. Holds rs (answer_at answers p)) (take (t + 1) all) =
+    λ rs wide one. All-take (λ p. Holds rs (answer_at answers p)) (t + 1) all
+    (λ i d l. (holds_first-Decides rs (answer_at answers (get_or all i d)) (filled-at width answers (get_or all i d) columns.filled (within i d l) ∙ sym wide)).0
+    (one (answer_at answers (get_or all i d)) (pass i d l))) in
+    same_polynomials answers width t (take (t + 1) all) ps qs columns chosen size wide_p wide_q degree_p degree_q
+    (holds ps wide_p (λ a h. (and_parts (holds_first ps a) (holds_first qs a) h).0)) (holds qs wide_q (λ a h. (and_parts (holds_first ps a) (holds_first qs a) h).1))
+
+-- where 2 h > k + t two agreed blocks are one
+pub one_block : (answers : List Answer) (width t h : ℕ) (one other : List ℕ) → HasColumns width answers → length answers + t < 2 * h
+    → Agreed answers width t h one → Agreed answers width t h other → one ≡ other
+one_block answers width t h one other columns close first second =
+    let p = heavy_from_agreed answers width t h one columns.filled first in
+    let q = heavy_from_agreed answers width t h other columns.filled second in
+    let m = p.enough in
+    let n = q.enough in
+    let both = count_by_both (holds_first p.polynomials) (holds_first q.polynomials) answers in
+    let same = same_from_overlap answers width t p.polynomials q.polynomials columns p.one_a_column q.one_a_column p.degree q.degree (omega (arith, m, n, both, close)) in
+    p.constants ∙ ap constants_of same ∙ sym q.constants
+
+-- a block does not come before itself
+not_before_itself : (block : List ℕ) → ¬ (slice_cmp nat_cmp block block ≡ Less)
+not_before_itself block e =
+    let turned : ◌≡◌ {A = Ordering} Less Greater = sym e ∙ nat_list_cmp_total.antisymm block block ∙ ap ordering_reverse e in
+    cc
+
+-- and a listing has one block at most
+pub listed_alone : (answers : List Answer) (width t h : ℕ) (blocks : List (List ℕ)) → HasColumns width answers → length answers + t < 2 * h
+    → Lists blocks answers width t h → length blocks ≤ 1
+listed_alone answers width t h blocks columns close lists =
+    elim (cases_lt 1 (length blocks)) [
+      | inl many ↦
+          let first : Contains blocks (get_or blocks 0 []) = Contains-get_or blocks 0 [] (omega arith) in
+          let second : Contains blocks (get_or blocks 1 []) = Contains-get_or blocks 1 [] many in
+          let same = one_block answers width t h (get_or blocks 0 []) (get_or blocks 1 []) columns close
+          ((lists.exact (get_or blocks 0 [])).0 first) ((lists.exact (get_or blocks 1 [])).0 second) in
+          let before = Less-from_sorted (slice_cmp nat_cmp) blocks 0 1 [] lists.ascending (omega arith) many in
+          absurd (not_before_itself (get_or blocks 1 []) (ap (λ (b : List ℕ). slice_cmp nat_cmp b (get_or blocks 1 [])) (sym same) ∙ before))
+      | inr few ↦ few
+    ]
+
+strong : (t g r : ℕ) → r < g → (t + g + r) * t < (t + g) * (t + g)
+strong t g r less =
+    let part : t * r ≤ t * g = mul-le-mul_left t (let l : r ≤ g = omega arith in l) in
+    let square : g * 1 ≤ g * g = mul-le-mul_left g (let l : 1 ≤ g = omega arith in l) in
+    omega arith
+
+-- 2 h > k + t is strong enough to bound the blocks
+pub close_is_strong : (k t h : ℕ) → h ≤ k → k + t < 2 * h → k * t < h * h
+close_is_strong k t h enough close =
+    let all : t + (h - t) + (k - h) ≡ k = omega arith in
+    let most : t + (h - t) ≡ h = omega arith in
+    subst (λ n. n * t < h * h) all (subst (λ n. (t + (h - t) + (k - h)) * t < n * n) most (strong t (h - t) (k - h) (omega arith)))
+
+-- where h <= k and 2 h > k + t the verdict lists one block, or none
+pub close_is_listed : (answers : List Answer) (width t h : ℕ) (verdict : Verdict) → HasColumns width answers → h ≤ length answers → length answers + t < 2 * h
+    → IsDecided answers width t h verdict → ListsAtMostOne verdict
+close_is_listed answers width t h (TooFew k agree) columns enough close is = let few = is.2 in absurd (omega (arith, few, enough))
+close_is_listed answers width t h (TooWeak k degree agree) columns enough close is =
+    let weak = is.4 in
+    let strong = close_is_strong (length answers) t h enough close in
+    absurd (omega (arith, weak, strong))
+close_is_listed answers width t h (Listed blocks) columns enough close is = listed_alone answers width t h blocks columns close is.2

@@ -1,0 +1,95 @@
+-- The usable answers of a session: their indices ascend, and their payloads are bytes, one for each column.
+use Rattle.std.proofs.Common.{◌≡◌, ℕ, ◌+◌, ◌<◌, ◌≤◌, List, [], ◌∷◌, length, get_or, All, AllPairs, Option, None, Some, option_and_then, IfSome, refl, sym, subst, arith}
+use Rattle.std.proofs.lemmas.List.Elements.{All-nil, All-cons, All-head, All-tail, All-drop}
+use Rattle.std.proofs.lemmas.List.Kept.{AllPairs-cons}
+use Rattle.std.proofs.lemmas.Option.{IfSome_then}
+use Rattle.wire_frames.specs.declared.header.QueryHeader.{QueryHeader}
+use Rattle.wire_frames.specs.declared.session.SessionParams.{SessionParams}
+use Rattle.wire_frames.specs.Answer.{Answer, answers, answers_from, asked, usable, with_answer}
+use Rattle.wire_frames.specs.Session.{Transcript, Fits}
+use Rattle.block_decoder.specs.Agreed.{Filled}
+use Rattle.block_decoder.specs.Lagrange.{HasColumns}
+use Rattle.block_decoder.proofs.Collected.{answers_from-cons, usable_size, usable_payload}
+
+-- payloads of so many bytes, from ascending indices between two bounds
+pub record AreInOrder (width low high : ℕ) (answers : List Answer) : Type 0 where
+  pub filled : Filled width answers
+  pub bytes : All (λ a. All (λ b. b < 256) a.payload) answers
+  pub from : All (λ a. low ≤ a.index) answers
+  pub below : All (λ a. a.index < high) answers
+  pub ascending : AllPairs (λ a b. a.index < b.index) answers
+
+in_order_none : (width low high : ℕ) → AreInOrder width low high []
+in_order_none width low high = record {
+  filled = All-nil (λ (a : Answer). length a.payload ≡ width);
+  bytes = All-nil (λ (a : Answer). All (λ b. b < 256) a.payload);
+  from = All-nil (λ (a : Answer). low ≤ a.index);
+  below = All-nil (λ (a : Answer). a.index < high);
+  ascending = λ i j d l m. absurd (omega arith);
+}
+
+-- one more server in front, whether its answer is usable or not
+in_order_with : (width i high : ℕ) (payload : Option (List ℕ)) (rest : List Answer) → i < high → IfSome payload (λ p. (length p ≡ width) × All (λ b. b < 256) p) → AreInOrder width (i + 1) high rest
+    → AreInOrder width i high (with_answer i payload rest)
+in_order_with width i high None rest below is order = record {
+  filled = order.filled;
+  bytes = order.bytes;
+  from = λ k d l. let f = order.from k d l in omega (arith, f);
+  below = order.below;
+  ascending = order.ascending;
+}
+in_order_with width i high (Some payload) rest below is order =
+    let one : Answer = record { index = i; payload = payload } in
+    record {
+      filled = All-cons (λ (a : Answer). length a.payload ≡ width) one rest is.0 order.filled;
+      bytes = All-cons (λ (a : Answer). All (λ b. b < 256) a.payload) one rest is.1 order.bytes;
+      from = All-cons (λ (a : Answer). i ≤ a.index) one rest (omega arith) (λ k d l. let f = order.from k d l in omega (arith, f));
+      below = All-cons (λ (a : Answer). a.index < high) one rest below order.below;
+      ascending = AllPairs-cons (λ (a b : Answer). a.index < b.index) one rest (λ k d l. let f = order.from k d l in omega (arith, f)) order.ascending;
+    }
+
+bytes_if_usable : (bytes payload : List ℕ) (q : QueryHeader) → All (λ b. b < 256) bytes → usable bytes q ≡ Some payload → All (λ b. b < 256) payload
+bytes_if_usable bytes payload q small e = subst (All (λ b. b < 256)) (usable_payload bytes payload q e) (All-drop (λ b. b < 256) 24 bytes small)
+
+-- a record of bytes has a usable payload of bytes, where it has one
+payload_is : (x : Option (List ℕ)) (payload : List ℕ) (q : QueryHeader) → IfSome x (All (λ b. b < 256)) → option_and_then (λ bytes. usable bytes q) x ≡ Some payload
+    → (length payload ≡ q.s) × All (λ b. b < 256) payload
+payload_is None payload q small e = absurd (cc)
+payload_is (Some bytes) payload q small e = (usable_size bytes payload q e, bytes_if_usable bytes payload q small e)
+
+if_is : {X : Type 0} (o : Option X) (P : X → Type 0) → ((x : X) → o ≡ Some x → P x) → IfSome o P
+if_is None P h = tt
+if_is (Some x) P h = h x refl
+
+in_order_from : (records : List (Option (List ℕ))) (i : ℕ) (p : SessionParams) → All (λ r. IfSome r (All (λ b. b < 256))) records
+    → AreInOrder p.s i (i + length records) (answers_from i p records)
+in_order_from [] i p small = in_order_none p.s i (i + 0)
+in_order_from (x ∷ records) i p small =
+    let Record : Option (List ℕ) → Type 0 = λ r. IfSome r (All (λ b. b < 256)) in
+    let payload = option_and_then (λ bytes. usable bytes (asked p i)) x in
+    let Payload : List ℕ → Type 0 = λ y. (length y ≡ p.s) × All (λ b. b < 256) y in
+    let last : i + 1 + length records ≡ i + length (x ∷ records) = omega arith in
+    subst (AreInOrder p.s i (i + length (x ∷ records))) (sym (answers_from-cons i p x records))
+    (in_order_with p.s i (i + length (x ∷ records)) payload (answers_from (i + 1) p records) (omega arith)
+    (if_is payload Payload (λ y e. payload_is x y (asked p i) (All-head Record x records small) e))
+    (subst (λ high. AreInOrder p.s (i + 1) high (answers_from (i + 1) p records)) last (in_order_from records (i + 1) p (All-tail Record x records small))))
+
+-- the usable answers stand in the order of their indices, which are those of the session's servers
+pub answers_in_order : (session : Transcript) → All (λ r. IfSome r (All (λ b. b < 256))) session.records
+    → AreInOrder session.params.s 1 (1 + length session.records) (answers session)
+answers_in_order session small = in_order_from session.records 1 session.params small
+
+-- so they have columns
+pub columns-answers : (session : Transcript) → length session.records ≤ 255 → All (λ r. IfSome r (All (λ b. b < 256))) session.records → HasColumns session.params.s (answers session)
+columns-answers session few small =
+    let order = answers_in_order session small in
+    record {
+      filled = order.filled;
+      bytes = order.bytes;
+      indices = λ i d l. let b = order.below i d l in omega (arith, b, few);
+      different = λ i j d before within same. let r = order.ascending i j d before within in omega (arith, r, same);
+    }
+
+-- records that fit are bytes
+pub bytes_from_fits : (most : ℕ) (records : List (Option (List ℕ))) → All (Fits most) records → All (λ r. IfSome r (All (λ b. b < 256))) records
+bytes_from_fits most records fits = λ i d l. IfSome_then (get_or records i d) (fits i d l) (λ bytes fit. fit.1)

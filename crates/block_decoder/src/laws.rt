@@ -1,0 +1,57 @@
+//! The laws of agreement, each as a call whose contract is the law. A call changes nothing.
+
+ghost use Rattle.std.specs.Prelude.{◌≡◌, ◌+◌, ◌*◌, ◌<◌, ◌≤◌, length};
+ghost use Rattle.std.specs.List.Sorted.{IsStrictlyIncreasing};
+ghost use Rattle.wire_frames.specs.Answer.{answers};
+ghost use Rattle.block_decoder.specs.Agreed.{answers_of, Agreed};
+ghost use Rattle.block_decoder.specs.Verdict.{IsDecided, IsVerdict, ListsAtMostOne};
+
+use crate::verdict::Verdict;
+use wire_frames::Session;
+
+/// Where `2h > k + t`, two blocks on which `h` of k answers agree are one.
+pub fn one_block_where_agreement_is_close(
+    indices: &[u8],
+    bytes: &[u8],
+    t: u32,
+    h: u32,
+    s: u32,
+    one: &[u8],
+    other: &[u8],
+)
+    requires ascending { IsStrictlyIncreasing indices.now }
+    requires fit { length bytes.now ≡ length indices.now * s }
+    requires close { length indices.now + t < 2 * h }
+    requires one { Agreed (answers_of s indices.now bytes.now) s t h one.now }
+    requires other { Agreed (answers_of s indices.now bytes.now) s t h other.now }
+    ensures { one.now ≡ other.now }
+{}
+
+/// Where `h <= k` and `2h > k + t`, the verdict on k answers lists one block, or none, whatever the answers.
+pub fn close_agreement_is_listed(
+    indices: &[u8],
+    bytes: &[u8],
+    t: u32,
+    h: u32,
+    s: u32,
+    verdict: &Verdict,
+)
+    requires ascending { IsStrictlyIncreasing indices.now }
+    requires fit { length bytes.now ≡ length indices.now * s }
+    requires enough { h ≤ length indices.now }
+    requires close { length indices.now + t < 2 * h }
+    requires verdict { IsDecided (answers_of s indices.now bytes.now) s t h verdict.now }
+    ensures { ListsAtMostOne verdict.now }
+{}
+
+/// Where `h <= k` and `2h > k + t`, the verdict on a session with k usable answers lists one block, or none, whatever
+/// the servers did.
+pub fn close_session_is_listed(session: &Session, verdict: &Verdict)
+    requires enough { session.now.params.h ≤ length (answers session.now) }
+    requires close { length (answers session.now) + session.now.params.t < 2 * session.now.params.h }
+    requires verdict { IsVerdict session.now verdict.now }
+    ensures { ListsAtMostOne verdict.now }
+{
+    session.params();
+    session.record_count();
+}

@@ -1,0 +1,85 @@
+-- The block that enough honest servers hold is agreed on, and so listed.
+use Rattle.std.proofs.Common.{◌≡◌, ℕ, zero, suc, ◌+◌, ◌*◌, ◌<◌, ◌≤◌, Bool, List, [], ◌∷◌, length, map, get_or, Contains, bytes_eq, sym, ap, ◌∙◌, arith}
+use Rattle.std.specs.List.{range_with_len}
+use Rattle.std.proofs.lemmas.List.{ext_get_or, length-map, get_or-map}
+use Rattle.std.proofs.lemmas.List.Elements.{All-map}
+use Rattle.std.proofs.lemmas.List.FromFn.{length-map-range_with_len, get_or-map-range_with_len}
+use Rattle.std.proofs.lemmas.List.Sums.{count_by-le-length}
+use Rattle.std.proofs.lemmas.Slice.Eq.{bytes_eq-Decides}
+use Rattle.gf256.specs.Polynomial.{coef, IsPolynomial}
+use Rattle.shamir_share.specs.Query.{query}
+use Rattle.wire_frames.specs.Answer.{Answer}
+use Rattle.block_decoder.specs.Agreed.{Agreed, answer_at, constants_of}
+use Rattle.block_decoder.specs.Lagrange.{HasColumns}
+use Rattle.block_decoder.specs.Verdict.{IsDecided, ListsAtMostOne}
+use Rattle.block_decoder.specs.declared.verdict.Verdict.{Verdict}
+use Rattle.block_decoder.specs.declared.verdict.Verdict.TheVariants.{Listed, TooFew, TooWeak}
+use Rattle.block_decoder.proofs.OneBlock.{close_is_listed}
+use Rattle.block_decoder.proofs.Places.{places_of, ascending-places_of, within-places_of, pass-places_of, length-places_of}
+use Rattle.fetch_client.specs.Honest.{IsMatrix, Honest, block_of, reply_to}
+use Rattle.fetch_client.proofs.HonestColumns.{column_polynomial, degree-column_polynomial, reply_is, constant-column_polynomial}
+
+-- the constants of the columns' polynomials are the block
+constants_are : (matrix : List (List ℕ)) (coins : List ℕ) (t r s block : ℕ) (is : IsMatrix matrix r s) (size : length coins ≡ r * t) → block < r
+    → block_of matrix block ≡ constants_of (map (column_polynomial matrix coins t r s block is size) (range_with_len 0 s))
+constants_are matrix coins t r s block is size within =
+    let f = column_polynomial matrix coins t r s block is size in
+    let n = is.rows in
+    let wide : length (block_of matrix block) ≡ s = is.widths block [] (omega (arith, within, n)) in
+    let m = length-map-range_with_len f 0 s in
+    let k = length-map (map f (range_with_len 0 s)) (λ p. coef p 0) in
+    ext_get_or 0 (block_of matrix block) (constants_of (map f (range_with_len 0 s))) (wide ∙ sym m ∙ sym k) (λ c l.
+    let inside : c < s = omega (arith, l, wide) in
+    sym (constant-column_polynomial matrix coins t r s block is size within c) ∙ ap (λ p. coef p 0) (sym (get_or-map-range_with_len f 0 s c c [] inside (omega arith)))
+    ∙ sym (get_or-map (λ p. coef p 0) (map f (range_with_len 0 s)) c [] 0 (omega (arith, inside, m))))
+
+-- the block that h honest servers hold is agreed on
+pub honest_is_agreed : (answers : List Answer) (matrix : List (List ℕ)) (coins : List ℕ) (t r s block h : ℕ) → length coins ≡ r * t → block < r
+    → Honest answers matrix coins t r s block h → Agreed answers s t h (block_of matrix block)
+honest_is_agreed answers matrix coins t r s block h size within honest =
+    let none : Answer = record { index = 0; payload = [] } in
+    let test : Answer → Bool = λ a. bytes_eq a.payload (reply_to matrix s (query coins t r block a.index)) in
+    let places = places_of test answers none in
+    let inside = within-places_of test answers none in
+    let pass = pass-places_of test answers none in
+    let f = column_polynomial matrix coins t r s block honest.matrix_is size in
+    record {
+      polynomials = map f (range_with_len 0 s);
+      places = places;
+      one_a_column = length-map-range_with_len f 0 s;
+      degree = All-map (IsPolynomial t) f (range_with_len 0 s) (λ i d l. degree-column_polynomial matrix coins t r s block honest.matrix_is size (get_or (range_with_len 0 s) i d));
+      ascending = ascending-places_of test answers none;
+      within = inside;
+      enough = let n = length-places_of test answers none in let e = honest.enough in omega (arith, n, e);
+      agree = λ i d l.
+          let a = answer_at answers (get_or places i d) in
+          (bytes_eq-Decides a.payload (reply_to matrix s (query coins t r block a.index))).0 (pass i d l)
+          ∙ sym (reply_is matrix coins t r s block honest.matrix_is size a.index);
+      constants = constants_are matrix coins t r s block honest.matrix_is size within;
+    }
+
+-- so it is listed, where blocks are
+pub honest_is_listed : (answers : List Answer) (matrix : List (List ℕ)) (coins : List ℕ) (t r s block h : ℕ) (blocks : List (List ℕ)) → length coins ≡ r * t → block < r
+    → Honest answers matrix coins t r s block h → IsDecided answers s t h (Listed blocks) → Contains blocks (block_of matrix block)
+honest_is_listed answers matrix coins t r s block h blocks size within honest is =
+    (is.2.exact (block_of matrix block)).1 (honest_is_agreed answers matrix coins t r s block h size within honest)
+
+-- what has one member at most has only the one that it is known to have
+only_member : {X : Type 0} (xs : List X) (x : X) → length xs ≤ 1 → Contains xs x → xs ≡ x ∷ []
+only_member [] x few (k, l, e) = absurd (omega arith)
+only_member (y ∷ []) x few (zero, l, e) = ap (λ z. z ∷ []) e
+only_member (y ∷ []) x few (suc k, l, e) = absurd (omega arith)
+only_member (y ∷ z ∷ xs) x few c = absurd (omega arith)
+
+-- and alone where 2 h > k + t
+pub honest_is_alone : (answers : List Answer) (matrix : List (List ℕ)) (coins : List ℕ) (t r s block h : ℕ) (verdict : Verdict) → HasColumns s answers → length coins ≡ r * t → block < r
+    → Honest answers matrix coins t r s block h → length answers + t < 2 * h → IsDecided answers s t h verdict → verdict ≡ Listed (block_of matrix block ∷ [])
+honest_is_alone answers matrix coins t r s block h verdict columns size within honest close is =
+    let e = honest.enough in
+    let few = count_by-le-length (λ (a : Answer). bytes_eq a.payload (reply_to matrix s (query coins t r block a.index))) answers in
+    by_verdict verdict (close_is_listed answers s t h verdict columns (omega (arith, e, few)) close is) is
+  where
+    by_verdict : (v : Verdict) → ListsAtMostOne v → IsDecided answers s t h v → v ≡ Listed (block_of matrix block ∷ [])
+    by_verdict (TooFew k agree) none is = absurd none
+    by_verdict (TooWeak k degree agree) none is = absurd none
+    by_verdict (Listed blocks) few is = ap Listed (only_member blocks (block_of matrix block) few (honest_is_listed answers matrix coins t r s block h blocks size within honest is))

@@ -1,0 +1,19 @@
+use Rattle.std.proofs.Common.{◌+◌, subst, arith}
+use Rattle.wire_frames.specs.Answer.{answers}
+use Rattle.block_decoder.specs.Verdict.{IsVerdict}
+use Rattle.block_decoder.proofs.UsableAnswers.{columns-answers, bytes_from_fits}
+use Rattle.fetch_client.proofs.HonestBlock.{honest_is_listed, honest_is_alone}
+use Rattle.fetch_client.proofs.laws.honest_block_is_found.Goals as goal
+
+pub returns : goal.returns
+returns c =
+    let session = c.args.session.now in
+    let p = session.params in
+    let all = answers session in
+    let servers = c.params.ensures.range.few_servers in
+    let columns = columns-answers session (omega (arith, c.record_count.ensures.few, servers)) (bytes_from_fits (24 + p.s) session.records c.record_count.ensures.fits) in
+    record {
+      listed = λ matrix honest blocks same. honest_is_listed all matrix c.args.coins.now p.t p.r p.s c.args.block p.h blocks c.requires.coins c.requires.block honest
+          (subst (IsVerdict session) same c.requires.verdict);
+      alone = λ matrix honest close. honest_is_alone all matrix c.args.coins.now p.t p.r p.s c.args.block p.h c.args.verdict.now columns c.requires.coins c.requires.block honest close c.requires.verdict;
+    }

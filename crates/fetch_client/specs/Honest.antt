@@ -1,0 +1,38 @@
+-- Honest servers: what they answer, and that a verdict has the block that they hold (Goldberg 2007).
+use Rattle.std.specs.Prelude.{◌≡◌, ℕ, ◌+◌, ◌*◌, ◌<◌, ◌≤◌, List, [], ◌∷◌, length, map, slice_index_or, All, Contains, count_by, bytes_eq}
+use Rattle.std.specs.List.{range_with_len}
+use Rattle.gf256.specs.Product.{product_at}
+use Rattle.shamir_share.specs.Query.{query}
+use Rattle.wire_frames.specs.Answer.{Answer, answers}
+use Rattle.wire_frames.specs.Session.{Transcript}
+use Rattle.block_decoder.specs.declared.verdict.Verdict.{Verdict}
+use Rattle.block_decoder.specs.declared.verdict.Verdict.TheVariants.{Listed}
+
+-- r rows of s bytes each
+pub record IsMatrix (matrix : List (List ℕ)) (r s : ℕ) : Type 0 where
+  pub rows : length matrix ≡ r
+  pub widths : All (λ row. length row ≡ s) matrix
+  pub bytes : All (λ row. All (λ b. b < 256) row) matrix
+
+-- the block with this number: a row of the matrix
+abbrev pub block_of : List (List ℕ) → ℕ → List ℕ
+block_of matrix block = slice_index_or matrix block []
+
+-- what an honest server that holds the matrix answers to a query: their product, a byte for each column
+unfoldable pub reply_to : List (List ℕ) → ℕ → List ℕ → List ℕ
+reply_to matrix width query = map (product_at query matrix) (range_with_len 0 width)
+
+-- at least h of the answers are those of honest servers that hold the matrix, each to its own query for the block
+pub record Honest (answers : List Answer) (matrix : List (List ℕ)) (coins : List ℕ) (t r s block h : ℕ) : Type 0 where
+  pub matrix_is : IsMatrix matrix r s
+  pub enough : h ≤ count_by (λ a. bytes_eq a.payload (reply_to matrix s (query coins t r block a.index))) answers
+
+-- at least h of a session's usable answers are honest ones, for the session's own numbers
+abbrev pub IsHonest : Transcript → List (List ℕ) → List ℕ → ℕ → Type 0
+IsHonest session matrix coins block = Honest (answers session) matrix coins session.params.t session.params.r session.params.s block session.params.h
+
+-- whatever the matrix that enough honest servers hold: where the verdict lists blocks, its block is among them, and
+-- where 2 h > k + t, the verdict lists it alone
+pub record FindsHonestBlock (session : Transcript) (coins : List ℕ) (block : ℕ) (verdict : Verdict) : Type 0 where
+  pub listed : (matrix : List (List ℕ)) → IsHonest session matrix coins block → (blocks : List (List ℕ)) → verdict ≡ Listed blocks → Contains blocks (block_of matrix block)
+  pub alone : (matrix : List (List ℕ)) → IsHonest session matrix coins block → length (answers session) + session.params.t < 2 * session.params.h → verdict ≡ Listed (block_of matrix block ∷ [])

@@ -1,0 +1,21 @@
+//! The law of the honest servers, as a call whose contract is the law. A call changes nothing.
+
+ghost use Rattle.std.specs.Prelude.{◌≡◌, ◌*◌, ◌<◌, length};
+ghost use Rattle.block_decoder.specs.Verdict.{IsVerdict};
+ghost use Rattle.fetch_client.specs.Honest.{FindsHonestBlock};
+
+use block_decoder::Verdict;
+use wire_frames::Session;
+
+/// Where `h` or more of the usable answers of a session are those of honest servers that hold one matrix, a verdict that
+/// lists blocks lists the row of the matrix that was asked for, and where `2h > k + t`, for k usable answers, the verdict
+/// lists it alone (Goldberg 2007). The queries are those of the `r * t` coins, for the row `block`.
+pub fn honest_block_is_found(session: &Session, coins: &[u8], block: u32, verdict: &Verdict)
+    requires coins { length coins.now ≡ session.now.params.r * session.now.params.t }
+    requires block { block < session.now.params.r }
+    requires verdict { IsVerdict session.now verdict.now }
+    ensures { FindsHonestBlock session.now coins.now block verdict.now }
+{
+    session.params();
+    session.record_count();
+}
