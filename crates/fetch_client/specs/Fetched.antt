@@ -1,5 +1,5 @@
 -- What a fetch does.
-use Rattle.std.specs.Prelude.{ℕ, ◌≡◌, ◌≢◌, ◌+◌, ◌<◌, ◌≤◌, ◌⊎◌, ◌++◌, ◌∷◌, List, [], length, Option, None, Result, Ok, Err, slice_index_or}
+use Rattle.std.specs.Prelude.{ℕ, ◌≡◌, ◌≢◌, ◌+◌, ◌<◌, ◌≤◌, ◌⊎◌, ◌++◌, ◌∷◌, List, [], length, drop, Option, None, Result, Ok, Err, slice_index_or}
 use Rattle.pir_ports.specs.World.{World}
 use Rattle.pir_ports.specs.Moves.{Touches}
 use Rattle.pir_ports.specs.Whole.{FailsAfter}
@@ -14,6 +14,7 @@ use Rattle.fetch_client.specs.Plan.{params_of, need}
 use Rattle.fetch_client.specs.Sent.{sent, session_number}
 use Rattle.fetch_client.specs.Tossed.{Tossed, RunsOut}
 use Rattle.fetch_client.specs.Asked.{Asked}
+use Rattle.fetch_client.specs.Honest.{FindsHonestBlock}
 
 -- one more server was asked, and its record is the last
 pub record AsksNext (p : FetchPlan) (address coins : List ℕ) (before after : Transcript) (old new : World) : Type 0 where
@@ -31,19 +32,30 @@ pub record AsksAll (p : FetchPlan) (addresses : List (List ℕ)) (coins : List �
   pub whole : length session.records ≡ p.n
   pub links : AskedEach p addresses coins p.n session old new
 
--- coins were taken, and every server was asked with them, in some session
-pub record AsksSome (p : FetchPlan) (addresses : List (List ℕ)) (old new : World) : Type 0 where
-  pub coins : List ℕ
-  pub session : Transcript
+-- these coins were taken, and every server was asked with them, in this session
+pub record AsksWith (p : FetchPlan) (addresses : List (List ℕ)) (coins : List ℕ) (session : Transcript) (old new : World) : Type 0 where
   pub tossed : Tossed (need p) coins (old.at 3) (new.at 3)
   pub asked : AsksAll p addresses coins session old new
 
--- coins were taken, every server was asked with them, this is the session, and this its verdict
+-- what taking the coins and asking every server answers, and what it did then. Without the coins no server is asked
+abbrev pub AsksServers : FetchPlan → List (List ℕ) → Result (Unit {0}) FetchFault → List ℕ → Transcript → World → World → Type 0
+AsksServers p addresses (Ok _) coins session old new = AsksWith p addresses coins session old new
+AsksServers p addresses (Err CoinsFault) coins session old new = FailsAfter 3 old new × Touches 3 old new
+AsksServers p addresses (Err (CoinsEnded taken)) coins session old new = RunsOut (need p) taken (old.at 3) (new.at 3) × Touches 3 old new
+AsksServers p addresses (Err Memory) coins session old new = ⊥
+
+-- every server was asked, with some coins and in some session
+pub record AsksSome (p : FetchPlan) (addresses : List (List ℕ)) (old new : World) : Type 0 where
+  pub coins : List ℕ
+  pub session : Transcript
+  pub asked : AsksWith p addresses coins session old new
+
+-- every server was asked, with some coins, in this session; this is its verdict, which has the block of honest servers
 pub record Concludes (p : FetchPlan) (addresses : List (List ℕ)) (session : Transcript) (verdict : Verdict) (old new : World) : Type 0 where
   pub coins : List ℕ
-  pub tossed : Tossed (need p) coins (old.at 3) (new.at 3)
-  pub asked : AsksAll p addresses coins session old new
+  pub asked : AsksWith p addresses coins session old new
   pub judged : IsVerdict session verdict
+  pub found : FindsHonestBlock session (drop 8 coins) p.block verdict
 
 -- what a fetch answers, and what it did then. Without the coins no server is asked
 abbrev pub Fetches : FetchPlan → List (List ℕ) → Result (Transcript × Verdict) FetchFault → World → World → Type 0

@@ -5,6 +5,7 @@ use Rattle.gf256.specs.Product.{product_at}
 use Rattle.shamir_share.specs.Query.{query}
 use Rattle.wire_frames.specs.Answer.{Answer, answers}
 use Rattle.wire_frames.specs.Session.{Transcript}
+use Rattle.block_decoder.specs.Verdict.{ListsAtMostOne}
 use Rattle.block_decoder.specs.declared.verdict.Verdict.{Verdict}
 use Rattle.block_decoder.specs.declared.verdict.Verdict.TheVariants.{Listed}
 
@@ -32,7 +33,9 @@ abbrev pub IsHonest : Transcript → List (List ℕ) → List ℕ → ℕ → Ty
 IsHonest session matrix coins block = Honest (answers session) matrix coins session.params.t session.params.r session.params.s block session.params.h
 
 -- whatever the matrix that enough honest servers hold: where the verdict lists blocks, its block is among them, and
--- where 2 h > k + t, the verdict lists it alone
+-- where 2 h > k + t, the verdict lists it alone. Whatever the answers: where h <= k and 2 h > k + t, one block is listed,
+-- or none
 pub record FindsHonestBlock (session : Transcript) (coins : List ℕ) (block : ℕ) (verdict : Verdict) : Type 0 where
   pub listed : (matrix : List (List ℕ)) → IsHonest session matrix coins block → (blocks : List (List ℕ)) → verdict ≡ Listed blocks → Contains blocks (block_of matrix block)
   pub alone : (matrix : List (List ℕ)) → IsHonest session matrix coins block → length (answers session) + session.params.t < 2 * session.params.h → verdict ≡ Listed (block_of matrix block ∷ [])
+  pub close : session.params.h ≤ length (answers session) → length (answers session) + session.params.t < 2 * session.params.h → ListsAtMostOne verdict

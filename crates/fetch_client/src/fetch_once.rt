@@ -1,12 +1,16 @@
 //! One fetch.
 
-ghost use Rattle.std.specs.Prelude.{◌≡◌, ◌≤◌, ◌+◌, ◌*◌, length, map, string_bytes, IfOk, vec_len, []};
+ghost use Rattle.std.specs.Prelude.{◌≡◌, ◌≤◌, ◌+◌, ◌*◌, length, map, string_bytes, IfOk, drop, vec_len, []};
 ghost use Rattle.wire_frames.specs.Answer.{answers};
 ghost use Rattle.block_decoder.specs.Choices.{binomial};
 ghost use Rattle.fetch_client.specs.Plan.{IsPlan, params_of, need};
-ghost use Rattle.fetch_client.specs.Fetched.{Fetches, TouchesLinks};
+ghost use Rattle.block_decoder.specs.Verdict.{IsVerdict};
+ghost use Rattle.fetch_client.specs.Sent.{session_number};
+ghost use Rattle.fetch_client.specs.Honest.{FindsHonestBlock};
+ghost use Rattle.fetch_client.specs.Fetched.{AsksServers, Fetches, TouchesLinks};
 
 use crate::coins::{session_number_of, take_coins};
+use crate::laws::honest_block_is_found;
 use crate::links::ask_all;
 use crate::plan::{FetchFault, FetchPlan};
 use block_decoder::{Verdict, judge};
@@ -42,6 +46,60 @@ fn room_for(alloc: Global, plan: &FetchPlan) -> Result<Room, AllocError>
     })
 }
 
+/// Takes the coins, gives the session its number, and asks every server.
+///
+/// # Errors
+///
+/// `CoinsFault` and `CoinsEnded`, as [`fetch`].
+fn ask_servers<P: Ports>(
+    plan: &FetchPlan,
+    addresses: &[String],
+    ports: &mut P,
+    coins: &mut [u8],
+    frame: &mut [u8],
+    answer: &mut [u8],
+    session: &mut Session,
+) -> Result<(), FetchFault>
+    requires plan { IsPlan plan.now }
+    requires addresses { length addresses.now ≡ plan.now.n }
+    requires coins { length coins.old ≡ need plan.now }
+    requires frame { length frame.old ≡ 24 + plan.now.r }
+    requires answer { length answer.old ≡ 24 + plan.now.s }
+    requires session { session.old ≡ record { params = params_of plan.now 0; records = [] } }
+    ensures asked { AsksServers plan.now (map string_bytes addresses.now) result coins.new session.new (P.world ports.old) (P.world ports.new) }
+    ensures others { TouchesLinks plan.now.n (P.world ports.old) (P.world ports.new) }
+{
+    take_coins(ports, coins)?;
+    session.set_session(session_number_of(coins));
+    ask_all(plan, coins, addresses, ports, frame, answer, session);
+    Ok(())
+}
+
+/// The verdict on the session that a plan was fetched in with these coins.
+///
+/// # Errors
+///
+/// `AllocError` for want of memory.
+fn conclude<C: Ledger>(
+    alloc: Global,
+    plan: &FetchPlan,
+    coins: &[u8],
+    session: &Session,
+    cols: &mut Steps<C>,
+) -> Result<Verdict, AllocError>
+    requires plan { IsPlan plan.now }
+    requires coins { length coins.now ≡ need plan.now }
+    requires params { session.now.params ≡ params_of plan.now (session_number coins.now) }
+    requires all { length session.now.records ≡ plan.now.n }
+    ensures judged { IfOk result (IsVerdict session.now) }
+    ensures found { IfOk result (FindsHonestBlock session.now (drop 8 coins.now) plan.now.block) }
+    ensures cols { cols.new ≤ cols.old + plan.now.s * binomial (length (answers session.now)) (plan.now.t + 1) }
+{
+    let verdict = judge(alloc, session, cols)?;
+    honest_block_is_found(session, &coins[8..], plan.block, &verdict);
+    Ok(verdict)
+}
+
 /// Fetches one block: takes the coins, asks every server, and judges what they answered. Coins is open already; there is
 /// one address for each server, in the order of their indices. `cols` counts the columns that are interpolated.
 ///
@@ -69,25 +127,17 @@ pub fn fetch<C: Ledger, P: Ports>(
     let Ok(mut room) = room_for(alloc, plan) else {
         return Err(FetchFault::Memory);
     };
-    take_coins(ports, &mut room.coins)?;
-    let Room {
-        mut session,
-        coins,
-        mut frame,
-        mut answer,
-    } = room;
-    session.set_session(session_number_of(&coins));
-    ask_all(
+    ask_servers(
         plan,
-        &coins,
         addresses,
         ports,
-        &mut frame,
-        &mut answer,
-        &mut session,
-    );
-    match judge(alloc, &session, cols) {
-        Ok(verdict) => Ok((session, verdict)),
+        &mut room.coins,
+        &mut room.frame,
+        &mut room.answer,
+        &mut room.session,
+    )?;
+    match conclude(alloc, plan, &room.coins, &room.session, cols) {
+        Ok(verdict) => Ok((room.session, verdict)),
         Err(AllocError) => Err(FetchFault::Memory),
     }
 }

@@ -11,6 +11,7 @@
 
 mod coins;
 mod fetch_once;
+pub mod laws;
 mod links;
 mod plan;
 

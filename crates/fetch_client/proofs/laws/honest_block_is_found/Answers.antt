@@ -1,6 +1,7 @@
 use Rattle.std.proofs.Common.{◌+◌, subst, arith}
 use Rattle.wire_frames.specs.Answer.{answers}
 use Rattle.block_decoder.specs.Verdict.{IsVerdict}
+use Rattle.block_decoder.proofs.OneBlock.{close_is_listed}
 use Rattle.block_decoder.proofs.UsableAnswers.{columns-answers, bytes_from_fits}
 use Rattle.fetch_client.proofs.HonestBlock.{honest_is_listed, honest_is_alone}
 use Rattle.fetch_client.proofs.laws.honest_block_is_found.Goals as goal
@@ -16,4 +17,5 @@ returns c =
       listed = λ matrix honest blocks same. honest_is_listed all matrix c.args.coins.now p.t p.r p.s c.args.block p.h blocks c.requires.coins c.requires.block honest
           (subst (IsVerdict session) same c.requires.verdict);
       alone = λ matrix honest close. honest_is_alone all matrix c.args.coins.now p.t p.r p.s c.args.block p.h c.args.verdict.now columns c.requires.coins c.requires.block honest close c.requires.verdict;
+      close = λ enough close. close_is_listed all p.s p.t p.h c.args.verdict.now columns enough close c.requires.verdict;
     }
