@@ -1,12 +1,14 @@
 //! The program `pir`: all that it does, over ports that tell what goes in and out.
 #![tactic(auto)]
 
+mod fetch_command;
+mod record_stub;
+mod replay_command;
+mod report;
 mod status;
 mod top;
-mod words;
 
 pub use status::{Bad, Status, code, line};
 pub use top::run;
 
-#[cfg(test)]
-mod tests;
+

@@ -8,6 +8,8 @@ ghost use Rattle.pir_tool.specs.Table.{code_of, line_of};
 pub enum Bad {
     /// Input holds no session: `place` is the length of the longest prefix of its bytes that begins some session.
     Session { place: u64 },
+    /// Coins holds only `taken` bytes, fewer than the fetch needs. No server was asked.
+    CoinsEnded { taken: u64 },
 }
 
 /// How a run ends.
@@ -25,9 +27,9 @@ pub enum Status {
     TooFew { k: u32, h: u32 },
     /// With `k` answers and degree `t` an agreement of `h` is too weak.
     TooWeak { k: u32, t: u32, h: u32 },
-    /// A call on Input failed; nothing was written.
+    /// A call on Input or Coins failed; nothing was written, and no server was asked.
     ReadFault,
-    /// A call on Output failed; a proper front of the text was written.
+    /// A call on Output or Record failed. Output has a proper front of the text, and nothing of it where Record failed.
     WriteFault,
     /// The input is wrong; nothing was written.
     BadInput(Bad),

@@ -1,105 +1,109 @@
 //! The top call.
 
-ghost use Rattle.std.specs.Prelude.{◌≡◌, ◌≢◌, ◌<◌, ◌⊎◌, ◌↔◌, List, ℕ, Some, map, string_bytes};
+ghost use Rattle.std.specs.Prelude.{◌≡◌, ◌<◌, ◌≤◌, ◌⊎◌, List, ℕ, length, Some, None, map, string_bytes};
+ghost use Rattle.std.specs.Option.{option_map};
 ghost use Rattle.wire_frames.specs.Session.{Transcript, IsSession};
-ghost use Rattle.pir_ports.specs.Moves.{Touches};
-ghost use Rattle.pir_tool.specs.Form.{IsReplay, word_at};
-ghost use Rattle.pir_tool.specs.Table.{status_of};
-ghost use Rattle.replay.specs.Replayed.{Judged, NoSession, ReadTo};
-ghost use Rattle.pir_tool.specs.Outcome.{Outcome, Answered, NoneRose, TouchesStreams, Told};
+ghost use Rattle.pir_words.specs.Form.{asked_of, InRange};
+ghost use Rattle.replay.specs.Replayed.{NoSession};
+ghost use Rattle.fetch_client.specs.Plan.{need};
+ghost use Rattle.pir_tool.specs.Told.{NoneRose};
+ghost use Rattle.pir_tool.specs.ReplayOutcome.{Answered};
+ghost use Rattle.pir_tool.specs.FetchOrder.{FetchOrder, Orders};
+ghost use Rattle.pir_tool.specs.FetchOutcome.{FetchReported};
+ghost use Rattle.pir_tool.specs.Outcome.{Outcome, Runs};
 
+use crate::fetch_command::fetch_block;
+use crate::replay_command::replay_file;
 use crate::status::{Bad, Status};
-use crate::words::read_words;
-use block_decoder::{Verdict, write_verdict};
-use pir_ports::{Failed, Port, Ports};
-use replay::{ReplayFault, replay};
+use fetch_client::FetchPlan;
+use pir_ports::Ports;
+use pir_words::{Asked, Text, WordsFault, read_words};
 use std::alloc::Global;
-use std::marker::Brand;
-use std::sync::ledger::{Blank, Ledger};
-use uni_poly::steps::Steps;
 
-/// The status that a verdict is.
-fn status_by(verdict: &Verdict) -> Status
-    ensures { result ≡ status_of verdict.now }
+/// The text of a word, where there is one.
+fn text_of(word: &Option<Text>) -> Option<&str>
+    ensures { option_map (λ t. t.now) result ≡ word.now }
 {
-    match verdict {
-        Verdict::Listed(listing) => match listing.len() {
-            0 => Status::NoBlock,
-            1 => Status::One,
-            _ => Status::Several,
-        },
-        Verdict::TooFew { k, h } => Status::TooFew { k: *k, h: *h },
-        Verdict::TooWeak { k, t, h } => Status::TooWeak {
-            k: *k,
-            t: *t,
-            h: *h,
-        },
+    match word {
+        Some(text) => Some(text.as_str()),
+        None => None,
     }
 }
 
-/// Writes the verdict.
-fn report<P: Ports>(ports: &mut P, verdict: &Verdict) -> Status
-    ensures told { Told verdict.now result (P.world ports.old) (P.world ports.new) }
-    ensures others { Touches 1 (P.world ports.old) (P.world ports.new) }
+/// Does what the command says.
+fn obey<P: Ports>(alloc: Global, asked: &Asked, ports: &mut P) -> Status
+    requires { InRange asked.now }
+    ensures { Outcome asked.now result (P.world ports.old) (P.world ports.new) }
 {
-    match write_verdict(ports, verdict) {
-        Ok(()) => status_by(verdict),
-        Err(Failed) => Status::WriteFault,
-    }
-}
-
-/// Judges the session in Input, with a counter of columns that nobody reads, made of the blank.
-fn replay_once<C: Ledger, P: Ports>(
-    alloc: Global,
-    blank: Blank,
-    ports: &mut P,
-) -> Result<Verdict, ReplayFault>
-    requires blank { (blank.name ≡ C.name) × (blank.parts ≡ C.parts) × (0 < blank.parts) }
-    ensures replayed { ReadTo Judged result (P.world ports.old) (P.world ports.new) }
-    ensures others { Touches 0 (P.world ports.old) (P.world ports.new) }
-{
-    let mut cols: Steps<C> = Steps::new(blank);
-    replay(alloc, ports, &mut cols)
-}
-
-/// Judges the session in a file.
-fn replay_file<P: Ports>(alloc: Global, name: &str, ports: &mut P) -> Status
-    ensures outcome { Outcome name.now result (P.world ports.old) (P.world ports.new) }
-    ensures others { TouchesStreams (P.world ports.old) (P.world ports.new) }
-{
-    let Ok(()) = ports.open(Port::Input, name) else {
-        return Status::ReadFault;
-    };
-    match replay_once::<Brand, P>(alloc, Blank::new(1), ports) {
-        Ok(verdict) => report(ports, &verdict),
-        Err(ReplayFault::ReadFault) => Status::ReadFault,
-        Err(ReplayFault::BadSession { place }) => Status::BadInput(Bad::Session { place }),
-        Err(ReplayFault::Memory) => Status::Memory,
+    match asked {
+        Asked::Replay { file } => replay_file(alloc, file.as_str(), ports),
+        Asked::Fetch {
+            scheme,
+            rows,
+            width,
+            block,
+            degree,
+            agree,
+            coins,
+            keep,
+            addresses,
+        } => {
+            let addresses = addresses.as_slice();
+            let plan = FetchPlan {
+                scheme: *scheme,
+                t: *degree,
+                h: *agree,
+                n: addresses.len() as u8,
+                r: *rows,
+                s: *width,
+                block: *block,
+            };
+            fetch_block(
+                alloc,
+                &plan,
+                addresses,
+                coins.as_str(),
+                text_of(keep),
+                ports,
+            )
+        }
     }
 }
 
 /// Does all that the program does, by its words.
 ///
-/// `replay FILE` opens FILE as Input (`-` is standard input), judges the session that it holds, and writes the
-/// verdict's text to Output.
+/// `replay FILE` opens FILE as Input (`-` is standard input), judges the session that it holds, and writes the verdict's
+/// text to Output. `fetch` reads coins, asks each server for its share of a block, records the session where a file for it
+/// is named, and writes the verdict's text.
 pub fn run<R, P: Ports>(_rt: &R, alloc: Global, words: &[String], ports: &mut P) -> Status
-    ensures usage { (result ≡ Status.Usage) ↔ ¬ (IsReplay (map string_bytes words.now)) }
-    ensures untouched { result ≡ Status.Usage → P.world ports.new ≡ P.world ports.old }
+    // Words without a form touch nothing.
+    ensures usage { result ≡ Status.Usage → asked_of (map string_bytes words.now) ≡ None }
+    ensures formless { asked_of (map string_bytes words.now) ≡ None → (result ≡ Status.Usage) ⊎ (result ≡ Status.Memory) }
+    ensures untouched { asked_of (map string_bytes words.now) ≡ None → P.world ports.new ≡ P.world ports.old }
 
-    // Each other status has its cause, and says what was read and what was written.
-    ensures outcome { result ≢ Status.Usage → Outcome (word_at (map string_bytes words.now) 1) result (P.world ports.old) (P.world ports.new) }
-    ensures others { TouchesStreams (P.world ports.old) (P.world ports.new) }
+    // Each other status has its cause, and says what was read, sent and written.
+    ensures outcome { (asked : Asked) → asked_of (map string_bytes words.now) ≡ Some asked → Runs asked result (P.world ports.old) (P.world ports.new) }
 
     // Where Input holds a session and no call failed, exactly the text of its verdict is written, or memory ran out.
-    ensures headline { (bytes : List ℕ) (session : Transcript) → IsReplay (map string_bytes words.now) → ((P.world ports.old).at 0).holds ≡ Some bytes → IsSession bytes session
+    ensures headline { (file bytes : List ℕ) (session : Transcript) → asked_of (map string_bytes words.now) ≡ Some (Asked.Replay file) → ((P.world ports.old).at 0).holds ≡ Some bytes → IsSession bytes session
         → NoneRose (P.world ports.old) (P.world ports.new) → Answered session result (P.world ports.old) (P.world ports.new) ⊎ (result ≡ Status.Memory) }
 
     // Where Input holds none and no call failed, that is said, with the place at which the bytes stop to begin one.
-    ensures refusal { (bytes : List ℕ) → IsReplay (map string_bytes words.now) → ((P.world ports.old).at 0).holds ≡ Some bytes → ((session : Transcript) → IsSession bytes session → ⊥)
+    ensures refusal { (file bytes : List ℕ) → asked_of (map string_bytes words.now) ≡ Some (Asked.Replay file) → ((P.world ports.old).at 0).holds ≡ Some bytes → ((session : Transcript) → IsSession bytes session → ⊥)
         → NoneRose (P.world ports.old) (P.world ports.new) → ((place : ℕ) × (result ≡ Status.BadInput (Bad.Session place)) × NoSession place bytes) ⊎ (result ≡ Status.Memory) }
+
+    // Where Coins holds enough and no call failed but on links, every server was asked, and exactly the text of the
+    // session's verdict is written, or memory ran out.
+    ensures fetched { (order : FetchOrder) (held : List ℕ) → Orders (map string_bytes words.now) order → ((P.world ports.old).at 3).holds ≡ Some held → need order.plan ≤ length held
+        → NoneRose (P.world ports.old) (P.world ports.new) → FetchReported order result (P.world ports.old) (P.world ports.new) ⊎ (result ≡ Status.Memory) }
+
+    // Where it holds fewer and no call failed, that is said, with their number.
+    ensures too_few_coins { (order : FetchOrder) (held : List ℕ) → Orders (map string_bytes words.now) order → ((P.world ports.old).at 3).holds ≡ Some held → length held < need order.plan
+        → NoneRose (P.world ports.old) (P.world ports.new) → (result ≡ Status.BadInput (Bad.CoinsEnded (length held))) ⊎ (result ≡ Status.Memory) }
 {
-    match read_words(words) {
-        Some(name) => replay_file(alloc, name, ports),
-        None => Status::Usage,
+    match read_words(alloc, words) {
+        Ok(asked) => obey(alloc, &asked, ports),
+        Err(WordsFault::Usage) => Status::Usage,
+        Err(WordsFault::Memory) => Status::Memory,
     }
 }

@@ -1,0 +1,115 @@
+-- What `fetch` does to the outside, by the status that it ends with.
+use Rattle.std.specs.Prelude.{◌≡◌, ◌≢◌, ◌⊎◌, ℕ, ◌+◌, ◌<◌, ◌≤◌, List, drop, Option, Some, None, Result, Ok, Err}
+use Rattle.pir_ports.specs.World.{World}
+use Rattle.pir_ports.specs.Moves.{Touches, gave, named}
+use Rattle.pir_ports.specs.Whole.{FailsWithin}
+use Rattle.wire_frames.specs.Session.{Transcript, IsSession, session_bytes}
+use Rattle.block_decoder.specs.Verdict.{IsVerdict}
+use Rattle.block_decoder.specs.Text.{text}
+use Rattle.block_decoder.specs.declared.verdict.Verdict.{Verdict}
+use Rattle.fetch_client.specs.Plan.{need}
+use Rattle.fetch_client.specs.Tossed.{Tossed, RunsOut}
+use Rattle.fetch_client.specs.Honest.{FindsHonestBlock}
+use Rattle.fetch_client.specs.Fetched.{AsksAll}
+use Rattle.pir_tool.specs.Table.{status_of}
+use Rattle.pir_ports.specs.declared.port.Failed.{Failed}
+use Rattle.pir_tool.specs.Told.{Told, Unread, Unwritten}
+use Rattle.pir_tool.specs.FetchOrder.{FetchOrder}
+use Rattle.pir_tool.specs.declared.status.Status.{Status}
+use Rattle.pir_tool.specs.declared.status.Status.TheVariants.{Usage, ReadFault, WriteFault, BadInput, Memory}
+use Rattle.pir_tool.specs.declared.status.Bad.TheVariants.{Session, CoinsEnded}
+
+-- Coins was opened by its name and gave these coins, and every server was asked with them, in this session
+pub record InSession (o : FetchOrder) (coins : List ℕ) (session : Transcript) (old new : World) : Type 0 where
+  pub tossed : Tossed (need o.plan) coins (named o.coins (old.at 3)) (new.at 3)
+  pub asked : AsksAll o.plan o.addresses coins session old new
+
+-- every server was asked in this session, whose file can be written, and this is its verdict, which has the block of
+-- honest servers
+pub record Settled (o : FetchOrder) (session : Transcript) (verdict : Verdict) (old new : World) : Type 0 where
+  pub coins : List ℕ
+  pub fetched : InSession o coins session old new
+  pub file : IsSession (session_bytes session) session
+  pub judged : IsVerdict session verdict
+  pub found : FindsHonestBlock session (drop 8 coins) o.plan.block verdict
+
+-- the file of the session is recorded by the name that is given, where one is
+abbrev pub Recorded : Option (List ℕ) → Transcript → World → World → Type 0
+Recorded None session old new = new.at 4 ≡ old.at 4
+Recorded (Some name) session old new = new.at 4 ≡ gave (session_bytes session) (named name (old.at 4))
+
+-- the file of the session can't be recorded
+abbrev pub Unrecorded : Option (List ℕ) → Transcript → World → World → Type 0
+Unrecorded None session old new = ⊥
+Unrecorded (Some name) session old new = Unwritten 4 name (session_bytes session) old new
+
+-- the verdict on the session is written whole, after the record of the session
+pub record FetchReported (o : FetchOrder) (status : Status) (old new : World) : Type 0 where
+  pub session : Transcript
+  pub verdict : Verdict
+  pub settled : Settled o session verdict old new
+  pub status_is : status ≡ status_of verdict
+  pub recorded : Recorded o.keep session old new
+  pub written : new.at 1 ≡ gave (text verdict) (old.at 1)
+
+-- the session can't be recorded, and Output is left alone; or it is, and Output has taken a proper front of the verdict's
+-- text
+pub record FetchCutShort (o : FetchOrder) (old new : World) : Type 0 where
+  pub session : Transcript
+  pub verdict : Verdict
+  pub settled : Settled o session verdict old new
+  pub cut : (Unrecorded o.keep session old new × (new.at 1 ≡ old.at 1)) ⊎ (Recorded o.keep session old new × FailsWithin 1 (text verdict) old new)
+
+-- the coins can't be read, and no server was asked
+pub record FetchUnreadable (o : FetchOrder) (old new : World) : Type 0 where
+  pub unread : Unread 3 o.coins old new
+  pub others : Touches 3 old new
+
+-- there are too few coins, and no server was asked
+pub record FetchRefused (o : FetchOrder) (taken : ℕ) (old new : World) : Type 0 where
+  pub short : RunsOut (need o.plan) taken (named o.coins (old.at 3)) (new.at 3)
+  pub others : Touches 3 old new
+
+-- every server was asked, in some session
+pub record AskedInVain (o : FetchOrder) (old new : World) : Type 0 where
+  pub coins : List ℕ
+  pub session : Transcript
+  pub fetched : InSession o coins session old new
+
+-- memory ran out before a server was asked, or when all were; nothing is recorded or written
+pub record FetchUnfinished (o : FetchOrder) (old new : World) : Type 0 where
+  pub part : ((new.at 3 ≡ named o.coins (old.at 3)) × Touches 3 old new) ⊎ AskedInVain o old new
+  pub kept : new.at 4 ≡ old.at 4
+  pub output : new.at 1 ≡ old.at 1
+
+-- what `fetch` did, by its status
+abbrev pub FetchEnds : FetchOrder → Status → World → World → Type 0
+FetchEnds o Usage old new = ⊥
+FetchEnds o ReadFault old new = FetchUnreadable o old new
+FetchEnds o WriteFault old new = FetchCutShort o old new
+FetchEnds o (BadInput (Session place)) old new = ⊥
+FetchEnds o (BadInput (CoinsEnded taken)) old new = FetchRefused o taken old new
+FetchEnds o Memory old new = FetchUnfinished o old new
+FetchEnds o status old new = FetchReported o status old new
+
+-- no port is touched but Output, Coins, Record and the links to so many servers
+pub record TouchesFetch (n : ℕ) (old new : World) : Type 0 where
+  pub others : (q : ℕ) → q < 1024 → q ≢ 1 → q ≢ 3 → q ≢ 4 → (257 ≤ q → q < 257 + n → ⊥) → new.at q ≡ old.at q
+
+-- what `fetch` did, and that it did no more
+pub record FetchOutcome (o : FetchOrder) (status : Status) (old new : World) : Type 0 where
+  pub ends : FetchEnds o status old new
+  pub others : TouchesFetch o.plan.n old new
+
+-- the session is recorded, or can't be
+abbrev pub Keeps : Option (List ℕ) → Transcript → Result (Unit {0}) Failed → World → World → Type 0
+Keeps keep session (Ok _) old new = Recorded keep session old new
+Keeps keep session (Err _) old new = Unrecorded keep session old new
+
+-- no port but Output and Record is touched
+pub record TouchesFiles (old new : World) : Type 0 where
+  pub others : (q : ℕ) → q < 1024 → q ≢ 1 → q ≢ 4 → new.at q ≡ old.at q
+
+-- the session is recorded and its verdict written; or one of them was cut short, and nothing was written after it
+abbrev pub Reports : Option (List ℕ) → Transcript → Verdict → Status → World → World → Type 0
+Reports keep session verdict status old new = (Recorded keep session old new × Told verdict status old new) ⊎ (Unrecorded keep session old new × (status ≡ WriteFault) × (new.at 1 ≡ old.at 1))

@@ -1,0 +1,77 @@
+-- What `replay FILE` does to the outside, by the status that it ends with.
+use Rattle.std.specs.Prelude.{◌≡◌, ◌≢◌, ℕ, ◌<◌, List, IfSome}
+use Rattle.pir_ports.specs.World.{World}
+use Rattle.pir_ports.specs.Moves.{took, gave, named}
+use Rattle.pir_ports.specs.Whole.{FailsWithin}
+use Rattle.wire_frames.specs.Session.{Transcript}
+use Rattle.block_decoder.specs.Verdict.{IsVerdict}
+use Rattle.block_decoder.specs.Text.{text}
+use Rattle.block_decoder.specs.declared.verdict.Verdict.{Verdict}
+use Rattle.replay.specs.Replayed.{Judged, NoSession}
+use Rattle.pir_tool.specs.Table.{status_of}
+use Rattle.pir_tool.specs.Told.{Unread}
+use Rattle.pir_tool.specs.declared.status.Status.{Status}
+use Rattle.pir_tool.specs.declared.status.Status.TheVariants.{Usage, ReadFault, WriteFault, BadInput, Memory}
+use Rattle.pir_tool.specs.declared.status.Bad.TheVariants.{Session, CoinsEnded}
+
+-- Input was opened under this name, and some of its bytes were taken
+pub record Opened (name : List ℕ) (old new : World) : Type 0 where
+  pub n : ℕ
+  pub input : new.at 0 ≡ took n (named name (old.at 0))
+
+-- the verdict on what Input held is written whole, and nothing else
+pub record Reported (name : List ℕ) (status : Status) (old new : World) : Type 0 where
+  pub verdict : Verdict
+  pub status_is : status ≡ status_of verdict
+  pub read : Opened name old new
+  pub judged : IfSome (old.at 0).holds (Judged verdict)
+  pub written : new.at 1 ≡ gave (text verdict) (old.at 1)
+
+-- a call on Output failed, which has taken a proper front of the verdict's text
+pub record CutShort (name : List ℕ) (old new : World) : Type 0 where
+  pub verdict : Verdict
+  pub read : Opened name old new
+  pub judged : IfSome (old.at 0).holds (Judged verdict)
+  pub written : FailsWithin 1 (text verdict) old new
+
+-- Input holds no session, and nothing is written
+pub record Refused (name : List ℕ) (place : ℕ) (old new : World) : Type 0 where
+  pub read : Opened name old new
+  pub none : IfSome (old.at 0).holds (NoSession place)
+  pub output : new.at 1 ≡ old.at 1
+
+-- Input can't be read, and nothing is written
+pub record Unreadable (name : List ℕ) (old new : World) : Type 0 where
+  pub input : Unread 0 name old new
+  pub output : new.at 1 ≡ old.at 1
+
+-- memory ran out before anything was written
+pub record Unfinished (name : List ℕ) (old new : World) : Type 0 where
+  pub read : Opened name old new
+  pub output : new.at 1 ≡ old.at 1
+
+-- what `replay FILE` did, by its status
+abbrev pub ReplayEnds : List ℕ → Status → World → World → Type 0
+ReplayEnds name Usage old new = ⊥
+ReplayEnds name ReadFault old new = Unreadable name old new
+ReplayEnds name WriteFault old new = CutShort name old new
+ReplayEnds name (BadInput (Session place)) old new = Refused name place old new
+ReplayEnds name (BadInput (CoinsEnded taken)) old new = ⊥
+ReplayEnds name Memory old new = Unfinished name old new
+ReplayEnds name status old new = Reported name status old new
+
+-- no port but Input and Output is touched
+pub record TouchesStreams (old new : World) : Type 0 where
+  pub others : (q : ℕ) → q < 1024 → q ≢ 0 → q ≢ 1 → new.at q ≡ old.at q
+
+-- what `replay FILE` did, and that it did no more
+pub record ReplayOutcome (name : List ℕ) (status : Status) (old new : World) : Type 0 where
+  pub ends : ReplayEnds name status old new
+  pub others : TouchesStreams old new
+
+-- the verdict on this session is written whole, and is the status
+pub record Answered (session : Transcript) (status : Status) (old new : World) : Type 0 where
+  pub verdict : Verdict
+  pub judged : IsVerdict session verdict
+  pub status_is : status ≡ status_of verdict
+  pub written : new.at 1 ≡ gave (text verdict) (old.at 1)

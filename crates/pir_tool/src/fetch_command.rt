@@ -1,0 +1,100 @@
+//! The command `fetch`.
+
+ghost use Rattle.std.specs.Prelude.{◌≡◌, ◌<◌, length, map, string_bytes};
+ghost use Rattle.std.specs.Option.{option_map};
+ghost use Rattle.pir_ports.specs.Moves.{Touches};
+ghost use Rattle.wire_frames.specs.Session.{Transcript};
+ghost use Rattle.fetch_client.specs.Plan.{IsPlan};
+ghost use Rattle.fetch_client.specs.Fetched.{Fetches, TouchesLinks};
+ghost use Rattle.pir_tool.specs.FetchOrder.{FetchOrder};
+ghost use Rattle.pir_tool.specs.FetchOutcome.{FetchEnds, Keeps, Reports, TouchesFetch, TouchesFiles};
+
+use crate::report::report;
+use crate::status::{Bad, Status};
+use block_decoder::Verdict;
+use fetch_client::{FetchFault, FetchPlan, fetch};
+use pir_ports::{Failed, Port, Ports};
+use std::alloc::Global;
+use std::marker::Brand;
+use std::sync::ledger::{Blank, Ledger};
+use uni_poly::steps::Steps;
+use crate::record_stub::write_session;
+use wire_frames::Session;
+
+/// Fetches the block, with a counter of columns that nobody reads, made of the blank.
+fn fetch_once<C: Ledger, P: Ports>(
+    alloc: Global,
+    blank: Blank,
+    plan: &FetchPlan,
+    addresses: &[String],
+    ports: &mut P,
+) -> Result<(Session, Verdict), FetchFault>
+    requires blank { (blank.name ≡ C.name) × (blank.parts ≡ C.parts) × (0 < blank.parts) }
+    requires plan { IsPlan plan.now }
+    requires addresses { length addresses.now ≡ plan.now.n }
+    ensures fetched { Fetches plan.now (map string_bytes addresses.now) result (P.world ports.old) (P.world ports.new) }
+    ensures others { TouchesLinks plan.now.n (P.world ports.old) (P.world ports.new) }
+{
+    let mut cols: Steps<C> = Steps::new(blank);
+    fetch(alloc, plan, addresses, ports, &mut cols)
+}
+
+/// Records the session in the file of this name, where one is given.
+fn record_session<P: Ports>(
+    ports: &mut P,
+    keep: Option<&str>,
+    session: &Session,
+) -> Result<(), Failed>
+    requires { length session.now.records ≡ session.now.params.n }
+    ensures keeps { Keeps (option_map (λ name. name.now) keep) session.now result (P.world ports.old) (P.world ports.new) }
+    ensures others { Touches 4 (P.world ports.old) (P.world ports.new) }
+{
+    let Some(name) = keep else {
+        return Ok(());
+    };
+    ports.open(Port::Record, name)?;
+    write_session(ports, session)
+}
+
+/// Records the session, and then writes the text of its verdict.
+fn report_session<P: Ports>(
+    ports: &mut P,
+    keep: Option<&str>,
+    session: &Session,
+    verdict: &Verdict,
+) -> Status
+    requires { length session.now.records ≡ session.now.params.n }
+    ensures reports { Reports (option_map (λ name. name.now) keep) session.now verdict.now result (P.world ports.old) (P.world ports.new) }
+    ensures others { TouchesFiles (P.world ports.old) (P.world ports.new) }
+{
+    match record_session(ports, keep, session) {
+        Ok(()) => report(ports, verdict),
+        Err(Failed) => Status::WriteFault,
+    }
+}
+
+/// Fetches a block: reads the coins from the file of this name, asks every server, records the session where a name for
+/// it is given, and writes the verdict's text.
+pub(crate) fn fetch_block<P: Ports>(
+    alloc: Global,
+    plan: &FetchPlan,
+    addresses: &[String],
+    coins: &str,
+    keep: Option<&str>,
+    ports: &mut P,
+) -> Status
+    requires plan { IsPlan plan.now }
+    requires addresses { length addresses.now ≡ plan.now.n }
+    ensures ends { FetchEnds (record { plan = plan.now; addresses = map string_bytes addresses.now; coins = coins.now; keep = option_map (λ name. name.now) keep }) result (P.world ports.old) (P.world ports.new) }
+    ensures others { TouchesFetch plan.now.n (P.world ports.old) (P.world ports.new) }
+{
+    let Ok(()) = ports.open(Port::Coins, coins) else {
+        return Status::ReadFault;
+    };
+    match fetch_once::<Brand, P>(alloc, Blank::new(1), plan, addresses, ports) {
+        Ok((session, verdict)) => report_session(ports, keep, &session, &verdict),
+        Err(FetchFault::CoinsFault) => Status::ReadFault,
+        Err(FetchFault::CoinsEnded { taken }) => Status::BadInput(Bad::CoinsEnded { taken }),
+        Err(FetchFault::Memory) => Status::Memory,
+    }
+}
