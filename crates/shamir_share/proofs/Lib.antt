@@ -1,0 +1,4 @@
+mod Nibbles
+mod Horner
+mod Rows
+pub mod Queries

@@ -1,0 +1,20 @@
+use Rattle.std.proofs.Common.{◌≡◌, ◌∙◌, ◌+◌, ◌++◌, length, map, take, ap, ap₂, sym, arith}
+use Rattle.std.proofs.Math.Seq.{take-add}
+use Rattle.std.proofs.lemmas.List.{map-append, length-map}
+use Rattle.std.proofs.lemmas.Simd.{take_more_put_chunk, length-put_chunk, length-chunk}
+use Rattle.std.specs.Simd.Lanes.{chunk}
+use Rattle.gf256.specs.Field.{◌⊗◌}
+use Rattle.shamir_share.proofs.products.Products.times_each.Goals as goal
+
+pub lanes-preserved : goal.lanes-preserved
+lanes-preserved c =
+    let at = c.lanes.at in
+    let from = c.args.from.now in
+    let f = ◌⊗◌ c.args.self.now in
+    let made = c.times_lanes.result in
+    let long : length made ≡ 16 = ap length c.times_lanes.ensures ∙ length-map (chunk at 16 from) f ∙ length-chunk at 16 from (omega arith) in
+    record {
+      within = omega (arith, length-put_chunk at c.lanes.into made);
+      done = take_more_put_chunk at c.lanes.into made (at + 16) (omega arith) (omega arith)
+          ∙ ap₂ ◌++◌ c.lanes.invariant.done c.times_lanes.ensures ∙ sym (map-append f (take at from) (chunk at 16 from)) ∙ ap (map f) (sym (take-add at 16 from));
+    }
