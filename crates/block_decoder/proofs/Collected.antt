@@ -1,17 +1,16 @@
 -- Collecting the usable answers of a session, server by server.
-use Rattle.std.proofs.Common.{◌≡◌, ◌≢◌, ℕ, suc, ◌+◌, ◌-◌, ◌*◌, ◌<◌, ◌≤◌, Bool, true, false, cond, ◌&&◌, nat_eq, List, [], ◌∷◌, ◌++◌, length, get_or, take, drop, All, inl, inr, Option, None, Some, option_and_then, bytes_eq, refl, sym, ap, ap₂, ◌∙◌, arith, eqb-true}
+use Rattle.std.proofs.Common.{◌≡◌, ◌≢◌, ℕ, suc, ◌+◌, ◌-◌, ◌*◌, ◌<◌, ◌≤◌, List, [], ◌∷◌, ◌++◌, length, get_or, take, drop, All, inl, inr, Option, None, Some, option_and_then, refl, sym, ap, ap₂, ◌∙◌, arith}
 use Rattle.std.specs.List.Sorted.{IsStrictlyIncreasing}
 use Rattle.std.proofs.Math.Seq.{drop-cons}
-use Rattle.std.proofs.lemmas.Bool.{and_parts, cases_lt}
+use Rattle.std.proofs.lemmas.Bool.{cases_lt}
 use Rattle.std.proofs.lemmas.List.{append_assoc, append-nil, length-append, length-drop, get_or_append_left, get_or_push, take-append-le, drop-append-le, take_all, drop_all, nil_from_length}
 use Rattle.std.proofs.lemmas.List.Elements.{All-push, All-nil}
 use Rattle.wire_frames.specs.declared.header.QueryHeader.{QueryHeader}
-use Rattle.wire_frames.specs.declared.session.SessionParams.{SessionParams}
-use Rattle.wire_frames.specs.Header.{answer_header}
 use Rattle.wire_frames.specs.Answer.{Answer, answers, answers_from, asked, usable, with_answer}
 use Rattle.wire_frames.specs.Session.{Transcript}
 use Rattle.block_decoder.specs.Agreed.{answers_of}
 use Rattle.block_decoder.specs.Usable.{IsCollected, payload_of}
+use Rattle.block_decoder.proofs.UsableAnswers.{usable_size, answers_from-cons}
 
 -- ---- one server's answer
 
@@ -28,33 +27,9 @@ answers_of-push width (first ∷ indices) bytes index payload whole size =
     (ap (answers_of width (indices ++ index ∷ [])) (drop-append-le width bytes payload enough)
     ∙ answers_of-push width indices (drop width bytes) index payload (omega (arith, n, whole)) size)
 
-when_some : (t : Bool) (x b : List ℕ) → cond t (Some x) None ≡ Some b → (t ≡ true) × (x ≡ b)
-when_some true x b e = (refl, cc)
-when_some false x b e = absurd (cc)
-
--- a usable answer's payload stands behind its header
-pub usable_payload : (bytes payload : List ℕ) (q : QueryHeader) → usable bytes q ≡ Some payload → drop 24 bytes ≡ payload
-usable_payload bytes payload q e = (when_some (bytes_eq (take 24 bytes) (answer_header q 0) && nat_eq (length bytes) (24 + q.s)) (drop 24 bytes) payload e).1
-
--- a usable answer has a byte for each column
-pub usable_size : (bytes payload : List ℕ) (q : QueryHeader) → usable bytes q ≡ Some payload → length payload ≡ q.s
-usable_size bytes payload q e =
-    let parts = when_some (bytes_eq (take 24 bytes) (answer_header q 0) && nat_eq (length bytes) (24 + q.s)) (drop 24 bytes) payload e in
-    let tests = and_parts (bytes_eq (take 24 bytes) (answer_header q 0)) (nat_eq (length bytes) (24 + q.s)) parts.0 in
-    let size = eqb-true (length bytes) (24 + q.s) tests.1 in
-    let rest = length-drop 24 bytes in
-    let same = ap length parts.1 in
-    omega (arith, size, rest, same)
-
 size_if_some : (x : Option (List ℕ)) (payload : List ℕ) (q : QueryHeader) → option_and_then (λ bytes. usable bytes q) x ≡ Some payload → length payload ≡ q.s
 size_if_some None payload q e = absurd (cc)
 size_if_some (Some bytes) payload q e = usable_size bytes payload q e
-
--- the first record's answer in front of the others
-pub answers_from-cons : (i : ℕ) (p : SessionParams) (x : Option (List ℕ)) (records : List (Option (List ℕ)))
-    → answers_from i p (x ∷ records) ≡ with_answer i (option_and_then (λ bytes. usable bytes (asked p i)) x) (answers_from (i + 1) p records)
-answers_from-cons i p None records = refl
-answers_from-cons i p (Some bytes) records = refl
 
 -- the usable answers from the next server on
 pub rest_of : Transcript → ℕ → List Answer

@@ -1,15 +1,59 @@
--- The usable answers of a session: their indices ascend, and their payloads are bytes, one for each column.
-use Rattle.std.proofs.Common.{◌≡◌, ℕ, ◌+◌, ◌<◌, ◌≤◌, List, [], ◌∷◌, length, get_or, All, AllPairs, Option, None, Some, option_and_then, IfSome, refl, sym, subst, arith}
+-- Which records have a usable answer; the usable answers of a session: their indices ascend, and their payloads are
+-- bytes, one for each column.
+use Rattle.std.proofs.Common.{◌≡◌, ℕ, ◌+◌, ◌<◌, ◌≤◌, ◌&&◌, Bool, true, false, cond, nat_eq, List, [], ◌∷◌, ◌++◌, length, get_or, take, drop, All, AllPairs, Option, None, Some, option_and_then, IfSome, bytes_eq, refl, sym, ap, ap₂, subst, ◌∙◌, arith, eqb-true}
+use Rattle.std.proofs.Math.Seq.{take-append_seam, drop-append_seam}
+use Rattle.std.proofs.lemmas.Bool.{eq-eqb, and_parts}
+use Rattle.std.proofs.lemmas.List.{length-append, length-drop}
 use Rattle.std.proofs.lemmas.List.Elements.{All-nil, All-cons, All-head, All-tail, All-drop}
 use Rattle.std.proofs.lemmas.List.Kept.{AllPairs-cons}
 use Rattle.std.proofs.lemmas.Option.{IfSome_then}
+use Rattle.std.proofs.lemmas.Slice.Eq.{bytes_eq-Decides}
 use Rattle.wire_frames.specs.declared.header.QueryHeader.{QueryHeader}
 use Rattle.wire_frames.specs.declared.session.SessionParams.{SessionParams}
+use Rattle.wire_frames.specs.Header.{answer_header}
 use Rattle.wire_frames.specs.Answer.{Answer, answers, answers_from, asked, usable, with_answer}
 use Rattle.wire_frames.specs.Session.{Transcript, Fits}
 use Rattle.block_decoder.specs.Agreed.{Filled}
 use Rattle.block_decoder.specs.Lagrange.{HasColumns}
-use Rattle.block_decoder.proofs.Collected.{answers_from-cons, usable_size, usable_payload}
+
+-- ---- one answer
+
+when_some : (t : Bool) (x b : List ℕ) → cond t (Some x) None ≡ Some b → (t ≡ true) × (x ≡ b)
+when_some true x b e = (refl, cc)
+when_some false x b e = absurd (cc)
+
+-- a usable answer's payload stands behind its header
+pub usable_payload : (bytes payload : List ℕ) (q : QueryHeader) → usable bytes q ≡ Some payload → drop 24 bytes ≡ payload
+usable_payload bytes payload q e = (when_some (bytes_eq (take 24 bytes) (answer_header q 0) && nat_eq (length bytes) (24 + q.s)) (drop 24 bytes) payload e).1
+
+-- a usable answer has a byte for each column
+pub usable_size : (bytes payload : List ℕ) (q : QueryHeader) → usable bytes q ≡ Some payload → length payload ≡ q.s
+usable_size bytes payload q e =
+    let parts = when_some (bytes_eq (take 24 bytes) (answer_header q 0) && nat_eq (length bytes) (24 + q.s)) (drop 24 bytes) payload e in
+    let tests = and_parts (bytes_eq (take 24 bytes) (answer_header q 0)) (nat_eq (length bytes) (24 + q.s)) parts.0 in
+    let size = eqb-true (length bytes) (24 + q.s) tests.1 in
+    let rest = length-drop 24 bytes in
+    let same = ap length parts.1 in
+    omega (arith, size, rest, same)
+
+-- the frame of status 0 with a byte for each column is usable
+pub usable_frame : (payload : List ℕ) (q : QueryHeader) → length payload ≡ q.s → usable (answer_header q 0 ++ payload) q ≡ Some payload
+usable_frame payload q size =
+    let header = answer_header q 0 in
+    let whole = length-append header payload in
+    let front : take 24 (header ++ payload) ≡ header = take-append_seam header payload in
+    let rest : drop 24 (header ++ payload) ≡ payload = drop-append_seam header payload in
+    let first : bytes_eq (take 24 (header ++ payload)) header ≡ true = (bytes_eq-Decides (take 24 (header ++ payload)) header).1 front in
+    let second : nat_eq (length (header ++ payload)) (24 + q.s) ≡ true = eq-eqb (length (header ++ payload)) (24 + q.s) (omega (arith, whole, size)) in
+    ap (λ t. cond t (Some (drop 24 (header ++ payload))) None) (ap₂ ◌&&◌ first second) ∙ ap Some rest
+
+-- the first record's answer in front of the others
+pub answers_from-cons : (i : ℕ) (p : SessionParams) (x : Option (List ℕ)) (records : List (Option (List ℕ)))
+    → answers_from i p (x ∷ records) ≡ with_answer i (option_and_then (λ bytes. usable bytes (asked p i)) x) (answers_from (i + 1) p records)
+answers_from-cons i p None records = refl
+answers_from-cons i p (Some bytes) records = refl
+
+-- ---- all answers
 
 -- payloads of so many bytes, from ascending indices between two bounds
 pub record AreInOrder (width low high : ℕ) (answers : List Answer) : Type 0 where

@@ -1,8 +1,8 @@
 //! The law of the honest servers, as a call whose contract is the law. A call changes nothing.
 
-ghost use Rattle.std.specs.Prelude.{◌≡◌, ◌*◌, ◌<◌, length};
+ghost use Rattle.std.specs.Prelude.{ℕ, List, ◌≡◌, ◌*◌, ◌<◌, length};
 ghost use Rattle.block_decoder.specs.Verdict.{IsVerdict};
-ghost use Rattle.fetch_client.specs.Honest.{FindsHonestBlock};
+ghost use Rattle.fetch_client.specs.Honest.{FindsHonestBlock, HonestRecords, IsHonest};
 
 use block_decoder::Verdict;
 use wire_frames::Session;
@@ -20,3 +20,9 @@ pub fn honest_block_is_found(session: &Session, coins: &[u8], block: u32, verdic
     session.params();
     session.record_count();
 }
+
+/// Where `h` or more of the records of a session are, byte by byte, the frames in which honest servers that hold one
+/// matrix answer, so many of the usable answers are honest.
+pub fn honest_frames_are_usable(session: &Session, coins: &[u8], block: u32)
+    ensures { (matrix : List (List ℕ)) → HonestRecords session.now matrix coins.now block → IsHonest session.now matrix coins.now block }
+{}
