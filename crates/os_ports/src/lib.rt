@@ -11,5 +11,7 @@
 mod counts;
 mod ports;
 mod streams;
+#[cfg(test)]
+mod tests;
 
 pub use ports::OsPorts;

@@ -1,5 +1,5 @@
 -- Calls on the ports base, base + 1, .., one after the other, and calls on other ports before and after.
-use Rattle.std.proofs.Common.{◌≡◌, ◌≢◌, ◌⊎◌, inl, inr, ℕ, ◌+◌, ◌<◌, ◌≤◌, refl, sym, ◌∙◌, ap, subst, arith}
+use Rattle.std.proofs.Common.{◌≡◌, ◌⊎◌, inl, inr, ℕ, ◌+◌, ◌<◌, ◌≤◌, refl, sym, ◌∙◌, subst, arith}
 use Rattle.std.proofs.lemmas.Bool.{cases_eq}
 use Rattle.pir_ports.specs.World.{Cell, World}
 use Rattle.pir_ports.specs.Moves.{Touches}
@@ -43,18 +43,18 @@ each_more R base n w v u fits e range touch last = record {
 -- a port behind or before the range stays
 pub range_still : (base n q : ℕ) (w v : World) → TouchesRange base n w v → q < 1024
     → (q < base) ⊎ (base + n ≤ q) → v.at q ≡ w.at q
-range_still base n q w v range l out = range.others q l (λ lo hi. elim out [ | inl a ↦ omega (arith, a) | inr a ↦ omega (arith, a) ])
+range_still base n q w v range l out = range.others q l (λ lo hi. elim out [ inl a ↦ omega (arith, a) | inr a ↦ omega (arith, a) ])
 
 -- what was done to each stays, whatever is done to another port after it
 pub each_after : (R : ℕ → Cell → Cell → Type 0) (base n p : ℕ) (w v u : World) → base + n ≤ 1024
     → (p < base) ⊎ (base + n ≤ p) → Each R base n w v → Touches p v u → Each R base n w u
 each_after R base n p w v u fits out e touch = record {
-  each = λ i l. subst (λ (d : Cell). R i (w.at (base + i)) d) (sym (touch.others (base + i) (omega arith) (λ q. elim out [ | inl a ↦ omega (arith, a, q) | inr a ↦ omega (arith, a, q) ]))) (e.each i l);
+  each = λ i l. subst (λ (d : Cell). R i (w.at (base + i)) d) (sym (touch.others (base + i) (omega arith) (λ q. elim out [ inl a ↦ omega (arith, a, q) | inr a ↦ omega (arith, a, q) ]))) (e.each i l);
 }
 
 -- what is done to each counts from before, whatever was done to another port
 pub each_before : (R : ℕ → Cell → Cell → Type 0) (base n p : ℕ) (w v u : World) → base + n ≤ 1024
     → (p < base) ⊎ (base + n ≤ p) → Touches p w v → Each R base n v u → Each R base n w u
 each_before R base n p w v u fits out touch e = record {
-  each = λ i l. subst (λ (c : Cell). R i c (u.at (base + i))) (touch.others (base + i) (omega arith) (λ q. elim out [ | inl a ↦ omega (arith, a, q) | inr a ↦ omega (arith, a, q) ])) (e.each i l);
+  each = λ i l. subst (λ (c : Cell). R i c (u.at (base + i))) (touch.others (base + i) (omega arith) (λ q. elim out [ inl a ↦ omega (arith, a, q) | inr a ↦ omega (arith, a, q) ])) (e.each i l);
 }

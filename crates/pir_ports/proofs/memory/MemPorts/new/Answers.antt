@@ -1,7 +1,5 @@
-use Rattle.std.proofs.Common.{◌≡◌, ◌∙◌, List, ap, arith, replicate}
-use Rattle.pir_ports.specs.MemoryCell.{MemoryCell, empty_cell}
-use Rattle.pir_ports.specs.NameLog.{NameLog, no_names}
-use Rattle.pir_ports.specs.Memory.{Memory}
+use Rattle.std.proofs.Common.{◌≡◌, ◌∙◌, ap, arith, replicate}
+use Rattle.pir_ports.specs.MemoryCell.{empty_cell}
 use Rattle.pir_ports.specs.declared.port.TheConstants.{PORT_COUNT}
 use Rattle.pir_ports.proofs.memory.MemPorts.new.Goals as goal
 
