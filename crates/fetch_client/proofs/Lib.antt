@@ -1,3 +1,4 @@
 pub mod Asking
 pub mod HonestColumns
 pub mod HonestBlock
+pub mod HonestFrames

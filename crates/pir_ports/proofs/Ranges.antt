@@ -58,3 +58,10 @@ pub each_before : (R : ℕ → Cell → Cell → Type 0) (base n p : ℕ) (w v u
 each_before R base n p w v u fits out touch e = record {
   each = λ i l. subst (λ (c : Cell). R i c (u.at (base + i))) (touch.others (base + i) (omega arith) (λ q. elim out [ inl a ↦ omega (arith, a, q) | inr a ↦ omega (arith, a, q) ])) (e.each i l);
 }
+
+-- what was done to each stays, and counts from before, where neither what came before nor what came after touched it
+pub each_within : (R : ℕ → Cell → Cell → Type 0) (base n : ℕ) (w v u z : World) → ((i : ℕ) → i < n → v.at (base + i) ≡ w.at (base + i)) → ((i : ℕ) → i < n → z.at (base + i) ≡ u.at (base + i))
+    → Each R base n v u → Each R base n w z
+each_within R base n w v u z before after e = record {
+  each = λ i l. subst (λ (c : Cell). R i c (z.at (base + i))) (before i l) (subst (λ (d : Cell). R i (v.at (base + i)) d) (sym (after i l)) (e.each i l));
+}

@@ -24,21 +24,24 @@ pub record InSession (o : FetchOrder) (coins : List ℕ) (session : Transcript) 
   pub tossed : Tossed (need o.plan) coins (named o.coins (old.at 3)) (new.at 3)
   pub asked : AsksAll o.plan o.addresses coins session old new
 
--- every server was asked in this session, whose file can be written, and this is its verdict, which has the block of
--- honest servers
+-- every server was asked in this session, and this is its verdict, which has the block of honest servers
 pub record Settled (o : FetchOrder) (session : Transcript) (verdict : Verdict) (old new : World) : Type 0 where
   pub coins : List ℕ
   pub fetched : InSession o coins session old new
-  pub file : IsSession (session_bytes session) session
   pub judged : IsVerdict session verdict
   pub found : FindsHonestBlock session (drop 8 coins) o.plan.block verdict
 
--- the file of the session is recorded by the name that is given, where one is
+-- Record was opened by this name, and has taken the file of the session
+pub record IsRecorded (name : List ℕ) (session : Transcript) (old new : World) : Type 0 where
+  pub file : IsSession (session_bytes session) session
+  pub cell : new.at 4 ≡ gave (session_bytes session) (named name (old.at 4))
+
+-- the session is recorded by the name that is given, where one is
 abbrev pub Recorded : Option (List ℕ) → Transcript → World → World → Type 0
 Recorded None session old new = new.at 4 ≡ old.at 4
-Recorded (Some name) session old new = new.at 4 ≡ gave (session_bytes session) (named name (old.at 4))
+Recorded (Some name) session old new = IsRecorded name session old new
 
--- the file of the session can't be recorded
+-- the session can't be recorded by the name that is given
 abbrev pub Unrecorded : Option (List ℕ) → Transcript → World → World → Type 0
 Unrecorded None session old new = ⊥
 Unrecorded (Some name) session old new = Unwritten 4 name (session_bytes session) old new

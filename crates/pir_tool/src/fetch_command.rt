@@ -1,7 +1,7 @@
 //! The command `fetch`.
 
 ghost use Rattle.std.specs.Prelude.{◌≡◌, ◌<◌, length, map, string_bytes};
-ghost use Rattle.std.specs.Option.{option_map};
+ghost use Rattle.std.specs.Option.{option_copied};
 ghost use Rattle.pir_ports.specs.Moves.{Touches};
 ghost use Rattle.wire_frames.specs.Session.{Transcript};
 ghost use Rattle.fetch_client.specs.Plan.{IsPlan};
@@ -46,7 +46,7 @@ fn record_session<P: Ports>(
     session: &Session,
 ) -> Result<(), Failed>
     requires { length session.now.records ≡ session.now.params.n }
-    ensures keeps { Keeps (option_map (λ name. name.now) keep) session.now result (P.world ports.old) (P.world ports.new) }
+    ensures keeps { Keeps (option_copied keep.entry) session.now result (P.world ports.old) (P.world ports.new) }
     ensures others { Touches 4 (P.world ports.old) (P.world ports.new) }
 {
     let Some(name) = keep else {
@@ -64,7 +64,7 @@ fn report_session<P: Ports>(
     verdict: &Verdict,
 ) -> Status
     requires { length session.now.records ≡ session.now.params.n }
-    ensures reports { Reports (option_map (λ name. name.now) keep) session.now verdict.now result (P.world ports.old) (P.world ports.new) }
+    ensures reports { Reports (option_copied keep.entry) session.now verdict.now result (P.world ports.old) (P.world ports.new) }
     ensures others { TouchesFiles (P.world ports.old) (P.world ports.new) }
 {
     match record_session(ports, keep, session) {
@@ -85,7 +85,7 @@ pub(crate) fn fetch_block<P: Ports>(
 ) -> Status
     requires plan { IsPlan plan.now }
     requires addresses { length addresses.now ≡ plan.now.n }
-    ensures ends { FetchEnds (record { plan = plan.now; addresses = map string_bytes addresses.now; coins = coins.now; keep = option_map (λ name. name.now) keep }) result (P.world ports.old) (P.world ports.new) }
+    ensures ends { FetchEnds (record { plan = plan.now; addresses = map string_bytes addresses.now; coins = coins.now; keep = option_copied keep.entry }) result (P.world ports.old) (P.world ports.new) }
     ensures others { TouchesFetch plan.now.n (P.world ports.old) (P.world ports.new) }
 {
     let Ok(()) = ports.open(Port::Coins, coins) else {

@@ -1,7 +1,7 @@
 //! The top call.
 
 ghost use Rattle.std.specs.Prelude.{◌≡◌, ◌<◌, ◌≤◌, ◌⊎◌, List, ℕ, length, Some, None, map, string_bytes};
-ghost use Rattle.std.specs.Option.{option_map};
+ghost use Rattle.std.specs.Option.{option_copied};
 ghost use Rattle.wire_frames.specs.Session.{Transcript, IsSession};
 ghost use Rattle.pir_words.specs.Form.{asked_of, InRange};
 ghost use Rattle.replay.specs.Replayed.{NoSession};
@@ -22,7 +22,7 @@ use std::alloc::Global;
 
 /// The text of a word, where there is one.
 fn text_of(word: &Option<Text>) -> Option<&str>
-    ensures { option_map (λ t. t.now) result ≡ word.now }
+    ensures { option_copied result ≡ word.now }
 {
     match word {
         Some(text) => Some(text.as_str()),

@@ -1,0 +1,134 @@
+-- A fetch from its first port to its last.
+use Rattle.std.proofs.Common.{◌≡◌, ◌≢◌, ◌∙◌, ◌⊎◌, inl, inr, ℕ, ◌+◌, ◌<◌, ◌≤◌, List, [], ◌∷◌, length, take, drop, slice_index_or, refl, lit<, sym, ap, subst, arith}
+use Rattle.std.specs.Prelude.{Option, Some, None, IfSome, unwrap_or}
+use Rattle.pir_ports.specs.World.{Cell, World}
+use Rattle.pir_ports.specs.Moves.{Rose, Touches, took, gave, named, counted}
+use Rattle.pir_ports.proofs.Ranges.{each_within}
+use Rattle.pir_ports.proofs.Carried.{fails_writing_before}
+use Rattle.wire_frames.specs.Session.{Transcript, session_bytes}
+use Rattle.block_decoder.specs.declared.verdict.Verdict.{Verdict}
+use Rattle.block_decoder.specs.declared.verdict.Verdict.TheVariants.{Listed as IsListed, TooFew as IsTooFew, TooWeak as IsTooWeak}
+use Rattle.block_decoder.specs.Text.{text}
+use Rattle.fetch_client.specs.Plan.{need}
+use Rattle.fetch_client.specs.Sent.{sent}
+use Rattle.fetch_client.specs.Asked.{Asked}
+use Rattle.fetch_client.specs.Tossed.{Tossed}
+use Rattle.fetch_client.specs.Fetched.{AsksAll, AsksWith, Concludes, TouchesLinks}
+use Rattle.pir_words.specs.declared.asked.Asked.{Asked as Command}
+use Rattle.pir_tool.specs.Table.{status_of}
+use Rattle.pir_tool.specs.Told.{Told, Unwritten}
+use Rattle.pir_tool.specs.FetchOrder.{FetchOrder}
+use Rattle.pir_tool.specs.Outcome.{order_of}
+use Rattle.pir_tool.specs.FetchOutcome.{InSession, Settled, Recorded, Unrecorded, FetchReported, FetchCutShort, FetchEnds, Reports, TouchesFiles}
+use Rattle.pir_tool.specs.declared.status.Status.{Status}
+use Rattle.pir_tool.specs.declared.status.Status.TheVariants.{WriteFault}
+
+-- words ask for one command
+pub one_command : (wanted : Option Command) (asked other : Command) → wanted ≡ Some asked → wanted ≡ Some other → asked ≡ other
+one_command wanted asked other a b = ap (λ (o : Option Command). unwrap_or o asked) (sym a ∙ b)
+
+-- an order for as many servers as it has addresses is the one that its command gives
+pub order_is : (o : FetchOrder) → o.plan.n ≡ length o.addresses → order_of o.plan.scheme o.plan.r o.plan.s o.plan.block o.plan.t o.plan.h o.coins o.keep o.addresses ≡ o
+order_is o is = ap (λ (n : ℕ). record {
+  plan = record { scheme = o.plan.scheme; t = o.plan.t; h = o.plan.h; n = n; r = o.plan.r; s = o.plan.s; block = o.plan.block };
+  addresses = o.addresses;
+  coins = o.coins;
+  keep = o.keep;
+}) (sym is)
+
+-- every server was asked after Coins was opened, and before other ports were touched
+pub asked_within : (o : FetchOrder) (coins : List ℕ) (session : Transcript) (w v u z : World) → 257 + o.plan.n ≤ 1024 → v.at 3 ≡ named o.coins (w.at 3) → Touches 3 w v
+    → AsksWith o.plan o.addresses coins session v u → TouchesFiles u z → InSession o coins session w z
+asked_within o coins session w v u z fits is_open touch asks files =
+    let p = o.plan in
+    let t = asks.tossed in
+    let still : z.at 3 ≡ u.at 3 = files.others 3 (omega arith) (λ e. omega (arith, e)) (λ e. omega (arith, e)) in
+    record {
+      tossed = record {
+        size = t.size;
+        bytes = t.bytes;
+        cell = still ∙ t.cell ∙ ap (took (need p)) is_open;
+        told = subst (λ (c : Cell). IfSome c.holds (λ held. coins ≡ take (need p) held)) is_open t.told;
+      };
+      asked = record {
+        params = asks.asked.params;
+        whole = asks.asked.whole;
+        links = each_within (λ (i : ℕ). Asked (slice_index_or o.addresses i []) (sent p coins (i + 1)) (24 + p.s) (slice_index_or session.records i None)) 257 p.n w v u z
+            (λ i l. touch.others (257 + i) (omega arith) (λ e. omega (arith, e)))
+            (λ i l. files.others (257 + i) (omega arith) (λ e. omega (arith, e)) (λ e. omega (arith, e))) asks.asked.links;
+      };
+    }
+
+-- a record counts from before, where the port wasn't touched before it
+recorded_before : (keep : Option (List ℕ)) (session : Transcript) (w u z : World) → u.at 4 ≡ w.at 4 → Recorded keep session u z → Recorded keep session w z
+recorded_before None session w u z still kept = kept ∙ still
+recorded_before (Some name) session w u z still kept = record { file = kept.file; cell = kept.cell ∙ ap (λ (c : Cell). gave (session_bytes session) (named name c)) still }
+
+-- and so does one that was cut short
+unrecorded_before : (keep : Option (List ℕ)) (session : Transcript) (w u z : World) → u.at 4 ≡ w.at 4 → Unrecorded keep session u z → Unrecorded keep session w z
+unrecorded_before None session w u z still cut = cut
+unrecorded_before (Some name) session w u z still cut = record {
+  n = cut.n;
+  proper = cut.proper;
+  cell = elim cut.cell [
+    | inl a ↦ inl (a ∙ ap (counted (z.at 4).faults) still)
+    | inr b ↦ inr (b ∙ ap (λ (c : Cell). counted (z.at 4).faults (gave (take cut.n (session_bytes session)) (named name c))) still)
+  ];
+  rose = subst (λ (c : Cell). Rose c.faults (z.at 4).faults) still cut.rose;
+}
+
+-- a fetch that reports a verdict ends with its status
+ends_as : (o : FetchOrder) (verdict : Verdict) (w z : World) → FetchReported o (status_of verdict) w z → FetchEnds o (status_of verdict) w z
+ends_as o (IsListed []) w z said = said
+ends_as o (IsListed (b ∷ [])) w z said = said
+ends_as o (IsListed (b ∷ (c ∷ bs))) w z said = said
+ends_as o (IsTooFew k h) w z said = said
+ends_as o (IsTooWeak k t h) w z said = said
+
+-- Coins was opened, every server was asked, and the session was reported
+pub ends_with_report : (o : FetchOrder) (session : Transcript) (verdict : Verdict) (status : Status) (w v u z : World) → 257 + o.plan.n ≤ 1024 → v.at 3 ≡ named o.coins (w.at 3) → Touches 3 w v
+    → Concludes o.plan o.addresses session verdict v u → TouchesLinks o.plan.n v u → Reports o.keep session verdict status u z → TouchesFiles u z → FetchEnds o status w z
+ends_with_report o session verdict status w v u z fits is_open touch fetched links reports files = elim reports [
+  | inl told ↦ elim told.1 [
+      | inl whole ↦
+          subst (λ (s : Status). FetchEnds o s w z) (sym whole.0) (ends_as o verdict w z record {
+            session = session;
+            verdict = verdict;
+            settled = settled;
+            status_is = refl;
+            recorded = recorded_before o.keep session w u z (still 4 (lit< tt) (λ e. omega (arith, e))) told.0;
+            written = whole.1 ∙ ap (gave (text verdict)) (still 1 (lit< tt) (λ e. omega (arith, e)));
+          })
+      | inr part ↦
+          subst (λ (s : Status). FetchEnds o s w z) (sym part.0) (record {
+            session = session;
+            verdict = verdict;
+            settled = settled;
+            cut = inr (
+              recorded_before o.keep session w u z (still 4 (lit< tt) (λ e. omega (arith, e))) told.0,
+              fails_writing_before 1 w u z (still 1 (lit< tt) (λ e. omega (arith, e))) (text verdict) part.1,
+            );
+          })
+    ]
+  | inr cut ↦
+      subst (λ (s : Status). FetchEnds o s w z) (sym cut.1) (record {
+        session = session;
+        verdict = verdict;
+        settled = settled;
+        cut = inl (
+          unrecorded_before o.keep session w u z (still 4 (lit< tt) (λ e. omega (arith, e))) cut.0,
+          cut.2 ∙ still 1 (lit< tt) (λ e. omega (arith, e)),
+        );
+      })
+]
+  where
+    settled : Settled o session verdict w z
+    settled = record {
+      coins = fetched.coins;
+      fetched = asked_within o fetched.coins session w v u z fits is_open touch fetched.asked files;
+      judged = fetched.judged;
+      found = fetched.found;
+    }
+
+    still : (q : ℕ) → q < 256 → q ≢ 3 → u.at q ≡ w.at q
+    still q l ne = links.others q (omega arith) ne (λ lo hi. omega (arith, lo, l)) ∙ touch.others q (omega arith) ne
