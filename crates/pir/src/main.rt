@@ -1,7 +1,8 @@
 //! The program `pir`. It makes the ports of the system and reads the words; `pir_tool::run` does the rest.
 #![tactic(auto)]
 
-use pir_tool::{OsPorts, Status, code, line, run};
+use os_ports::OsPorts;
+use pir_tool::{Status, code, line, run};
 use std::env;
 use std::io::ErrorKind;
 use std::process::ExitCode;

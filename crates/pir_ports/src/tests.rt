@@ -64,7 +64,7 @@ fn names_are_kept_in_order(rt: HostRuntime) -> Result<(), Fail> {
     for (port, name, opened) in [
         (Port::Input, "one", Ok(())),
         (Port::Input, "failing", Err(Failed)),
-        (Port::Output, "two", Ok(())),
+        (Port::Link(9), "two", Ok(())),
         (Port::Input, "four", Err(Failed)),
         (Port::Input, "six", Ok(())),
         (Port::Output, "", Err(Failed)),
@@ -75,10 +75,26 @@ fn names_are_kept_in_order(rt: HostRuntime) -> Result<(), Fail> {
         (Port::Input, 0, Some(b"one".as_slice())),
         (Port::Input, 1, Some(b"six".as_slice())),
         (Port::Input, 2, None),
-        (Port::Output, 0, Some(b"two".as_slice())),
-        (Port::Output, 1, None),
+        (Port::Link(9), 0, Some(b"two".as_slice())),
+        (Port::Link(9), 1, None),
+        (Port::Output, 0, None),
     ] {
         assert_eq!(rt; ports.opened_as(port, i), name, "{port:?} {i}");
+    }
+    Ok(())
+}
+
+#[test]
+fn ports_have_their_numbers(rt: HostRuntime) -> Result<(), Fail> {
+    for (port, number) in [
+        (Port::Input, 0),
+        (Port::Output, 1),
+        (Port::Coins, 3),
+        (Port::Record, 4),
+        (Port::Link(0), 256),
+        (Port::Link(255), 511),
+    ] {
+        assert_eq!(rt; port.number(), number, "{port:?}");
     }
     Ok(())
 }

@@ -2,4 +2,3 @@ pub mod Form
 pub mod Table
 pub mod Replayed
 pub mod Outcome
-pub mod Counted

@@ -1,13 +1,11 @@
 //! The program `pir`: all that it does, over ports that tell what goes in and out.
 #![tactic(auto)]
 
-mod outside;
 mod recorded;
 mod status;
 mod top;
 mod words;
 
-pub use outside::OsPorts;
 pub use recorded::{ReplayFault, replay};
 pub use status::{Bad, Status, code, line};
 pub use top::run;

@@ -1,14 +1,10 @@
-//! How many calls on each port failed.
-
+// How many calls on each port failed.
 ghost use Rattle.std.specs.Prelude.{◌≡◌, ◌≢◌, ◌+◌, ◌-◌, ◌^◌, ℕ, slice_index, min, IfOk};
 ghost use Rattle.pir_ports.specs.Number.{number};
 
-use pir_ports::{Failed, Port};
+use pir_ports::{Failed, PORT_COUNT, Port};
 use std::alloc::{AllocError, Global};
 use std::marker::Model;
-
-// The numbers of ports are below this.
-const PORTS: usize = 1024;
 
 /// A count for each port, by the port's number.
 #[derive(Drop)]
@@ -18,12 +14,13 @@ pub struct Counts {
 
 impl Model for Counts {
     ghost use Rattle.std.specs.Prelude.{◌≡◌, List, ℕ, length};
+    ghost use Rattle.pir_ports.specs.declared.port.TheConstants.{PORT_COUNT};
 
     ghost Value = { List ℕ };
 
     ghost view = { λ c. c.counts.items };
 
-    ghost invariant = { λ c. length c.counts.items ≡ 1024 };
+    ghost invariant = { λ c. length c.counts.items ≡ PORT_COUNT };
 }
 
 impl Counts {
@@ -32,7 +29,7 @@ impl Counts {
         ensures { IfOk result (λ counts. (q : ℕ) → slice_index counts q ≡ 0) }
     {
         Ok(Counts {
-            counts: vec![in alloc; 0; PORTS]?,
+            counts: vec![in alloc; 0; PORT_COUNT]?,
         })
     }
 

@@ -1,5 +1,5 @@
 use Rattle.std.proofs.Common.{◌≡◌, ◌∙◌, ℕ, zero, suc, List, slice_index, replicate, refl, ap}
-use Rattle.pir_tool.proofs.outside.counts.Counts.new.Goals as goal
+use Rattle.os_ports.proofs.counts.Counts.new.Goals as goal
 
 -- a list of zeros has 0 everywhere
 zeros : (n q : ℕ) → slice_index (replicate n 0) q ≡ 0

@@ -1,26 +1,39 @@
-//! The outside itself, the trusted edge: files and standard streams. It tells its counts alone.
-
-mod counts;
-mod streams;
-
+// The ports of the system.
 ghost use Rattle.std.specs.Prelude.{◌≡◌, ℕ, slice_index, IfOk};
 
-use counts::Counts;
+use crate::counts::Counts;
+use crate::streams::Streams;
 use pir_ports::{Failed, Port, Ports};
 use std::alloc::AllocError;
 use std::io::{Input, Print};
+use std::net::Net;
 use std::rt::Files;
-use streams::Streams;
 
-/// Files and standard streams as ports. No clause says what they hold or take; each failed call is counted.
+/// Files, standard streams and TCP streams as ports. Each failed call is counted, also one for want
+/// of memory.
+///
+/// - `Input` is opened as standard input by the name `-`, and else as the file of that name.
+/// - `Output` is standard output.
+/// - `Coins` is opened as a file to read, `Record` as a file to write, which is made anew. The name
+///   `-` is that of a file here.
+/// - `Link(i)` is opened as a TCP stream to the address, a text `host:port`. A read on it that waits
+///   longer than ten seconds fails.
+///
+/// A port that isn't open, or is opened or used in another way, fails. A second `open` that succeeds
+/// closes what the port had open.
+///
+/// ```
+/// let mut ports = OsPorts::new(&rt)?;
+/// ports.open(Port::Link(1), "localhost:7001")?;
+/// ```
 #[derive(Drop)]
-pub struct OsPorts<R: Files + Input + Print + AllocGlobal + Drop> {
+pub struct OsPorts<R: Files + Input + Print + Net + AllocGlobal + Drop> {
     streams: Streams<R>,
     counts: Counts,
 }
 
-impl<R: Files + Input + Print + AllocGlobal + Drop> OsPorts<R> {
-    /// Ports over this runtime, none but Output open.
+impl<R: Files + Input + Print + Net + AllocGlobal + Drop> OsPorts<R> {
+    /// Ports over this runtime, none but `Output` open.
     ///
     /// # Errors
     ///
@@ -36,8 +49,8 @@ impl<R: Files + Input + Print + AllocGlobal + Drop> OsPorts<R> {
     }
 }
 
-impl<R: Files + Input + Print + AllocGlobal + Drop> Ports for OsPorts<R> {
-    ghost use Rattle.pir_tool.specs.Counted.{counts_alone};
+impl<R: Files + Input + Print + Net + AllocGlobal + Drop> Ports for OsPorts<R> {
+    ghost use Rattle.os_ports.specs.Counted.{counts_alone};
 
     ghost world = { λ s. counts_alone s.counts };
 

@@ -1,0 +1,157 @@
+// What the ports stand for.
+ghost use Rattle.std.specs.Prelude.{◌≤◌, length, IfOk};
+
+use pir_ports::Port;
+use std::io::{ErrorKind, Input, Print, Read, Write};
+use std::net::{Net, OpenStream, TcpStream};
+use std::rt::Files;
+use std::time::Duration;
+use std::{fs, io};
+
+// How long a read on a link may wait.
+const LINK_SECONDS: u64 = 10;
+
+// Where Input reads from.
+#[derive(Drop)]
+enum Source<R: Files + Input> {
+    Closed,
+    Standard(R::Reader),
+    File(R::File),
+}
+
+// The stream to a server.
+#[derive(Drop)]
+struct Link<R: Net> {
+    server: u8,
+    stream: R::Stream,
+}
+
+/// The open files and streams.
+#[derive(Drop)]
+pub struct Streams<R: Files + Input + Print + Net + AllocGlobal + Drop> {
+    rt: R,
+    input: Source<R>,
+    coins: Option<R::File>,
+    record: Option<R::File>,
+    links: Vec<Link<R>>,
+}
+
+fn closed() -> io::Error {
+    io::Error::from(ErrorKind::NotConnected)
+}
+
+// Reads from what is open.
+fn read_from<S: Read>(source: Option<&mut S>, into: &mut [u8]) -> io::Result<usize>
+    ensures { IfOk result (λ n. n ≤ length into.new) }
+{
+    match source {
+        Some(source) => source.read(into),
+        None => Err(closed()),
+    }
+}
+
+// Writes to what is open.
+fn write_to<S: Write>(sink: Option<&mut S>, piece: &[u8]) -> io::Result<usize>
+    ensures { IfOk result (λ n. n ≤ length piece.now) }
+{
+    match sink {
+        Some(sink) => sink.write(piece),
+        None => Err(closed()),
+    }
+}
+
+impl<R: Files + Input + Print + Net + AllocGlobal + Drop> Streams<R> {
+    /// Nothing but standard output is open.
+    pub fn new(rt: R) -> Self {
+        let alloc = rt.alloc();
+        Streams {
+            rt,
+            input: Source::Closed,
+            coins: None,
+            record: None,
+            links: Vec::new(alloc),
+        }
+    }
+
+    /// Opens the port by this name.
+    pub fn open(&mut self, p: Port, name: &str) -> io::Result<()> {
+        match p {
+            Port::Input if name == "-" => self.input = Source::Standard(self.rt.reader()),
+            Port::Input => self.input = Source::File(fs::open(&self.rt, name)?),
+            Port::Output => return Err(closed()),
+            Port::Coins => self.coins = Some(fs::open(&self.rt, name)?),
+            Port::Record => self.record = Some(fs::create(&self.rt, name)?),
+            Port::Link(i) => self.connect(i, name)?,
+        }
+        Ok(())
+    }
+
+    // Connects to the server.
+    fn connect(&mut self, server: u8, address: &str) -> io::Result<()> {
+        let stream = TcpStream::connect(&self.rt, address)?;
+        stream.set_read_timeout(Some(Duration::from_secs(LINK_SECONDS)))?;
+        match self.link(server) {
+            Some(link) => *link = stream,
+            None => self.links.push(Link { server, stream })?,
+        }
+        Ok(())
+    }
+
+    // The stream to the server.
+    fn link(&mut self, server: u8) -> Option<&mut R::Stream> {
+        let link = self.links.iter_mut().find(|link| link.server == server)?;
+        Some(&mut link.stream)
+    }
+
+    /// Reads from the port. A read that a signal interrupts is tried again.
+    pub fn read(&mut self, p: Port, into: &mut [u8]) -> io::Result<usize>
+        ensures { IfOk result (λ n. n ≤ length into.new) }
+    {
+        for _ in 0..u64::MAX {
+            match self.read_once(p, into) {
+                Err(error) if error.kind() == ErrorKind::Interrupted => {}
+                read => return read,
+            }
+        }
+        Err(io::Error::from(ErrorKind::Interrupted))
+    }
+
+    fn read_once(&mut self, p: Port, into: &mut [u8]) -> io::Result<usize>
+        ensures { IfOk result (λ n. n ≤ length into.new) }
+    {
+        match p {
+            Port::Input => match &mut self.input {
+                Source::Closed => Err(closed()),
+                Source::Standard(reader) => reader.read(into),
+                Source::File(file) => file.read(into),
+            },
+            Port::Coins => read_from(self.coins.as_mut(), into),
+            Port::Link(i) => read_from(self.link(i), into),
+            Port::Output | Port::Record => Err(closed()),
+        }
+    }
+
+    /// Writes to the port. A write that a signal interrupts is tried again.
+    pub fn write(&mut self, p: Port, piece: &[u8]) -> io::Result<usize>
+        ensures { IfOk result (λ n. n ≤ length piece.now) }
+    {
+        for _ in 0..u64::MAX {
+            match self.write_once(p, piece) {
+                Err(error) if error.kind() == ErrorKind::Interrupted => {}
+                written => return written,
+            }
+        }
+        Err(io::Error::from(ErrorKind::Interrupted))
+    }
+
+    fn write_once(&mut self, p: Port, piece: &[u8]) -> io::Result<usize>
+        ensures { IfOk result (λ n. n ≤ length piece.now) }
+    {
+        match p {
+            Port::Output => io::writer(&self.rt).write(piece),
+            Port::Record => write_to(self.record.as_mut(), piece),
+            Port::Link(i) => write_to(self.link(i), piece),
+            Port::Input | Port::Coins => Err(closed()),
+        }
+    }
+}

@@ -1,0 +1,79 @@
+use crate::OsPorts;
+use pir_ports::{Failed, Filled, Port, Ports, read_exactly, write_all};
+use std::io::{Read, Write};
+use std::net::{Ipv4Addr, TcpListener};
+use std::test::Fail;
+use std::{env, fs, process};
+
+#[test]
+fn a_record_is_read_back_as_coins(rt: HostRuntime) -> Result<(), Fail> {
+    let file = format!(in rt.alloc(); "os-ports-{}", process::id(rt.process()))?;
+    let path = env::temp_dir(&rt)?.join(rt.alloc(), file.as_str())?;
+    let path = path.into_string();
+    let mut ports = OsPorts::new(&rt)?;
+    assert_eq!(rt; ports.open(Port::Coins, &path), Err(Failed));
+    // The second `open` makes the file anew.
+    for text in [b"the first text".as_slice(), b"last"] {
+        assert_eq!(rt; ports.open(Port::Record, &path), Ok(()));
+        assert_eq!(rt; write_all(&mut ports, Port::Record, text), Ok(()));
+    }
+    assert_eq!(rt; ports.open(Port::Coins, &path), Ok(()));
+    fs::remove_file(&rt, &path)?;
+    let mut coins = [0; 4];
+    let filled = read_exactly(&mut ports, Port::Coins, &mut coins);
+    assert_eq!(rt; filled, Filled::Full);
+    assert_eq!(rt; coins.as_slice(), b"last".as_slice());
+    assert_eq!(rt; ports.take(Port::Coins, &mut coins), Ok(0));
+    Ok(())
+}
+
+#[test]
+fn links_carry_bytes_both_ways(rt: HostRuntime) -> Result<(), Fail> {
+    let door = TcpListener::bind(&rt, (Ipv4Addr::LOCALHOST, 0))?;
+    let address = format!(in rt.alloc(); "{}", door.local_addr()?)?;
+    let mut ports = OsPorts::new(&rt)?;
+    // Both links stay open; the second `open` of link 1 closes its first stream.
+    for i in [1, 255, 1] {
+        assert_eq!(rt; ports.open(Port::Link(i), &address), Ok(()), "{i}");
+    }
+    let (mut dropped, _) = door.accept()?;
+    let mut text = [0; 5];
+    assert_eq!(rt; dropped.read(&mut text)?, 0);
+    for i in [255, 1] {
+        let (mut server, _) = door.accept()?;
+        assert_eq!(rt;
+            write_all(&mut ports, Port::Link(i), b"query"),
+            Ok(()),
+            "{i}"
+        );
+        server.read_exact(&mut text)?;
+        assert_eq!(rt; text.as_slice(), b"query".as_slice(), "{i}");
+        server.write_all(b"answer")?;
+        drop(server);
+        let mut answer = [0; 7];
+        let filled = read_exactly(&mut ports, Port::Link(i), &mut answer);
+        assert_eq!(rt; filled, Filled::Ended(6), "{i}");
+        assert_eq!(rt; answer.as_slice(), b"answer\0".as_slice(), "{i}");
+    }
+    Ok(())
+}
+
+#[test]
+fn what_is_closed_or_used_in_another_way_fails(rt: HostRuntime) -> Result<(), Fail> {
+    let mut ports = OsPorts::new(&rt)?;
+    assert_eq!(rt; ports.open(Port::Output, "-"), Err(Failed));
+    assert_eq!(rt; ports.open(Port::Link(1), "no port"), Err(Failed));
+    for port in [
+        Port::Input,
+        Port::Output,
+        Port::Coins,
+        Port::Record,
+        Port::Link(1),
+    ] {
+        assert_eq!(rt; ports.take(port, &mut [0; 1]), Err(Failed), "{port:?}");
+    }
+    for port in [Port::Input, Port::Coins, Port::Record, Port::Link(1)] {
+        assert_eq!(rt; ports.give(port, b"a"), Err(Failed), "{port:?}");
+    }
+    Ok(())
+}
