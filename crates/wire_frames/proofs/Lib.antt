@@ -3,6 +3,7 @@ pub mod Beginnings
 mod Chains
 mod Digits
 mod FieldLemmas
+mod Filing
 pub mod FormLemmas
 mod HeadLemmas
 mod HeaderPieces

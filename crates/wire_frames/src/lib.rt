@@ -19,11 +19,13 @@ mod records_reader;
 mod session;
 #[cfg(test)]
 mod tests;
+mod write;
 
 pub use answer::usable_answer;
 pub use header::{QueryHeader, write_answer_header, write_query_header};
 pub use reader::{BadSession, FeedFault, SessionReader};
 pub use session::{Session, SessionParams};
+pub use write::write_session;
 
 /// The greatest degree of a query's polynomials, so how many servers together may learn nothing.
 pub const MOST_DEGREE: u8 = 7;

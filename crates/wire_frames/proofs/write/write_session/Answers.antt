@@ -1,0 +1,27 @@
+use Rattle.std.proofs.Common.{◌≡◌, ◌∙◌, List, ℕ, ap, subst}
+use Rattle.std.proofs.lemmas.Result.{err_from_is_err_and}
+use Rattle.pir_ports.specs.Moves.{gave}
+use Rattle.pir_ports.specs.Whole.{FailsWithin}
+use Rattle.pir_ports.proofs.Pieces.{written_next, written_first}
+use Rattle.wire_frames.specs.Session.{header_bytes, records_bytes}
+use Rattle.wire_frames.proofs.write.write_session.Goals as goal
+
+pub returns-in_err-write_all-clause-written : goal.returns-in_err-write_all-clause-written
+returns-in_err-write_all-clause-written g c =
+    let session = c.args.session.now in
+    let p = err_from_is_err_and c.from_residual.result c.from_residual.ensures.1 in
+    let is = c.header_of-header.ensures ∙ ap header_bytes c.params.ensures.value in
+    let before = g.P.Ports.world c.args.ports.now in
+    let after = g.P.Ports.world c.write_all.new.ports in
+    let cut = subst (λ (l : List ℕ). FailsWithin 4 l before after) is c.in_err-write_all.ensures.failed in
+    rw p.1 (written_first 4 (header_bytes session.params) (records_bytes 1 session.records) before after cut)
+
+pub returns-clause-written : goal.returns-clause-written
+returns-clause-written g c =
+    let session = c.args.session.now in
+    let is = c.header_of-header.ensures ∙ ap header_bytes c.params.ensures.value in
+    let before = g.P.Ports.world c.args.ports.now in
+    let between = g.P.Ports.world c.write_all.new.ports in
+    let after = g.P.Ports.world c.write_records.new.ports in
+    written_next 4 (header_bytes session.params) (records_bytes 1 session.records) c.write_records.result before between after
+    (c.in_ok-write_all.ensures.ok ∙ ap (λ (l : List ℕ). gave l (before.at 4)) is) c.write_records.ensures.written

@@ -1,0 +1,101 @@
+//! Writes the file of a session, in pieces, with no memory taken.
+ghost use Rattle.std.specs.Prelude.{◌≡◌, ◌<◌, ◌^◌, length, IfSome};
+ghost use Rattle.std.specs.Option.{option_copied};
+ghost use Rattle.pir_ports.specs.Moves.{Touches};
+ghost use Rattle.pir_ports.specs.Written.{Written};
+ghost use Rattle.wire_frames.specs.Layout.{record_header};
+ghost use Rattle.wire_frames.specs.Limits.{IsInRange};
+ghost use Rattle.wire_frames.specs.Session.{header_bytes, record_bytes, records_bytes, session_bytes};
+
+#[cfg(test)]
+mod tests;
+
+use crate::layout::{HEADER_LEN, RECORD_HEADER_LEN};
+use crate::session::{Session, SessionParams};
+use byteorder::{BigEndian, ByteOrder};
+use pir_ports::{Failed, Port, Ports, write_all};
+
+/// The header of a session with these numbers.
+fn header_of(params: &SessionParams) -> [u8; HEADER_LEN]
+    ensures { result ≡ header_bytes params.now }
+{
+    let mut header = [0; HEADER_LEN];
+    header[..4].copy_from_slice(b"PIRS");
+    header[4] = 1;
+    header[5] = params.scheme;
+    header[6] = params.t;
+    header[7] = params.h;
+    header[8] = params.n;
+    BigEndian::write_u64(&mut header[12..], params.session);
+    BigEndian::write_u32(&mut header[20..], params.r);
+    BigEndian::write_u32(&mut header[24..], params.s);
+    header
+}
+
+/// What stands before the bytes of a record, of so many bytes or absent.
+fn record_header_of(index: u8, len: Option<u32>) -> [u8; RECORD_HEADER_LEN]
+    ensures { result ≡ record_header index len }
+{
+    let mut header = [0; RECORD_HEADER_LEN];
+    header[0] = index;
+    if let Some(len) = len {
+        header[1] = 1;
+        BigEndian::write_u32(&mut header[2..], len);
+    }
+    header
+}
+
+/// Writes the record of one server to Record: the bytes that it answered, or `None` where a call failed.
+fn write_record<P: Ports>(ports: &mut P, index: u8, bytes: Option<&[u8]>) -> Result<(), Failed>
+    requires { IfSome (option_copied bytes) (λ b. length b < 2 ^ 32) }
+    ensures written { Written 4 (record_bytes index (option_copied bytes.entry)) result (P.world ports.old) (P.world ports.new) }
+    ensures others { Touches 4 (P.world ports.old) (P.world ports.new) }
+{
+    match bytes {
+        Some(bytes) => write_present(ports, index, bytes),
+        None => write_all(ports, Port::Record, &record_header_of(index, None)),
+    }
+}
+
+/// Writes a record that is present.
+fn write_present<P: Ports>(ports: &mut P, index: u8, bytes: &[u8]) -> Result<(), Failed>
+    requires { length bytes.now < 2 ^ 32 }
+    ensures written { Written 4 (record_bytes index (Some bytes.now)) result (P.world ports.old) (P.world ports.new) }
+    ensures others { Touches 4 (P.world ports.old) (P.world ports.new) }
+{
+    let header = record_header_of(index, Some(bytes.len() as u32));
+    write_all(ports, Port::Record, &header)?;
+    if bytes.is_empty() {
+        return Ok(());
+    }
+    write_all(ports, Port::Record, bytes)
+}
+
+/// Writes the records of the session to Record.
+fn write_records<P: Ports>(ports: &mut P, session: &Session) -> Result<(), Failed>
+    requires { IsInRange session.now.params }
+    ensures written { Written 4 (records_bytes 1 session.now.records) result (P.world ports.old) (P.world ports.new) }
+    ensures others { Touches 4 (P.world ports.old) (P.world ports.new) }
+{
+    for i in 0..session.record_count() {
+        write_record(ports, i as u8 + 1, session.record_at(i + 1))?;
+    }
+    Ok(())
+}
+
+/// Writes the file of the session to Record, in pieces; it takes no memory. All `n` records must have been pushed.
+///
+/// The file is read back by [`SessionReader`](crate::SessionReader).
+///
+/// # Errors
+///
+/// `Failed` exactly where the count of Record rose; then Record took a proper front of the file.
+pub fn write_session<P: Ports>(ports: &mut P, session: &Session) -> Result<(), Failed>
+    requires { length session.now.records ≡ session.now.params.n }
+    ensures written { Written 4 (session_bytes session.now) result (P.world ports.old) (P.world ports.new) }
+    ensures others { Touches 4 (P.world ports.old) (P.world ports.new) }
+{
+    let header = header_of(&session.params());
+    write_all(ports, Port::Record, &header)?;
+    write_records(ports, session)
+}
