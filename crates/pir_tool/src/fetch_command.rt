@@ -18,8 +18,7 @@ use std::alloc::Global;
 use std::marker::Brand;
 use std::sync::ledger::{Blank, Ledger};
 use uni_poly::steps::Steps;
-use crate::record_stub::write_session;
-use wire_frames::Session;
+use wire_frames::{Session, write_session};
 
 /// Fetches the block, with a counter of columns that nobody reads, made of the blank.
 fn fetch_once<C: Ledger, P: Ports>(

@@ -2,7 +2,6 @@
 #![tactic(auto)]
 
 mod fetch_command;
-mod record_stub;
 mod replay_command;
 mod report;
 mod status;

@@ -5,7 +5,7 @@ ghost use Rattle.pir_ports.specs.Moves.{Touches};
 ghost use Rattle.pir_ports.specs.Written.{Written};
 ghost use Rattle.wire_frames.specs.Layout.{record_header};
 ghost use Rattle.wire_frames.specs.Limits.{IsInRange};
-ghost use Rattle.wire_frames.specs.Session.{header_bytes, record_bytes, records_bytes, session_bytes};
+ghost use Rattle.wire_frames.specs.Session.{IsSession, header_bytes, record_bytes, records_bytes, session_bytes};
 
 #[cfg(test)]
 mod tests;
@@ -83,7 +83,8 @@ fn write_records<P: Ports>(ports: &mut P, session: &Session) -> Result<(), Faile
     Ok(())
 }
 
-/// Writes the file of the session to Record, in pieces; it takes no memory. All `n` records must have been pushed.
+/// Writes the file of the session to Record, in pieces; it takes no memory. All `n` records must have been pushed, so that
+/// the bytes are the file of a session.
 ///
 /// The file is read back by [`SessionReader`](crate::SessionReader).
 ///
@@ -93,8 +94,11 @@ fn write_records<P: Ports>(ports: &mut P, session: &Session) -> Result<(), Faile
 pub fn write_session<P: Ports>(ports: &mut P, session: &Session) -> Result<(), Failed>
     requires { length session.now.records ≡ session.now.params.n }
     ensures written { Written 4 (session_bytes session.now) result (P.world ports.old) (P.world ports.new) }
+    ensures file { IsSession (session_bytes session.now) session.now }
     ensures others { Touches 4 (P.world ports.old) (P.world ports.new) }
 {
+    let whole = session.record_count() == u32::from(session.n());
+    prove!(whole);
     let header = header_of(&session.params());
     write_all(ports, Port::Record, &header)?;
     write_records(ports, session)

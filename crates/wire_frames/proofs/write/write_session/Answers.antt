@@ -1,4 +1,4 @@
-use Rattle.std.proofs.Common.{◌≡◌, ◌∙◌, List, ℕ, ap, subst}
+use Rattle.std.proofs.Common.{◌≡◌, ◌∙◌, List, ℕ, ap, subst, refl}
 use Rattle.std.proofs.lemmas.Result.{err_from_is_err_and}
 use Rattle.pir_ports.specs.Moves.{gave}
 use Rattle.pir_ports.specs.Whole.{FailsWithin}
@@ -25,3 +25,9 @@ returns-clause-written g c =
     let after = g.P.Ports.world c.write_records.new.ports in
     written_next 4 (header_bytes session.params) (records_bytes 1 session.records) c.write_records.result before between after
     (c.in_ok-write_all.ensures.ok ∙ ap (λ (l : List ℕ). gave l (before.at 4)) is) c.write_records.ensures.written
+
+pub returns-in_err-write_all-clause-file : goal.returns-in_err-write_all-clause-file
+returns-in_err-write_all-clause-file g c = record { range = c.params.ensures.range; all = c.requires; fits = c.record_count.ensures.fits; spelled = refl }
+
+pub returns-clause-file : goal.returns-clause-file
+returns-clause-file g c = record { range = c.params.ensures.range; all = c.requires; fits = c.record_count.ensures.fits; spelled = refl }
