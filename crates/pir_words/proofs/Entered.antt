@@ -1,6 +1,6 @@
 -- The command that a parse entered.
 use Rattle.std.proofs.Common.{◌≡◌, ◌∙◌, true, false, List, Option, Some, None, is_some, unwrap_or, refl, sym, ap, subst}
-use Rattle.std.specs.Prelude.{Result, Ok, Err, option_map}
+use Rattle.std.specs.Prelude.{Result, Err, option_map}
 use Rattle.std.proofs.lemmas.Bool.{cond-false, cond-true}
 use Rattle.clap.specs.Words.{Row, Text, subcommand_of}
 use Rattle.pir_words.specs.Command.{pir}

@@ -35,7 +35,7 @@ pub enum Asked {
 }
 
 /// Why words give no command.
-#[derive(Debug, Drop, Error)]
+#[derive(Clone, Copy, Debug, PartialEq, Eq, Error)]
 pub enum WordsFault {
     /// The words have no form.
     #[error("the words have no form")]

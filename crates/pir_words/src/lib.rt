@@ -1,8 +1,14 @@
-//! The words of the command line.
+//! The words of the command line, read to a command.
 //!
-//! Words give a command with its values exactly where they have its form, and are a faulty command line exactly where
-//! they have none; either may give way to want of memory. The form is what `clap` takes by the commands that are built
-//! here, with each value in its range. Nothing is said of what a file or an address is: any text is one.
+//! Promised: words give a command with its values exactly where they have its form, and are a faulty command line
+//! exactly where they have none, want of memory aside. The form is what `clap` takes by the commands that are built
+//! here, with each value in its range; so each value of a command that was read is in its range.
+//!
+//! Not promised: that a file or an address is one. Any text is a name, the empty one too. `help`, `--help` and
+//! `--version` are a faulty command line.
+//!
+//! A command that is to come takes a variant of [`Asked`], an app in `specs/Command.antt` and a function that builds it
+//! in `command`, a form in `specs/` and a module that reads it, and an arm of `read_command`.
 #![tactic(auto)]
 
 ghost use Rattle.std.specs.Prelude.{◌≡◌, Bool, true, false, IfErr, IfOk, if◌then◌else◌, map, string_bytes};
@@ -78,7 +84,33 @@ fn read_matches(alloc: Global, matches: &ArgMatches) -> Result<Asked, WordsFault
     }
 }
 
-/// The command that the words ask for, which come without the program's name.
+/// The command that the words ask for. They come without the program's name.
+///
+/// | Command | Required | May be left out |
+/// |---|---|---|
+/// | `replay` | FILE | |
+/// | `fetch` | `--rows R --width S --block B --degree T --agree H`, one address or more | `--scheme shamir`, `--coins FILE` (`/dev/urandom`), `--record FILE` |
+///
+/// Options come in any order, each once, as `--rows 2` or `--rows=2`, and addresses may stand between them. What follows
+/// the word `--` is no option. A value that begins with `-` is written `--coins=-x`; `-` alone is a value.
+///
+/// A number is one or more ASCII decimal digits, of a value below `2^64`: `002` is good, and `+2` is not. The numbers R
+/// of rows and S of their bytes are at least 1 and at most [`MOST_ROWS`](wire_frames::MOST_ROWS) and
+/// [`MOST_WIDTH`](wire_frames::MOST_WIDTH), their product is at most [`MOST_CELLS`](wire_frames::MOST_CELLS), and the
+/// block B is below R. Of n addresses, at most [`MOST_SERVERS`](wire_frames::MOST_SERVERS), degree and agreement have
+/// `1 <= T < H <= n`, and T is at most [`MOST_DEGREE`](wire_frames::MOST_DEGREE).
+///
+/// # Errors
+///
+/// `Usage` exactly where the words have no such form, and `Memory` if memory is short.
+///
+/// ```
+/// // The words are `replay -`.
+/// let Ok(Asked::Replay { file }) = read_words(alloc, &words) else {
+///     return Err("no replay".into());
+/// };
+/// assert_eq!(file.as_str(), "-");
+/// ```
 pub fn read_words(alloc: Global, words: &[String]) -> Result<Asked, WordsFault>
     ensures form { Answers (asked_of (map string_bytes words.now)) result }
     ensures ranges { IfOk result InRange }

@@ -1,4 +1,4 @@
-use Rattle.std.proofs.Common.{◌≡◌, subst}
+use Rattle.std.proofs.Common.{subst}
 use Rattle.pir_words.specs.Numbers.{given}
 use Rattle.pir_words.specs.Form.{Answers}
 use Rattle.pir_words.proofs.Entered.{asked_at, asked_none}

@@ -1,4 +1,4 @@
-use Rattle.std.proofs.Common.{◌≡◌, List, Option, Some, map, string_bytes, subst}
+use Rattle.std.proofs.Common.{List, map, string_bytes}
 use Rattle.std.specs.Prelude.{Result, Ok, Err, IfOk}
 use Rattle.clap.specs.Words.{Text, subcommand_rows_of}
 use Rattle.pir_words.specs.Form.{Answers, InRange, asked_of}

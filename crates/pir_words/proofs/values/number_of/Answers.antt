@@ -1,4 +1,4 @@
-use Rattle.std.proofs.Common.{◌≡◌, ◌∙◌, ap, sym, true}
+use Rattle.std.proofs.Common.{◌∙◌, ap, sym}
 use Rattle.std.specs.List.{list_all}
 use Rattle.pir_words.specs.Numbers.{is_digit}
 use Rattle.pir_words.proofs.Digits.{number_parsed}
