@@ -1,0 +1,4 @@
+pub mod Layouts
+pub mod RowLengths
+pub mod Conditions
+pub mod Interpolants

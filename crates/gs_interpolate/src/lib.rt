@@ -8,11 +8,16 @@
 //! Not promised: which of the many such polynomials it is, and anything of time.
 #![tactic(auto)]
 
+mod condition;
+mod elimination;
+mod layout;
+
 ghost use Rattle.std.specs.Prelude.{◌≢◌, ◌<◌, ◌≤◌, ◌^◌, length, AllPairs, IfOk};
 ghost use Rattle.gs_interpolate.specs.Monomials.{monomials, conditions};
 ghost use Rattle.gs_interpolate.specs.Interpolant.{IsInterpolant};
 
 use bi_poly::BiPoly;
+pub use elimination::Elimination;
 use std::alloc::{AllocError, Global};
 
 /// A way to interpolate with multiplicities.
