@@ -57,10 +57,10 @@ unfolding inner hasse
 inner-hasse f q ns v c cut room e =
     let at = λ (j i : ℕ). start ns j + i in
     let same = λ (j : ℕ) (l : j < length ns).
-        sum_to-same (λ i. f (at j i) ⊗ component v (at j i))
-        (λ i. binomial_parity i c.u ⊗ binomial_parity j c.v ⊗ cell q j i ⊗ power c.a (i - c.u) ⊗ power c.b (j - c.v)) (get_or ns j 0)
-        (λ i h. ap₂ ◌⊗◌ (e j i l h) (sym (cut-cell q ns v j i cut l h)) ∙ term c (cell q j i) i j)
-        ∙ ap (sum_to _) (sym (cut-row q ns v j cut room l)) in
+    sum_to-same (λ i. f (at j i) ⊗ component v (at j i))
+    (λ i. binomial_parity i c.u ⊗ binomial_parity j c.v ⊗ cell q j i ⊗ power c.a (i - c.u) ⊗ power c.b (j - c.v)) (get_or ns j 0)
+    (λ i h. ap₂ ◌⊗◌ (e j i l h) (sym (cut-cell q ns v j i cut l h)) ∙ term c (cell q j i) i j)
+    ∙ ap (sum_to _) (sym (cut-row q ns v j cut room l)) in
     ap (sum_to (λ k. f k ⊗ component v k)) (sym (start-all ns))
     ∙ sum_to-rows (λ k. f k ⊗ component v k) ns (length ns) (omega arith)
     ∙ sum_to-same _ _ (length ns) same

@@ -79,23 +79,23 @@ filled-next ns missing longest n size t d some f l e =
       sum = omega arith;
       left = omega arith;
       enough =
-        elim (cases_lt 0 rows) [
-          | inl h ↦
-              let split = monomials_below-row rows t longest (d + 1 - length (ns ++ n ∷ [])) (omega arith) in
-              omega arith
-          | inr h ↦ let z = monomials_below-no_rows rows t longest (omega arith) in absurd (omega arith)
-        ];
+          elim (cases_lt 0 rows) [
+            | inl h ↦
+                let split = monomials_below-row rows t longest (d + 1 - length (ns ++ n ∷ [])) (omega arith) in
+                omega arith
+            | inr h ↦ let z = monomials_below-no_rows rows t longest (omega arith) in absurd (omega arith)
+          ];
       rows = omega arith;
       within = λ j h.
-        elim (cases_lt j (length ns)) [
-          | inl k ↦ rw (get_or_append_left ns (n ∷ []) 0 j k) (f.within j k)
-          | inr k ↦
-              let same : length ns ≡ j = omega arith in
-              let last = get_or_push ns n 0 j same in
-              let up_to : t * length ns ≡ t * j = ap (λ x. t * x) same in
-              let room = filled-room ns missing longest size t d f l in
-              omega arith
-        ];
+          elim (cases_lt j (length ns)) [
+            | inl k ↦ rw (get_or_append_left ns (n ∷ []) 0 j k) (f.within j k)
+            | inr k ↦
+                let same : length ns ≡ j = omega arith in
+                let last = get_or_push ns n 0 j same in
+                let up_to : t * length ns ≡ t * j = ap (λ x. t * x) same in
+                let room = filled-room ns missing longest size t d f l in
+                omega arith
+          ];
     }
 
 -- where none are missing, the rows are filled

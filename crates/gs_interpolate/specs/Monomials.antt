@@ -1,5 +1,5 @@
 -- How many monomials there are of a weighted degree, and how many conditions zeros are (Guruswami and Sudan 1999).
-use Rattle.std.specs.Prelude.{ℕ, zero, suc, ◌+◌, ◌-◌, ◌*◌, ◌/◌}
+use Rattle.std.specs.Prelude.{◌≢◌, ℕ, zero, suc, ◌+◌, ◌-◌, ◌*◌, ◌/◌, ◌≤◌, List, All, AllPairs, Contains}
 
 -- how many pairs (i, j) with j < rows have i + t * j < n, row by row: n of them have j = 0, and those with a greater j are
 -- as many as the pairs with i + t * j < n - t in one row less
@@ -16,3 +16,9 @@ monomials t d = monomials_below (d + 1) t (d + 1)
 -- pair (u, v) with u + v < m
 abbrev pub conditions : ℕ → ℕ → ℕ
 conditions k m = k * m * (m + 1) / 2
+
+-- these are the pairs (i, j) with i + t * j <= d, each once
+pub record ArePairs (t d : ℕ) (pairs : List (ℕ × ℕ)) : Type 0 where
+  pub within : All (λ p. p.0 + t * p.1 ≤ d) pairs
+  pub all : (i j : ℕ) → i + t * j ≤ d → Contains pairs (i, j)
+  pub once : AllPairs (λ p q. p ≢ q) pairs

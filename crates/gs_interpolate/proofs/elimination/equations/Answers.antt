@@ -16,11 +16,11 @@ loop-r-preserved c =
       height = W.height ∙ l.invariant.height;
       width = W.width ∙ l.invariant.width;
       equations = λ r d k.
-        below_more (λ x. IsEquation new x ns (get_or c.args.conditions.now x d)) l.r
-        (λ x b j i row h.
-        let inside = start-within ns j row in
-        W.kept x (start ns j + i) (λ e. omega (arith, e, b)) (omega (arith, inside, h, l.invariant.width, c.requires.unknowns))
-        ∙ l.invariant.equations x d b j i row h)
-        (subst (IsEquation new l.r ns) (get_or_default c.args.conditions.now l.r _ d (omega arith)) W.written)
-        r k;
+          below_more (λ x. IsEquation new x ns (get_or c.args.conditions.now x d)) l.r
+          (λ x b j i row h.
+          let inside = start-within ns j row in
+          W.kept x (start ns j + i) (λ e. omega (arith, e, b)) (omega (arith, inside, h, l.invariant.width, c.requires.unknowns))
+          ∙ l.invariant.equations x d b j i row h)
+          (subst (IsEquation new l.r ns) (get_or_default c.args.conditions.now l.r _ d (omega arith)) W.written)
+          r k;
     }

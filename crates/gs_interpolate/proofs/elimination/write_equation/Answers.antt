@@ -19,12 +19,12 @@ loop-j-preserved c =
       height = W.height ∙ l.invariant.height;
       width = W.width ∙ l.invariant.width;
       written = λ j i k inrow.
-        below_more (λ x. (i : ℕ) → i < get_or ns x 0 → entry new c.args.r (start ns x + i) ≡ derivative_of c.args.condition.now i x) l.j
-        (λ x b i h.
-        let before = start-before ns x l.j b (omega arith) in
-        W.kept c.args.r (start ns x + i) (omega (arith, before, h, inside, width)) (inr (omega (arith, before, h, l.invariant.column)))
-        ∙ l.invariant.written x i b h)
-        (λ i h. ap (λ x. entry new c.args.r (x + i)) (sym l.invariant.column) ∙ W.written i h)
-        j k i inrow;
+          below_more (λ x. (i : ℕ) → i < get_or ns x 0 → entry new c.args.r (start ns x + i) ≡ derivative_of c.args.condition.now i x) l.j
+          (λ x b i h.
+          let before = start-before ns x l.j b (omega arith) in
+          W.kept c.args.r (start ns x + i) (omega (arith, before, h, inside, width)) (inr (omega (arith, before, h, l.invariant.column)))
+          ∙ l.invariant.written x i b h)
+          (λ i h. ap (λ x. entry new c.args.r (x + i)) (sym l.invariant.column) ∙ W.written i h)
+          j k i inrow;
       kept = λ s k other h. W.kept s k (omega (arith, h, width)) (inl other) ∙ l.invariant.kept s k other h;
     }

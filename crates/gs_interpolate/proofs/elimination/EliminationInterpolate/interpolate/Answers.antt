@@ -20,11 +20,11 @@ returns c =
       height = T.height ∙ ap length c.deref.ensures.value;
       width = T.width ∙ ap (λ n. n + 1) count;
       equations =
-        subst (λ xs. (r : ℕ) (d : Condition) → r < length xs → IsEquation table r ns (get_or xs r d)) c.deref.ensures.value
-        (subst (λ xs. (r : ℕ) (d : Condition) → r < length c.deref.result.now → IsEquation table r xs (get_or c.deref.result.now r d)) c.deref-2.ensures.value
-        T.equations);
+          subst (λ xs. (r : ℕ) (d : Condition) → r < length xs → IsEquation table r ns (get_or xs r d)) c.deref.ensures.value
+          (subst (λ xs. (r : ℕ) (d : Condition) → r < length c.deref.result.now → IsEquation table r xs (get_or c.deref.result.now r d)) c.deref-2.ensures.value
+          T.equations);
       kernel = c.in_ok-coefficients.ensures;
       cut =
-        subst (λ q. IsCut q ns v) (sym c.from_rows.ensures)
-        (subst (λ w. IsCut rows ns w) c.deref-3.ensures.value (subst (λ xs. IsCut rows xs c.deref-3.result.now) c.deref-4.ensures.value c.in_ok-rows.ensures));
+          subst (λ q. IsCut q ns v) (sym c.from_rows.ensures)
+          (subst (λ w. IsCut rows ns w) c.deref-3.ensures.value (subst (λ xs. IsCut rows xs c.deref-3.result.now) c.deref-4.ensures.value c.in_ok-rows.ensures));
     }
