@@ -13,7 +13,7 @@ use crate::mul;
 use std::marker::Model;
 use std::simd::prelude::*;
 
-/// The products with one factor. Contracts see the factor.
+/// The products with one factor, 16 at once. Contracts see the factor.
 #[derive(Drop)]
 pub struct Products {
     factor: u8,
@@ -87,6 +87,7 @@ fn multiples(one: u8) -> u8x16
 }
 
 /// Adds `factor` times `row` to `acc`, which is as long: `acc[i]` becomes `acc[i] + factor * row[i]`, for each place i.
+/// Adding `83` times `57 57` to `00 01` makes it `c1 c0`.
 pub fn add_scaled_row(acc: &mut [u8], row: &[u8], factor: u8)
     requires { length row.now ≡ length acc.old }
     ensures { (k : ℕ) → slice_index acc.new k ≡ slice_index acc.old k ⊕ factor ⊗ slice_index row.now k }

@@ -15,8 +15,8 @@ lanes-preserved c =
     record {
       within = omega (arith, length-put_chunk at acc (zip2 bit_xor (chunk at 16 acc) c.times.result));
       added =
-        added-next acc c.args.acc.now row c.times.result c.args.factor at room (omega arith)
-        (c.times.ensures ∙ ap (λ f. map (λ x. f ⊗ x) (chunk at 16 row)) c.of-products.ensures) c.lanes.invariant.added;
+          added-next acc c.args.acc.now row c.times.result c.args.factor at room (omega arith)
+          (c.times.ensures ∙ ap (λ f. map (λ x. f ⊗ x) (chunk at 16 row)) c.of-products.ensures) c.lanes.invariant.added;
     }
 
 pub returns : goal.returns
