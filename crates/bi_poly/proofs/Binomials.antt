@@ -1,7 +1,7 @@
 -- Binomials modulo 2: by Pascal's rule, and by the bits of the two numbers.
-use Rattle.std.proofs.Common.{◌≡◌, ℕ, zero, suc, ◌+◌, ◌*◌, ◌/◌, ◌%◌, ◌<◌, min, cond, nat_eq, bit_and, refl, sym, ap, ap₂, ◌∙◌, arith, lit<, inl, inr, add-zero, div-add-mod', eq-eqb, ne_eqb}
+use Rattle.std.proofs.Common.{◌≡◌, ℕ, zero, suc, ◌+◌, ◌*◌, ◌/◌, ◌%◌, ◌<◌, ◌≤◌, min, cond, nat_eq, bit_and, refl, sym, ap, ap₂, ◌∙◌, arith, lit<, inl, inr, add-zero, div-add-mod', eq-eqb, ne_eqb}
 use Rattle.std.proofs.Math.Arith.{bin_ind}
-use Rattle.std.proofs.lemmas.Bool.{cases_eq}
+use Rattle.std.proofs.lemmas.Bool.{cases_eq, cases_lt}
 use Rattle.std.proofs.lemmas.Nat.{mod_below}
 use Rattle.std.specs.Int.Bits.{and_step}
 use Rattle.gf256.specs.Field.{◌⊕◌}
@@ -14,6 +14,11 @@ unfolding binomial_parity
 binomial_parity-small n zero h = absurd (omega arith)
 binomial_parity-small zero (suc k) h = refl
 binomial_parity-small (suc n) (suc k) h = ap₂ ◌⊕◌ (binomial_parity-small n k (omega arith)) (binomial_parity-small n (suc k) (omega arith)) ∙ zero_add 0
+
+-- where they are odd, k is at most n
+pub binomial_parity-at_most : (n k : ℕ) → binomial_parity n k ≡ 1 → k ≤ n
+binomial_parity-at_most n k e =
+    elim (cases_lt n k) [ inl l ↦ let z = binomial_parity-small n k l in absurd (omega (arith, z, e)) | inr l ↦ l ]
 
 -- two steps at once, where the middle cancels
 binomial_parity-two : (n k : ℕ) → binomial_parity (suc (suc n)) (suc (suc k)) ≡ binomial_parity n k ⊕ binomial_parity n (suc (suc k))

@@ -2,3 +2,4 @@ pub mod Field
 pub mod Sums
 pub mod Polynomial
 pub mod Product
+pub mod Rows

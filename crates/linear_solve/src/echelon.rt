@@ -4,7 +4,8 @@ ghost use Rattle.std.specs.Prelude.{ℕ, List, ◌≡◌, ◌<◌, length, slice
 ghost use Rattle.linear_solve.specs.Kernel.{component, inner};
 ghost use Rattle.linear_solve.specs.Echelon.{columns_of, rows_of, IsEchelon, SendToZero, IsReduced, IsTaken, IsFree};
 
-use crate::row::{add_multiple, first_nonzero, inner_product, scale};
+use crate::row::{first_nonzero, inner_product, scale};
+use gf256::rows::add_scaled_row;
 use std::alloc::{AllocError, Global};
 
 /// A row of the echelon form: it has 1 in its column, and 0 in the columns of the pivots before it.
@@ -23,7 +24,7 @@ fn clear(row: &mut [u8], pivots: &[PivotRow])
 {
     for pivot in pivots {
         let factor = row[pivot.column];
-        add_multiple(row, &pivot.row, factor);
+        add_scaled_row(row, &pivot.row, factor);
     }
 }
 

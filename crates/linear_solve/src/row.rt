@@ -1,9 +1,8 @@
-//! Operations on whole rows of bytes, the only ones that the elimination takes time for.
+//! Operations on whole rows of bytes, each done once for a row.
 
 ghost use Rattle.std.specs.Prelude.{ℕ, ◌≡◌, not, nat_eq, length, position};
 ghost use Rattle.gf256.specs.Field.{◌⊗◌};
 ghost use Rattle.linear_solve.specs.Kernel.{component, inner};
-ghost use Rattle.linear_solve.specs.Echelon.{IsMultipleAdded};
 
 /// The inner product of a row and a vector of the same length.
 pub(crate) fn inner_product(row: &[u8], v: &[u8]) -> u8
@@ -15,16 +14,6 @@ pub(crate) fn inner_product(row: &[u8], v: &[u8]) -> u8
         sum = gf256::add(sum, gf256::mul(row[k], v[k]));
     }
     sum
-}
-
-/// Adds `factor` times `other` to `row`, which is as long.
-pub(crate) fn add_multiple(row: &mut [u8], other: &[u8], factor: u8)
-    requires { length row.old ≡ length other.now }
-    ensures { IsMultipleAdded row.new row.old other.now factor }
-{
-    for (k, &x) in other.iter().enumerate() {
-        row[k] = gf256::add(row[k], gf256::mul(factor, x));
-    }
 }
 
 /// Multiplies `row` by `factor`.

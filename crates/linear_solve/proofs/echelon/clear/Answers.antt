@@ -13,12 +13,12 @@ bounds-row-pivot c =
     let same = column-is c.args.pivots.now t c.pivot-item.result c.loop-pivot-test.true c.pivot-item.is in
     omega (arith, inside, same, c.loop-pivot.auto.row)
 
-pub add_multiple-requires : goal.add_multiple-requires
-add_multiple-requires c =
+pub add_scaled_row-requires : goal.add_scaled_row-requires
+add_scaled_row-requires c =
     let t = c.loop-pivot.pivot-index in
     let here : t < length (rows_of c.args.pivots.now) = omega (arith, length-rows_of c.args.pivots.now, c.loop-pivot-test.true) in
     let e = row-is c.args.pivots.now t c.pivot-item.result c.loop-pivot-test.true c.pivot-item.is in
-    c.loop-pivot.auto.row ∙ sym (ap length (c.deref.ensures.value ∙ e) ∙ c.requires.wide t here)
+    ap length (c.deref.ensures.value ∙ e) ∙ c.requires.wide t here ∙ sym c.loop-pivot.auto.row
 
 pub loop-pivot-preserved : goal.loop-pivot-preserved
 unfolding component
@@ -29,11 +29,11 @@ loop-pivot-preserved c =
     let rs = rows_of ps in
     let here : t < length rs = omega (arith, length-rows_of ps, c.loop-pivot-test.true) in
     let old = c.loop-pivot.row in
-    let new = c.add_multiple.new.row in
+    let new = c.add_scaled_row.new.acc in
     let row = row_at rs t in
     let e = c.deref.ensures.value ∙ row-is ps t c.pivot-item.result c.loop-pivot-test.true c.pivot-item.is in
     let column = column-is ps t c.pivot-item.result c.loop-pivot-test.true c.pivot-item.is in
-    let added : IsMultipleAdded new old row (get_or old c.pivot-item.result.column 0) = subst (λ o. IsMultipleAdded new old o (get_or old c.pivot-item.result.column 0)) e c.add_multiple.ensures in
+    let added : IsMultipleAdded new old row (get_or old c.pivot-item.result.column 0) = subst (λ o. IsMultipleAdded new old o (get_or old c.pivot-item.result.column 0)) e c.add_scaled_row.ensures in
     let how : IsMultipleAdded new old row (component old (get_or cs t 0)) = subst (λ k. IsMultipleAdded new old row (component old k)) column added in
     record {
       same = λ v h. same_inner new old row v (component old (get_or cs t 0)) (length c.args.row.now) how (h t here) ∙ c.loop-pivot.invariant.same v h;

@@ -1,0 +1,4 @@
+pub mod Monomials
+pub mod Interpolant
+pub mod Conditions
+pub mod Layout

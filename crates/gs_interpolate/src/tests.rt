@@ -1,0 +1,90 @@
+ghost use Rattle.std.specs.Prelude.{◌≢◌, ◌<◌, ◌≤◌, ◌^◌, length, AllPairs, IsTrue};
+ghost use Rattle.gs_interpolate.specs.Monomials.{monomials, conditions};
+
+use crate::{Elimination, Interpolate};
+use bi_poly::BiPoly;
+use std::alloc::{AllocError, Global};
+
+/// Whether the first members ascend.
+fn is_ascending(points: &[(u8, u8)]) -> bool
+    ensures { IsTrue result → AllPairs (λ p q. p.0 ≢ q.0) points.now }
+{
+    for i in 1..points.len() {
+        if points[i - 1].0 >= points[i].0 {
+            return false;
+        }
+    }
+    true
+}
+
+/// Whether each derivative of order `(u, v)` with `u + v < m` is 0 at the point.
+fn has_zero(q: &BiPoly, point: (u8, u8), m: u32) -> bool {
+    let (a, b) = point;
+    for u in 0..m {
+        for v in 0..m - u {
+            if q.hasse(u, v, a, b) != 0 {
+                return false;
+            }
+        }
+    }
+    true
+}
+
+/// Whether elimination gives a polynomial, not 0, of weighted degree at most `d` with these zeros.
+#[tactic(auto, using(crate::proofs::Promise::within_limits))]
+fn is_interpolated(
+    alloc: Global,
+    points: &[(u8, u8)],
+    m: u32,
+    t: u32,
+    d: u32,
+) -> Result<bool, AllocError>
+    requires multiplicity { (1 ≤ m) × (m ≤ 255) }
+    requires weight { (1 ≤ t) × (t ≤ 254) }
+    requires degree { d ≤ 2 ^ 16 }
+    requires distinct { AllPairs (λ p q. p.0 ≢ q.0) points.now }
+    requires few { conditions (length points.now) m ≤ 32768 }
+    requires enough { conditions (length points.now) m < monomials t d }
+{
+    let q = Elimination.interpolate(alloc, points, m, t, d)?;
+    let is_light = q.weighted_degree(t).is_some_and(|w| w <= u64::from(d));
+    Ok(is_light && points.iter().all(|&point| has_zero(&q, point, m)))
+}
+
+// Five points on two lines, of which each has three: a product of the two lines is among what may come out.
+#[test]
+#[tactic(auto, unfolding(crate::specs::Monomials::monomials_below))]
+fn through_two_lines(rt: HostRuntime) -> Result<(), AllocError> {
+    let points = [(1, 0x10), (2, 0x10), (3, 0x10), (4, 0x17), (5, 0x16)];
+    assert!(rt; is_ascending(&points));
+    assert!(rt; is_interpolated(rt.alloc(), &points, 1, 1, 2)?);
+    Ok(())
+}
+
+#[test]
+#[tactic(auto, unfolding(crate::specs::Monomials::monomials_below))]
+fn with_multiplicity_two(rt: HostRuntime) -> Result<(), AllocError> {
+    let points = [(1, 0x10), (2, 0x10), (3, 0x10), (4, 0x17), (5, 0x16)];
+    assert!(rt; is_ascending(&points));
+    assert!(rt; is_interpolated(rt.alloc(), &points, 2, 1, 5)?);
+    Ok(())
+}
+
+// Eight points on one constant, of which three decide: 168 conditions, and 171 monomials.
+#[test]
+#[tactic(auto, unfolding(crate::specs::Monomials::monomials_below))]
+fn with_multiplicity_six(rt: HostRuntime) -> Result<(), AllocError> {
+    let points = [
+        (1, 0x43),
+        (2, 0x43),
+        (3, 0x43),
+        (4, 0x43),
+        (5, 0x43),
+        (6, 0x43),
+        (7, 0x43),
+        (8, 0x43),
+    ];
+    assert!(rt; is_ascending(&points));
+    assert!(rt; is_interpolated(rt.alloc(), &points, 6, 1, 17)?);
+    Ok(())
+}
