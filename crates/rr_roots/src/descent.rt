@@ -1,0 +1,84 @@
+//! The tree of the roots' coefficients.
+
+ghost use Rattle.std.specs.Prelude.{ℕ, List, [], ◌≡◌, ◌+◌, ◌*◌, ◌<◌, ◌≤◌, ◌↔◌, IsTrue, length, map, All, IfOk, OnOk};
+ghost use Rattle.uni_poly.specs.Coefficients as one;
+ghost use Rattle.bi_poly.specs.Rows.{IsZero};
+ghost use Rattle.rr_roots.specs.Roots.{IsYRoot};
+ghost use Rattle.rr_roots.specs.Descent.{Appends, HasLowestDegree, IsRootOfSize};
+
+use bi_poly::BiPoly;
+use bi_poly::laws::coefficients_are_bytes;
+use std::alloc::{AllocError, Global};
+use std::sync::ledger::Ledger;
+use uni_poly::eval;
+use uni_poly::steps::Steps;
+
+/// Whether each coefficient of `p` is 0.
+fn is_zero(p: &[u8]) -> bool
+    ensures { IsTrue result ↔ All (λ c. c ≡ 0) p.now }
+{
+    p.iter().all(|&c| c == 0)
+}
+
+/// Whether `q` is 0 where y is 0.
+fn has_root_zero(q: &BiPoly) -> bool
+    ensures { IsTrue result ↔ IsYRoot q.now [] }
+{
+    match q.rows().first() {
+        Some(row) => is_zero(row),
+        None => true,
+    }
+}
+
+/// Appends `prefix` to `roots` where `q` is 0 where y is 0.
+fn keep_root(
+    alloc: Global,
+    q: &BiPoly,
+    prefix: &[u8],
+    roots: &mut Vec<Vec<u8>>,
+) -> Result<(), AllocError>
+    ensures { OnOk result (Appends (IsRootOfSize q.now 0) prefix.now
+        (map (λ r. r.items) roots.old.items) (map (λ r. r.items) roots.new.items)) }
+{
+    if !has_root_zero(q) {
+        return Ok(());
+    }
+    roots.push(Vec::from_slice(alloc, prefix)?)?;
+    Ok(())
+}
+
+/// Appends the y-roots of `q` that have `left` coefficients to `roots`, each after `prefix`, in ascending order.
+pub fn descend<N: Ledger>(
+    alloc: Global,
+    mut q: BiPoly,
+    left: u32,
+    prefix: &mut Vec<u8>,
+    roots: &mut Vec<Vec<u8>>,
+    nodes: &mut Steps<N>,
+) -> Result<(), AllocError>
+    requires { ¬ IsZero q }
+    ensures kept { OnOk result (prefix.new.items ≡ prefix.old.items) }
+    ensures exact { OnOk result (Appends (IsRootOfSize q left) prefix.old.items
+        (map (λ r. r.items) roots.old.items) (map (λ r. r.items) roots.new.items)) }
+    ensures most { (d : ℕ) → HasLowestDegree q d → nodes.new ≤ nodes.old + left * d }
+    ensures least { OnOk result (length roots.old.items < length roots.new.items → nodes.old + left ≤ nodes.new) }
+    ensures rises { nodes.old ≤ nodes.new }
+{
+    if left == 0 {
+        return keep_root(alloc, &q, prefix, roots);
+    }
+    q.strip_x();
+    coefficients_are_bytes(&q);
+    let constants = q.at_zero(alloc)?;
+    for byte in 0..256u16 {
+        let gamma = byte as u8;
+        if eval(&constants, gamma) != 0 {
+            continue;
+        }
+        nodes.tick();
+        prefix.push(gamma)?;
+        descend(alloc, q.shift_root(alloc, gamma)?, left - 1, prefix, roots, nodes)?;
+        prefix.pop();
+    }
+    Ok(())
+}
