@@ -63,6 +63,12 @@ at_first [] g psi h = sym (val_nil g)
 at_first (r ∷ q) g psi h =
     ap₂ (λ c v. c ⊕ g ⊗ v) (sym (mul_one (coef r 0) (h 0 0))) (at_first q g psi (λ j i. h (suc j) i)) ∙ sym (val_cons (coef r 0) (column q 0) g)
 
+-- ---- the degree in y
+
+-- it bounds the degree of what stands before each power of x
+pub lowest_degree : (q : List (List ℕ)) (d : ℕ) → HasDegreeInYAtMost q d → HasLowestDegree q d
+lowest_degree q d h r order j l = coef-column q r j ∙ h j r (omega (arith, l))
+
 -- ---- a node without the powers of x
 
 -- q is the polynomial of a node, divided by the greatest power of x that divides it

@@ -7,19 +7,21 @@ use Rattle.std.specs.declared.cmp.Ordering.{Ordering}
 use Rattle.std.specs.declared.cmp.Ordering.TheVariants.{Less, Equal}
 use Rattle.std.proofs.lemmas.Bool.{cases_lt}
 use Rattle.std.proofs.lemmas.Bool.Decides.{nat_tests}
-use Rattle.std.proofs.lemmas.List.{map-append, length-map, get_or-map, nil_from_length}
+use Rattle.std.proofs.lemmas.List.{map-append, map-id, length-map, get_or-map, nil_from_length}
 use Rattle.std.proofs.lemmas.List.Elements.{All-from_recursion, recursion_from_All, All-append, All-map, All-weaker, Contains-get_or, Contains-append_left, Contains-append_right, Contains-append_cases}
 use Rattle.gf256.specs.Polynomial.{coef}
-use Rattle.rr_roots.specs.Descent.{ListsAll, Appends}
+use Rattle.rr_roots.specs.Roots.{ListsYRoots}
+use Rattle.rr_roots.specs.Descent.{ListsAll, Appends, IsRootOfSize}
 
 -- p comes before q
 abbrev Precedes : List ℕ → List ℕ → Type 0
 Precedes p q = slice_cmp nat_cmp p q ≡ Less
 
--- a list comes before a longer one that ... 
+-- a byte is as great as itself
 same_first : (g : ℕ) → nat_cmp g g ≡ Equal
 same_first g = grind (arith, nat_tests)
 
+-- and comes before a greater one
 less_first : (g k : ℕ) → g < k → nat_cmp g k ≡ Less
 less_first g k h = grind (arith, nat_tests)
 
@@ -178,3 +180,17 @@ appends-prefix P prefix old empty alone = record {
   };
   appended = ap (λ p. old ++ p ∷ []) (sym (append-nil prefix));
 }
+
+-- ---- the y-roots
+
+-- appended to nothing, after nothing, they are listed
+pub listed : (q : List (List ℕ)) (t : ℕ) (new : List (List ℕ)) → Appends (IsRootOfSize q (t + 1)) [] [] new → ListsYRoots new q t
+listed q t new h =
+    subst (λ roots. ListsYRoots roots q t) (sym (h.appended ∙ map-id h.found))
+    (record {
+      ascending = h.all.ascending;
+      exact = λ phi. (
+        λ c. let root = (h.all.exact phi).0 c in (record { size = root.size; bytes = root.bytes }, root.root),
+        λ (is, root). (h.all.exact phi).1 (record { size = is.size; bytes = is.bytes; root = root }),
+      );
+    })
