@@ -1,16 +1,16 @@
 -- A node of the tree and its children: from the y-roots of a child to those of the node that begin with its byte (Roth and
 -- Ruckenstein 2000).
-use Rattle.std.proofs.Common.{◌≡◌, ◌≢◌, ◌↔◌, ℕ, zero, suc, ◌+◌, ◌-◌, ◌*◌, ◌<◌, ◌≤◌, List, [], ◌∷◌, length, map, get_or, All, refl, sym, ap, ap₂, subst, ◌∙◌, inl, inr, arith}
+use Rattle.std.proofs.Common.{◌≡◌, ◌↔◌, ℕ, suc, ◌+◌, ◌-◌, ◌<◌, ◌≤◌, List, [], ◌∷◌, length, map, get_or, All, sym, ap, ap₂, subst, ◌∙◌, inl, inr, arith}
 use Rattle.std.proofs.lemmas.Bool.{cases_lt}
 use Rattle.std.proofs.lemmas.List.{get_or_past, get_or_default, get_or-map, nil_from_length}
-use Rattle.std.proofs.lemmas.List.Elements.{All-cons, All-tail, All-head}
+use Rattle.std.proofs.lemmas.List.Elements.{All-cons, All-tail}
 use Rattle.gf256.specs.Field.{◌⊕◌, ◌⊗◌}
 use Rattle.gf256.specs.Polynomial.{coef, val}
 use Rattle.gf256.proofs.Xor.{add_zero}
 use Rattle.gf256.proofs.FieldLaws.{mul_one}
-use Rattle.uni_poly.specs.Coefficients.{IsBytes, HasDegreeBelow} 
+use Rattle.uni_poly.specs.Coefficients.{IsBytes, HasDegreeBelow}
 use Rattle.uni_poly.specs.Coefficients as one
-use Rattle.uni_poly.proofs.Series.{ext, times, times_comm}
+use Rattle.uni_poly.proofs.Series.{times, times_comm}
 use Rattle.uni_poly.proofs.Coefficients.{IsBytes-from_all}
 use Rattle.uni_poly.proofs.Values.{val_nil, val_cons}
 use Rattle.bi_poly.specs.Rows.{row, cell, column, IsZero, AreBytes}
@@ -106,7 +106,7 @@ module _ {whole q : List (List ℕ)} {r : ℕ} (s : IsStripped whole q r) where
   roots-stripped : (phi : List ℕ) → IsYRoot q phi ↔ IsYRoot whole phi
   roots-stripped phi =
       let at : (e : ℕ) → at_poly_coef whole phi e ≡ spread (at_poly_coef q phi) r e
-          = λ e. subst (λ q. at_poly_coef whole phi e ≡ spread (at_poly_coef q phi) r e) (sym s.quotient) (stripped-at_poly whole r phi s.order e) in (
+      = λ e. subst (λ q. at_poly_coef whole phi e ≡ spread (at_poly_coef q phi) r e) (sym s.quotient) (stripped-at_poly whole r phi s.order e) in (
         λ h e. at e ∙ elim (cases_lt e r) [
           | inl low ↦ spread-low (at_poly_coef q phi) r e low
           | inr high ↦ spread-high (at_poly_coef q phi) r e high ∙ h (e - r)

@@ -1,9 +1,8 @@
 -- Lists of byte lists in strictly ascending order, gathered by their first bytes.
-use Rattle.std.proofs.Common.{◌≡◌, ◌⊎◌, ◌↔◌, ℕ, ◌+◌, ◌<◌, List, [], ◌∷◌, ◌++◌, length, map, get_or, Contains, refl, sym, ap, ap₂, subst, ◌∙◌, inl, inr, arith, append_assoc, append-nil, nat_cmp}
+use Rattle.std.proofs.Common.{◌≡◌, ◌↔◌, ℕ, ◌+◌, ◌<◌, List, [], ◌∷◌, ◌++◌, length, map, get_or, Contains, refl, sym, ap, ap₂, subst, ◌∙◌, inl, inr, arith, append_assoc, append-nil, nat_cmp}
 use Rattle.std.specs.Cmp.Lexicographic.{slice_cmp}
 use Rattle.std.specs.List.Sorted.{IsStrictlySortedBy}
 use Rattle.std.specs.Ordering.{ordering_then}
-use Rattle.std.specs.declared.cmp.Ordering.{Ordering}
 use Rattle.std.specs.declared.cmp.Ordering.TheVariants.{Less, Equal}
 use Rattle.std.proofs.lemmas.Bool.{cases_lt}
 use Rattle.std.proofs.lemmas.Bool.Decides.{nat_tests}
@@ -41,8 +40,8 @@ unfolding IsStrictlySortedBy
 ascending-map g [] h = tt
 ascending-map g (p ∷ ps) h = (
   recursion_from_All (Precedes (g ∷ p)) (map (λ q. g ∷ q) ps)
-  (All-map (Precedes (g ∷ p)) (λ q. g ∷ q) ps
-  (All-weaker (Precedes p) (λ q. Precedes (g ∷ p) (g ∷ q)) (precedes-same g p) ps (All-from_recursion (Precedes p) ps h.0))),
+      (All-map (Precedes (g ∷ p)) (λ q. g ∷ q) ps
+      (All-weaker (Precedes p) (λ q. Precedes (g ∷ p) (g ∷ q)) (precedes-same g p) ps (All-from_recursion (Precedes p) ps h.0))),
   ascending-map g ps h.1,
 )
 
@@ -53,8 +52,8 @@ unfolding IsStrictlySortedBy
 ascending-append [] qs hp hq h = hq
 ascending-append (p ∷ ps) qs hp hq h = (
   recursion_from_All (Precedes p) (ps ++ qs)
-  (All-append (Precedes p) ps qs (All-from_recursion (Precedes p) ps hp.0)
-  (λ k d l. h p _ (0, omega arith, refl) (Contains-get_or qs k d l))),
+      (All-append (Precedes p) ps qs (All-from_recursion (Precedes p) ps hp.0)
+      (λ k d l. h p _ (0, omega arith, refl) (Contains-get_or qs k d l))),
   ascending-append ps qs hp.1 hq (λ a b ca cb. h a b (Contains-append_right (p ∷ []) ps a ca) cb),
 )
 

@@ -1,10 +1,10 @@
 -- How often each byte is a root of a polynomial, and how many nodes of the tree that allows.
-use Rattle.std.proofs.Common.{◌≡◌, ◌≢◌, ℕ, zero, suc, ◌+◌, ◌-◌, ◌*◌, ◌<◌, ◌≤◌, List, [], ◌∷◌, length, map, get_or, sum, All, AllPairs, refl, sym, ap, subst, ◌∙◌, inl, inr, arith, add-one}
+use Rattle.std.proofs.Common.{◌≡◌, ◌≢◌, ℕ, zero, suc, ◌+◌, ◌-◌, ◌<◌, ◌≤◌, List, [], ◌∷◌, length, map, get_or, sum, All, AllPairs, refl, sym, ap, ◌∙◌, inl, inr, arith, add-one}
 use Rattle.std.specs.List.{AllZip}
 use Rattle.std.proofs.lemmas.Bool.{cases_lt}
 use Rattle.std.proofs.lemmas.List.Sums.{sum_by-cons}
 use Rattle.std.proofs.lemmas.List.Elements.{All-cons, All-nil}
-use Rattle.gf256.specs.Polynomial.{coef, val}
+use Rattle.gf256.specs.Polynomial.{val}
 use Rattle.uni_poly.specs.Coefficients.{IsBytes, IsZero, HasDegreeBelow}
 use Rattle.uni_poly.specs.Taylor.{taylor, VanishesAt}
 use Rattle.uni_poly.proofs.Coefficients.{HasDegreeBelow-length}

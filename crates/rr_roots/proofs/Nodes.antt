@@ -1,5 +1,5 @@
 -- How many nodes are below a node, from its children's counts (Roth and Ruckenstein 2000).
-use Rattle.std.proofs.Common.{◌≡◌, ◌≢◌, ℕ, ◌+◌, ◌-◌, ◌*◌, ◌<◌, ◌≤◌, List, length, sym, ap, subst, ◌∙◌, arith, mul-le-mul_left}
+use Rattle.std.proofs.Common.{◌≡◌, ◌≢◌, ℕ, ◌+◌, ◌-◌, ◌*◌, ◌<◌, ◌≤◌, List, sym, ap, subst, ◌∙◌, arith, mul-le-mul_left}
 use Rattle.std.proofs.Math.Nat.{mul-add, add-mul}
 use Rattle.gf256.specs.Polynomial.{coef, val}
 use Rattle.uni_poly.specs.Coefficients.{IsBytes, IsZero, HasDegreeBelow}

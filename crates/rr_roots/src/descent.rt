@@ -1,4 +1,8 @@
-//! The tree of the roots' coefficients.
+//! The tree of the roots' coefficients (Roth and Ruckenstein 2000).
+//!
+//! At a node some first coefficients of a root are fixed, and its polynomial has as y-roots what can follow them. A
+//! y-root `gamma + x*psi` of `q` begins with a root of `q(0, y)`, once `q` isn't divisible by x, and then psi is a y-root of
+//! `q(x, x*y + gamma)`, which is the polynomial of the child.
 
 ghost use Rattle.std.specs.Prelude.{ℕ, List, [], ◌≡◌, ◌+◌, ◌*◌, ◌<◌, ◌≤◌, ◌↔◌, IsTrue, length, map, All, IfOk, OnOk};
 ghost use Rattle.uni_poly.specs.Coefficients as one;
@@ -14,13 +18,13 @@ use uni_poly::eval;
 use uni_poly::steps::Steps;
 
 /// Whether each coefficient of `p` is 0.
-fn is_zero(p: &[u8]) -> bool
+pub fn is_zero(p: &[u8]) -> bool
     ensures { IsTrue result ↔ All (λ c. c ≡ 0) p.now }
 {
     p.iter().all(|&c| c == 0)
 }
 
-/// Whether `q` is 0 where y is 0.
+/// Whether `q` is 0 once 0 stands for y: whether the row before `y^0` is.
 fn has_root_zero(q: &BiPoly) -> bool
     ensures { IsTrue result ↔ IsYRoot q.now [] }
 {
@@ -30,7 +34,7 @@ fn has_root_zero(q: &BiPoly) -> bool
     }
 }
 
-/// Appends `prefix` to `roots` where `q` is 0 where y is 0.
+/// Appends `prefix` to `roots` where `q` is 0 once 0 stands for y, so that nothing need follow.
 fn keep_root(
     alloc: Global,
     q: &BiPoly,
@@ -47,7 +51,16 @@ fn keep_root(
     Ok(())
 }
 
-/// Appends the y-roots of `q` that have `left` coefficients to `roots`, each after `prefix`, in ascending order.
+/// Appends to `roots` the y-roots of `q`, which must not be 0, that have `left` coefficients, in ascending order and each
+/// after `prefix`. `nodes` counts the nodes below this one: on each of the `left` levels at most as many as the degree in y
+/// of what stands in `q` before the lowest power of x.
+///
+/// It calls itself to a depth of `left`, and holds one child's polynomial at a time beside its own.
+///
+/// # Errors
+///
+/// `AllocError` where there is no memory for these or for the roots; some roots may then be there, and coefficients left in
+/// `prefix`.
 pub fn descend<N: Ledger>(
     alloc: Global,
     mut q: BiPoly,
@@ -67,6 +80,7 @@ pub fn descend<N: Ledger>(
     if left == 0 {
         return keep_root(alloc, &q, prefix, roots);
     }
+    // The y-roots stay.
     q.strip_x();
     coefficients_are_bytes(&q);
     let constants = q.at_zero(alloc)?;
@@ -77,7 +91,8 @@ pub fn descend<N: Ledger>(
         }
         nodes.tick();
         prefix.push(gamma)?;
-        descend(alloc, q.shift_root(alloc, gamma)?, left - 1, prefix, roots, nodes)?;
+        let child = q.shift_root(alloc, gamma)?;
+        descend(alloc, child, left - 1, prefix, roots, nodes)?;
         prefix.pop();
     }
     Ok(())

@@ -1,14 +1,14 @@
-use Rattle.std.proofs.Common.{◌≡◌, ◌<◌, ◌≤◌, ◌+◌, ◌*◌, ◌-◌, ◌↔◌, ℕ, List, [], ◌∷◌, ◌++◌, length, map, take, vec_len, inl, inr, refl, sym, ap, subst, ◌∙◌, arith}
+use Rattle.std.proofs.Common.{◌≡◌, ◌<◌, ◌-◌, ℕ, List, [], ◌∷◌, ◌++◌, length, map, take, vec_len, inl, inr, refl, sym, ap, subst, ◌∙◌, arith}
 use Rattle.std.proofs.Math.Seq.{take-append_seam}
 use Rattle.std.proofs.lemmas.Bool.{cases_lt}
 use Rattle.std.proofs.lemmas.List.{length-append}
 use Rattle.gf256.specs.Polynomial.{val}
-use Rattle.bi_poly.specs.Rows.{column, AreBytes}
+use Rattle.bi_poly.specs.Rows.{AreBytes}
 use Rattle.bi_poly.specs.Degree.{IsOrderInX, without_first}
-use Rattle.rr_roots.specs.Descent.{Appends, IsRootOfSize, HasLowestDegree}
+use Rattle.rr_roots.specs.Descent.{Appends, IsRootOfSize}
 use Rattle.rr_roots.proofs.Children.{IsStripped, first_byte, child-nonzero, child-roots}
 use Rattle.rr_roots.proofs.Levels.{HoldsBelow, appends-nothing, appends-skip, appends-more, appends-same}
-use Rattle.rr_roots.proofs.Multiplicities.{multiplicity, roots_below, roots_below-zero}
+use Rattle.rr_roots.proofs.Multiplicities.{multiplicity}
 use Rattle.rr_roots.proofs.Nodes.{none_begins, child-share, nodes-skip, nodes-more, nodes-most, nodes-spent}
 use Rattle.rr_roots.proofs.descent.+descend.Goals as goal
 
@@ -41,8 +41,8 @@ returns-in_err-push-clause-most g t c = λ d h.
     (omega (arith, c.if-left-eq0.false)) (omega (arith, c.loop-byte-test.true)) (value c.loop-byte.byte c.deref-in-loop-byte.ensures.value c.eval.ensures ∙ c.if-eval-ne0.false) h
     c.loop-byte.invariant.most (omega (arith, c.tick.ensures))
 
-pub returns-in_err-shift_root-clause-most : goal.returns-in_err-shift_root-clause-most
-returns-in_err-shift_root-clause-most g t c = λ d h.
+pub returns-in_err-child-clause-most : goal.returns-in_err-child-clause-most
+returns-in_err-child-clause-most g t c = λ d h.
     let s = stripped c.strip_x.ensures.order c.strip_x.ensures.quotient c.coefficients_are_bytes.ensures in
     nodes-spent s c.in_ok-constants.constants.items c.in_ok-constants.ensures c.args.left c.args.nodes.now c.loop-byte.nodes c.tick.new.self c.loop-byte.byte d
     (omega (arith, c.if-left-eq0.false)) (omega (arith, c.loop-byte-test.true)) (value c.loop-byte.byte c.deref-in-loop-byte.ensures.value c.eval.ensures ∙ c.if-eval-ne0.false) h
@@ -51,14 +51,14 @@ returns-in_err-shift_root-clause-most g t c = λ d h.
 pub descend-requires : goal.descend-requires
 descend-requires g t c κs within =
     let s = stripped c.strip_x.ensures.order c.strip_x.ensures.quotient c.coefficients_are_bytes.ensures in
-    (omega (arith, c.decreases, c.if-left-eq0.false), (within, child-nonzero s (omega (arith, c.loop-byte-test.true)) c.in_ok-shift_root.ensures))
+    (omega (arith, c.decreases, c.if-left-eq0.false), (within, child-nonzero s (omega (arith, c.loop-byte-test.true)) c.in_ok-child.ensures))
 
 pub returns-in_err-descend-clause-most : goal.returns-in_err-descend-clause-most
 returns-in_err-descend-clause-most g t c = λ d h.
     let s = stripped c.strip_x.ensures.order c.strip_x.ensures.quotient c.coefficients_are_bytes.ensures in
     let p = c.in_ok-constants.constants.items in
     let less : c.loop-byte.byte < 256 = omega (arith, c.loop-byte-test.true) in
-    let share = c.descend.ensures.most (multiplicity p c.loop-byte.byte) (child-share s p c.in_ok-constants.ensures c.loop-byte.byte less c.in_ok-shift_root.ensures) in
+    let share = c.descend.ensures.most (multiplicity p c.loop-byte.byte) (child-share s p c.in_ok-constants.ensures c.loop-byte.byte less c.in_ok-child.ensures) in
     nodes-spent s p c.in_ok-constants.ensures c.args.left c.args.nodes.now c.loop-byte.nodes c.descend.new.nodes c.loop-byte.byte d
     (omega (arith, c.if-left-eq0.false)) less (value c.loop-byte.byte c.deref-in-loop-byte.ensures.value c.eval.ensures ∙ c.if-eval-ne0.false) h
     c.loop-byte.invariant.most (omega (arith, c.tick.ensures, share))
@@ -92,21 +92,21 @@ loop-byte-preserved g t c =
     let less : c.loop-byte.byte < 256 = omega (arith, c.loop-byte-test.true) in
     let some : 0 < c.args.left = omega (arith, c.if-left-eq0.false) in
     let prefix = c.args.prefix.now.items in
-    let share = c.in_ok-descend.ensures.most (multiplicity p c.loop-byte.byte) (child-share s p c.in_ok-constants.ensures c.loop-byte.byte less c.in_ok-shift_root.ensures) in
+    let share = c.in_ok-descend.ensures.most (multiplicity p c.loop-byte.byte) (child-share s p c.in_ok-constants.ensures c.loop-byte.byte less c.in_ok-child.ensures) in
     let pushed = rw c.loop-byte.invariant.kept at c.in_ok-push.ensures.items in
     let descended = rw pushed at c.in_ok-descend.ensures.kept in
     let rest = rw descended at c.pop.ensures.rest in
     let more = nodes-more s p c.in_ok-constants.ensures c.args.left c.args.nodes.now c.loop-byte.nodes c.descend.new.nodes c.loop-byte.byte some less
     (value c.loop-byte.byte c.deref-in-loop-byte.ensures.value c.eval.ensures ∙ c.if-eval-ne0.false) c.loop-byte.invariant.most (omega (arith, c.tick.ensures, share)) in
     let P = IsRootOfSize c.args.q c.args.left in
-    let Sub = IsRootOfSize c.in_ok-shift_root.field-0 (c.args.left - 1) in
+    let Sub = IsRootOfSize c.in_ok-child.child (c.args.left - 1) in
     let old = map (λ r. r.items) c.args.roots.now.items in
     let before = map (λ r. r.items) c.loop-byte.roots.items in
     let new = map (λ r. r.items) c.descend.new.roots.items in
     record {
       kept = rw (without_last prefix c.loop-byte.byte (vec_len c.descend.new.prefix) (c.descend.new.prefix.ok.0 ∙ ap length descended)) at rest;
       appends = appends-more P Sub c.loop-byte.byte prefix old before new (λ phi h. let size = h.size in omega (arith, some, size))
-          (λ psi. child-roots s less c.in_ok-shift_root.ensures c.args.left psi some)
+          (λ psi. child-roots s less c.in_ok-child.ensures c.args.left psi some)
           c.loop-byte.invariant.appends
           (subst (λ prefix. Appends Sub prefix before new) pushed c.in_ok-descend.ensures.exact);
       most = more;
