@@ -21,7 +21,7 @@ use Rattle.bi_poly.proofs.Degree.{coef-column}
 use Rattle.bi_poly.proofs.Peeling.{peeled, spread, spread-low, spread-high, stripped-at_poly, zero_from_shifted}
 use Rattle.bi_poly.proofs.Strip.{cell-without_first}
 use Rattle.rr_roots.specs.Roots.{IsYRoot, HasDegreeInYAtMost}
-use Rattle.rr_roots.specs.Descent.{IsRootOfSize, HasLowestDegree}
+use Rattle.rr_roots.specs.Descent.{IsRootOfSize, HasLowestColumnDegreeAtMost}
 use Rattle.rr_roots.proofs.Multiplicities.{multiplicity, taylor-multiplicity}
 
 -- ---- no coefficient
@@ -66,7 +66,7 @@ at_first (r ∷ q) g psi h =
 -- ---- the degree in y
 
 -- it bounds the degree of what stands before each power of x
-pub lowest_degree : (q : List (List ℕ)) (d : ℕ) → HasDegreeInYAtMost q d → HasLowestDegree q d
+pub lowest_degree : (q : List (List ℕ)) (d : ℕ) → HasDegreeInYAtMost q d → HasLowestColumnDegreeAtMost q d
 lowest_degree q d h r order j l = coef-column q r j ∙ h j r (omega (arith, l))
 
 -- ---- a node without the powers of x
@@ -99,7 +99,7 @@ module _ {whole q : List (List ℕ)} {r : ℕ} (s : IsStripped whole q r) where
   stripped-nonzero z = constants-nonzero (λ j. coef-column q 0 j ∙ z j 0)
 
   -- their degree
-  pub constants-degree : (d : ℕ) → HasLowestDegree whole d → HasDegreeBelow (column q 0) (d + 1)
+  pub constants-degree : (d : ℕ) → HasLowestColumnDegreeAtMost whole d → HasDegreeBelow (column q 0) (d + 1)
   constants-degree d h j l = constant-stripped j ∙ sym (coef-column whole r j) ∙ h r s.order j l
 
   -- the y-roots stay
@@ -143,7 +143,7 @@ module _ {whole q : List (List ℕ)} {r : ℕ} (s : IsStripped whole q r) where
     )
 
     -- what stands in it before the lowest power of x has at most the degree that g is a root of the node's often
-    pub child-degree : HasLowestDegree child (multiplicity (column q 0) g)
+    pub child-degree : HasLowestColumnDegreeAtMost child (multiplicity (column q 0) g)
     child-degree r order j m =
         let often = multiplicity (column q 0) g in
         let reached = taylor-multiplicity (column q 0) constants-bytes constants-nonzero g l in

@@ -26,6 +26,6 @@ pub record Appends (P : List ℕ → Type 0) (prefix : List ℕ) (old new : List
   pub all : ListsAll P found
   pub appended : new ≡ old ++ map (λ phi. prefix ++ phi) found
 
--- what stands in q before the lowest power of x, a polynomial in y, has a degree of at most d
-abbrev pub HasLowestDegree : List (List ℕ) → ℕ → Type 0
-HasLowestDegree q d = (r : ℕ) → IsOrderInX q r → HasDegreeBelow (column q r) (d + 1)
+-- the lowest column of q that isn't 0, a polynomial in y, has a degree of at most d
+abbrev pub HasLowestColumnDegreeAtMost : List (List ℕ) → ℕ → Type 0
+HasLowestColumnDegreeAtMost q d = (r : ℕ) → IsOrderInX q r → HasDegreeBelow (column q r) (d + 1)

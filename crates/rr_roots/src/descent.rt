@@ -4,11 +4,10 @@
 //! y-root `gamma + x*psi` of `q` begins with a root of `q(0, y)`, once `q` isn't divisible by x, and then psi is a y-root of
 //! `q(x, x*y + gamma)`, which is the polynomial of the child.
 
-ghost use Rattle.std.specs.Prelude.{ℕ, List, [], ◌≡◌, ◌+◌, ◌*◌, ◌<◌, ◌≤◌, ◌↔◌, IsTrue, length, map, All, IfOk, OnOk};
-ghost use Rattle.uni_poly.specs.Coefficients as one;
+ghost use Rattle.std.specs.Prelude.{ℕ, [], ◌≡◌, ◌+◌, ◌*◌, ◌<◌, ◌≤◌, ◌↔◌, IsTrue, length, map, All, OnOk};
 ghost use Rattle.bi_poly.specs.Rows.{IsZero};
 ghost use Rattle.rr_roots.specs.Roots.{IsYRoot};
-ghost use Rattle.rr_roots.specs.Descent.{Appends, HasLowestDegree, IsRootOfSize};
+ghost use Rattle.rr_roots.specs.Descent.{Appends, HasLowestColumnDegreeAtMost, IsRootOfSize};
 
 use bi_poly::BiPoly;
 use bi_poly::laws::coefficients_are_bytes;
@@ -53,7 +52,7 @@ fn keep_root(
 
 /// Appends to `roots` the y-roots of `q`, which must not be 0, that have `left` coefficients, in ascending order and each
 /// after `prefix`. `nodes` counts the nodes below this one: on each of the `left` levels at most as many as the degree in y
-/// of what stands in `q` before the lowest power of x.
+/// of the lowest column of `q` that isn't 0, that is, of what stands before the lowest power of x.
 ///
 /// It calls itself to a depth of `left`, and holds one child's polynomial at a time beside its own.
 ///
@@ -73,7 +72,7 @@ pub fn descend<N: Ledger>(
     ensures kept { OnOk result (prefix.new.items ≡ prefix.old.items) }
     ensures exact { OnOk result (Appends (IsRootOfSize q left) prefix.old.items
         (map (λ r. r.items) roots.old.items) (map (λ r. r.items) roots.new.items)) }
-    ensures most { (d : ℕ) → HasLowestDegree q d → nodes.new ≤ nodes.old + left * d }
+    ensures most { (d : ℕ) → HasLowestColumnDegreeAtMost q d → nodes.new ≤ nodes.old + left * d }
     ensures least { OnOk result (length roots.old.items < length roots.new.items → nodes.old + left ≤ nodes.new) }
     ensures rises { nodes.old ≤ nodes.new }
 {
@@ -89,9 +88,9 @@ pub fn descend<N: Ledger>(
         if eval(&constants, gamma) != 0 {
             continue;
         }
-        nodes.tick();
-        prefix.push(gamma)?;
         let child = q.shift_root(alloc, gamma)?;
+        prefix.push(gamma)?;
+        nodes.tick();
         descend(alloc, child, left - 1, prefix, roots, nodes)?;
         prefix.pop();
     }

@@ -41,8 +41,8 @@ fn copy(alloc: Global, q: &BiPoly) -> Result<BiPoly, AllocError>
 /// that is, coefficients fixed. There are at most `t + 1` times as many as the greatest power of y with a row that is not
 /// 0, and at least `t + 1` where there is a root.
 ///
-/// It takes memory for a copy of `q`, for the polynomials on one path of the tree, each with rows at most as much longer
-/// than the one before as there are rows, and for the roots. It calls itself to a depth of `t + 1`.
+/// It takes memory for the roots, for a copy of `q` and for one polynomial on each level of the tree, with as many rows as
+/// `q`, each longer by less than that number than the longest row of the level before. It is a recursion of depth `t + 1`.
 ///
 /// # Errors
 ///

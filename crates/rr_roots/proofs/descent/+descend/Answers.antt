@@ -34,19 +34,17 @@ loop-byte-init g t c = record {
   rises = omega arith;
 }
 
-pub returns-in_err-push-clause-most : goal.returns-in_err-push-clause-most
-returns-in_err-push-clause-most g t c = λ d h.
-    let s = stripped c.strip_x.ensures.order c.strip_x.ensures.quotient c.coefficients_are_bytes.ensures in
-    nodes-spent s c.in_ok-constants.constants.items c.in_ok-constants.ensures c.args.left c.args.nodes.now c.loop-byte.nodes c.tick.new.self c.loop-byte.byte d
-    (omega (arith, c.if-left-eq0.false)) (omega (arith, c.loop-byte-test.true)) (value c.loop-byte.byte c.deref-in-loop-byte.ensures.value c.eval.ensures ∙ c.if-eval-ne0.false) h
-    c.loop-byte.invariant.most (omega (arith, c.tick.ensures))
-
 pub returns-in_err-child-clause-most : goal.returns-in_err-child-clause-most
 returns-in_err-child-clause-most g t c = λ d h.
     let s = stripped c.strip_x.ensures.order c.strip_x.ensures.quotient c.coefficients_are_bytes.ensures in
-    nodes-spent s c.in_ok-constants.constants.items c.in_ok-constants.ensures c.args.left c.args.nodes.now c.loop-byte.nodes c.tick.new.self c.loop-byte.byte d
-    (omega (arith, c.if-left-eq0.false)) (omega (arith, c.loop-byte-test.true)) (value c.loop-byte.byte c.deref-in-loop-byte.ensures.value c.eval.ensures ∙ c.if-eval-ne0.false) h
-    c.loop-byte.invariant.most (omega (arith, c.tick.ensures))
+    nodes-most s c.in_ok-constants.constants.items c.in_ok-constants.ensures c.args.left c.args.nodes.now c.loop-byte.nodes c.loop-byte.byte d
+    (omega (arith, c.loop-byte-test.true)) h c.loop-byte.invariant.most
+
+pub returns-in_err-push-clause-most : goal.returns-in_err-push-clause-most
+returns-in_err-push-clause-most g t c = λ d h.
+    let s = stripped c.strip_x.ensures.order c.strip_x.ensures.quotient c.coefficients_are_bytes.ensures in
+    nodes-most s c.in_ok-constants.constants.items c.in_ok-constants.ensures c.args.left c.args.nodes.now c.loop-byte.nodes c.loop-byte.byte d
+    (omega (arith, c.loop-byte-test.true)) h c.loop-byte.invariant.most
 
 pub descend-requires : goal.descend-requires
 descend-requires g t c κs within =
