@@ -5,11 +5,11 @@ use Rattle.std.specs.Option.{unwrap_or}
 use Rattle.std.specs.Ordering.{ord_max, nat_cmp}
 use Rattle.std.proofs.lemmas.Bool.Decides.{nat_tests}
 use Rattle.std.proofs.Math.Nat.{max-eq_left, max-eq_right, min-eq_left, min-eq_right, le-max_left, le-max_right}
-use Rattle.std.proofs.lemmas.List.{get_or_past}
+use Rattle.std.proofs.lemmas.List.{get_or_past, get_or-map, length-map}
 use Rattle.std.proofs.lemmas.Bool.{cases_lt}
 use Rattle.gf256.specs.Polynomial.{coef}
 use Rattle.uni_poly.specs.Coefficients as one
-use Rattle.bi_poly.specs.Rows.{row, cell, IsZero}
+use Rattle.bi_poly.specs.Rows.{row, cell, column, IsZero}
 use Rattle.bi_poly.specs.Degree.{IsDegree, IsOrder, IsWeightedDegree, IsOrderInX}
 
 -- the greater of two numbers, as the code finds it
@@ -34,6 +34,17 @@ pub record IsOrderBelow (q : List (List ℕ)) (n d : ℕ) : Type 0 where
 pub cell-past : (q : List (List ℕ)) (j i : ℕ) → length q ≤ j → cell q j i ≡ 0
 unfolding cell coef
 cell-past q j i l = ap (λ r. get_or r i 0) (get_or_past q j [] l)
+
+-- a coefficient of a column
+pub coef-column : (q : List (List ℕ)) (i j : ℕ) → coef (column q i) j ≡ cell q j i
+unfolding cell coef
+coef-column q i j =
+    elim (cases_lt j (length q)) [
+      | inl within ↦ get_or-map (λ r. coef r i) q j [] 0 within
+      | inr past ↦
+          get_or_past (column q i) j 0 (omega (arith, length-map q (λ r. coef r i)))
+          ∙ sym (ap (λ r. get_or r i 0) (get_or_past q j [] past))
+    ]
 
 -- a row of zeros more
 pub IsZeroBelow-more : (q : List (List ℕ)) (n : ℕ) → IsZeroBelow q n → one.IsZero (row q n) → IsZeroBelow q (n + 1)

@@ -59,14 +59,14 @@ spread g zero e = g e
 spread g (suc j) e = later (spread g j) e
 
 -- it begins with j zeros
-spread-low : (g : ℕ → ℕ) (j e : ℕ) → e < j → spread g j e ≡ 0
+pub spread-low : (g : ℕ → ℕ) (j e : ℕ) → e < j → spread g j e ≡ 0
 unfolding spread later
 spread-low g zero e l = absurd (omega arith)
 spread-low g (suc j) zero l = refl
 spread-low g (suc j) (suc e) l = spread-low g j e (omega arith)
 
 -- and goes on with the series
-spread-high : (g : ℕ → ℕ) (j e : ℕ) → j ≤ e → spread g j e ≡ g (e - j)
+pub spread-high : (g : ℕ → ℕ) (j e : ℕ) → j ≤ e → spread g j e ≡ g (e - j)
 unfolding spread later
 spread-high g zero e l = let k : e - 0 ≡ e = omega arith in ap g (sym k)
 spread-high g (suc j) zero l = absurd (omega arith)

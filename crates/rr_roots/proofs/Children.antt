@@ -1,0 +1,156 @@
+-- A node of the tree and its children: from the y-roots of a child to those of the node that begin with its byte (Roth and
+-- Ruckenstein 2000).
+use Rattle.std.proofs.Common.{◌≡◌, ◌↔◌, ℕ, suc, ◌+◌, ◌-◌, ◌<◌, ◌≤◌, List, [], ◌∷◌, length, map, get_or, All, sym, ap, ap₂, subst, ◌∙◌, inl, inr, arith}
+use Rattle.std.proofs.lemmas.Bool.{cases_lt}
+use Rattle.std.proofs.lemmas.List.{get_or_past, get_or_default, get_or-map, nil_from_length}
+use Rattle.std.proofs.lemmas.List.Elements.{All-cons, All-tail}
+use Rattle.gf256.specs.Field.{◌⊕◌, ◌⊗◌}
+use Rattle.gf256.specs.Polynomial.{coef, val}
+use Rattle.gf256.proofs.Xor.{add_zero}
+use Rattle.gf256.proofs.FieldLaws.{mul_one}
+use Rattle.uni_poly.specs.Coefficients.{IsBytes, HasDegreeBelow}
+use Rattle.uni_poly.specs.Coefficients as one
+use Rattle.uni_poly.proofs.Series.{times, times_comm}
+use Rattle.uni_poly.proofs.Coefficients.{IsBytes-from_all}
+use Rattle.uni_poly.proofs.Values.{val_nil, val_cons}
+use Rattle.bi_poly.specs.Rows.{row, cell, column, IsZero, AreBytes}
+use Rattle.bi_poly.specs.Degree.{IsOrderInX, without_first}
+use Rattle.bi_poly.specs.Substitution.{at_poly_coef, IsShiftedRoot}
+use Rattle.bi_poly.proofs.Composition.{at_series, at_poly_coef-series, times-zero}
+use Rattle.bi_poly.proofs.Degree.{coef-column}
+use Rattle.bi_poly.proofs.Peeling.{peeled, spread, spread-low, spread-high, stripped-at_poly, zero_from_shifted}
+use Rattle.bi_poly.proofs.Strip.{cell-without_first}
+use Rattle.rr_roots.specs.Roots.{IsYRoot, HasDegreeInYAtMost}
+use Rattle.rr_roots.specs.Descent.{IsRootOfSize, HasLowestColumnDegreeAtMost}
+use Rattle.rr_roots.proofs.Multiplicities.{multiplicity, taylor-multiplicity}
+
+-- ---- no coefficient
+
+-- q where y is 0 is row 0
+at_nothing : (q : List (List ℕ)) (e : ℕ) → at_poly_coef q [] e ≡ coef (row q 0) e
+unfolding at_series coef
+at_nothing [] e = at_poly_coef-series [] [] e
+at_nothing (r ∷ q) e =
+    at_poly_coef-series (r ∷ q) [] e
+    ∙ ap (◌⊕◌ (coef r e)) (times_comm (coef []) (at_series q (coef [])) e ∙ times-zero (at_series q (coef [])) e) ∙ add_zero _
+
+-- nothing is a y-root exactly where row 0 is 0
+pub nothing_is_root : (q : List (List ℕ)) (r : List ℕ) → row q 0 ≡ r → All (λ c. c ≡ 0) r ↔ IsYRoot q []
+unfolding coef
+nothing_is_root q r same = (
+  λ z e. at_nothing q e ∙ ap (λ r. coef r e) same ∙ elim (cases_lt e (length r)) [ inl within ↦ z e 0 within | inr past ↦ get_or_past r e 0 past ],
+  λ h k d l. sym (get_or_default r k 0 d l) ∙ sym (ap (λ r. coef r k) same) ∙ sym (at_nothing q k) ∙ h k,
+)
+
+-- row 0 of rows that are seen as lists
+pub first_row : {V : Type 0} (items : V → List ℕ) (rows : List V) (q : List (List ℕ)) (r : V) → map items rows ≡ q → ((d : V) → r ≡ get_or rows 0 d) → 0 < length rows → row q 0 ≡ items r
+first_row items rows q r view is some = ap (λ q. row q 0) (sym view) ∙ get_or-map items rows 0 r [] some ∙ ap items (sym (is r))
+
+-- without rows it is empty
+pub no_row : {V : Type 0} (items : V → List ℕ) (rows : List V) (q : List (List ℕ)) → map items rows ≡ q → length rows ≡ 0 → row q 0 ≡ []
+no_row items rows q view none = ap (λ q. row q 0) (sym view) ∙ ap (λ rows. row (map items rows) 0) (nil_from_length rows none)
+
+-- ---- the first coefficient
+
+-- it is a byte
+pub first_byte : (q : List (List ℕ)) (n : ℕ) (phi : List ℕ) → IsRootOfSize q n phi → coef phi 0 < 256
+first_byte q n phi h = IsBytes-from_all phi h.bytes 0
+
+-- where phi stands for y, the constant is the value, at the constant of phi, of what stands in q before x ^ 0
+at_first : (q : List (List ℕ)) (g : ℕ) (psi : List ℕ) → AreBytes q → at_series q (coef (g ∷ psi)) 0 ≡ val (column q 0) g
+unfolding at_series times cell coef
+at_first [] g psi h = sym (val_nil g)
+at_first (r ∷ q) g psi h =
+    ap₂ (λ c v. c ⊕ g ⊗ v) (sym (mul_one (coef r 0) (h 0 0))) (at_first q g psi (λ j i. h (suc j) i)) ∙ sym (val_cons (coef r 0) (column q 0) g)
+
+-- ---- the degree in y
+
+-- it bounds the degree of what stands before each power of x
+pub lowest_degree : (q : List (List ℕ)) (d : ℕ) → HasDegreeInYAtMost q d → HasLowestColumnDegreeAtMost q d
+lowest_degree q d h r order j l = coef-column q r j ∙ h j r (omega (arith, l))
+
+-- ---- a node without the powers of x
+
+-- q is the polynomial of a node, divided by the greatest power of x that divides it
+pub record IsStripped (whole q : List (List ℕ)) (r : ℕ) : Type 0 where
+  pub order : IsOrderInX whole r
+  pub quotient : q ≡ without_first r whole
+  pub bytes : AreBytes q
+
+module _ {whole q : List (List ℕ)} {r : ℕ} (s : IsStripped whole q r) where
+  -- a coefficient
+  cell-stripped : (j i : ℕ) → cell q j i ≡ cell whole j (r + i)
+  cell-stripped j i = ap (λ q. cell q j i) s.quotient ∙ cell-without_first r whole j i
+
+  -- the coefficients before x ^ 0
+  constant-stripped : (j : ℕ) → coef (column q 0) j ≡ cell whole j r
+  constant-stripped j = let e : r + 0 ≡ r = omega arith in coef-column q 0 j ∙ cell-stripped j 0 ∙ ap (cell whole j) e
+
+  -- they are bytes
+  pub constants-bytes : IsBytes (column q 0)
+  constants-bytes j = subst (λ x. x < 256) (sym (coef-column q 0 j)) (s.bytes j 0)
+
+  -- and not all of them are 0
+  pub constants-nonzero : one.IsZero (column q 0) → ⊥
+  constants-nonzero z = let (j, n) = s.order.reached in n (sym (constant-stripped j) ∙ z j)
+
+  -- so that q is not 0
+  pub stripped-nonzero : IsZero q → ⊥
+  stripped-nonzero z = constants-nonzero (λ j. coef-column q 0 j ∙ z j 0)
+
+  -- their degree
+  pub constants-degree : (d : ℕ) → HasLowestColumnDegreeAtMost whole d → HasDegreeBelow (column q 0) (d + 1)
+  constants-degree d h j l = constant-stripped j ∙ sym (coef-column whole r j) ∙ h r s.order j l
+
+  -- the y-roots stay
+  roots-stripped : (phi : List ℕ) → IsYRoot q phi ↔ IsYRoot whole phi
+  roots-stripped phi =
+      let at : (e : ℕ) → at_poly_coef whole phi e ≡ spread (at_poly_coef q phi) r e
+      = λ e. subst (λ q. at_poly_coef whole phi e ≡ spread (at_poly_coef q phi) r e) (sym s.quotient) (stripped-at_poly whole r phi s.order e) in (
+        λ h e. at e ∙ elim (cases_lt e r) [
+          | inl low ↦ spread-low (at_poly_coef q phi) r e low
+          | inr high ↦ spread-high (at_poly_coef q phi) r e high ∙ h (e - r)
+        ],
+        λ h e. let k : r + e - r ≡ e = omega arith in
+            ap (at_poly_coef q phi) (sym k) ∙ sym (spread-high (at_poly_coef q phi) r (r + e) (omega arith)) ∙ sym (at (r + e)) ∙ h (r + e),
+      )
+
+  -- a y-root begins with a root of them
+  pub begins_with_root : (n : ℕ) (phi : List ℕ) → 0 < n → IsRootOfSize whole n phi → val (column q 0) (coef phi 0) ≡ 0
+  unfolding coef
+  begins_with_root n [] some h = let size = h.size in absurd (omega (arith, some, size))
+  begins_with_root n (c ∷ psi) some h =
+      sym (at_first q c psi s.bytes) ∙ sym (at_poly_coef-series q (c ∷ psi) 0) ∙ (roots-stripped (c ∷ psi)).1 h.root 0
+
+  module _ {child : List (List ℕ)} {g : ℕ} (l : g < 256) (h : IsShiftedRoot q g child) where
+    -- the child is not 0
+    pub child-nonzero : IsZero child → ⊥
+    child-nonzero z = stripped-nonzero (zero_from_shifted q child g s.bytes h z)
+
+    -- its y-roots are those of the node that begin with g, without it
+    pub child-roots : (n : ℕ) (psi : List ℕ) → 0 < n → IsRootOfSize child (n - 1) psi ↔ IsRootOfSize whole n (g ∷ psi)
+    child-roots n psi some = (
+      λ a. record {
+        size = let size = a.size in omega (arith, some, size);
+        bytes = All-cons (λ c. c < 256) g psi l a.bytes;
+        root = (roots-stripped (g ∷ psi)).0 (λ e. sym (peeled q child g psi s.bytes h e) ∙ a.root e);
+      },
+      λ b. record {
+        size = let size = b.size in omega (arith, some, size);
+        bytes = All-tail (λ c. c < 256) g psi b.bytes;
+        root = λ e. peeled q child g psi s.bytes h e ∙ (roots-stripped (g ∷ psi)).1 b.root e;
+      },
+    )
+
+    -- what stands in it before the lowest power of x has at most the degree that g is a root of the node's often
+    pub child-degree : HasLowestColumnDegreeAtMost child (multiplicity (column q 0) g)
+    child-degree r order j m =
+        let often = multiplicity (column q 0) g in
+        let reached = taylor-multiplicity (column q 0) constants-bytes constants-nonzero g l in
+        let early : r ≤ often = elim (cases_lt often r) [
+          | inl late ↦
+              let e : 0 + often ≡ often = omega arith in
+              absurd (reached (sym (h.each often 0) ∙ ap (cell child often) e ∙ order.lowest often often late))
+          | inr early ↦ early
+        ] in
+        coef-column child r j ∙ h.low j r (omega (arith, early, m))

@@ -1,0 +1,4 @@
+mod Levels
+mod Multiplicities
+mod Children
+mod Nodes

@@ -1,0 +1,136 @@
+use Rattle.std.proofs.Common.{◌≡◌, ◌<◌, ◌-◌, ℕ, List, [], ◌∷◌, ◌++◌, length, map, take, vec_len, inl, inr, refl, sym, ap, subst, ◌∙◌, arith}
+use Rattle.std.proofs.Math.Seq.{take-append_seam}
+use Rattle.std.proofs.lemmas.Bool.{cases_lt}
+use Rattle.std.proofs.lemmas.List.{length-append}
+use Rattle.gf256.specs.Polynomial.{val}
+use Rattle.bi_poly.specs.Rows.{AreBytes}
+use Rattle.bi_poly.specs.Degree.{IsOrderInX, without_first}
+use Rattle.rr_roots.specs.Descent.{Appends, IsRootOfSize}
+use Rattle.rr_roots.proofs.Children.{IsStripped, first_byte, child-nonzero, child-roots}
+use Rattle.rr_roots.proofs.Levels.{HoldsBelow, appends-nothing, appends-skip, appends-more, appends-same}
+use Rattle.rr_roots.proofs.Multiplicities.{multiplicity}
+use Rattle.rr_roots.proofs.Nodes.{none_begins, child-share, nodes-skip, nodes-more, nodes-most, nodes-spent}
+use Rattle.rr_roots.proofs.descent.+descend.Goals as goal
+
+-- what is left after the strip
+stripped : {whole q : List (List ℕ)} {r : ℕ} → IsOrderInX whole r → q ≡ without_first r whole → AreBytes q → IsStripped whole q r
+stripped order quotient bytes = record { order = order; quotient = quotient; bytes = bytes }
+
+-- the value that was tested
+value : {made p : List ℕ} (g : ℕ) {v : ℕ} → made ≡ p → v ≡ val made g → val p g ≡ v
+value g same v = ap (λ p. val p g) (sym same) ∙ sym v
+
+pub returns-then-left-eq0-clause-exact : goal.returns-then-left-eq0-clause-exact
+returns-then-left-eq0-clause-exact g t c =
+    let kept = rw c.deref.ensures.value at c.keep_root.ensures in rw (sym c.if-left-eq0.true) at kept
+
+pub loop-byte-init : goal.loop-byte-init
+loop-byte-init g t c = record {
+  kept = refl;
+  appends = appends-nothing (HoldsBelow (IsRootOfSize c.args.q c.args.left) 0) c.args.prefix.now.items (map (λ r. r.items) c.args.roots.now.items)
+      (λ phi h. absurd (omega (arith, h.1)));
+  most = omega arith;
+  least = λ l. absurd (omega (arith, l));
+  rises = omega arith;
+}
+
+pub returns-in_err-child-clause-most : goal.returns-in_err-child-clause-most
+returns-in_err-child-clause-most g t c = λ d h.
+    let s = stripped c.strip_x.ensures.order c.strip_x.ensures.quotient c.coefficients_are_bytes.ensures in
+    nodes-most s c.in_ok-constants.constants.items c.in_ok-constants.ensures c.args.left c.args.nodes.now c.loop-byte.nodes c.loop-byte.byte d
+    (omega (arith, c.loop-byte-test.true)) h c.loop-byte.invariant.most
+
+pub returns-in_err-push-clause-most : goal.returns-in_err-push-clause-most
+returns-in_err-push-clause-most g t c = λ d h.
+    let s = stripped c.strip_x.ensures.order c.strip_x.ensures.quotient c.coefficients_are_bytes.ensures in
+    nodes-most s c.in_ok-constants.constants.items c.in_ok-constants.ensures c.args.left c.args.nodes.now c.loop-byte.nodes c.loop-byte.byte d
+    (omega (arith, c.loop-byte-test.true)) h c.loop-byte.invariant.most
+
+pub descend-requires : goal.descend-requires
+descend-requires g t c κs within =
+    let s = stripped c.strip_x.ensures.order c.strip_x.ensures.quotient c.coefficients_are_bytes.ensures in
+    (omega (arith, c.decreases, c.if-left-eq0.false), (within, child-nonzero s (omega (arith, c.loop-byte-test.true)) c.in_ok-child.ensures))
+
+pub returns-in_err-descend-clause-most : goal.returns-in_err-descend-clause-most
+returns-in_err-descend-clause-most g t c = λ d h.
+    let s = stripped c.strip_x.ensures.order c.strip_x.ensures.quotient c.coefficients_are_bytes.ensures in
+    let p = c.in_ok-constants.constants.items in
+    let less : c.loop-byte.byte < 256 = omega (arith, c.loop-byte-test.true) in
+    let share = c.descend.ensures.most (multiplicity p c.loop-byte.byte) (child-share s p c.in_ok-constants.ensures c.loop-byte.byte less c.in_ok-child.ensures) in
+    nodes-spent s p c.in_ok-constants.ensures c.args.left c.args.nodes.now c.loop-byte.nodes c.descend.new.nodes c.loop-byte.byte d
+    (omega (arith, c.if-left-eq0.false)) less (value c.loop-byte.byte c.deref-in-loop-byte.ensures.value c.eval.ensures ∙ c.if-eval-ne0.false) h
+    c.loop-byte.invariant.most (omega (arith, c.tick.ensures, share))
+
+-- what is left after the last coefficient is taken away
+without_last : (xs : List ℕ) (n m : ℕ) → m ≡ length (xs ++ n ∷ []) → take (m - 1) (xs ++ n ∷ []) ≡ xs
+without_last xs n m e =
+    let k : m - 1 ≡ length xs = omega (arith, length-append xs (n ∷ []), e) in
+    ap (λ k. take k (xs ++ n ∷ [])) k ∙ take-append_seam xs (n ∷ [])
+
+pub loop-byte-preserved-then-eval-ne0 : goal.loop-byte-preserved-then-eval-ne0
+loop-byte-preserved-then-eval-ne0 g t c =
+    let s = stripped c.strip_x.ensures.order c.strip_x.ensures.quotient c.coefficients_are_bytes.ensures in
+    let p = c.in_ok-constants.constants.items in
+    let some : 0 < c.args.left = omega (arith, c.if-left-eq0.false) in
+    record {
+      kept = c.loop-byte.invariant.kept;
+      appends = appends-skip (IsRootOfSize c.args.q c.args.left) c.loop-byte.byte c.args.prefix.now.items (map (λ r. r.items) c.args.roots.now.items) (map (λ r. r.items) c.loop-byte.roots.items)
+          c.loop-byte.invariant.appends
+          (none_begins s p c.in_ok-constants.ensures c.args.left c.loop-byte.byte some
+          (λ z. c.if-eval-ne0.true (sym (value c.loop-byte.byte c.deref-in-loop-byte.ensures.value c.eval.ensures) ∙ z)));
+      most = nodes-skip s p c.in_ok-constants.ensures c.args.left c.args.nodes.now c.loop-byte.nodes c.loop-byte.byte c.loop-byte.invariant.most;
+      least = c.loop-byte.invariant.least;
+      rises = c.loop-byte.invariant.rises;
+    }
+
+pub loop-byte-preserved : goal.loop-byte-preserved
+loop-byte-preserved g t c =
+    let s = stripped c.strip_x.ensures.order c.strip_x.ensures.quotient c.coefficients_are_bytes.ensures in
+    let p = c.in_ok-constants.constants.items in
+    let less : c.loop-byte.byte < 256 = omega (arith, c.loop-byte-test.true) in
+    let some : 0 < c.args.left = omega (arith, c.if-left-eq0.false) in
+    let prefix = c.args.prefix.now.items in
+    let share = c.in_ok-descend.ensures.most (multiplicity p c.loop-byte.byte) (child-share s p c.in_ok-constants.ensures c.loop-byte.byte less c.in_ok-child.ensures) in
+    let pushed = rw c.loop-byte.invariant.kept at c.in_ok-push.ensures.items in
+    let descended = rw pushed at c.in_ok-descend.ensures.kept in
+    let rest = rw descended at c.pop.ensures.rest in
+    let more = nodes-more s p c.in_ok-constants.ensures c.args.left c.args.nodes.now c.loop-byte.nodes c.descend.new.nodes c.loop-byte.byte some less
+    (value c.loop-byte.byte c.deref-in-loop-byte.ensures.value c.eval.ensures ∙ c.if-eval-ne0.false) c.loop-byte.invariant.most (omega (arith, c.tick.ensures, share)) in
+    let P = IsRootOfSize c.args.q c.args.left in
+    let Sub = IsRootOfSize c.in_ok-child.child (c.args.left - 1) in
+    let old = map (λ r. r.items) c.args.roots.now.items in
+    let before = map (λ r. r.items) c.loop-byte.roots.items in
+    let new = map (λ r. r.items) c.descend.new.roots.items in
+    record {
+      kept = rw (without_last prefix c.loop-byte.byte (vec_len c.descend.new.prefix) (c.descend.new.prefix.ok.0 ∙ ap length descended)) at rest;
+      appends = appends-more P Sub c.loop-byte.byte prefix old before new (λ phi h. let size = h.size in omega (arith, some, size))
+          (λ psi. child-roots s less c.in_ok-child.ensures c.args.left psi some)
+          c.loop-byte.invariant.appends
+          (subst (λ prefix. Appends Sub prefix before new) pushed c.in_ok-descend.ensures.exact);
+      most = more;
+      least = λ l.
+          elim (cases_lt (length c.loop-byte.roots.items) (length c.descend.new.roots.items)) [
+            | inl here ↦ let least = c.in_ok-descend.ensures.least here in omega (arith, some, c.tick.ensures, least, c.loop-byte.invariant.rises)
+            | inr none ↦
+                let least = c.loop-byte.invariant.least (omega (arith, l, none)) in
+                omega (arith, c.tick.ensures, least, c.in_ok-descend.ensures.rises)
+          ];
+      rises = omega (arith, c.tick.ensures, c.in_ok-descend.ensures.rises, c.loop-byte.invariant.rises);
+    }
+
+pub returns-clause-exact : goal.returns-clause-exact
+returns-clause-exact g t c =
+    let P = IsRootOfSize c.args.q c.args.left in
+    let last : c.loop-byte.byte ≡ 256 = omega (arith, c.loop-byte-test.false, c.loop-byte.auto.byte-end) in
+    appends-same (HoldsBelow P c.loop-byte.byte) P c.args.prefix.now.items (map (λ r. r.items) c.args.roots.now.items) (map (λ r. r.items) c.loop-byte.roots.items)
+    (λ phi. (λ h. h.0, λ h. (h, omega (arith, last, first_byte c.args.q c.args.left phi h))))
+    c.loop-byte.invariant.appends
+
+pub returns-clause-most : goal.returns-clause-most
+returns-clause-most g t c = λ d h.
+    let s = stripped c.strip_x.ensures.order c.strip_x.ensures.quotient c.coefficients_are_bytes.ensures in
+    nodes-most s c.in_ok-constants.constants.items c.in_ok-constants.ensures c.args.left c.args.nodes.now c.loop-byte.nodes c.loop-byte.byte d
+    (omega (arith, c.loop-byte.auto.byte-end)) h c.loop-byte.invariant.most
+
+pub returns-clause-least : goal.returns-clause-least
+returns-clause-least g t c = c.loop-byte.invariant.least

@@ -1,0 +1,18 @@
+use Rattle.std.proofs.Common.{◌≡◌, ◌+◌, ◌*◌, ◌<◌, ◌≤◌, length, map}
+use Rattle.rr_roots.specs.Descent.{Appends, IsRootOfSize}
+use Rattle.rr_roots.proofs.Levels.{HoldsBelow}
+use Rattle.rr_roots.proofs.Multiplicities.{roots_below}
+use Rattle.rr_roots.proofs.descent.+descend.Given as goal
+
+abbrev pub decreases-descend : goal.decreases-descend
+decreases-descend g l = l.left
+
+abbrev pub invariant-loop-byte : goal.invariant-loop-byte
+invariant-loop-byte g l = record {
+  kept : l.prefix.items ≡ l.initial.prefix.items;
+  appends : Appends (HoldsBelow (IsRootOfSize l.fn.q l.fn.left) l.byte) l.initial.prefix.items
+      (map (λ r. r.items) l.initial.roots.items) (map (λ r. r.items) l.roots.items);
+  most : l.nodes ≤ l.initial.nodes + l.fn.left * roots_below l.constants.items l.byte;
+  least : length l.initial.roots.items < length l.roots.items → l.initial.nodes + l.fn.left ≤ l.nodes;
+  rises : l.initial.nodes ≤ l.nodes;
+}

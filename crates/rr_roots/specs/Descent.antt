@@ -1,0 +1,31 @@
+-- The tree of the roots' coefficients (Roth and Ruckenstein 2000): a node has a polynomial in two variables, and below it
+-- are the y-roots of that polynomial, each after the coefficients on the way to the node.
+use Rattle.std.specs.Prelude.{◌≡◌, ℕ, ◌+◌, ◌<◌, ◌↔◌, List, ◌++◌, length, map, All, Contains}
+use Rattle.std.specs.Cmp.Lexicographic.{slice_cmp}
+use Rattle.std.specs.List.Sorted.{IsStrictlySortedBy}
+use Rattle.std.specs.Ordering.{nat_cmp}
+use Rattle.uni_poly.specs.Coefficients.{HasDegreeBelow}
+use Rattle.bi_poly.specs.Rows.{column}
+use Rattle.bi_poly.specs.Degree.{IsOrderInX}
+use Rattle.rr_roots.specs.Roots.{IsYRoot}
+
+-- phi is a y-root of q of n bytes
+pub record IsRootOfSize (q : List (List ℕ)) (n : ℕ) (phi : List ℕ) : Type 0 where
+  pub size : length phi ≡ n
+  pub bytes : All (λ c. c < 256) phi
+  pub root : IsYRoot q phi
+
+-- the lists are those of which P holds, each once and ascending
+pub record ListsAll (P : List ℕ → Type 0) (lists : List (List ℕ)) : Type 0 where
+  pub ascending : IsStrictlySortedBy (slice_cmp nat_cmp) lists
+  pub exact : (phi : List ℕ) → Contains lists phi ↔ P phi
+
+-- the new lists are the old ones and then those of which P holds, ascending, each after the prefix
+pub record Appends (P : List ℕ → Type 0) (prefix : List ℕ) (old new : List (List ℕ)) : Type 0 where
+  pub found : List (List ℕ)
+  pub all : ListsAll P found
+  pub appended : new ≡ old ++ map (λ phi. prefix ++ phi) found
+
+-- the lowest column of q that isn't 0, a polynomial in y, has a degree of at most d
+abbrev pub HasLowestColumnDegreeAtMost : List (List ℕ) → ℕ → Type 0
+HasLowestColumnDegreeAtMost q d = (r : ℕ) → IsOrderInX q r → HasDegreeBelow (column q r) (d + 1)

@@ -1,0 +1,98 @@
+//! The tree of the roots' coefficients (Roth and Ruckenstein 2000).
+//!
+//! At a node some first coefficients of a root are fixed, and its polynomial has as y-roots what can follow them. A
+//! y-root `gamma + x*psi` of `q` begins with a root of `q(0, y)`, once `q` isn't divisible by x, and then psi is a y-root of
+//! `q(x, x*y + gamma)`, which is the polynomial of the child.
+
+ghost use Rattle.std.specs.Prelude.{ℕ, [], ◌≡◌, ◌+◌, ◌*◌, ◌<◌, ◌≤◌, ◌↔◌, IsTrue, length, map, All, OnOk};
+ghost use Rattle.bi_poly.specs.Rows.{IsZero};
+ghost use Rattle.rr_roots.specs.Roots.{IsYRoot};
+ghost use Rattle.rr_roots.specs.Descent.{Appends, HasLowestColumnDegreeAtMost, IsRootOfSize};
+
+use bi_poly::BiPoly;
+use bi_poly::laws::coefficients_are_bytes;
+use std::alloc::{AllocError, Global};
+use std::sync::ledger::Ledger;
+use uni_poly::eval;
+use uni_poly::steps::Steps;
+
+/// Whether each coefficient of `p` is 0.
+pub fn is_zero(p: &[u8]) -> bool
+    ensures { IsTrue result ↔ All (λ c. c ≡ 0) p.now }
+{
+    p.iter().all(|&c| c == 0)
+}
+
+/// Whether `q` is 0 once 0 stands for y: whether the row before `y^0` is.
+fn has_root_zero(q: &BiPoly) -> bool
+    ensures { IsTrue result ↔ IsYRoot q.now [] }
+{
+    match q.rows().first() {
+        Some(row) => is_zero(row),
+        None => true,
+    }
+}
+
+/// Appends `prefix` to `roots` where `q` is 0 once 0 stands for y, so that nothing need follow.
+fn keep_root(
+    alloc: Global,
+    q: &BiPoly,
+    prefix: &[u8],
+    roots: &mut Vec<Vec<u8>>,
+) -> Result<(), AllocError>
+    ensures { OnOk result (Appends (IsRootOfSize q.now 0) prefix.now
+        (map (λ r. r.items) roots.old.items) (map (λ r. r.items) roots.new.items)) }
+{
+    if !has_root_zero(q) {
+        return Ok(());
+    }
+    roots.push(Vec::from_slice(alloc, prefix)?)?;
+    Ok(())
+}
+
+/// Appends to `roots` the y-roots of `q`, which must not be 0, that have `left` coefficients, in ascending order and each
+/// after `prefix`. `nodes` counts the nodes below this one: on each of the `left` levels at most as many as the degree in y
+/// of the lowest column of `q` that isn't 0, that is, of what stands before the lowest power of x.
+///
+/// It calls itself to a depth of `left`, and holds one child's polynomial at a time beside its own.
+///
+/// # Errors
+///
+/// `AllocError` where there is no memory for these or for the roots; some roots may then be there, and coefficients left in
+/// `prefix`.
+pub fn descend<N: Ledger>(
+    alloc: Global,
+    mut q: BiPoly,
+    left: u32,
+    prefix: &mut Vec<u8>,
+    roots: &mut Vec<Vec<u8>>,
+    nodes: &mut Steps<N>,
+) -> Result<(), AllocError>
+    requires { ¬ IsZero q }
+    ensures kept { OnOk result (prefix.new.items ≡ prefix.old.items) }
+    ensures exact { OnOk result (Appends (IsRootOfSize q left) prefix.old.items
+        (map (λ r. r.items) roots.old.items) (map (λ r. r.items) roots.new.items)) }
+    ensures most { (d : ℕ) → HasLowestColumnDegreeAtMost q d → nodes.new ≤ nodes.old + left * d }
+    ensures least { OnOk result (length roots.old.items < length roots.new.items → nodes.old + left ≤ nodes.new) }
+    ensures rises { nodes.old ≤ nodes.new }
+{
+    if left == 0 {
+        return keep_root(alloc, &q, prefix, roots);
+    }
+    // The y-roots stay.
+    q.strip_x();
+    coefficients_are_bytes(&q);
+    let constants = q.at_zero(alloc)?;
+    for byte in 0..256u16 {
+        let gamma = byte as u8;
+        if eval(&constants, gamma) != 0 {
+            continue;
+        }
+        let child = q.shift_root(alloc, gamma)?;
+        prefix.push(gamma)?;
+        nodes.tick();
+        descend(alloc, child, left - 1, prefix, roots, nodes)?;
+        prefix.pop();
+    }
+    Ok(())
+}
