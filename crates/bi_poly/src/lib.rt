@@ -23,9 +23,8 @@ ghost use Rattle.bi_poly.specs.Degree.{IsWeightedDegree, IsOrderInX, without_fir
 ghost use Rattle.bi_poly.specs.Hasse.{hasse};
 ghost use Rattle.bi_poly.specs.Substitution.{IsAtPoly, IsShiftedRoot, shifted_row};
 
-pub use crate::row::is_odd_binomial;
-
 use crate::product::multiply_and_add;
+pub use crate::row::is_odd_binomial;
 use crate::row::{coefficient, degree, derivative, drop_first, order};
 use std::alloc::{AllocError, Global};
 use std::marker::Model;

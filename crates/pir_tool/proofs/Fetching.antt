@@ -90,26 +90,26 @@ pub ends_with_report : (o : FetchOrder) (session : Transcript) (verdict : Verdic
     → Concludes o.plan o.addresses session verdict v u → TouchesLinks o.plan.n v u → Reports o.keep session verdict status u z → TouchesFiles u z → FetchEnds o status w z
 ends_with_report o session verdict status w v u z fits is_open touch fetched links reports files = elim reports [
   | inl told ↦ elim told.1 [
-      | inl whole ↦
-          subst (λ (s : Status). FetchEnds o s w z) (sym whole.0) (ends_as o verdict w z record {
-            session = session;
-            verdict = verdict;
-            settled = settled;
-            status_is = refl;
-            recorded = recorded_before o.keep session w u z (still 4 (lit< tt) (λ e. omega (arith, e))) told.0;
-            written = whole.1 ∙ ap (gave (text verdict)) (still 1 (lit< tt) (λ e. omega (arith, e)));
-          })
-      | inr part ↦
-          subst (λ (s : Status). FetchEnds o s w z) (sym part.0) (record {
-            session = session;
-            verdict = verdict;
-            settled = settled;
-            cut = inr (
-              recorded_before o.keep session w u z (still 4 (lit< tt) (λ e. omega (arith, e))) told.0,
-              fails_writing_before 1 w u z (still 1 (lit< tt) (λ e. omega (arith, e))) (text verdict) part.1,
-            );
-          })
-    ]
+    | inl whole ↦
+        subst (λ (s : Status). FetchEnds o s w z) (sym whole.0) (ends_as o verdict w z record {
+          session = session;
+          verdict = verdict;
+          settled = settled;
+          status_is = refl;
+          recorded = recorded_before o.keep session w u z (still 4 (lit< tt) (λ e. omega (arith, e))) told.0;
+          written = whole.1 ∙ ap (gave (text verdict)) (still 1 (lit< tt) (λ e. omega (arith, e)));
+        })
+    | inr part ↦
+        subst (λ (s : Status). FetchEnds o s w z) (sym part.0) (record {
+          session = session;
+          verdict = verdict;
+          settled = settled;
+          cut = inr (
+            recorded_before o.keep session w u z (still 4 (lit< tt) (λ e. omega (arith, e))) told.0,
+            fails_writing_before 1 w u z (still 1 (lit< tt) (λ e. omega (arith, e))) (text verdict) part.1,
+          );
+        })
+  ]
   | inr cut ↦
       subst (λ (s : Status). FetchEnds o s w z) (sym cut.1) (record {
         session = session;

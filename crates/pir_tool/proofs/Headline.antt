@@ -78,7 +78,7 @@ reported o Several old new held told enough none said = inl said
 reported o (TooFew k h) old new held told enough none said = inl said
 reported o (TooWeak k t h) old new held told enough none said = inl said
 reported o ReadFault old new held told enough none said = absurd (none 3 (lit< tt) said.unread.rose)
-reported o WriteFault old new held told enough none said = absurd (elim said.cut [ | inl c ↦ unrecorded_rose o.keep said.session old new none c.0 | inr c ↦ none 1 (lit< tt) c.1.rose ])
+reported o WriteFault old new held told enough none said = absurd (elim said.cut [ inl c ↦ unrecorded_rose o.keep said.session old new none c.0 | inr c ↦ none 1 (lit< tt) c.1.rose ])
 reported o (BadInput (Session place)) old new held told enough none said = absurd said
 reported o (BadInput (CoinsEnded taken)) old new held told enough none said =
     let all = at_told (λ (h : List ℕ). length h ≡ taken) (old.at 3).holds held told said.short.all in
@@ -102,7 +102,7 @@ too_few o Several old new held told few none said = absurd (no_coins o Several o
 too_few o (TooFew k h) old new held told few none said = absurd (no_coins o (TooFew k h) old new held told few said)
 too_few o (TooWeak k t h) old new held told few none said = absurd (no_coins o (TooWeak k t h) old new held told few said)
 too_few o ReadFault old new held told few none said = absurd (none 3 (lit< tt) said.unread.rose)
-too_few o WriteFault old new held told few none said = absurd (elim said.cut [ | inl c ↦ unrecorded_rose o.keep said.session old new none c.0 | inr c ↦ none 1 (lit< tt) c.1.rose ])
+too_few o WriteFault old new held told few none said = absurd (elim said.cut [ inl c ↦ unrecorded_rose o.keep said.session old new none c.0 | inr c ↦ none 1 (lit< tt) c.1.rose ])
 too_few o (BadInput (Session place)) old new held told few none said = absurd said
 too_few o (BadInput (CoinsEnded taken)) old new held told few none said =
     inl (ap (λ (n : ℕ). BadInput (CoinsEnded n)) (sym (at_told (λ (h : List ℕ). length h ≡ taken) (old.at 3).holds held told said.short.all)))

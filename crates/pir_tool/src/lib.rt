@@ -9,5 +9,3 @@ mod top;
 
 pub use status::{Bad, Status, code, line};
 pub use top::run;
-
-
