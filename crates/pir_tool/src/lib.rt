@@ -9,3 +9,6 @@ mod top;
 
 pub use status::{Bad, Status, code, line};
 pub use top::run;
+
+#[cfg(test)]
+mod tests;

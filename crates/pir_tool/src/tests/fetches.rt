@@ -1,0 +1,179 @@
+//! Fetches of the block `4344` from three servers, over ports in memory.
+
+ghost use Rattle.std.specs.Prelude.{◌<◌, ◌-◌, ◌^◌, All};
+
+use crate::tests::{SESSION, words_in};
+use crate::{Bad, Status, run};
+use pir_ports::{MemPorts, Port};
+use std::alloc::{AllocError, Global};
+use std::test::Fail;
+
+const WORDS: &str =
+    "fetch --rows 2 --width 2 --block 1 --degree 1 --agree 2 --coins C --record F a b c";
+
+// The number of the session is 7, and the polynomials of the rows are `05 x` and `01 + 07 x`.
+const COINS: [u8; 10] = [0, 0, 0, 0, 0, 0, 0, 7, 5, 7];
+
+const TEXT: &[u8] = b"blocks 1\n4344\n";
+
+// What the servers are sent, and where their answers stand in the session.
+const QUERIES: [&[u8; 26]; 3] = [
+    b"PIRQ\x01\x01\x01\0\0\0\0\0\0\0\0\x07\0\0\0\x02\0\0\0\x02\x05\x06",
+    b"PIRQ\x01\x01\x02\0\0\0\0\0\0\0\0\x07\0\0\0\x02\0\0\0\x02\x0a\x0f",
+    b"PIRQ\x01\x01\x03\0\0\0\0\0\0\0\0\x07\0\0\0\x02\0\0\0\x02\x0f\x08",
+];
+
+const ANSWERS: [usize; 3] = [34, 66, 98];
+
+/// Ports with these coins and the answers of the three servers, of the last one so many bytes. Of the calls those with
+/// these numbers fail, and a call moves at most `cut` bytes.
+fn ports_with(
+    alloc: Global,
+    cut: usize,
+    fail: &[u64],
+    coins: &[u8],
+    last: usize,
+) -> Result<MemPorts, AllocError>
+    requires cut { 0 < cut }
+    requires last { last < 27 }
+    requires fail { All (λ n. n < 2 ^ 64 - 1) fail.now }
+{
+    let mut ports = MemPorts::new(alloc, cut, fail, 8, 64)?;
+    ports.put(alloc, Port::Coins, coins)?;
+    for i in 0..3usize {
+        let link = Port::Link(i as u8 + 1);
+        let len = if i == 2 { last } else { 26 };
+        ports.put(alloc, link, &SESSION[ANSWERS[i]..ANSWERS[i] + len])?;
+        ports.room(alloc, link, 26)?;
+    }
+    ports.room(alloc, Port::Record, 124)?;
+    ports.room(alloc, Port::Output, 100)?;
+    Ok(ports)
+}
+
+#[test]
+fn a_fetch_and_its_replay(rt: HostRuntime) -> Result<(), Fail> {
+    let alloc = rt.alloc();
+    let words = words_in(alloc, WORDS)?;
+    for cut in [1, 7, 1000] {
+        let mut ports = ports_with(alloc, cut, &[], &COINS, 26)?;
+        assert_eq!(rt; run(&rt, alloc, &words, &mut ports), Status::One);
+        assert_eq!(rt; ports.seen(Port::Output), TEXT);
+        assert_eq!(rt; ports.seen(Port::Record), SESSION.as_slice());
+        for (link, address, query) in [
+            (1, b"a", QUERIES[0]),
+            (2, b"b", QUERIES[1]),
+            (3, b"c", QUERIES[2]),
+        ] {
+            assert_eq!(rt;
+                ports.opened_as(Port::Link(link), 0),
+                Some(address.as_slice())
+            );
+            assert_eq!(rt; ports.opened_as(Port::Link(link), 1), None);
+            assert_eq!(rt; ports.seen(Port::Link(link)), query.as_slice());
+        }
+        assert_eq!(rt; ports.opened_as(Port::Coins, 0), Some(b"C".as_slice()));
+        assert_eq!(rt; ports.opened_as(Port::Record, 0), Some(b"F".as_slice()));
+
+        let replay = words_in(alloc, "replay F")?;
+        let mut again = MemPorts::new(alloc, cut, &[], 1, 1)?;
+        again.put(alloc, Port::Input, ports.seen(Port::Record))?;
+        again.room(alloc, Port::Output, 100)?;
+        assert_eq!(rt; run(&rt, alloc, &replay, &mut again), Status::One);
+        assert_eq!(rt; again.seen(Port::Output), TEXT);
+    }
+    Ok(())
+}
+
+#[test]
+fn too_few_coins(rt: HostRuntime) -> Result<(), Fail> {
+    let alloc = rt.alloc();
+    let words = words_in(alloc, WORDS)?;
+    for taken in 0..10usize {
+        let mut ports = ports_with(alloc, 3, &[], &COINS[..taken], 26)?;
+        let status = run(&rt, alloc, &words, &mut ports);
+        let wanted = Status::BadInput(Bad::CoinsEnded {
+            taken: taken as u64,
+        });
+        assert_eq!(rt; status, wanted);
+        assert_eq!(rt; ports.opened_as(Port::Link(1), 0), None);
+        assert_eq!(rt; ports.opened_as(Port::Record, 0), None);
+        assert_eq!(rt; ports.seen(Port::Output), b"".as_slice());
+    }
+    Ok(())
+}
+
+#[test]
+fn silent_servers(rt: HostRuntime) -> Result<(), Fail> {
+    let alloc = rt.alloc();
+    let words = words_in(alloc, WORDS)?;
+    // Call 1 opens the coins and call 2 takes them; then no link can be opened.
+    let mut ports = ports_with(alloc, 1000, &[3, 4, 5], &COINS, 26)?;
+    let status = run(&rt, alloc, &words, &mut ports);
+    assert_eq!(rt; status, Status::TooFew { k: 0, h: 2 });
+    assert_eq!(rt; ports.seen(Port::Output), b"too few 0 2\n".as_slice());
+    let record = ports.seen(Port::Record);
+    assert_eq!(rt; record.len(), 46);
+    assert_eq!(rt; &record[..28], &SESSION[..28]);
+    assert_eq!(rt;
+        &record[28..],
+        b"\x01\0\0\0\0\0\x02\0\0\0\0\0\x03\0\0\0\0\0".as_slice()
+    );
+
+    // The first server is opened, and fails when it is given its query.
+    let mut ports = ports_with(alloc, 1000, &[4], &COINS, 26)?;
+    assert_eq!(rt; run(&rt, alloc, &words, &mut ports), Status::One);
+    assert_eq!(rt; ports.seen(Port::Output), TEXT);
+    assert_eq!(rt; ports.seen(Port::Link(1)), b"".as_slice());
+    assert_eq!(rt; ports.seen(Port::Link(2)), QUERIES[1].as_slice());
+    assert_eq!(rt; ports.seen(Port::Link(3)), QUERIES[2].as_slice());
+    let record = ports.seen(Port::Record);
+    assert_eq!(rt; record.len(), 98);
+    assert_eq!(rt; &record[28..34], b"\x01\0\0\0\0\0".as_slice());
+    assert_eq!(rt; &record[34..], &SESSION[60..]);
+    Ok(())
+}
+
+#[test]
+fn an_answer_cut_short(rt: HostRuntime) -> Result<(), Fail> {
+    let alloc = rt.alloc();
+    let words = words_in(alloc, WORDS)?;
+    for len in 0..26usize {
+        let mut ports = ports_with(alloc, 1, &[], &COINS, len)?;
+        assert_eq!(rt; run(&rt, alloc, &words, &mut ports), Status::One);
+        assert_eq!(rt; ports.seen(Port::Output), TEXT);
+        let record = ports.seen(Port::Record);
+        assert_eq!(rt; record.len(), 98 + len);
+        assert_eq!(rt; &record[..97], &SESSION[..97]);
+        assert_eq!(rt; usize::from(record[97]), len);
+        assert_eq!(rt; &record[98..], &SESSION[98..98 + len]);
+    }
+    Ok(())
+}
+
+#[test]
+fn each_call_of_a_fetch_failing(rt: HostRuntime) -> Result<(), Fail> {
+    let alloc = rt.alloc();
+    let words = words_in(alloc, WORDS)?;
+    // With a cut of 1: call 1 opens the coins, calls 2 to 11 take them; each link takes 53 calls, to open it, to give the
+    // query and to take the answer; call 171 opens the record, calls 172 to 295 give it, and calls 296 to 309 give the text.
+    for call in 1..320u32 {
+        let mut ports = ports_with(alloc, 1, &[u64::from(call)], &COINS, 26)?;
+        let status = run(&rt, alloc, &words, &mut ports);
+        let (wanted, recorded, written) = match call {
+            1..=11 => (Status::ReadFault, 0, 0),
+            12..=170 => (Status::One, 98, 14),
+            171 => (Status::WriteFault, 0, 0),
+            172..=295 => (Status::WriteFault, call as usize - 172, 0),
+            296..=309 => (Status::WriteFault, 124, call as usize - 296),
+            _ => (Status::One, 124, 14),
+        };
+        assert_eq!(rt; status, wanted, "call {call}");
+        assert_eq!(rt; ports.seen(Port::Record).len(), recorded, "call {call}");
+        assert_eq!(rt; ports.seen(Port::Output), &TEXT[..written], "call {call}");
+        if call <= 11 {
+            assert_eq!(rt; ports.opened_as(Port::Link(1), 0), None, "call {call}");
+        }
+    }
+    Ok(())
+}
