@@ -3,12 +3,12 @@ ghost use Rattle.std.specs.Prelude.{◌≤◌, length, IfOk};
 
 use pir_ports::Port;
 use std::io::{ErrorKind, Input, Print, Read, Write};
-use std::net::{Net, OpenStream, TcpStream};
+use std::net::{Net, OpenStream, TcpStream, ToSocketAddrs};
 use std::rt::Files;
 use std::time::Duration;
 use std::{fs, io};
 
-// How long a read on a link may wait.
+// How long a link may wait to be opened, and then each read and each write on it.
 const LINK_SECONDS: u64 = 10;
 
 // Where Input reads from.
@@ -86,15 +86,29 @@ impl<R: Files + Input + Print + Net + AllocGlobal + Drop> Streams<R> {
         Ok(())
     }
 
-    // Connects to the server.
+    // Connects to the server, at the first of its addresses that answers.
     fn connect(&mut self, server: u8, address: &str) -> io::Result<()> {
-        let stream = TcpStream::connect(&self.rt, address)?;
-        stream.set_read_timeout(Some(Duration::from_secs(LINK_SECONDS)))?;
+        let stream = self.reach(address)?;
+        let timeout = Some(Duration::from_secs(LINK_SECONDS));
+        stream.set_read_timeout(timeout)?;
+        stream.set_write_timeout(timeout)?;
         match self.link(server) {
             Some(link) => *link = stream,
             None => self.links.push(Link { server, stream })?,
         }
         Ok(())
+    }
+
+    fn reach(&self, address: &str) -> io::Result<R::Stream> {
+        let timeout = Duration::from_secs(LINK_SECONDS);
+        let mut fault = io::Error::from(ErrorKind::NotFound);
+        for place in address.to_socket_addrs(&self.rt)? {
+            match TcpStream::connect_timeout(&self.rt, &place, timeout) {
+                Ok(stream) => return Ok(stream),
+                Err(error) => fault = error,
+            }
+        }
+        Err(fault)
     }
 
     // The stream to the server.

@@ -1,6 +1,9 @@
 //! The program `pir`. It makes the ports of the system and reads the words; `pir_tool::run` does the rest.
 #![tactic(auto)]
 
+#[cfg(test)]
+mod tests;
+
 use os_ports::OsPorts;
 use pir_tool::{Status, code, line, run};
 use std::env;
