@@ -1,5 +1,5 @@
 -- The header of a session as a chain of fields: each in the range that the numbers before it leave.
-use Rattle.std.proofs.Common.{◌≡◌, ℕ, ◌+◌, ◌<◌, ◌≤◌, List, [], ◌∷◌, take, drop, sym, subst, arith, lit≤, lit<}
+use Rattle.std.proofs.Common.{ℕ, ◌+◌, ◌≤◌, List, [], ◌∷◌, take, drop, sym, subst, arith, lit≤, lit<}
 use Rattle.std.specs.Int.{bytes_high_first}
 use Rattle.wire_frames.specs.declared.TheConstants.{MOST_DEGREE, MOST_SERVERS}
 use Rattle.wire_frames.specs.declared.session.SessionParams.{SessionParams}

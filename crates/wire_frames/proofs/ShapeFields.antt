@@ -5,7 +5,7 @@ use Rattle.std.proofs.Math.Nat.{div-mul-le_self, mul-le-mul_right}
 use Rattle.std.proofs.lemmas.Nat.{le-div}
 use Rattle.wire_frames.specs.declared.TheConstants.{MOST_ROWS, MOST_WIDTH, MOST_CELLS}
 use Rattle.wire_frames.specs.declared.field.Number.{Number}
-use Rattle.wire_frames.specs.Field.{IsField, IsNumber, width_field}
+use Rattle.wire_frames.specs.Field.{IsNumber, width_field}
 use Rattle.wire_frames.specs.Form.{Starts}
 use Rattle.wire_frames.specs.Limits.{IsShape}
 use Rattle.wire_frames.proofs.Chains.{Then, IsDone, Leads, field_then, leads-on, some_spelling, no_more}

@@ -1,4 +1,4 @@
-use Rattle.std.proofs.Common.{ℕ, take, drop, subst}
+use Rattle.std.proofs.Common.{take, drop, subst}
 use Rattle.wire_frames.specs.declared.field.Number.{Number}
 use Rattle.wire_frames.specs.Field.{IsNumber}
 use Rattle.wire_frames.specs.Form.{StopsWithin}

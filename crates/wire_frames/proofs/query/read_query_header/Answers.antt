@@ -1,4 +1,4 @@
-use Rattle.std.proofs.Common.{◌≡◌, ◌∙◌, ◌+◌, ◌≤◌, ℕ, List, take, drop, subst, refl, sym, ap, length, arith, lit≤}
+use Rattle.std.proofs.Common.{subst, refl, arith, lit≤}
 use Rattle.wire_frames.specs.declared.field.Number.{Number}
 use Rattle.std.specs.Prelude.{Ok, Err}
 use Rattle.wire_frames.specs.Query.{ReadsField}
@@ -6,7 +6,7 @@ use Rattle.wire_frames.proofs.Chains.{leads-done, no_more}
 use Rattle.std.proofs.lemmas.List.Elements.{All-from_get_or}
 use Rattle.wire_frames.proofs.Digits.{IsByte}
 use Rattle.wire_frames.proofs.QueryLayout.{some_version, some_scheme, some_index, some_zero, to_magic, to_version, to_scheme, to_index, to_zero, to_session, any_session, stops_in, query_exit}
-use Rattle.wire_frames.proofs.ShapeFields.{some_session, some_r, some_s, to_r, to_s, to_end}
+use Rattle.wire_frames.proofs.ShapeFields.{some_session, some_s, to_r, to_s, to_end}
 use Rattle.wire_frames.specs.declared.query.Field.TheVariants.{Magic, Version, Scheme, Index, Zero, Rows, Width}
 use Rattle.wire_frames.proofs.query.read_query_header.Goals as goal
 
