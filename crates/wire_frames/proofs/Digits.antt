@@ -1,7 +1,9 @@
 -- The bytes of a number, highest first: a list of bytes and the number that it spells say the same.
-use Rattle.std.proofs.Common.{Fits, ◌≡◌, ℕ, zero, suc, ◌+◌, ◌*◌, ◌/◌, ◌%◌, ◌^◌, ◌<◌, ◌≤◌, List, [], ◌∷◌, ◌++◌, length, All, refl, sym, subst, ap, ap₂, ◌∙◌, arith, length-append}
+use Rattle.std.proofs.Common.{Fits, ◌≡◌, ℕ, zero, suc, ◌+◌, ◌*◌, ◌/◌, ◌%◌, ◌^◌, ◌<◌, ◌≤◌, List, [], ◌∷◌, ◌++◌, length, take, drop, get_or, All, refl, sym, subst, ap, ap₂, ◌∙◌, arith, length-append, length-drop}
 use Rattle.std.proofs.Math.Nat.{add-mul, div-add-mod', div-lt_iff_lt-mul, div-one, mod-lt, mul-le-mul_right, mul_assoc, one-le-pow, pow-succ'}
 use Rattle.std.proofs.lemmas.Nat.{div-mul-add, mod-mul-add, pow-add}
+use Rattle.std.proofs.lemmas.List.{drop_more, length-take}
+use Rattle.byteorder.specs.Endian.{big_from, big_number}
 use Rattle.std.proofs.lemmas.List.Elements.{All-nil, All-cons, All-from_get_or, All-head, All-tail}
 use Rattle.std.specs.Prelude.{slice_index_or}
 use Rattle.std.specs.Int.{w8, byte_at, bytes_high_first}
@@ -114,3 +116,16 @@ number-append (x ∷ xs) ys =
     let place : x * 256 ^ length (xs ++ ys) ≡ x * 256 ^ length xs * 256 ^ length ys = ap (λ (n : ℕ). x * 256 ^ n) long ∙ ap (λ (n : ℕ). x * n) (pow-add 256 (length xs) (length ys)) ∙ sym (mul_assoc x (256 ^ length xs) (256 ^ length ys)) in
     let split = add-mul (x * 256 ^ length xs) (number xs) (256 ^ length ys) in
     omega (arith, ih, place, split)
+
+-- the number in the bytes from place i, as `byteorder` has it
+big_from-is : (i n : ℕ) (bs : List ℕ) → i + n ≤ length bs → number (take n (drop i bs)) ≡ big_from i n bs
+big_from-is i zero bs enough = refl
+big_from-is i (suc n) bs enough =
+    let split = ap (take (suc n)) (drop_more bs i 0 (omega arith)) in
+    let rest = big_from-is (i + 1) n bs (omega arith) in
+    let long : length (take n (drop (i + 1) bs)) ≡ n = length-take n (drop (i + 1) bs) ∙ omega (arith, length-drop (i + 1) bs) in
+    ap number split ∙ ap₂ (λ (x y : ℕ). get_or bs i 0 * 256 ^ x + y) long rest ∙ ap (λ (j : ℕ). get_or bs i 0 * 256 ^ n + big_from j n bs) (omega arith)
+
+-- the number in the first bytes
+pub big_number-is : (n : ℕ) (bs : List ℕ) → n ≤ length bs → number (take n bs) ≡ big_number n bs
+big_number-is n bs enough = big_from-is 0 n bs (omega arith)

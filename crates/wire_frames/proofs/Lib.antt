@@ -7,10 +7,13 @@ mod Filing
 pub mod FormLemmas
 mod HeadLemmas
 mod HeaderPieces
-mod LayoutLemmas
+mod SessionLayout
 pub mod Parsing
-mod RecordHeader
+mod QueryLayout
+mod RecordLayout
 mod RecordsReaderLemmas
+mod ShapeFields
+mod Spellings
 mod SessionReaderLemmas
 pub mod Spans
 pub mod UnderWay

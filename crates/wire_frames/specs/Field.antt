@@ -1,6 +1,7 @@
 -- A field of a frame: a number of so many bytes, highest first, in a range.
-use Rattle.std.specs.Prelude.{◌≡◌, ℕ, ◌^◌, ◌<◌, ◌≤◌, List}
+use Rattle.std.specs.Prelude.{◌≡◌, ℕ, ◌^◌, ◌/◌, ◌<◌, ◌≤◌, List, min}
 use Rattle.std.specs.Int.{bytes_high_first}
+use Rattle.wire_frames.specs.declared.TheConstants.{MOST_WIDTH, MOST_CELLS}
 use Rattle.wire_frames.specs.declared.field.Number.{Number}
 
 -- a range of numbers that has some, and none of more bytes than the field has
@@ -14,3 +15,7 @@ pub record IsNumber (field : Number) (bytes : List ℕ) (value : ℕ) : Type 0 w
   pub least : field.least ≤ value
   pub most : value ≤ field.most
   pub spelled : bytes ≡ bytes_high_first field.width value
+
+-- the width of so many rows
+abbrev pub width_field : ℕ → Number
+width_field rows = record { width = 4; least = 1; most = min MOST_WIDTH (MOST_CELLS / rows) }

@@ -8,5 +8,6 @@ pub mod Answer
 pub mod Form
 pub mod Field
 pub mod Layout
+pub mod Query
 pub mod RecordsReader
 pub mod SessionReader

@@ -6,11 +6,11 @@ ghost use Rattle.wire_frames.specs.Limits.{IsQuery};
 
 use byteorder::{BigEndian, ByteOrder};
 
-// The version of queries and answers.
-const VERSION: u8 = 1;
+/// The version of queries, answers and sessions.
+pub(crate) const VERSION: u8 = 1;
 
-// `PIRQ`
-const QUERY_MAGIC: u32 = 0x5049_5251;
+/// `PIRQ`
+pub(crate) const QUERY_MAGIC: u32 = 0x5049_5251;
 
 // `PIRA`
 const ANSWER_MAGIC: u32 = 0x5049_5241;

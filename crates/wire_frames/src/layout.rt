@@ -20,11 +20,13 @@
 //! | 0 | index | that of the record, from 1 |
 //! | 1 | present | 0 or 1 |
 //! | 2..5 | length | at most 24 + s, and 0 where present is 0 |
-ghost use Rattle.std.specs.Prelude.{◌≤◌, ◌<◌, ◌^◌, length};
+ghost use Rattle.std.specs.Prelude.{◌≡◌, ◌≤◌, ◌<◌, ◌^◌, length};
+ghost use Rattle.wire_frames.specs.Field.{width_field};
 ghost use Rattle.wire_frames.specs.Form.{Reads};
 ghost use Rattle.wire_frames.specs.Layout.{IsHeader, IsRecordHeader};
 
 use crate::field::{Number, number_at};
+use crate::header::VERSION;
 use crate::session::SessionParams;
 use crate::{MOST_CELLS, MOST_DEGREE, MOST_ROWS, MOST_SERVERS, MOST_WIDTH};
 
@@ -34,17 +36,19 @@ pub(crate) const HEADER_LEN: usize = 28;
 /// How many bytes stand before those of a record.
 pub(crate) const RECORD_HEADER_LEN: usize = 6;
 
-// `PIRS`
+/// `PIRS`
+pub(crate) const SESSION_MAGIC: u32 = 0x5049_5253;
+
 const MAGIC: Number = Number {
     width: 4,
-    least: 0x5049_5253,
-    most: 0x5049_5253,
+    least: SESSION_MAGIC as u64,
+    most: SESSION_MAGIC as u64,
 };
 
-const VERSION: Number = Number {
+pub(crate) const VERSION_FIELD: Number = Number {
     width: 1,
-    least: 1,
-    most: 1,
+    least: VERSION as u64,
+    most: VERSION as u64,
 };
 
 const SCHEME: Number = Number {
@@ -78,7 +82,8 @@ const SESSION: Number = Number {
     most: u64::MAX,
 };
 
-const ROWS: Number = Number {
+/// The number of rows of a database.
+pub(crate) const ROWS: Number = Number {
     width: 4,
     least: 1,
     most: MOST_ROWS as u64,
@@ -108,13 +113,22 @@ const LEN: Number = Number {
     most: u32::MAX as u64,
 };
 
+/// The width of so many rows.
+pub(crate) fn width_field(rows: u64) -> Number
+    requires { 0 < rows }
+    ensures { result ≡ width_field rows }
+{
+    let most = WIDTH.most.min(MOST_CELLS / rows);
+    Number { most, ..WIDTH }
+}
+
 /// The numbers that the header of a session spells, or the place up to which the bytes begin one.
 pub(crate) fn read_header(bytes: &[u8]) -> Result<SessionParams, usize>
     requires { length bytes.now ≤ HEADER_LEN }
     ensures { Reads IsHeader bytes.now result }
 {
     number_at(bytes, 0, MAGIC)?;
-    number_at(bytes, 4, VERSION)?;
+    number_at(bytes, 4, VERSION_FIELD)?;
     let scheme = number_at(bytes, 5, SCHEME)?;
     let t = number_at(bytes, 6, DEGREE)?;
     let least = t + 1;
@@ -124,8 +138,7 @@ pub(crate) fn read_header(bytes: &[u8]) -> Result<SessionParams, usize>
     number_at(bytes, 9, ZERO)?;
     let session = number_at(bytes, 12, SESSION)?;
     let r = number_at(bytes, 20, ROWS)?;
-    let most = WIDTH.most.min(MOST_CELLS / r);
-    let s = number_at(bytes, 24, Number { most, ..WIDTH })?;
+    let s = number_at(bytes, 24, width_field(r))?;
     Ok(SessionParams {
         scheme: scheme as u8,
         t: t as u8,

@@ -13,6 +13,7 @@ mod field;
 mod head;
 mod header;
 mod layout;
+mod query;
 mod reader;
 mod records;
 mod records_reader;
@@ -23,6 +24,7 @@ mod write;
 
 pub use answer::usable_answer;
 pub use header::{QueryHeader, write_answer_header, write_query_header};
+pub use query::{Field, FrameFault, read_query_header};
 pub use reader::{BadSession, FeedFault, SessionReader};
 pub use session::{Session, SessionParams};
 pub use write::write_session;

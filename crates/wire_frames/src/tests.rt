@@ -1,5 +1,6 @@
 use crate::{
-    QueryHeader, Session, SessionParams, usable_answer, write_answer_header, write_query_header,
+    Field, FrameFault, QueryHeader, Session, SessionParams, read_query_header, usable_answer,
+    write_answer_header, write_query_header,
 };
 use std::alloc::AllocError;
 
@@ -23,7 +24,60 @@ fn headers_of_queries(rt: HostRuntime) {
         let mut out = [0xff; 24];
         write_query_header(&QueryHeader { index, ..ASKED }, &mut out);
         assert_eq!(rt; out, *bytes, "server {index}");
+        let asked = QueryHeader { index, ..ASKED };
+        assert_eq!(rt; read_query_header(bytes), Ok(asked), "server {index}");
     }
+}
+
+// The fault that the query has with this byte at this place.
+fn fault_of(at: usize, byte: u8) -> Option<FrameFault> {
+    let mut bytes = QUERY;
+    if let Some(place) = bytes.get_mut(at) {
+        *place = byte;
+    }
+    read_query_header(&bytes).err()
+}
+
+#[test]
+fn wrong_bytes_of_a_query_are_found(rt: HostRuntime) {
+    for (at, byte, place, field) in [
+        (0, 0x51, 0, Field::Magic),
+        (3, 0x41, 3, Field::Magic),
+        (4, 0x02, 4, Field::Version),
+        (5, 0x00, 5, Field::Scheme),
+        (5, 0x03, 5, Field::Scheme),
+        (6, 0x00, 6, Field::Index),
+        (7, 0x01, 7, Field::Zero),
+        (16, 0x01, 16, Field::Rows),
+        (17, 0x20, 17, Field::Rows),
+        (17, 0x10, 19, Field::Rows),
+        (19, 0x00, 19, Field::Rows),
+        (20, 0x01, 20, Field::Width),
+        (21, 0x01, 23, Field::Width),
+        (23, 0x00, 23, Field::Width),
+    ] {
+        let fault = FrameFault { place, field };
+        assert_eq!(rt; fault_of(at, byte), Some(fault), "byte {at}");
+    }
+}
+
+#[test]
+fn rows_may_not_have_too_many_bytes_together(rt: HostRuntime) {
+    let mut bytes = QUERY;
+    bytes[8..].copy_from_slice(b"\xff\xff\xff\xff\xff\xff\xff\xff\0\x10\0\0\0\0\x04\0");
+    let query = QueryHeader {
+        session: u64::MAX,
+        r: 1 << 20,
+        s: 1 << 10,
+        ..ASKED
+    };
+    assert_eq!(rt; read_query_header(&bytes), Ok(query));
+    bytes[23] = 1;
+    let fault = FrameFault {
+        place: 23,
+        field: Field::Width,
+    };
+    assert_eq!(rt; read_query_header(&bytes), Err(fault));
 }
 
 #[test]

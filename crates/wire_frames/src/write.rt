@@ -7,21 +7,22 @@ ghost use Rattle.wire_frames.specs.Layout.{record_header};
 ghost use Rattle.wire_frames.specs.Limits.{IsInRange};
 ghost use Rattle.wire_frames.specs.Session.{IsSession, header_bytes, record_bytes, records_bytes, session_bytes};
 
-#[cfg(test)]
-mod tests;
-
-use crate::layout::{HEADER_LEN, RECORD_HEADER_LEN};
+use crate::header::VERSION;
+use crate::layout::{HEADER_LEN, RECORD_HEADER_LEN, SESSION_MAGIC};
 use crate::session::{Session, SessionParams};
 use byteorder::{BigEndian, ByteOrder};
 use pir_ports::{Failed, Port, Ports, write_all};
+
+#[cfg(test)]
+mod tests;
 
 /// The header of a session with these numbers.
 fn header_of(params: &SessionParams) -> [u8; HEADER_LEN]
     ensures { result ≡ header_bytes params.now }
 {
     let mut header = [0; HEADER_LEN];
-    header[..4].copy_from_slice(b"PIRS");
-    header[4] = 1;
+    header[..4].copy_from_slice(&SESSION_MAGIC.to_be_bytes());
+    header[4] = VERSION;
     header[5] = params.scheme;
     header[6] = params.t;
     header[7] = params.h;

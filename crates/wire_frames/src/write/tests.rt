@@ -51,9 +51,9 @@ fn answers_are_written(rt: HostRuntime) -> Result<(), Fail> {
 fn a_failed_write_leaves_a_front(rt: HostRuntime) -> Result<(), Fail> {
     let alloc = rt.alloc();
     let mut session = asked(alloc)?;
-    for _ in 0..3 {
-        session.push_record(None);
-    }
+    session.push_record(None);
+    session.push_record(None);
+    session.push_record(None);
     for (fail, len) in [(1, 0), (2, 20), (3, 28), (4, 34), (5, 40)] {
         let mut ports = MemPorts::new(alloc, 20, &[fail], 0, 0)?;
         ports.room(alloc, Port::Record, 46)?;

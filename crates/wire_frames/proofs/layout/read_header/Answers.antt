@@ -1,9 +1,11 @@
-use Rattle.std.proofs.Common.{ℕ, take, drop, subst}
+use Rattle.std.proofs.Common.{take, drop, subst}
+use Rattle.wire_frames.specs.declared.field.Number.{Number}
 use Rattle.wire_frames.specs.Field.{IsNumber}
 use Rattle.wire_frames.specs.Form.{StopsWithin}
 use Rattle.wire_frames.proofs.Chains.{leads-start, leads-stop, leads-done, no_more}
 use Rattle.wire_frames.proofs.FormLemmas.{reads-exit}
-use Rattle.wire_frames.proofs.LayoutLemmas.{header_into, header_back, to_version, to_scheme, to_t, to_h, to_n, to_zero, to_session, to_r, to_s, to_end, some_version, some_scheme, some_t, some_h, some_n, some_zero, some_session, some_r, some_s}
+use Rattle.wire_frames.proofs.SessionLayout.{header_into, header_back, to_version, to_scheme, to_t, to_h, to_n, to_zero, to_session, some_version, some_scheme, some_t, some_h, some_n, some_zero}
+use Rattle.wire_frames.proofs.ShapeFields.{some_session, some_r, some_s, to_r, to_s, to_end}
 use Rattle.wire_frames.proofs.layout.read_header.Goals as goal
 
 pub returns-in_err-number_at : goal.returns-in_err-number_at
@@ -54,7 +56,7 @@ returns-in_err-number_at-3 c =
     let t = to_h scheme c.in_ok-t.ensures in
     let h = to_n t c.in_ok-h.ensures in
     let n = to_zero h c.in_ok-n.ensures in
-    reads-exit c.from_residual-in_err-number_at-3.result _ c.from_residual-in_err-number_at-3.ensures.1 (leads-stop n (λ _ _ _. some_session _ _ _ _) c.in_err-number_at-3.ensures)
+    reads-exit c.from_residual-in_err-number_at-3.result _ c.from_residual-in_err-number_at-3.ensures.1 (leads-stop n (λ _ _ _. some_session _) c.in_err-number_at-3.ensures)
 
 pub returns-in_err-session : goal.returns-in_err-session
 returns-in_err-session c =
@@ -65,7 +67,7 @@ returns-in_err-session c =
     let h = to_n t c.in_ok-h.ensures in
     let n = to_zero h c.in_ok-n.ensures in
     let zero = to_session n c.in_ok-number_at-3.ensures in
-    reads-exit c.from_residual-in_err-session.result _ c.from_residual-in_err-session.ensures.1 (leads-stop zero (λ v _ _. some_r _ _ _ _ v) c.in_err-session.ensures)
+    reads-exit c.from_residual-in_err-session.result _ c.from_residual-in_err-session.ensures.1 (leads-stop zero (λ v _ _. some_r _) c.in_err-session.ensures)
 
 pub returns-in_err-r : goal.returns-in_err-r
 returns-in_err-r c =
@@ -76,8 +78,8 @@ returns-in_err-r c =
     let h = to_n t c.in_ok-h.ensures in
     let n = to_zero h c.in_ok-n.ensures in
     let zero = to_session n c.in_ok-number_at-3.ensures in
-    let session = to_r zero c.in_ok-session.ensures in
-    reads-exit c.from_residual-in_err-r.result _ c.from_residual-in_err-r.ensures.1 (leads-stop session (λ v least most. some_s _ _ _ _ _ v least most) c.in_err-r.ensures)
+    let session = to_r _ zero c.in_ok-session.ensures in
+    reads-exit c.from_residual-in_err-r.result _ c.from_residual-in_err-r.ensures.1 (leads-stop session (λ v least most. some_s _ v least most) c.in_err-r.ensures)
 
 pub returns-in_err-s : goal.returns-in_err-s
 returns-in_err-s c =
@@ -88,9 +90,9 @@ returns-in_err-s c =
     let h = to_n t c.in_ok-h.ensures in
     let n = to_zero h c.in_ok-n.ensures in
     let zero = to_session n c.in_ok-number_at-3.ensures in
-    let session = to_r zero c.in_ok-session.ensures in
-    let r = to_s session c.in_ok-r.ensures in
-    let width = subst (λ (m : ℕ). StopsWithin (IsNumber (record { width = 4; least = 1; most = m })) 24 4 c.args.bytes.now c.in_err-s.field-0.0) c.min-most.ensures c.in_err-s.ensures in
+    let session = to_r _ zero c.in_ok-session.ensures in
+    let r = to_s _ session c.in_ok-r.ensures in
+    let width = subst (λ (m : Number). StopsWithin (IsNumber m) 24 m.width c.args.bytes.now c.in_err-s.field-0.0) c.width_field.ensures c.in_err-s.ensures in
     reads-exit c.from_residual-in_err-s.result _ c.from_residual-in_err-s.ensures.1 (leads-stop r (λ v _ _. no_more _) width)
 
 pub returns : goal.returns
@@ -102,8 +104,8 @@ returns c =
     let h = to_n t c.in_ok-h.ensures in
     let n = to_zero h c.in_ok-n.ensures in
     let zero = to_session n c.in_ok-number_at-3.ensures in
-    let session = to_r zero c.in_ok-session.ensures in
-    let r = to_s session c.in_ok-r.ensures in
-    let width = subst (λ (m : ℕ). IsNumber (record { width = 4; least = 1; most = m }) (take 4 (drop 24 c.args.bytes.now)) c.in_ok-s.s) c.min-most.ensures c.in_ok-s.ensures in
-    let s = to_end r width in
+    let session = to_r _ zero c.in_ok-session.ensures in
+    let r = to_s _ session c.in_ok-r.ensures in
+    let width = subst (λ (m : Number). IsNumber m (take m.width (drop 24 c.args.bytes.now)) c.in_ok-s.s) c.width_field.ensures c.in_ok-s.ensures in
+    let s = to_end _ c.in_ok-r.r r width in
     leads-done s c.requires

@@ -1,4 +1,4 @@
-use Rattle.std.proofs.Common.{◌≡◌, ◌∙◌, ◌+◌, ◌-◌, ◌<◌, ℕ, List, length, take, get_or, ap, sym, subst, arith, refl}
+use Rattle.std.proofs.Common.{◌≡◌, ◌∙◌, ◌+◌, ◌-◌, ◌<◌, ℕ, List, length, get_or, ap, sym, subst, arith, refl}
 use Rattle.std.specs.Prelude.{Option, Some, None, IfSome}
 use Rattle.std.specs.Option.{option_copied}
 use Rattle.std.proofs.lemmas.List.{take_all}
@@ -27,7 +27,7 @@ write_record-requires g c =
 
 pub loop-i-preserved : goal.loop-i-preserved
 loop-i-preserved g c =
-    let is = c.record_at.ensures ∙ ap (λ k. get_or c.args.session.now.records k None) (omega arith) in
+    let is : option_copied c.record_at.result ≡ get_or c.args.session.now.records c.loop-i.i None = c.record_at.ensures ∙ ap (λ k. get_or c.args.session.now.records k None) (omega arith) in
     let more = records_more c.args.session.now.records c.loop-i.i (option_copied c.record_at.result) (omega arith) is in
     record {
       so_far = c.in_ok-write_record.ensures.written ∙ ap (gave _) c.loop-i.invariant.so_far ∙ gave-gave _ _ _ ∙ ap (λ l. gave l ((g.P.Ports.world c.args.ports.now).at 4)) (sym more);
@@ -36,7 +36,7 @@ loop-i-preserved g c =
 
 pub returns-in_err-write_record-clause-written : goal.returns-in_err-write_record-clause-written
 returns-in_err-write_record-clause-written g c =
-    let is = c.record_at.ensures ∙ ap (λ k. get_or c.args.session.now.records k None) (omega arith) in
+    let is : option_copied c.record_at.result ≡ get_or c.args.session.now.records c.loop-i.i None = c.record_at.ensures ∙ ap (λ k. get_or c.args.session.now.records k None) (omega arith) in
     let whole = records_pieces c.args.session.now.records c.loop-i.i (option_copied c.record_at.result) (omega arith) is in
     let p = err_from_is_err_and c.from_residual.result c.from_residual.ensures.1 in
     rw (p.1, whole) (written_cut 4 _ _ _ _ _ _ c.loop-i.invariant.so_far c.in_err-write_record.ensures.written)

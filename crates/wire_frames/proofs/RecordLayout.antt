@@ -6,7 +6,7 @@ use Rattle.wire_frames.specs.Field.{IsNumber}
 use Rattle.wire_frames.specs.Form.{Starts}
 use Rattle.wire_frames.specs.Layout.{IsRecordHeader, record_header}
 use Rattle.wire_frames.proofs.Chains.{Then, IsDone, Leads, field_then, leads-start, leads-on, some_spelling, no_more}
-use Rattle.wire_frames.proofs.LayoutLemmas.{only, byte_is, byte_front, number_is, only_front, joined, is_field}
+use Rattle.wire_frames.proofs.Spellings.{only, byte_is, byte_front, number_is, only_front, joined, is_field}
 
 -- the length of a record that is absent, or present
 abbrev pub at_len : ℕ → ℕ → List ℕ → Option ℕ → Type 0

@@ -1,0 +1,40 @@
+-- Fields by their bytes.
+use Rattle.std.proofs.Common.{◌≡◌, ℕ, ◌^◌, ◌<◌, ◌≤◌, List, [], ◌∷◌, ◌++◌, refl, sym, ap, ap₂, ◌∙◌, arith}
+use Rattle.std.specs.Int.{bytes_high_first}
+use Rattle.std.proofs.Math.Nat.{mod-eq_of_lt}
+use Rattle.wire_frames.specs.declared.field.Number.{Number}
+use Rattle.wire_frames.specs.Field.{IsField, IsNumber}
+
+-- a field of one value
+abbrev pub only : ℕ → ℕ → Number
+only width value = record { width = width; least = value; most = value }
+
+-- a field of at most 8 bytes that has some number, and none that is longer
+pub is_field : (width least most : ℕ) → width ≤ 8 → least ≤ most → most < 256 ^ width → IsField (record { width = width; least = least; most = most })
+is_field width least most narrow some fits = record { narrow = narrow; some = some; fits = fits }
+
+-- one byte spells itself
+one_byte : (v : ℕ) → v < 256 → v ∷ [] ≡ bytes_high_first 1 v
+one_byte v h = ap (λ (x : ℕ). x ∷ []) (sym (mod-eq_of_lt h))
+
+-- a field of one byte
+pub byte_is : (least v most : ℕ) → least ≤ v → v ≤ most → most < 256 → IsNumber (record { width = 1; least = least; most = most }) (v ∷ []) v
+byte_is least v most low high fits = record { least = low; most = high; spelled = one_byte v (omega arith) }
+
+-- a number of more bytes
+pub number_is : (width least v most : ℕ) → least ≤ v → v ≤ most → IsNumber (record { width = width; least = least; most = most }) (bytes_high_first width v) v
+number_is width least v most low high = record { least = low; most = high; spelled = refl }
+
+-- a field of one byte is its number
+pub byte_front : (least most v : ℕ) (front : List ℕ) → most < 256 → IsNumber (record { width = 1; least = least; most = most }) front v → front ≡ v ∷ []
+byte_front least most v front fits h = h.spelled ∙ sym (one_byte v (omega (arith, h.most)))
+
+-- a field of one value is that value's bytes
+pub only_front : (width value v : ℕ) (front : List ℕ) → IsNumber (only width value) front v → front ≡ bytes_high_first width value
+only_front width value v front h =
+    let same : v ≡ value = omega (arith, h.least, h.most) in
+    h.spelled ∙ ap (bytes_high_first width) same
+
+-- a split, where both parts are known
+pub joined : (bytes front rest front' rest' : List ℕ) → bytes ≡ front ++ rest → front ≡ front' → rest ≡ rest' → bytes ≡ front' ++ rest'
+joined bytes front rest front' rest' split e e' = split ∙ ap₂ (λ (x y : List ℕ). x ++ y) e e'
