@@ -1,12 +1,11 @@
 -- The conditions of zeros, in the order in which they are made.
-use Rattle.std.proofs.Common.{◌≡◌, ℕ, zero, suc, ◌+◌, ◌-◌, ◌*◌, ◌/◌, ◌<◌, ◌≤◌, ◌⊎◌, List, [], ◌∷◌, ◌++◌, length, get_or, take, All, Contains, refl, sym, ap, ap₂, subst, ◌∙◌, arith, inl, inr, add-one, append_assoc, length-append}
+use Rattle.std.proofs.Common.{◌≡◌, ℕ, zero, suc, ◌+◌, ◌-◌, ◌*◌, ◌/◌, ◌<◌, ◌⊎◌, List, [], ◌∷◌, ◌++◌, length, get_or, Contains, refl, sym, ap, ap₂, subst, ◌∙◌, arith, inl, inr, add-one, append_assoc, length-append}
 use Rattle.std.specs.List.{flat_map}
 use Rattle.std.proofs.lemmas.Bool.{cases_lt}
 use Rattle.std.proofs.lemmas.List.Elements.{Contains-append_left, Contains-append_right, Contains-push}
 use Rattle.gf256.specs.Field.{◌⊗◌, power}
 use Rattle.gf256.proofs.FieldLaws.{ring, zero_mul, mul_zero}
 use Rattle.bi_poly.specs.Hasse.{binomial_parity}
-use Rattle.gs_interpolate.specs.Monomials.{conditions}
 use Rattle.gs_interpolate.specs.Conditions.{AreConditions, derivative_of}
 use Rattle.gs_interpolate.specs.declared.condition.Condition.{Condition}
 
@@ -103,6 +102,7 @@ contains-all m (p ∷ points) zero d c l h = Contains-append_left (at_point m p)
 contains-all m (p ∷ points) (suc k) d c l h =
     Contains-append_right (at_point m p) (flat_map (at_point m) points) c (contains-all m points k d c (omega arith) h)
 
+-- half of both sides
 halved : (x y : ℕ) → 2 * x ≡ y → x ≡ y / 2
 halved x y e = omega arith
 

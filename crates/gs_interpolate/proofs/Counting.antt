@@ -1,5 +1,5 @@
 -- The exponents of the monomials of a weighted degree, row by row.
-use Rattle.std.proofs.Common.{◌≡◌, ◌≢◌, ℕ, zero, suc, ◌+◌, ◌-◌, ◌*◌, ◌<◌, ◌≤◌, List, [], ◌∷◌, ◌++◌, length, All, AllPairs, Contains, refl, sym, ap, subst, ◌∙◌, arith, inl, inr, length-append, mul-le-mul_right}
+use Rattle.std.proofs.Common.{◌≡◌, ◌≢◌, ℕ, zero, suc, ◌+◌, ◌-◌, ◌*◌, ◌<◌, ◌≤◌, List, [], ◌∷◌, ◌++◌, length, All, AllPairs, Contains, refl, ap, subst, ◌∙◌, arith, inl, inr, length-append, mul-le-mul_right}
 use Rattle.std.proofs.lemmas.Bool.{cases_lt}
 use Rattle.std.proofs.lemmas.List.Elements.{All-nil, All-cons, All-append, Contains-append_left, Contains-append_right}
 use Rattle.std.proofs.lemmas.List.Kept.{AllPairs-cons}
@@ -18,11 +18,13 @@ row_pairs : ℕ → ℕ → List (ℕ × ℕ)
 row_pairs zero j = []
 row_pairs (suc n) j = (n, j) ∷ row_pairs n j
 
+-- there are n of them
 length-row_pairs : (n j : ℕ) → length (row_pairs n j) ≡ n
 unfolding row_pairs
 length-row_pairs zero j = refl
 length-row_pairs (suc n) j = ap suc (length-row_pairs n j)
 
+-- they are in row j, below n
 within-row_pairs : (n j : ℕ) → All (λ p. (p.0 < n) × (p.1 ≡ j)) (row_pairs n j)
 unfolding row_pairs
 within-row_pairs zero j = All-nil (λ p. (p.0 < zero) × (p.1 ≡ j))
@@ -31,6 +33,7 @@ within-row_pairs (suc n) j =
     All-cons (λ p. (p.0 < suc n) × (p.1 ≡ j)) (n, j) (row_pairs n j) (omega arith, refl)
     (λ k d l. let below = (ih k d l).0 in (omega arith, (ih k d l).1))
 
+-- and all of those are there
 all-row_pairs : (n j i : ℕ) → i < n → Contains (row_pairs n j) (i, j)
 unfolding row_pairs
 all-row_pairs zero j i l = absurd (omega arith)
@@ -40,6 +43,7 @@ all-row_pairs (suc n) j i l =
       | inr h ↦ let same : n ≡ i = omega arith in (0, omega arith, ap (λ x. (x, j)) same)
     ]
 
+-- each once
 once-row_pairs : (n j : ℕ) → AllPairs (λ p q. p ≢ q) (row_pairs n j)
 unfolding row_pairs
 once-row_pairs zero j = λ i k d l m. absurd (omega arith)
@@ -53,6 +57,7 @@ pairs_from : ℕ → ℕ → ℕ → ℕ → List (ℕ × ℕ)
 pairs_from zero t n j = []
 pairs_from (suc rows) t n j = row_pairs n j ++ pairs_from rows t (n - t) (j + 1)
 
+-- they are as many as the monomials counted row by row
 length-pairs_from : (rows t n j : ℕ) → length (pairs_from rows t n j) ≡ monomials_below rows t n
 unfolding pairs_from monomials_below
 length-pairs_from zero t n j = refl
@@ -68,12 +73,14 @@ step t p x j n l h =
     let f = ap (λ k. t * k) e in
     omega arith
 
+-- and the other way round
 step_back : (t p x j n : ℕ) → j + 1 ≤ x → p + t * (x - j) < n → p + t * (x - (j + 1)) < n - t
 step_back t p x j n l h =
     let e : x - j ≡ x - (j + 1) + 1 = omega arith in
     let f = ap (λ k. t * k) e in
     omega arith
 
+-- each is in a row from j on, and of a weight below n
 within-pairs_from : (rows t n j : ℕ) → All (λ p. (j ≤ p.1) × (p.0 + t * (p.1 - j) < n)) (pairs_from rows t n j)
 unfolding pairs_from
 within-pairs_from zero t n j = All-nil (λ p. (j ≤ p.1) × (p.0 + t * (p.1 - j) < n))
@@ -92,6 +99,7 @@ within-pairs_from (suc rows) t n j =
     let later = ih.0 in
     (omega arith, step t _ _ j n ih.0 ih.1))
 
+-- and all of those are there
 all-pairs_from : (rows t n j i x : ℕ) → j ≤ x → x < j + rows → i + t * (x - j) < n → Contains (pairs_from rows t n j) (i, x)
 unfolding pairs_from
 all-pairs_from zero t n j i x l m h = absurd (omega arith)
@@ -106,6 +114,7 @@ all-pairs_from (suc rows) t n j i x l m h =
           (subst (λ y. Contains (row_pairs n j) (i, y)) same (all-row_pairs n j i (omega arith)))
     ]
 
+-- each once
 once-pairs_from : (rows t n j : ℕ) → AllPairs (λ p q. p ≢ q) (pairs_from rows t n j)
 unfolding pairs_from
 once-pairs_from zero t n j = λ i k d l m. absurd (omega arith)
@@ -121,6 +130,7 @@ once-pairs_from (suc rows) t n j =
 pub pairs : ℕ → ℕ → List (ℕ × ℕ)
 pairs t d = pairs_from (d + 1) t (d + 1) 0
 
+-- they are as many as the monomials
 pub length-pairs : (t d : ℕ) → length (pairs t d) ≡ monomials t d
 unfolding pairs
 length-pairs t d = length-pairs_from (d + 1) t (d + 1) 0
@@ -129,12 +139,15 @@ length-pairs t d = length-pairs_from (d + 1) t (d + 1) 0
 from_zero : (t x i d : ℕ) → i + t * (x - 0) < d + 1 → i + t * x ≤ d
 from_zero t x i d l = let e : x - 0 ≡ x = omega arith in let f = ap (λ k. t * k) e in omega arith
 
+-- and the other way round
 to_zero : (t x i d : ℕ) → i + t * x ≤ d → i + t * (x - 0) < d + 1
 to_zero t x i d l = let e : x - 0 ≡ x = omega arith in let f = ap (λ k. t * k) e in omega arith
 
+-- a row past d has no pair
 few_rows : (t i j d : ℕ) → 1 ≤ t → i + t * j ≤ d → j < d + 1
 few_rows t i j d some l = let more : 1 * j ≤ t * j = mul-le-mul_right j some in omega arith
 
+-- they are the pairs up to that weight, each once
 pub are_pairs : (t d : ℕ) → 1 ≤ t → ArePairs t d (pairs t d)
 unfolding pairs
 are_pairs t d some = record {

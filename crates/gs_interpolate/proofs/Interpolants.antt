@@ -1,6 +1,6 @@
 -- A vector that the table of the conditions sends to zero, cut into rows, is an interpolating polynomial.
-use Rattle.std.proofs.Common.{◌≡◌, ◌≢◌, ℕ, zero, suc, ◌+◌, ◌-◌, ◌*◌, ◌<◌, ◌≤◌, List, [], ◌∷◌, length, get_or, take, drop, sum, All, Contains, refl, sym, ap, ap₂, subst, ◌∙◌, arith, inl, inr, add-one, length-take, length-drop, get_or-take, get_or-drop}
-use Rattle.std.proofs.lemmas.Bool.{cases_lt, cases_eq}
+use Rattle.std.proofs.Common.{◌≡◌, ◌≢◌, ℕ, zero, suc, ◌+◌, ◌-◌, ◌*◌, ◌<◌, ◌≤◌, List, [], length, get_or, drop, sum, refl, sym, ap, ap₂, subst, ◌∙◌, arith, inl, inr, add-one, length-take, length-drop, get_or-take, get_or-drop}
+use Rattle.std.proofs.lemmas.Bool.{cases_lt}
 use Rattle.std.proofs.lemmas.List.{take_all, get_or_past}
 use Rattle.gf256.specs.Field.{◌⊕◌, ◌⊗◌, power}
 use Rattle.gf256.specs.Sums.{sum_to}
@@ -8,14 +8,14 @@ use Rattle.gf256.specs.Polynomial.{coef}
 use Rattle.gf256.proofs.FieldLaws.{ring}
 use Rattle.gf256.proofs.Sums.{sum_to-same, sum_to-append}
 use Rattle.bi_poly.specs.Rows.{row, cell, IsZero}
-use Rattle.bi_poly.specs.Hasse.{binomial_parity, hasse, HasZero}
+use Rattle.bi_poly.specs.Hasse.{binomial_parity, hasse}
 use Rattle.linear_solve.specs.Matrix.{Matrix, entry}
 use Rattle.linear_solve.specs.Kernel.{component, inner, IsKernelVector}
 use Rattle.gs_interpolate.specs.Conditions.{derivative_of, AreConditions}
 use Rattle.gs_interpolate.specs.Interpolant.{IsInterpolant}
 use Rattle.gs_interpolate.specs.Layout.{start, IsLayout, IsEquation, IsCut}
 use Rattle.gs_interpolate.specs.declared.condition.Condition.{Condition}
-use Rattle.gs_interpolate.proofs.Layouts.{start-next, start-within, located, IsAt}
+use Rattle.gs_interpolate.proofs.Layouts.{start-next, start-within, located}
 
 -- a sum over the places is a sum over the rows of the sums over each
 sum_to-rows : (f : ℕ → ℕ) (ns : List ℕ) (n : ℕ) → n ≤ length ns
@@ -38,6 +38,7 @@ cut-row q ns v j cut room l =
     let inside = start-within ns j l in
     ap length (cut.each j l) ∙ length-take n (drop (start ns j) v) ∙ omega (arith, inside, length-drop (start ns j) v)
 
+-- and the coefficients are those of the vector
 cut-cell : (q : List (List ℕ)) (ns v : List ℕ) (j i : ℕ) → IsCut q ns v → j < length ns → i < get_or ns j 0 → cell q j i ≡ component v (start ns j + i)
 unfolding cell coef component
 cut-cell q ns v j i cut l h =
@@ -70,6 +71,7 @@ inner-hasse f q ns v c cut room e =
 past-row : (q : List (List ℕ)) (j : ℕ) → length q ≤ j → row q j ≡ []
 past-row q j l = get_or_past q j [] l
 
+-- past the last coefficient of a row there is none
 past-cell : (q : List (List ℕ)) (j i : ℕ) → length (row q j) ≤ i → cell q j i ≡ 0
 unfolding cell coef
 past-cell q j i l = get_or_past (row q j) i 0 l
@@ -85,12 +87,15 @@ pub record IsSolved (points : List (ℕ × ℕ)) (m t d : ℕ) (cs : List Condit
   pub cut : IsCut q ns v
 
 module _ (points : List (ℕ × ℕ)) (m t d : ℕ) (cs : List Condition) (ns : List ℕ) (table : Matrix) (v : List ℕ) (q : List (List ℕ)) (s : IsSolved points m t d cs ns table v q) where
+  -- the rows have a place for each column
   all_places : sum ns ≡ table.cols
   all_places = s.layout.sum ∙ sym s.width
 
+  -- so the vector has all their coefficients
   room : sum ns ≤ length v
   room = let size = s.kernel.size in let all = all_places in omega arith
 
+  -- each row is as long as it was planned
   row-length : (j : ℕ) → j < length ns → length (row q j) ≡ get_or ns j 0
   row-length j l = cut-row q ns v j s.cut room l
 
@@ -134,6 +139,7 @@ module _ (points : List (ℕ × ℕ)) (m t d : ℕ) (cs : List Condition) (ns : 
         | inr l ↦ let none = ap length (past-row q j (omega arith)) in omega arith
       ]
 
+  -- so the rows of the vector are what interpolation promises
   pub interpolant : IsInterpolant q points m t d
   interpolant = record {
     nonzero = nonzero;

@@ -1,6 +1,6 @@
 -- What follows from the promise of an interpolation, whatever keeps it.
-use Rattle.std.proofs.Common.{ℕ, ◌+◌, ◌/◌, ◌<◌, ◌≤◌, ◌^◌, List, length, arith}
-use Rattle.bi_poly.specs.Rows.{row, IsWithinLimits}
+use Rattle.std.proofs.Common.{ℕ, ◌/◌, ◌≤◌, ◌^◌, List, arith}
+use Rattle.bi_poly.specs.Rows.{IsWithinLimits}
 use Rattle.gs_interpolate.specs.Interpolant.{IsInterpolant}
 
 -- the polynomial is small enough for each call of bi_poly

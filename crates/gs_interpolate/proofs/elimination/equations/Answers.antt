@@ -1,8 +1,6 @@
-use Rattle.std.proofs.Common.{◌≡◌, ◌≢◌, ℕ, ◌+◌, ◌<◌, get_or, subst, ◌∙◌, arith, below_more}
+use Rattle.std.proofs.Common.{◌+◌, get_or, subst, ◌∙◌, arith, below_more}
 use Rattle.std.proofs.lemmas.List.{get_or_default}
-use Rattle.linear_solve.specs.Matrix.{entry}
 use Rattle.gs_interpolate.specs.Layout.{start, IsEquation}
-use Rattle.gs_interpolate.specs.declared.condition.Condition.{Condition}
 use Rattle.gs_interpolate.proofs.Layouts.{start-within}
 use Rattle.gs_interpolate.proofs.elimination.equations.Goals as goal
 

@@ -1,4 +1,4 @@
-use Rattle.std.proofs.Common.{◌≡◌, ◌≢◌, ℕ, ◌+◌, ◌<◌, length, get_or}
+use Rattle.std.proofs.Common.{◌≡◌, ◌≢◌, ℕ, ◌+◌, ◌<◌, get_or}
 use Rattle.linear_solve.specs.Matrix.{entry}
 use Rattle.gs_interpolate.specs.Conditions.{derivative_of}
 use Rattle.gs_interpolate.specs.Layout.{start}

@@ -1,4 +1,4 @@
-use Rattle.std.proofs.Common.{◌≡◌, map, length, drop, take}
+use Rattle.std.proofs.Common.{◌≡◌, map, drop, take}
 use Rattle.gs_interpolate.specs.Layout.{start, IsCut}
 use Rattle.gs_interpolate.proofs.layout.cut.Given as goal
 

@@ -1,7 +1,7 @@
 use Rattle.std.proofs.Common.{◌≡◌, ℕ, ◌+◌, ◌<◌, length, get_or, map, sym, ap, subst, ◌∙◌, arith}
 use Rattle.gs_interpolate.specs.Layout.{IsLayout, IsEquation, IsCut}
 use Rattle.gs_interpolate.specs.declared.condition.Condition.{Condition}
-use Rattle.gs_interpolate.proofs.Interpolants.{IsSolved, interpolant}
+use Rattle.gs_interpolate.proofs.Interpolants.{interpolant}
 use Rattle.gs_interpolate.proofs.elimination.EliminationInterpolate.interpolate.Goals as goal
 
 pub returns : goal.returns
