@@ -2,6 +2,7 @@
 
 use crate::OsPorts;
 use pir_tool::{Status, run};
+use std::alloc::Global;
 use std::io::{self, Read, Write};
 use std::net::{Ipv4Addr, Net, OpenListener, TcpListener};
 use std::test::Fail;
@@ -49,17 +50,8 @@ fn serve<R: Net>(door: &R::Listener, index: u8, manner: Manner) -> io::Result<()
     }
 }
 
-#[test]
-fn a_fetch_outlives_its_servers(rt: HostRuntime) -> Result<(), Fail> {
-    let alloc = rt.alloc();
-    let mut doors = Vec::new(alloc);
-    let id = process::id(rt.process());
-    let coins = env::temp_dir(&rt)?
-        .join(alloc, format!(in alloc; "pir-coins-{id}")?.as_str())?
-        .into_string();
-    let record = env::temp_dir(&rt)?
-        .join(alloc, format!(in alloc; "pir-record-{id}")?.as_str())?
-        .into_string();
+/// The words of the fetch, but for the addresses.
+fn words_of(alloc: Global, coins: &str, record: &str) -> Result<Vec<String>, Fail> {
     let text = format!(in alloc;
         "fetch --rows 2 --width 2 --block 1 --degree 1 --agree 3 --coins {coins} --record {record}"
     )?;
@@ -67,14 +59,26 @@ fn a_fetch_outlives_its_servers(rt: HostRuntime) -> Result<(), Fail> {
     for word in text.split_whitespace() {
         words.push(String::from_str(alloc, word)?)?;
     }
+    Ok(words)
+}
+
+#[test]
+fn a_fetch_outlives_its_servers(rt: HostRuntime) -> Result<(), Fail> {
+    let alloc = rt.alloc();
+    let folder = env::temp_dir(&rt)?;
+    let id = process::id(rt.process());
+    let coins = format!(in alloc; "{}/pir-coins-{id}", folder.display())?;
+    let record = format!(in alloc; "{}/pir-record-{id}", folder.display())?;
+    let mut file = fs::create(&rt, &coins)?;
+    file.write_all(&[0, 0, 0, 0, 0, 0, 0, 7, 5, 7])?;
+    drop(file);
+    let mut words = words_of(alloc, &coins, &record)?;
+    let mut doors = Vec::new(alloc);
     for _ in 0..MANNERS.len() {
         let door = TcpListener::bind(&rt, (Ipv4Addr::LOCALHOST, 0))?;
         words.push(format!(in alloc; "{}", door.local_addr()?)?)?;
         doors.push(door)?;
     }
-    let mut file = fs::create(&rt, &coins)?;
-    file.write_all(&[0, 0, 0, 0, 0, 0, 0, 7, 5, 7])?;
-    drop(file);
 
     // The servers are threads 0 to 5, and the client is the last.
     let seats = thread::map_indices(
@@ -84,17 +88,16 @@ fn a_fetch_outlives_its_servers(rt: HostRuntime) -> Result<(), Fail> {
         &|i| {
             if i < 6 {
                 let _ = serve::<HostRuntime>(&doors[i], i as u8 + 1, MANNERS[i]);
-                None
-            } else {
-                match OsPorts::new(&rt) {
-                    Ok(mut ports) => Some(run(&rt, rt.alloc(), &words, &mut ports)),
-                    Err(_) => None,
-                }
+                return None;
+            }
+            match OsPorts::new(&rt) {
+                Ok(mut ports) => Some(run(&rt, rt.alloc(), &words, &mut ports)),
+                Err(_) => None,
             }
         },
     )?;
-    assert!(rt; matches!(seats.last(), Some(Some(Status::One))));
     fs::remove_file(&rt, &coins)?;
     fs::remove_file(&rt, &record)?;
+    assert!(rt; matches!(seats.last(), Some(Some(Status::One))));
     Ok(())
 }
