@@ -16,8 +16,8 @@ use std::rt::Files;
 /// - `Output` is standard output.
 /// - `Coins` is opened as a file to read, `Record` as a file to write, which is made anew. The name
 ///   `-` is that of a file here.
-/// - `Link(i)` is opened as a TCP stream to the address, a text `host:port`. A read on it that waits
-///   longer than ten seconds fails.
+/// - `Link(i)` is opened as a TCP stream to the address, a text `host:port`. To open it, and each read
+///   and each write on it, may take ten seconds, and fails then.
 ///
 /// A port that isn't open, or is opened or used in another way, fails. A second `open` that succeeds
 /// closes what the port had open.
