@@ -1,6 +1,6 @@
 //! Which polynomials agree with enough points.
 
-ghost use Rattle.std.specs.Prelude.{◌≡◌, ◌≤◌, ◌↔◌, IsTrue, map};
+ghost use Rattle.std.specs.Prelude.{◌≡◌, nat_le, map};
 ghost use Rattle.std.specs.List.{filter};
 ghost use Rattle.column_lists.specs.Agreement.{agreements};
 
@@ -19,7 +19,7 @@ fn agreements(phi: &[u8], points: &[(u8, u8)]) -> usize
 /// Keeps in the list the polynomials that agree with at least `h` of the points. It copies none.
 pub fn keep_agreeing(list: &mut Vec<Vec<u8>>, points: &[(u8, u8)], h: u32)
     ensures { map (λ r. r.items) list.new.items
-        ≡ filter (λ phi. h <= agreements phi points.now) (map (λ r. r.items) list.old.items) }
+        ≡ filter (λ phi. nat_le h (agreements phi points.now)) (map (λ r. r.items) list.old.items) }
 {
     list.retain(|phi| agreements(phi, points) >= h as usize);
 }

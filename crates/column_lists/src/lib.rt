@@ -17,16 +17,43 @@ mod numbers;
 mod tests;
 
 ghost use Rattle.std.specs.Prelude.{◌≡◌, ◌≢◌, ◌+◌, ◌*◌, ◌/◌, ◌<◌, ◌≤◌, length, map, All, AllPairs, IfOk};
-ghost use Rattle.column_lists.specs.Numbers.{cost, degree_of};
+ghost use Rattle.gs_interpolate.specs.Monomials.{monomials};
+ghost use Rattle.column_lists.specs.Numbers.{mult, cost, degree_of};
 ghost use Rattle.column_lists.specs.Agreement.{ListsAgreeing};
 
 use crate::agreement::keep_agreeing;
 use gs_interpolate::Interpolate;
-pub use numbers::{Plan, plan};
+pub use numbers::Plan;
 use rr_roots::y_roots;
 use std::alloc::{AllocError, Global};
 use std::sync::ledger::Ledger;
 use uni_poly::steps::Steps;
+
+/// The numbers of a list decoding of `k` points of which `h` agree with polynomials of degree at most `t`, where
+/// `1 <= t < h <= k <= 32` and `h * h > k * t` (Guruswami and Sudan 1999): the multiplicity m is
+/// `t * (k - h) / (h * h - k * t) + 1`, the degree `h * m - 1`, and the cost `k * m * (m + 1) / 2`, all in whole numbers. There
+/// are more monomials of that weighted degree than the cost.
+///
+/// For five points, of which three agree with lines, m is 1, the degree 2 and the cost 5. It takes no memory.
+pub fn plan(k: u32, t: u32, h: u32) -> Plan
+    requires degree { 1 ≤ t }
+    requires redundant { t < h }
+    requires agreement { h ≤ k }
+    requires points { k ≤ 32 }
+    requires strong { k * t < h * h }
+    ensures multiplicity { result.m ≡ mult k t h }
+    ensures degree { result.d + 1 ≡ h * result.m }
+    ensures cost { result.cost ≡ cost k t h }
+    ensures enough { result.cost < monomials t result.d }
+{
+    let m = t * (k - h) / (h * h - k * t) + 1;
+    let cost = u64::from(k * m * (m + 1) / 2);
+    Plan {
+        m,
+        d: h * m - 1,
+        cost,
+    }
+}
 
 /// The polynomials of degree at most `t` that agree with at least `h` of the points `(x, y)`, that is, take the value y at
 /// x (Guruswami and Sudan 1999). Each is listed once, as `t + 1` bytes, in ascending order of these. `way` interpolates.
