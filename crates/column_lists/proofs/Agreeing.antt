@@ -1,8 +1,8 @@
 -- What agrees with enough of the points is a y-root of what was interpolated (Guruswami and Sudan 1999).
-use Rattle.std.proofs.Common.{◌≡◌, ◌≢◌, ◌↔◌, ℕ, zero, suc, ◌+◌, ◌*◌, ◌-◌, ◌<◌, ◌≤◌, Bool, true, List, [], ◌∷◌, length, map, replicate, sum, All, AllPairs, Contains, nat_le, count_by, sym, ap, subst, ◌∙◌, arith, inl, inr, mul-le-mul_right, mul-le-mul_left}
+use Rattle.std.proofs.Common.{◌≡◌, ◌≢◌, ◌↔◌, ℕ, zero, suc, ◌+◌, ◌*◌, ◌-◌, ◌<◌, ◌≤◌, Bool, true, List, [], ◌∷◌, length, map, get_or, replicate, sum, All, AllPairs, ◌==◌, Contains, nat_le, count_by, sym, ap, subst, ◌∙◌, arith, inl, inr, mul-le-mul_right, mul-le-mul_left}
 use Rattle.std.specs.List.{filter}
-use Rattle.std.proofs.lemmas.Bool.{cases_lt, cases_eq}
-use Rattle.std.proofs.lemmas.List.{length-map}
+use Rattle.std.proofs.lemmas.Bool.{cases_lt, cases_eq, eqb-true}
+use Rattle.std.proofs.lemmas.List.{length-map, get_or-map}
 use Rattle.std.proofs.lemmas.List.Elements.{All-map, All-filter, filter_passes}
 use Rattle.std.proofs.lemmas.List.Kept.{AllPairs-filter}
 use Rattle.std.proofs.lemmas.List.Sums.{length-filter}
@@ -43,7 +43,11 @@ places-bytes phi points h =
 
 -- no two are the same
 AllPairs-firsts : (points : List (ℕ × ℕ)) → AllPairs (λ p q. p.0 ≢ q.0) points → AllPairs (λ x y. x ≢ y) (map (λ p. p.0) points)
-AllPairs-firsts points h = ?
+AllPairs-firsts points h = λ i j d l m.
+    let n = length-map points (λ p. p.0) in
+    let e = get_or-map (λ (p : ℕ × ℕ). p.0) points i (d, 0) d (omega arith) in
+    let f = get_or-map (λ (p : ℕ × ℕ). p.0) points j (d, 0) d (omega arith) in
+    λ same. h i j (d, 0) l (omega arith) (sym e ∙ same ∙ f)
 
 places-distinct : (phi : List ℕ) (points : List (ℕ × ℕ)) → AllPairs (λ p q. p.0 ≢ q.0) points → AllPairs (λ x y. x ≢ y) (places phi points)
 unfolding places
@@ -58,8 +62,9 @@ places-zeros q phi points m h =
     (λ k p l.
     let zero_ = All-filter (takes phi) (λ p. HasZero q p.0 p.1 m) points h k p l in
     let passes = filter_passes (takes phi) points k p l in
-    let e = nat_eq-true _ _ passes in
-    VanishesAt-from_zero q phi (at_list q phi) _ m (subst (λ b. HasZero q _ b m) (sym e) zero_) (is_at_poly q phi))
+    let e = eqb-true _ _ passes in
+    let a : ℕ = (get_or (filter (takes phi) points) k p).0 in
+    VanishesAt-from_zero q phi (at_list q phi) a m (subst (λ b. HasZero q a b m) (sym e) zero_) (is_at_poly q phi))
   where
     is_at_poly : (q : List (List ℕ)) (phi : List ℕ) → IsAtPoly q phi (at_list q phi)
     is_at_poly q phi e = coef-at_list q phi e ∙ sym (at_poly_coef-series q phi e)

@@ -1,6 +1,6 @@
 //! Which polynomials agree with enough points.
 
-ghost use Rattle.std.specs.Prelude.{◌≡◌, nat_le, map};
+ghost use Rattle.std.specs.Prelude.{◌≡◌, ◌<◌, nat_le, map, All};
 ghost use Rattle.std.specs.List.{filter};
 ghost use Rattle.column_lists.specs.Agreement.{agreements};
 
@@ -22,4 +22,19 @@ pub fn keep_agreeing(list: &mut Vec<Vec<u8>>, points: &[(u8, u8)], h: u32)
         ≡ filter (λ phi. nat_le h (agreements phi points.now)) (map (λ r. r.items) list.old.items) }
 {
     list.retain(|phi| agreements(phi, points) >= h as usize);
+}
+
+/// A byte is less than 256.
+fn is_byte(x: u8)
+    ensures { x < 256 }
+{}
+
+/// The first members of the points are bytes. It looks at each point once, since a contract sees the points as pairs of
+/// numbers.
+pub fn places_are_bytes(points: &[(u8, u8)])
+    ensures { All (λ p. p.0 < 256) points.now }
+{
+    for i in 0..points.len() {
+        is_byte(points[i].0);
+    }
 }

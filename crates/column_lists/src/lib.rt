@@ -21,7 +21,8 @@ ghost use Rattle.gs_interpolate.specs.Monomials.{monomials};
 ghost use Rattle.column_lists.specs.Numbers.{mult, cost, degree_of};
 ghost use Rattle.column_lists.specs.Agreement.{ListsAgreeing};
 
-use crate::agreement::keep_agreeing;
+use crate::agreement::{keep_agreeing, places_are_bytes};
+use bi_poly::laws::coefficients_are_bytes;
 use gs_interpolate::Interpolate;
 pub use numbers::Plan;
 use rr_roots::y_roots;
@@ -95,6 +96,8 @@ pub fn column_list<I: Interpolate, C: Ledger, N: Ledger>(
     cols.tick();
     let plan = plan(points.len() as u32, t, h);
     let q = way.interpolate(alloc, points, plan.m, t, plan.d)?;
+    places_are_bytes(points);
+    coefficients_are_bytes(&q);
     let mut list = y_roots(alloc, &q, t, nodes)?;
     keep_agreeing(&mut list, points, h);
     Ok(list)
