@@ -205,7 +205,7 @@ fn listed_slowly(
             }
         }
     }
-    found.sort();
+    found.sort()?;
     found.dedup();
     Ok(found)
 }
