@@ -1,12 +1,12 @@
 -- What agrees with enough of the points is a y-root of what was interpolated (Guruswami and Sudan 1999).
-use Rattle.std.proofs.Common.{◌≡◌, ◌≢◌, ◌↔◌, ℕ, zero, suc, ◌+◌, ◌*◌, ◌-◌, ◌<◌, ◌≤◌, Bool, true, List, [], ◌∷◌, length, map, get_or, replicate, sum, All, AllPairs, ◌==◌, Contains, nat_le, count_by, sym, ap, subst, ◌∙◌, arith, inl, inr, mul-le-mul_right, mul-le-mul_left}
+use Rattle.std.proofs.Common.{◌≡◌, ◌≢◌, ℕ, ◌+◌, ◌*◌, ◌<◌, ◌≤◌, Bool, List, length, map, get_or, replicate, All, AllPairs, ◌==◌, sym, subst, ◌∙◌, arith, inl, inr, mul-le-mul_right}
 use Rattle.std.specs.List.{filter}
-use Rattle.std.proofs.lemmas.Bool.{cases_lt, cases_eq, eqb-true}
+use Rattle.std.proofs.lemmas.Bool.{cases_eq, eqb-true}
 use Rattle.std.proofs.lemmas.List.{length-map, get_or-map}
 use Rattle.std.proofs.lemmas.List.Elements.{All-map, All-filter, filter_passes}
 use Rattle.std.proofs.lemmas.List.Kept.{AllPairs-filter}
 use Rattle.std.proofs.lemmas.List.Sums.{length-filter}
-use Rattle.gf256.specs.Polynomial.{coef, val, IsPolynomial}
+use Rattle.gf256.specs.Polynomial.{coef, val}
 use Rattle.uni_poly.specs.Coefficients.{HasDegreeBelow}
 use Rattle.uni_poly.specs.Taylor.{VanishesAt}
 use Rattle.uni_poly.proofs.Coefficients.{HasDegreeBelow-length}
@@ -14,8 +14,8 @@ use Rattle.uni_poly.proofs.Multiplicity.{too_many_zeros, zeros-replicate, sum-re
 use Rattle.uni_poly.proofs.Quotient.{IsZero-from_low}
 use Rattle.bi_poly.specs.Rows.{cell, AreBytes}
 use Rattle.bi_poly.specs.Hasse.{HasZero}
-use Rattle.bi_poly.specs.Substitution.{at_poly_coef, IsAtPoly}
-use Rattle.bi_poly.proofs.Composition.{at_series, at_poly_coef-series}
+use Rattle.bi_poly.specs.Substitution.{IsAtPoly}
+use Rattle.bi_poly.proofs.Composition.{at_poly_coef-series}
 use Rattle.bi_poly.proofs.Zeros.{VanishesAt-from_zero, at_list, coef-at_list}
 use Rattle.rr_roots.specs.Roots.{IsYRoot}
 use Rattle.gs_interpolate.specs.Interpolant.{IsInterpolant}

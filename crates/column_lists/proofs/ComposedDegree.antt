@@ -1,9 +1,8 @@
 -- The degree of q(x, phi(x)) is at most the weighted degree of q, where the weight of y is the degree of phi or more, and
 -- its coefficients are bytes (Guruswami and Sudan 1999).
-use Rattle.std.proofs.Common.{◌≡◌, ◌≢◌, ℕ, zero, suc, ◌+◌, ◌*◌, ◌-◌, ◌<◌, ◌≤◌, List, [], ◌∷◌, lit<, sym, ap, ap₂, subst, ◌∙◌, arith, inl, inr}
+use Rattle.std.proofs.Common.{◌≡◌, ℕ, zero, suc, ◌+◌, ◌*◌, ◌-◌, ◌<◌, ◌≤◌, List, [], ◌∷◌, lit<, sym, ap, ap₂, ◌∙◌, arith, inl, inr}
 use Rattle.std.proofs.lemmas.Bool.{cases_lt}
 use Rattle.gf256.specs.Field.{◌⊕◌, ◌⊗◌}
-use Rattle.gf256.specs.Polynomial.{coef}
 use Rattle.gf256.proofs.Xor.{zero_add, add_lt}
 use Rattle.gf256.proofs.FieldLaws.{mul_zero, zero_mul, mul_lt}
 use Rattle.uni_poly.proofs.Series.{ext, tail, times}

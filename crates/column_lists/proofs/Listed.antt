@@ -1,13 +1,11 @@
 -- The y-roots that agree with enough of the points are all polynomials that do (Guruswami and Sudan 1999).
-use Rattle.std.proofs.Common.{◌≡◌, ◌≢◌, ◌↔◌, ℕ, ◌+◌, ◌*◌, ◌-◌, ◌/◌, ◌<◌, ◌≤◌, true, List, length, All, AllPairs, Contains, nat_le, sym, ap, subst, ◌∙◌, arith, inl, inr, mul-le-mul_left}
+use Rattle.std.proofs.Common.{◌≡◌, ◌≢◌, ℕ, ◌+◌, ◌*◌, ◌/◌, ◌<◌, ◌≤◌, true, List, All, AllPairs, Contains, nat_le, sym, ap, subst, arith, inl, inr, mul-le-mul_left}
 use Rattle.std.specs.List.{filter}
 use Rattle.std.specs.Cmp.Lexicographic.{slice_cmp}
-use Rattle.std.specs.List.Sorted.{IsStrictlySortedBy}
 use Rattle.std.specs.Ordering.{nat_cmp}
-use Rattle.std.proofs.lemmas.Bool.{cases_lt, cases_eq, leb-true, le-leb}
+use Rattle.std.proofs.lemmas.Bool.{cases_eq, leb-true, le-leb}
 use Rattle.std.proofs.lemmas.List.Elements.{All-contains, All-contains_itself, All-filter, filter_passes}
 use Rattle.std.proofs.lemmas.List.Kept.{IsStrictlySortedBy-filter}
-use Rattle.gf256.specs.Polynomial.{IsPolynomial}
 use Rattle.bi_poly.specs.Rows.{cell, AreBytes}
 use Rattle.rr_roots.specs.Roots.{ListsYRoots, HasDegreeInYAtMost}
 use Rattle.gs_interpolate.specs.Interpolant.{IsInterpolant}
@@ -25,13 +23,13 @@ listed roots kept q points m t h d bytes is degree distinct small all e =
       ascending = IsStrictlySortedBy-filter (slice_cmp nat_cmp) test roots all.ascending;
       exact = λ phi. (
         λ c.
-        let root = All-contains (Contains roots) (filter test roots) phi (All-filter test (Contains roots) roots (All-contains_itself roots)) c in
-        let passes = All-contains (λ x. test x ≡ true) (filter test roots) phi (filter_passes test roots) c in
-        (((all.exact phi).0 root).0, leb-true h (agreements phi points) passes),
+            let root = All-contains (Contains roots) (filter test roots) phi (All-filter test (Contains roots) roots (All-contains_itself roots)) c in
+            let passes = All-contains (λ x. test x ≡ true) (filter test roots) phi (filter_passes test roots) c in
+            (((all.exact phi).0 root).0, leb-true h (agreements phi points) passes),
         λ a.
-        let size = a.0.size in
-        let root = agreeing_root q phi points m t h d bytes is degree distinct small (omega arith) a.1 in
-        Contains-filter test roots phi ((all.exact phi).1 (a.0, root)) (le-leb h (agreements phi points) a.1),
+            let size = a.0.size in
+            let root = agreeing_root q phi points m t h d bytes is degree distinct small (omega arith) a.1 in
+            Contains-filter test roots phi ((all.exact phi).1 (a.0, root)) (le-leb h (agreements phi points) a.1),
       );
     })
 

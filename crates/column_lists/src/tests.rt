@@ -56,15 +56,7 @@ fn listed_in_steps<C: Ledger, N: Ledger>(
     }
     let mut cols: Steps<C> = Steps::new(cols);
     let mut nodes: Steps<N> = Steps::new(nodes);
-    let list = column_list(
-        alloc,
-        &Elimination,
-        points,
-        t,
-        h,
-        &mut cols,
-        &mut nodes,
-    )?;
+    let list = column_list(alloc, &Elimination, points, t, h, &mut cols, &mut nodes)?;
     Ok(Some(list))
 }
 
@@ -172,7 +164,10 @@ fn through(
         }
         bits /= 2;
     }
-    if xs.is_empty() || xs.len() != ys.len() || xs.len() as u64 != u64::from(t) + 1 || !ascends(&xs)
+    if xs.is_empty()
+        || xs.len() != ys.len()
+        || xs.len() as u64 != u64::from(t) + 1
+        || !ascends(&xs)
     {
         return Ok(None);
     }

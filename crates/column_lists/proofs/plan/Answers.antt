@@ -1,6 +1,6 @@
-use Rattle.std.proofs.Common.{◌≡◌, ◌+◌, ◌*◌, ◌-◌, ◌/◌, ℕ, refl, sym, ap, subst, ◌<◌, ◌∙◌, ◌≤◌, arith, Fits, w32}
-use Rattle.gs_interpolate.specs.Monomials.{monomials, conditions}
-use Rattle.column_lists.specs.Numbers.{mult, cost}
+use Rattle.std.proofs.Common.{◌≡◌, ◌+◌, ◌*◌, ◌-◌, ◌/◌, ℕ, refl, sym, subst, ◌<◌, ◌≤◌, arith}
+use Rattle.gs_interpolate.specs.Monomials.{monomials}
+use Rattle.column_lists.specs.Numbers.{mult}
 use Rattle.column_lists.proofs.Counting.{enough_monomials, mult-small, equations-small}
 use Rattle.column_lists.proofs.plan.Goals as goal
 
