@@ -226,7 +226,7 @@ coef-multiplied (c ∷ p) q (suc e) =
     coef-add_list (scale_list c q) (0 ∷ multiplied p q) (suc e) ∙ ap₂ ◌⊕◌ (coef-scale_list c q (suc e)) (coef-multiplied p q e)
 
 -- the list of q(x, phi(x)) has its coefficients
-coef-at_list : (q : List (List ℕ)) (phi : List ℕ) (e : ℕ) → coef (at_list q phi) e ≡ at_series q (coef phi) e
+pub coef-at_list : (q : List (List ℕ)) (phi : List ℕ) (e : ℕ) → coef (at_list q phi) e ≡ at_series q (coef phi) e
 unfolding at_list at_series coef
 coef-at_list [] phi e = refl
 coef-at_list (r ∷ q) phi e =

@@ -1,0 +1,102 @@
+//! bench_column T H ROUNDS X Y ..: the best time to list the polynomials of degree at most T that agree with at least H of
+//! the points (X, Y), in nanoseconds, and how many they are. With no words it does nothing.
+#![tactic(auto)]
+
+ghost use Rattle.std.specs.Prelude.{◌≢◌, ◌≡◌, ◌<◌, All, AllPairs, IsTrue};
+ghost use Rattle.bench_column.specs.Listable.{CanList};
+
+use anyhow::{Context, Result};
+use column_lists::{column_list, plan};
+use gs_interpolate::Elimination;
+use std::alloc::Global;
+use std::env;
+use std::marker::Brand;
+use std::rt::Clock;
+use std::sync::ledger::{Blank, Ledger};
+use std::time::Instant;
+use uni_poly::steps::Steps;
+
+/// Whether the first members ascend, and the least is not 0.
+fn are_places(points: &[(u8, u8)]) -> bool
+    ensures distinct { IsTrue result → AllPairs (λ p q. p.0 ≢ q.0) points.now }
+    ensures nonzero { IsTrue result → All (λ p. p.0 ≢ 0) points.now }
+{
+    let mut last = 0;
+    for i in 0..points.len() {
+        if points[i].0 <= last {
+            return false;
+        }
+        last = points[i].0;
+    }
+    true
+}
+
+/// Whether there is a list for these numbers.
+fn can_list(points: &[(u8, u8)], t: u32, h: u32) -> bool
+    ensures { IsTrue result → CanList points.now t h }
+{
+    if points.len() > 32 || !are_places(points) {
+        return false;
+    }
+    let k = points.len() as u32;
+    1 <= t && t < h && h <= k && k * t < h * h && plan(k, t, h).cost <= 4096
+}
+
+/// Lists once, with the steps counted by the blanks' ledgers, and says how many nanoseconds it took and how many there are.
+fn measure<C: Ledger, N: Ledger, R: Clock>(
+    cols: Blank,
+    nodes: Blank,
+    rt: &R,
+    alloc: Global,
+    points: &[(u8, u8)],
+    t: u32,
+    h: u32,
+) -> Result<(u128, usize)>
+    requires cols { (cols.name ≡ C.name) × (cols.parts ≡ C.parts) × (0 < cols.parts) }
+    requires nodes { (nodes.name ≡ N.name) × (nodes.parts ≡ N.parts) × (0 < nodes.parts) }
+    requires can_list { CanList points.now t h }
+{
+    let mut cols: Steps<C> = Steps::new(cols);
+    let mut nodes: Steps<N> = Steps::new(nodes);
+    let start = Instant::now(rt)?;
+    let list = column_list(
+        alloc,
+        &Elimination,
+        points,
+        t,
+        h,
+        &mut cols,
+        &mut nodes,
+    )?;
+    Ok((start.elapsed(rt)?.as_nanos(), list.len()))
+}
+
+fn main(rt: HostRuntime) -> Result<()> {
+    let mut words = env::args(&rt)?.skip(1);
+    let Some(word) = words.next() else {
+        return Ok(());
+    };
+    let t = word.as_str().parse::<u32>()?;
+    let h = words.next().context("agreement")?.as_str().parse::<u32>()?;
+    let rounds = words.next().context("rounds")?.as_str().parse::<u64>()?;
+    let mut points = Vec::new(rt.alloc());
+    while let Some(word) = words.next() {
+        let x = word.as_str().parse::<u8>()?;
+        let y = words.next().context("value")?.as_str().parse::<u8>()?;
+        points.push((x, y))?;
+    }
+    if !can_list(&points, t, h) {
+        println!(rt; "no list")?;
+        return Ok(());
+    }
+    let mut best = u128::MAX;
+    let mut count = 0;
+    for _ in 0..rounds {
+        let (time, listed) =
+            measure::<Brand, Brand, _>(Blank::new(1), Blank::new(1), &rt, rt.alloc(), &points, t, h)?;
+        best = best.min(time);
+        count = listed;
+    }
+    println!(rt; "{best} {count}")?;
+    Ok(())
+}

@@ -1,0 +1,91 @@
+-- There are more monomials of the plan's weighted degree than equations, so that the interpolation has a solution (Guruswami
+-- and Sudan 1999).
+use Rattle.std.proofs.Common.{◌≡◌, ℕ, zero, suc, ◌+◌, ◌*◌, ◌-◌, ◌/◌, ◌<◌, ◌≤◌, sym, ap, subst, arith, inl, inr, refl, mul-le-mul_left}
+use Rattle.std.proofs.lemmas.Bool.{cases_lt}
+use Rattle.gs_interpolate.specs.Monomials.{monomials, monomials_below, conditions}
+use Rattle.column_lists.specs.Numbers.{mult, cost}
+
+-- ---- the number of monomials
+
+-- from one row to the row before
+row : (t k n : ℕ) → k * (k + t) ≤ 2 * t * n → (k + t) * (k + t + t) ≤ 2 * t * (k + t + n)
+row t k n h = omega arith
+
+-- where row 0 alone has some
+one_row : (t n : ℕ) → n ≤ t → n * (n + t) ≤ 2 * t * n
+one_row t n h = let w = mul-le-mul_left n h in omega arith
+
+-- 2 * t times as many are at least n * (n + t)
+many : (rows t n : ℕ) → 1 ≤ t → n ≤ rows → n * (n + t) ≤ 2 * t * monomials_below rows t n
+unfolding monomials_below
+many zero t n some h = let e : n ≡ 0 = omega arith in subst (λ (x : ℕ). x * (x + t) ≤ 2 * t * 0) (sym e) (omega arith)
+many (suc rows) t n some h =
+    elim (cases_lt n t) [
+      | inl l ↦ let w = one_row t n (omega arith) in omega arith
+      | inr l ↦
+          subst (λ (x : ℕ). x * (x + t) ≤ 2 * t * (x + monomials_below rows t (n - t))) (let e : n - t + t ≡ n = omega arith in e)
+          (row t (n - t) (monomials_below rows t (n - t)) (many rows t (n - t) some (omega arith)))
+    ]
+
+-- ---- against the number of equations
+
+cancel : (t a b : ℕ) → t * a < t * b → a < b
+cancel t a b h = elim (cases_lt a b) [ inl l ↦ l | inr l ↦ absurd (let w = mul-le-mul_left t l in omega arith) ]
+
+-- k is h + r, and h * h is k * t + d
+weigh : (t k h r m d : ℕ) → k ≡ h + r → h * h ≡ k * t + d → t * r < m * d → t * (k * (m + 1)) < h * (h * m + t)
+weigh t k h r m d ek eh l =
+    let e1 = ap (λ (x : ℕ). x * m) eh in
+    let e2 = ap (λ (x : ℕ). t * x) ek in
+    omega arith
+
+outnumber : (t k h r m d n : ℕ) → 1 ≤ m → k ≡ h + r → h * h ≡ k * t + d → t * r < m * d → h * m * (h * m + t) ≤ 2 * t * n
+    → k * (m * (m + 1)) < 2 * n
+outnumber t k h r m d n some ek eh l q =
+    let i = weigh t k h r m d ek eh l in
+    cancel t (k * (m * (m + 1))) (2 * n) (let w = mul-le-mul_left m i in omega arith)
+
+past_quotient : (x d : ℕ) → 1 ≤ d → x < (x / d + 1) * d
+past_quotient x d h = omega arith
+
+halves : (k m n : ℕ) → k * (m * (m + 1)) < 2 * n → k * m * (m + 1) / 2 < n
+halves k m n h = let q : ℕ = k * m * (m + 1) in let e : q ≡ k * (m * (m + 1)) = omega arith in (let l : q < 2 * n = omega arith in omega arith)
+
+-- with m one more than a quotient
+enough : (k t h m : ℕ) → 1 ≤ t → h ≤ k → k * t < h * h → m ≡ t * (k - h) / (h * h - k * t) + 1 → conditions k m < monomials_below (h * m) t (h * m)
+enough k t h m some l strong is =
+    let n : ℕ = monomials_below (h * m) t (h * m) in
+    let past = past_quotient (t * (k - h)) (h * h - k * t) (omega arith) in
+    halves k m n
+    (outnumber t k h (k - h) m (h * h - k * t) n (omega arith) (omega arith) (omega arith)
+    (subst (λ (x : ℕ). t * (k - h) < x * (h * h - k * t)) (sym is) past)
+    (many (h * m) t (h * m) some (omega arith)))
+
+-- a plan's degree is one less than h * m
+pub enough_monomials : (k t h d : ℕ) → 1 ≤ t → h ≤ k → k * t < h * h → d + 1 ≡ h * mult k t h → cost k t h < monomials t d
+unfolding mult
+enough_monomials k t h d some l strong degree =
+    subst (λ (x : ℕ). cost k t h < monomials_below x t x) (sym degree) (enough k t h (mult k t h) some l strong refl)
+
+-- ---- sizes
+
+-- the multiplicity is small
+pub mult-small : (k t h : ℕ) → 1 ≤ t → t < h → h ≤ k → k ≤ 32 → k * t < h * h → t * (k - h) / (h * h - k * t) + 1 ≤ 962
+mult-small k t h some more l few strong =
+    let a : t * (k - h) ≤ t * 31 = mul-le-mul_left t (omega arith) in
+    let d : ℕ = h * h - k * t in
+    let p : 1 ≤ d = omega arith in
+    let q : t * (k - h) / d ≤ t * (k - h) = quotient (t * (k - h)) d p in
+    omega arith
+  where
+    quotient : (x d : ℕ) → 1 ≤ d → x / d ≤ x
+    quotient x d p = omega arith
+
+-- so the number of equations is
+pub equations-small : (k m : ℕ) → k ≤ 32 → m ≤ 962 → k * m * (m + 1) ≤ 32 * 962 * 963
+equations-small k m few small =
+    let a : k * m ≤ 32 * 962 = products k m 32 962 few small in
+    products (k * m) (m + 1) (32 * 962) 963 a (omega arith)
+  where
+    products : (a b c d : ℕ) → a ≤ c → b ≤ d → a * b ≤ c * d
+    products a b c d h l = let e = mul-le-mul_left a l in let f = mul-le-mul_left d h in omega arith

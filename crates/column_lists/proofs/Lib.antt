@@ -1,0 +1,5 @@
+pub mod Counting
+pub mod ComposedDegree
+pub mod Agreeing
+pub mod Kept
+pub mod Listed

@@ -1,0 +1,104 @@
+//! List decoding of one column: the polynomials over GF(256) of small degree that agree with many of the given points, by
+//! the method of Guruswami and Sudan (1999).
+//!
+//! A polynomial in two variables is interpolated that is 0 at each point with some multiplicity, and has so small a degree
+//! that each polynomial that agrees with enough of the points is one of its y-roots (Roth and Ruckenstein 2000).
+//!
+//! Promised: [`column_list`] lists exactly the polynomials that agree, each once and ascending, whatever way it
+//! interpolates, and counts and bounds its steps. Want of memory is the only error. [`plan`] gives the numbers that it works
+//! with, and takes no memory.
+//!
+//! Not promised: anything of time but that bound on steps.
+#![tactic(auto)]
+
+mod agreement;
+mod numbers;
+#[cfg(test)]
+mod tests;
+
+ghost use Rattle.std.specs.Prelude.{◌≡◌, ◌≢◌, ◌+◌, ◌*◌, ◌/◌, ◌<◌, ◌≤◌, length, map, All, AllPairs, IfOk};
+ghost use Rattle.gs_interpolate.specs.Monomials.{monomials};
+ghost use Rattle.column_lists.specs.Numbers.{mult, cost, degree_of};
+ghost use Rattle.column_lists.specs.Agreement.{ListsAgreeing};
+
+use crate::agreement::{keep_agreeing, places_are_bytes};
+use bi_poly::laws::coefficients_are_bytes;
+use gs_interpolate::Interpolate;
+pub use numbers::Plan;
+use rr_roots::y_roots;
+use std::alloc::{AllocError, Global};
+use std::sync::ledger::Ledger;
+use uni_poly::steps::Steps;
+
+/// The numbers of a list decoding of `k` points of which `h` agree with polynomials of degree at most `t`, where
+/// `1 <= t < h <= k <= 32` and `h * h > k * t` (Guruswami and Sudan 1999): the multiplicity m is
+/// `t * (k - h) / (h * h - k * t) + 1`, the degree `h * m - 1`, and the cost `k * m * (m + 1) / 2`, all in whole numbers. There
+/// are more monomials of that weighted degree than the cost.
+///
+/// For five points, of which three agree with lines, m is 1, the degree 2 and the cost 5. It takes no memory.
+pub fn plan(k: u32, t: u32, h: u32) -> Plan
+    requires degree { 1 ≤ t }
+    requires redundant { t < h }
+    requires agreement { h ≤ k }
+    requires points { k ≤ 32 }
+    requires strong { k * t < h * h }
+    ensures multiplicity { result.m ≡ mult k t h }
+    ensures degree { result.d + 1 ≡ h * result.m }
+    ensures cost { result.cost ≡ cost k t h }
+    ensures enough { result.cost < monomials t result.d }
+{
+    let m = t * (k - h) / (h * h - k * t) + 1;
+    let cost = u64::from(k * m * (m + 1) / 2);
+    Plan {
+        m,
+        d: h * m - 1,
+        cost,
+    }
+}
+
+/// The polynomials of degree at most `t` that agree with at least `h` of the points `(x, y)`, that is, take the value y at
+/// x (Guruswami and Sudan 1999). Each is listed once, as `t + 1` bytes, in ascending order of these. `way` interpolates.
+///
+/// With k points, `1 <= t < h <= k <= 32` and `h * h > k * t`, and [`plan`]'s cost is at most 4096. No two points have the
+/// same x, and none has x 0.
+///
+/// Of the five points `(01, 10)`, `(02, 10)`, `(03, 10)`, `(04, 17)` and `(05, 16)`, with `t` 1 and `h` 3, these are
+/// `10 00` and `13 01`.
+///
+/// `cols` counts the column, and `nodes` the coefficients fixed in looking for the y-roots: at most `(t + 1) * (d / t)`,
+/// where d is the plan's degree, and at least `t + 1` where something is listed.
+///
+/// # Errors
+///
+/// `AllocError` where there is no memory to interpolate, or to look for the y-roots.
+pub fn column_list<I: Interpolate, C: Ledger, N: Ledger>(
+    alloc: Global,
+    way: &I,
+    points: &[(u8, u8)],
+    t: u32,
+    h: u32,
+    cols: &mut Steps<C>,
+    nodes: &mut Steps<N>,
+) -> Result<Vec<Vec<u8>>, AllocError>
+    requires degree { 1 ≤ t }
+    requires redundant { t < h }
+    requires agreement { h ≤ length points.now }
+    requires points { length points.now ≤ 32 }
+    requires strong { length points.now * t < h * h }
+    requires cheap { cost (length points.now) t h ≤ 4096 }
+    requires distinct { AllPairs (λ p q. p.0 ≢ q.0) points.now }
+    requires nonzero { All (λ p. p.0 ≢ 0) points.now }
+    ensures exact { IfOk result (λ list. ListsAgreeing (map (λ r. r.items) list.items) points.now t h) }
+    ensures cols { cols.new ≡ cols.old + 1 }
+    ensures most { nodes.new ≤ nodes.old + (t + 1) * (degree_of (length points.now) t h / t) }
+    ensures least { IfOk result (λ list. 0 < length list.items → nodes.old + (t + 1) ≤ nodes.new) }
+{
+    cols.tick();
+    let plan = plan(points.len() as u32, t, h);
+    let q = way.interpolate(alloc, points, plan.m, t, plan.d)?;
+    places_are_bytes(points);
+    coefficients_are_bytes(&q);
+    let mut list = y_roots(alloc, &q, t, nodes)?;
+    keep_agreeing(&mut list, points, h);
+    Ok(list)
+}
