@@ -59,15 +59,7 @@ fn measure<C: Ledger, N: Ledger, R: Clock>(
     let mut cols: Steps<C> = Steps::new(cols);
     let mut nodes: Steps<N> = Steps::new(nodes);
     let start = Instant::now(rt)?;
-    let list = column_list(
-        alloc,
-        &Elimination,
-        points,
-        t,
-        h,
-        &mut cols,
-        &mut nodes,
-    )?;
+    let list = column_list(alloc, &Elimination, points, t, h, &mut cols, &mut nodes)?;
     Ok((start.elapsed(rt)?.as_nanos(), list.len()))
 }
 
@@ -92,8 +84,15 @@ fn main(rt: HostRuntime) -> Result<()> {
     let mut best = u128::MAX;
     let mut count = 0;
     for _ in 0..rounds {
-        let (time, listed) =
-            measure::<Brand, Brand, _>(Blank::new(1), Blank::new(1), &rt, rt.alloc(), &points, t, h)?;
+        let (time, listed) = measure::<Brand, Brand, _>(
+            Blank::new(1),
+            Blank::new(1),
+            &rt,
+            rt.alloc(),
+            &points,
+            t,
+            h,
+        )?;
         best = best.min(time);
         count = listed;
     }
