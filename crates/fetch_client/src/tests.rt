@@ -83,7 +83,10 @@ fn a_block_is_fetched(rt: HostRuntime) -> Result<(), Fail> {
     let alloc = rt.alloc();
     let addresses = addresses(alloc)?;
     let mut ports = ports_with(alloc, 999, &COINS)?;
-    let Ok((session, Verdict::Listed(blocks))) = fetched(alloc, &addresses, &mut ports) else {
+    let Ok((session, verdict)) = fetched(alloc, &addresses, &mut ports) else {
+        return Err(Fail::new("a fault"));
+    };
+    let Verdict::Listed(blocks) = &verdict else {
         return Err(Fail::new("no listing"));
     };
     assert_eq!(rt; blocks.len(), 1);
