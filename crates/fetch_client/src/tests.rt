@@ -95,7 +95,6 @@ fn a_block_is_fetched(rt: HostRuntime) -> Result<(), Fail> {
     assert_eq!(rt; session.record_at(3), Some(ANSWERS[2].as_slice()));
     let query = b"PIRQ\x01\x01\x02\0\0\0\0\0\0\0\0\x07\0\0\0\x02\0\0\0\x02\x0a\x0f";
     assert_eq!(rt; ports.seen(Port::Link(2)), query.as_slice());
-    assert_eq!(rt; ports.opened_as(Port::Link(3), 0), Some(b"c".as_slice()));
     Ok(())
 }
 
