@@ -29,15 +29,15 @@ const MANNERS: [Manner; 6] = [
     Manner::HangsUp,
 ];
 
-/// Meets one guest, and says whether all went well.
-fn serve<R: Net>(door: &R::Listener, index: u8, manner: Manner) -> io::Result<()> {
+/// Meets one guest.
+fn serve<R: Net>(door: &R::Listener, manner: Manner) -> io::Result<()> {
     let (mut guest, _) = door.accept()?;
     let mut query = [0; 26];
     guest.read_exact(&mut query)?;
     match manner {
         Manner::Answers(payload) => {
             let mut answer = *b"PIRA\x01\x01\x00\0\0\0\0\0\0\0\0\x07\0\0\0\x02\0\0\0\x02\0\0";
-            answer[6] = index;
+            answer[6] = query[6];
             answer[24..].copy_from_slice(&payload);
             guest.write_all(&answer)
         }
@@ -85,15 +85,15 @@ fn a_fetch_outlives_its_servers(rt: HostRuntime) -> Result<(), Fail> {
         &rt,
         alloc,
         7,
-        &|i| {
-            if i < 6 {
-                let _ = serve::<HostRuntime>(&doors[i], i as u8 + 1, MANNERS[i]);
-                return None;
+        &|i| match (doors.get(i), MANNERS.get(i)) {
+            (Some(door), Some(manner)) => {
+                let _ = serve::<HostRuntime>(door, *manner);
+                None
             }
-            match OsPorts::new(&rt) {
+            _ => match OsPorts::new(&rt) {
                 Ok(mut ports) => Some(run(&rt, rt.alloc(), &words, &mut ports)),
                 Err(_) => None,
-            }
+            },
         },
     )?;
     fs::remove_file(&rt, &coins)?;
