@@ -71,6 +71,11 @@ fn words_in(alloc: Global, text: &str) -> Result<Vec<String>, AllocError> {
     Ok(words)
 }
 
+/// The run over ports in memory. The tests look at what it did, and need nothing of what it promises.
+fn run_in_memory<R>(rt: &R, alloc: Global, words: &[String], ports: &mut MemPorts) -> Status {
+    run(rt, alloc, words, ports)
+}
+
 /// Ports whose Input holds these bytes and whose Output has so much room. The call with the number `fail` fails.
 fn ports_with(
     alloc: Global,
@@ -114,7 +119,7 @@ fn worked_sessions(rt: HostRuntime) -> Result<(), Fail> {
         let session = session_of(alloc, row)?;
         for cut in [1, 5, 100000] {
             let mut ports = ports_with(alloc, cut, None, &session, 100)?;
-            let status = run(&rt, alloc, &words, &mut ports);
+            let status = run_in_memory(&rt, alloc, &words, &mut ports);
             let payloads = row.payloads;
             assert_eq!(rt; status, row.status, "for {payloads}");
             assert_eq!(rt;
@@ -147,7 +152,7 @@ fn altered_sessions(rt: HostRuntime) -> Result<(), Fail> {
         let mut session = SESSION;
         session[at] = byte;
         let mut ports = ports_with(alloc, 7, None, &session, 100)?;
-        let status = run(&rt, alloc, &words, &mut ports);
+        let status = run_in_memory(&rt, alloc, &words, &mut ports);
         assert_eq!(rt;
             status,
             Status::BadInput(Bad::Session { place }),
@@ -157,7 +162,7 @@ fn altered_sessions(rt: HostRuntime) -> Result<(), Fail> {
     }
     for len in 0..124 {
         let mut ports = ports_with(alloc, 1, None, &SESSION[..len], 100)?;
-        let status = run(&rt, alloc, &words, &mut ports);
+        let status = run_in_memory(&rt, alloc, &words, &mut ports);
         assert_eq!(rt;
             status,
             Status::BadInput(Bad::Session { place: len as u64 })
@@ -167,7 +172,7 @@ fn altered_sessions(rt: HostRuntime) -> Result<(), Fail> {
     let mut longer = Vec::from_slice(alloc, &SESSION)?;
     longer.push(0)?;
     let mut ports = ports_with(alloc, 1000, None, &longer, 100)?;
-    let status = run(&rt, alloc, &words, &mut ports);
+    let status = run_in_memory(&rt, alloc, &words, &mut ports);
     assert_eq!(rt; status, Status::BadInput(Bad::Session { place: 124 }));
     Ok(())
 }
@@ -184,7 +189,7 @@ fn unusable_answers(rt: HostRuntime) -> Result<(), Fail> {
     }
     let mut ports = ports_with(alloc, 9, None, &session, 100)?;
     assert_eq!(rt;
-        run(&rt, alloc, &words, &mut ports),
+        run_in_memory(&rt, alloc, &words, &mut ports),
         Status::TooFew { k: 1, h: 2 }
     );
     assert_eq!(rt; ports.seen(Port::Output), b"too few 1 2\n".as_slice());
@@ -194,7 +199,7 @@ fn unusable_answers(rt: HostRuntime) -> Result<(), Fail> {
     session[113] = 8;
     let mut ports = ports_with(alloc, 9, None, &session, 100)?;
     assert_eq!(rt;
-        run(&rt, alloc, &words, &mut ports),
+        run_in_memory(&rt, alloc, &words, &mut ports),
         Status::TooFew { k: 2, h: 3 }
     );
     assert_eq!(rt; ports.seen(Port::Output), b"too few 2 3\n".as_slice());
@@ -208,11 +213,17 @@ fn faults(rt: HostRuntime) -> Result<(), Fail> {
     // Call 1 opens Input, call 2 takes from it.
     for call in [1, 2] {
         let mut ports = ports_with(alloc, 1000, Some(call), &SESSION, 100)?;
-        assert_eq!(rt; run(&rt, alloc, &words, &mut ports), Status::ReadFault);
+        assert_eq!(rt;
+            run_in_memory(&rt, alloc, &words, &mut ports),
+            Status::ReadFault
+        );
         assert_eq!(rt; ports.seen(Port::Output), b"".as_slice());
     }
     let mut ports = ports_with(alloc, 1000, None, &SESSION, 3)?;
-    assert_eq!(rt; run(&rt, alloc, &words, &mut ports), Status::WriteFault);
+    assert_eq!(rt;
+        run_in_memory(&rt, alloc, &words, &mut ports),
+        Status::WriteFault
+    );
     assert_eq!(rt; ports.seen(Port::Output), b"blo".as_slice());
     Ok(())
 }
@@ -236,7 +247,7 @@ fn words_without_form(rt: HostRuntime) -> Result<(), Fail> {
         let mut ports = ports_with(alloc, 1000, None, &SESSION, 100)?;
         ports.put(alloc, Port::Coins, &[0; 100])?;
         assert_eq!(rt;
-            run(&rt, alloc, &words, &mut ports),
+            run_in_memory(&rt, alloc, &words, &mut ports),
             Status::Usage,
             "{text}"
         );
@@ -257,7 +268,7 @@ fn each_byte_replaced(rt: HostRuntime) -> Result<(), Fail> {
             let mut session = SESSION;
             session[at] = byte;
             let mut ports = ports_with(alloc, 31, None, &session, 100)?;
-            let status = run(&rt, alloc, &words, &mut ports);
+            let status = run_in_memory(&rt, alloc, &words, &mut ports);
             let place = match status {
                 Status::BadInput(Bad::Session { place }) => Some(place),
                 _ => None,
@@ -276,7 +287,7 @@ fn each_call_failing(rt: HostRuntime) -> Result<(), Fail> {
     // With a cut of 1: call 1 opens, calls 2 to 126 take 124 bytes and the end, calls 127 to 140 give the text.
     for call in 1..150 {
         let mut ports = ports_with(alloc, 1, Some(call), &SESSION, 100)?;
-        let status = run(&rt, alloc, &words, &mut ports);
+        let status = run_in_memory(&rt, alloc, &words, &mut ports);
         let (wanted, written) = match call {
             1..=126 => (Status::ReadFault, 0),
             127..=140 => (Status::WriteFault, call as usize - 127),
@@ -295,7 +306,7 @@ fn each_room(rt: HostRuntime) -> Result<(), Fail> {
     let text = b"blocks 1\n4344\n".as_slice();
     for room in 0..15 {
         let mut ports = ports_with(alloc, 1000, None, &SESSION, room)?;
-        let status = run(&rt, alloc, &words, &mut ports);
+        let status = run_in_memory(&rt, alloc, &words, &mut ports);
         let wanted = if room == 14 {
             Status::One
         } else {

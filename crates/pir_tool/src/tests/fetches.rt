@@ -2,8 +2,8 @@
 
 ghost use Rattle.std.specs.Prelude.{◌<◌, ◌-◌, ◌^◌, All};
 
-use crate::tests::{SESSION, words_in};
-use crate::{Bad, Status, run};
+use crate::tests::{SESSION, run_in_memory, words_in};
+use crate::{Bad, Status};
 use pir_ports::{MemPorts, Port};
 use std::alloc::{AllocError, Global};
 use std::test::Fail;
@@ -51,36 +51,40 @@ fn ports_with(
     Ok(ports)
 }
 
+/// Whether the link was opened by this address alone, and took this query.
+fn was_asked(ports: &MemPorts, link: u8, address: &str, query: &[u8]) -> bool {
+    let opened = match ports.opened_as(Port::Link(link), 0) {
+        Some(name) => name == address.as_bytes(),
+        None => false,
+    };
+    let again = ports.opened_as(Port::Link(link), 1).is_some();
+    opened && !again && ports.seen(Port::Link(link)) == query
+}
+
+/// Whether the replay of this record gives the block.
+fn is_replayed<R>(rt: &R, alloc: Global, record: &[u8]) -> Result<bool, Fail> {
+    let words = words_in(alloc, "replay F")?;
+    let mut ports = MemPorts::new(alloc, 50, &[], 1, 1)?;
+    ports.put(alloc, Port::Input, record)?;
+    ports.room(alloc, Port::Output, 100)?;
+    let status = run_in_memory(rt, alloc, &words, &mut ports);
+    Ok(status == Status::One && ports.seen(Port::Output) == TEXT)
+}
+
 #[test]
 fn a_fetch_and_its_replay(rt: HostRuntime) -> Result<(), Fail> {
     let alloc = rt.alloc();
     let words = words_in(alloc, WORDS)?;
     for cut in [1, 7, 1000] {
         let mut ports = ports_with(alloc, cut, &[], &COINS, 26)?;
-        assert_eq!(rt; run(&rt, alloc, &words, &mut ports), Status::One);
+        let status = run_in_memory(&rt, alloc, &words, &mut ports);
+        assert_eq!(rt; status, Status::One);
         assert_eq!(rt; ports.seen(Port::Output), TEXT);
+        assert!(rt; was_asked(&ports, 1, "a", QUERIES[0]));
+        assert!(rt; was_asked(&ports, 2, "b", QUERIES[1]));
+        assert!(rt; was_asked(&ports, 3, "c", QUERIES[2]));
         assert_eq!(rt; ports.seen(Port::Record), SESSION.as_slice());
-        for (link, address, query) in [
-            (1, b"a", QUERIES[0]),
-            (2, b"b", QUERIES[1]),
-            (3, b"c", QUERIES[2]),
-        ] {
-            assert_eq!(rt;
-                ports.opened_as(Port::Link(link), 0),
-                Some(address.as_slice())
-            );
-            assert_eq!(rt; ports.opened_as(Port::Link(link), 1), None);
-            assert_eq!(rt; ports.seen(Port::Link(link)), query.as_slice());
-        }
-        assert_eq!(rt; ports.opened_as(Port::Coins, 0), Some(b"C".as_slice()));
-        assert_eq!(rt; ports.opened_as(Port::Record, 0), Some(b"F".as_slice()));
-
-        let replay = words_in(alloc, "replay F")?;
-        let mut again = MemPorts::new(alloc, cut, &[], 1, 1)?;
-        again.put(alloc, Port::Input, ports.seen(Port::Record))?;
-        again.room(alloc, Port::Output, 100)?;
-        assert_eq!(rt; run(&rt, alloc, &replay, &mut again), Status::One);
-        assert_eq!(rt; again.seen(Port::Output), TEXT);
+        assert!(rt; is_replayed(&rt, alloc, ports.seen(Port::Record))?);
     }
     Ok(())
 }
@@ -91,7 +95,7 @@ fn too_few_coins(rt: HostRuntime) -> Result<(), Fail> {
     let words = words_in(alloc, WORDS)?;
     for taken in 0..10usize {
         let mut ports = ports_with(alloc, 3, &[], &COINS[..taken], 26)?;
-        let status = run(&rt, alloc, &words, &mut ports);
+        let status = run_in_memory(&rt, alloc, &words, &mut ports);
         let wanted = Status::BadInput(Bad::CoinsEnded {
             taken: taken as u64,
         });
@@ -109,7 +113,7 @@ fn silent_servers(rt: HostRuntime) -> Result<(), Fail> {
     let words = words_in(alloc, WORDS)?;
     // Call 1 opens the coins and call 2 takes them; then no link can be opened.
     let mut ports = ports_with(alloc, 1000, &[3, 4, 5], &COINS, 26)?;
-    let status = run(&rt, alloc, &words, &mut ports);
+    let status = run_in_memory(&rt, alloc, &words, &mut ports);
     assert_eq!(rt; status, Status::TooFew { k: 0, h: 2 });
     assert_eq!(rt; ports.seen(Port::Output), b"too few 0 2\n".as_slice());
     let record = ports.seen(Port::Record);
@@ -122,7 +126,7 @@ fn silent_servers(rt: HostRuntime) -> Result<(), Fail> {
 
     // The first server is opened, and fails when it is given its query.
     let mut ports = ports_with(alloc, 1000, &[4], &COINS, 26)?;
-    assert_eq!(rt; run(&rt, alloc, &words, &mut ports), Status::One);
+    assert_eq!(rt; run_in_memory(&rt, alloc, &words, &mut ports), Status::One);
     assert_eq!(rt; ports.seen(Port::Output), TEXT);
     assert_eq!(rt; ports.seen(Port::Link(1)), b"".as_slice());
     assert_eq!(rt; ports.seen(Port::Link(2)), QUERIES[1].as_slice());
@@ -140,7 +144,7 @@ fn an_answer_cut_short(rt: HostRuntime) -> Result<(), Fail> {
     let words = words_in(alloc, WORDS)?;
     for len in 0..26usize {
         let mut ports = ports_with(alloc, 1, &[], &COINS, len)?;
-        assert_eq!(rt; run(&rt, alloc, &words, &mut ports), Status::One);
+        assert_eq!(rt; run_in_memory(&rt, alloc, &words, &mut ports), Status::One);
         assert_eq!(rt; ports.seen(Port::Output), TEXT);
         let record = ports.seen(Port::Record);
         assert_eq!(rt; record.len(), 98 + len);
@@ -159,7 +163,7 @@ fn each_call_of_a_fetch_failing(rt: HostRuntime) -> Result<(), Fail> {
     // query and to take the answer; call 171 opens the record, calls 172 to 295 give it, and calls 296 to 309 give the text.
     for call in 1..320u32 {
         let mut ports = ports_with(alloc, 1, &[u64::from(call)], &COINS, 26)?;
-        let status = run(&rt, alloc, &words, &mut ports);
+        let status = run_in_memory(&rt, alloc, &words, &mut ports);
         let (wanted, recorded, written) = match call {
             1..=11 => (Status::ReadFault, 0, 0),
             12..=170 => (Status::One, 98, 14),
