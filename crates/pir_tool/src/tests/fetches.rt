@@ -16,14 +16,12 @@ const COINS: [u8; 10] = [0, 0, 0, 0, 0, 0, 0, 7, 5, 7];
 
 const TEXT: &[u8] = b"blocks 1\n4344\n";
 
-// What the servers are sent, and where their answers stand in the session.
+// What the servers are sent. Their answers stand in the session.
 const QUERIES: [&[u8; 26]; 3] = [
     b"PIRQ\x01\x01\x01\0\0\0\0\0\0\0\0\x07\0\0\0\x02\0\0\0\x02\x05\x06",
     b"PIRQ\x01\x01\x02\0\0\0\0\0\0\0\0\x07\0\0\0\x02\0\0\0\x02\x0a\x0f",
     b"PIRQ\x01\x01\x03\0\0\0\0\0\0\0\0\x07\0\0\0\x02\0\0\0\x02\x0f\x08",
 ];
-
-const ANSWERS: [usize; 3] = [34, 66, 98];
 
 /// Ports with these coins and the answers of the three servers, of the last one so many bytes. Of the calls those with
 /// these numbers fail, and a call moves at most `cut` bytes.
@@ -40,12 +38,12 @@ fn ports_with(
 {
     let mut ports = MemPorts::new(alloc, cut, fail, 8, 64)?;
     ports.put(alloc, Port::Coins, coins)?;
-    for i in 0..3usize {
-        let link = Port::Link(i as u8 + 1);
-        let len = if i == 2 { last } else { 26 };
-        ports.put(alloc, link, &SESSION[ANSWERS[i]..ANSWERS[i] + len])?;
-        ports.room(alloc, link, 26)?;
-    }
+    ports.put(alloc, Port::Link(1), &SESSION[34..60])?;
+    ports.put(alloc, Port::Link(2), &SESSION[66..92])?;
+    ports.put(alloc, Port::Link(3), &SESSION[98..98 + last])?;
+    ports.room(alloc, Port::Link(1), 26)?;
+    ports.room(alloc, Port::Link(2), 26)?;
+    ports.room(alloc, Port::Link(3), 26)?;
     ports.room(alloc, Port::Record, 124)?;
     ports.room(alloc, Port::Output, 100)?;
     Ok(ports)
