@@ -69,19 +69,33 @@ fn is_replayed<R>(rt: &R, alloc: Global, record: &[u8]) -> Result<bool, Fail> {
     Ok(status == Status::One && ports.seen(Port::Output) == TEXT)
 }
 
+/// Whether the record has so many bytes, begins as the session up to `front`, and ends as it from `back` on.
+fn is_record(record: &[u8], len: usize, front: usize, back: usize) -> bool {
+    match (SESSION.get(..front), SESSION.get(back..)) {
+        (Some(first), Some(last)) => {
+            record.len() == len && record.starts_with(first) && record.ends_with(last)
+        }
+        _ => false,
+    }
+}
+
+/// How a fetch over these ports ends.
+fn fetched<R>(rt: &R, alloc: Global, ports: &mut MemPorts) -> Result<Status, Fail> {
+    let words = words_in(alloc, WORDS)?;
+    Ok(run_in_memory(rt, alloc, &words, ports))
+}
+
 #[test]
 fn a_fetch_and_its_replay(rt: HostRuntime) -> Result<(), Fail> {
     let alloc = rt.alloc();
-    let words = words_in(alloc, WORDS)?;
     for cut in [1, 7, 1000] {
         let mut ports = ports_with(alloc, cut, &[], &COINS, 26)?;
-        let status = run_in_memory(&rt, alloc, &words, &mut ports);
-        assert_eq!(rt; status, Status::One);
-        assert_eq!(rt; ports.seen(Port::Output), TEXT);
+        assert!(rt; fetched(&rt, alloc, &mut ports)? == Status::One);
+        assert!(rt; ports.seen(Port::Output) == TEXT);
         assert!(rt; was_asked(&ports, 1, "a", QUERIES[0]));
         assert!(rt; was_asked(&ports, 2, "b", QUERIES[1]));
         assert!(rt; was_asked(&ports, 3, "c", QUERIES[2]));
-        assert_eq!(rt; ports.seen(Port::Record), SESSION.as_slice());
+        assert!(rt; is_record(ports.seen(Port::Record), 124, 124, 0));
         assert!(rt; is_replayed(&rt, alloc, ports.seen(Port::Record))?);
     }
     Ok(())
@@ -90,92 +104,37 @@ fn a_fetch_and_its_replay(rt: HostRuntime) -> Result<(), Fail> {
 #[test]
 fn too_few_coins(rt: HostRuntime) -> Result<(), Fail> {
     let alloc = rt.alloc();
-    let words = words_in(alloc, WORDS)?;
-    for taken in 0..10usize {
-        let mut ports = ports_with(alloc, 3, &[], &COINS[..taken], 26)?;
-        let status = run_in_memory(&rt, alloc, &words, &mut ports);
-        let wanted = Status::BadInput(Bad::CoinsEnded {
-            taken: taken as u64,
-        });
-        assert_eq!(rt; status, wanted);
-        assert_eq!(rt; ports.opened_as(Port::Link(1), 0), None);
-        assert_eq!(rt; ports.opened_as(Port::Record, 0), None);
-        assert_eq!(rt; ports.seen(Port::Output), b"".as_slice());
-    }
+    let mut ports = ports_with(alloc, 3, &[], &COINS[..9], 26)?;
+    let status = fetched(&rt, alloc, &mut ports)?;
+    assert!(rt; status == Status::BadInput(Bad::CoinsEnded { taken: 9 }));
+    assert!(rt; ports.opened_as(Port::Link(1), 0).is_none());
+    assert!(rt; ports.opened_as(Port::Record, 0).is_none());
+    assert!(rt; ports.seen(Port::Output).is_empty());
     Ok(())
 }
 
 #[test]
 fn silent_servers(rt: HostRuntime) -> Result<(), Fail> {
     let alloc = rt.alloc();
-    let words = words_in(alloc, WORDS)?;
     // Call 1 opens the coins and call 2 takes them; then no link can be opened.
     let mut ports = ports_with(alloc, 1000, &[3, 4, 5], &COINS, 26)?;
-    let status = run_in_memory(&rt, alloc, &words, &mut ports);
-    assert_eq!(rt; status, Status::TooFew { k: 0, h: 2 });
-    assert_eq!(rt; ports.seen(Port::Output), b"too few 0 2\n".as_slice());
-    let record = ports.seen(Port::Record);
-    assert_eq!(rt; record.len(), 46);
-    assert_eq!(rt; &record[..28], &SESSION[..28]);
-    assert_eq!(rt;
-        &record[28..],
-        b"\x01\0\0\0\0\0\x02\0\0\0\0\0\x03\0\0\0\0\0".as_slice()
-    );
+    let status = fetched(&rt, alloc, &mut ports)?;
+    assert!(rt; status == Status::TooFew { k: 0, h: 2 });
+    assert!(rt; ports.seen(Port::Output) == b"too few 0 2\n".as_slice());
+    assert!(rt; is_record(ports.seen(Port::Record), 46, 28, 124));
+    Ok(())
+}
 
-    // The first server is opened, and fails when it is given its query.
+#[test]
+fn a_server_that_takes_no_query(rt: HostRuntime) -> Result<(), Fail> {
+    let alloc = rt.alloc();
+    // Call 3 opens the first link, and call 4 would give it its query.
     let mut ports = ports_with(alloc, 1000, &[4], &COINS, 26)?;
-    assert_eq!(rt; run_in_memory(&rt, alloc, &words, &mut ports), Status::One);
-    assert_eq!(rt; ports.seen(Port::Output), TEXT);
-    assert_eq!(rt; ports.seen(Port::Link(1)), b"".as_slice());
-    assert_eq!(rt; ports.seen(Port::Link(2)), QUERIES[1].as_slice());
-    assert_eq!(rt; ports.seen(Port::Link(3)), QUERIES[2].as_slice());
-    let record = ports.seen(Port::Record);
-    assert_eq!(rt; record.len(), 98);
-    assert_eq!(rt; &record[28..34], b"\x01\0\0\0\0\0".as_slice());
-    assert_eq!(rt; &record[34..], &SESSION[60..]);
-    Ok(())
-}
-
-#[test]
-fn an_answer_cut_short(rt: HostRuntime) -> Result<(), Fail> {
-    let alloc = rt.alloc();
-    let words = words_in(alloc, WORDS)?;
-    for len in 0..26usize {
-        let mut ports = ports_with(alloc, 1, &[], &COINS, len)?;
-        assert_eq!(rt; run_in_memory(&rt, alloc, &words, &mut ports), Status::One);
-        assert_eq!(rt; ports.seen(Port::Output), TEXT);
-        let record = ports.seen(Port::Record);
-        assert_eq!(rt; record.len(), 98 + len);
-        assert_eq!(rt; &record[..97], &SESSION[..97]);
-        assert_eq!(rt; usize::from(record[97]), len);
-        assert_eq!(rt; &record[98..], &SESSION[98..98 + len]);
-    }
-    Ok(())
-}
-
-#[test]
-fn each_call_of_a_fetch_failing(rt: HostRuntime) -> Result<(), Fail> {
-    let alloc = rt.alloc();
-    let words = words_in(alloc, WORDS)?;
-    // With a cut of 1: call 1 opens the coins, calls 2 to 11 take them; each link takes 53 calls, to open it, to give the
-    // query and to take the answer; call 171 opens the record, calls 172 to 295 give it, and calls 296 to 309 give the text.
-    for call in 1..320u32 {
-        let mut ports = ports_with(alloc, 1, &[u64::from(call)], &COINS, 26)?;
-        let status = run_in_memory(&rt, alloc, &words, &mut ports);
-        let (wanted, recorded, written) = match call {
-            1..=11 => (Status::ReadFault, 0, 0),
-            12..=170 => (Status::One, 98, 14),
-            171 => (Status::WriteFault, 0, 0),
-            172..=295 => (Status::WriteFault, call as usize - 172, 0),
-            296..=309 => (Status::WriteFault, 124, call as usize - 296),
-            _ => (Status::One, 124, 14),
-        };
-        assert_eq!(rt; status, wanted, "call {call}");
-        assert_eq!(rt; ports.seen(Port::Record).len(), recorded, "call {call}");
-        assert_eq!(rt; ports.seen(Port::Output), &TEXT[..written], "call {call}");
-        if call <= 11 {
-            assert_eq!(rt; ports.opened_as(Port::Link(1), 0), None, "call {call}");
-        }
-    }
+    assert!(rt; fetched(&rt, alloc, &mut ports)? == Status::One);
+    assert!(rt; ports.seen(Port::Output) == TEXT);
+    assert!(rt; ports.seen(Port::Link(1)).is_empty());
+    assert!(rt; was_asked(&ports, 2, "b", QUERIES[1]));
+    assert!(rt; was_asked(&ports, 3, "c", QUERIES[2]));
+    assert!(rt; is_record(ports.seen(Port::Record), 98, 28, 60));
     Ok(())
 }
