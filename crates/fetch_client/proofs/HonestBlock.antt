@@ -16,7 +16,8 @@ use Rattle.block_decoder.specs.declared.verdict.Verdict.{Verdict}
 use Rattle.block_decoder.specs.declared.verdict.Verdict.TheVariants.{Listed, TooFew, TooWeak}
 use Rattle.block_decoder.proofs.OneBlock.{close_is_listed}
 use Rattle.block_decoder.proofs.Places.{places_of, ascending-places_of, within-places_of, pass-places_of, length-places_of}
-use Rattle.fetch_client.specs.Honest.{IsMatrix, Honest, block_of, reply_to}
+use Rattle.gf256.specs.Product.{IsMatrix, product}
+use Rattle.fetch_client.specs.Honest.{Honest, block_of}
 use Rattle.fetch_client.proofs.HonestColumns.{column_polynomial, degree-column_polynomial, reply_is, constant-column_polynomial}
 
 -- the constants of the columns' polynomials are the block
@@ -38,7 +39,7 @@ pub honest_is_agreed : (answers : List Answer) (matrix : List (List ℕ)) (coins
     → Honest answers matrix coins t r s block h → Agreed answers s t h (block_of matrix block)
 honest_is_agreed answers matrix coins t r s block h size within honest =
     let none : Answer = record { index = 0; payload = [] } in
-    let test : Answer → Bool = λ a. bytes_eq a.payload (reply_to matrix s (query coins t r block a.index)) in
+    let test : Answer → Bool = λ a. bytes_eq a.payload (product matrix s (query coins t r block a.index)) in
     let places = places_of test answers none in
     let inside = within-places_of test answers none in
     let pass = pass-places_of test answers none in
@@ -53,7 +54,7 @@ honest_is_agreed answers matrix coins t r s block h size within honest =
       enough = let n = length-places_of test answers none in let e = honest.enough in omega (arith, n, e);
       agree = λ i d l.
           let a = answer_at answers (get_or places i d) in
-          (bytes_eq-Decides a.payload (reply_to matrix s (query coins t r block a.index))).0 (pass i d l)
+          (bytes_eq-Decides a.payload (product matrix s (query coins t r block a.index))).0 (pass i d l)
           ∙ sym (reply_is matrix coins t r s block honest.matrix_is size a.index);
       constants = constants_are matrix coins t r s block honest.matrix_is size within;
     }
@@ -76,7 +77,7 @@ pub honest_is_alone : (answers : List Answer) (matrix : List (List ℕ)) (coins 
     → Honest answers matrix coins t r s block h → length answers + t < 2 * h → IsDecided answers s t h verdict → verdict ≡ Listed (block_of matrix block ∷ [])
 honest_is_alone answers matrix coins t r s block h verdict columns size within honest close is =
     let e = honest.enough in
-    let few = count_by-le-length (λ (a : Answer). bytes_eq a.payload (reply_to matrix s (query coins t r block a.index))) answers in
+    let few = count_by-le-length (λ (a : Answer). bytes_eq a.payload (product matrix s (query coins t r block a.index))) answers in
     by_verdict verdict (close_is_listed answers s t h verdict columns (omega (arith, e, few)) close is) is
   where
     by_verdict : (v : Verdict) → ListsAtMostOne v → IsDecided answers s t h v → v ≡ Listed (block_of matrix block ∷ [])

@@ -8,14 +8,14 @@ use Rattle.std.proofs.lemmas.Simd.{map-map}
 use Rattle.gf256.specs.Field.{◌⊗◌}
 use Rattle.gf256.specs.Sums.{sum_to}
 use Rattle.gf256.specs.Polynomial.{coef, val, IsPolynomial}
-use Rattle.gf256.specs.Product.{product_at}
+use Rattle.gf256.specs.Product.{IsMatrix, product_at, product}
 use Rattle.gf256.proofs.FieldLaws.{one_mul, zero_mul}
 use Rattle.gf256.proofs.Sums.{sum_to-same, sum_to-one}
 use Rattle.uni_poly.proofs.Coefficients.{IsBytes-from_all}
 use Rattle.uni_poly.proofs.Combination.{combined, length-combined, coef-combined, bytes-combined, val-combined}
 use Rattle.block_decoder.proofs.Agreement.{row_within}
 use Rattle.shamir_share.specs.Query.{query, row_polynomial, row_coins}
-use Rattle.fetch_client.specs.Honest.{IsMatrix, block_of, reply_to}
+use Rattle.fetch_client.specs.Honest.{block_of}
 
 -- ---- the polynomials of the rows
 
@@ -91,8 +91,8 @@ module _ (matrix : List (List ℕ)) (coins : List ℕ) (t r s block : ℕ) (is :
       ap₂ ◌⊗◌ (ap (λ p. val p a) (row_is j [] k) ∙ sym (get_or-map-range_with_len (λ j. val (row_polynomial coins t block j) a) 0 r j j 0 k (omega arith))) (column_is c j k))
 
   -- so at an index the columns' polynomials take the honest answer
-  pub reply_is : (a : ℕ) → map (λ p. val p a) (map column_polynomial (range_with_len 0 s)) ≡ reply_to matrix s (query coins t r block a)
-  unfolding reply_to
+  pub reply_is : (a : ℕ) → map (λ p. val p a) (map column_polynomial (range_with_len 0 s)) ≡ product matrix s (query coins t r block a)
+  unfolding product
   reply_is a =
       let each : ◌≡◌ {A = ℕ → ℕ} (λ c. val (column_polynomial c) a) (product_at (query coins t r block a) matrix) = λ i c. val-column_polynomial c a i in
       map-map (λ p. val p a) column_polynomial (range_with_len 0 s) ∙ ap (λ f. map f (range_with_len 0 s)) each

@@ -1,7 +1,7 @@
 -- Honest servers: what they answer, and that a verdict has the block that they hold (Goldberg 2007).
-use Rattle.std.specs.Prelude.{◌≡◌, ℕ, ◌+◌, ◌-◌, ◌*◌, ◌<◌, ◌≤◌, Bool, false, Option, None, Some, List, [], ◌∷◌, ◌++◌, length, map, slice_index_or, All, Contains, count_by, bytes_eq}
+use Rattle.std.specs.Prelude.{◌≡◌, ℕ, ◌+◌, ◌-◌, ◌*◌, ◌<◌, ◌≤◌, Bool, false, Option, None, Some, List, [], ◌∷◌, ◌++◌, length, slice_index_or, Contains, count_by, bytes_eq}
 use Rattle.std.specs.List.{range_with_len}
-use Rattle.gf256.specs.Product.{product_at}
+use Rattle.gf256.specs.Product.{IsMatrix, product}
 use Rattle.shamir_share.specs.Query.{query}
 use Rattle.wire_frames.specs.declared.session.SessionParams.{SessionParams}
 use Rattle.wire_frames.specs.Header.{answer_header}
@@ -11,24 +11,14 @@ use Rattle.block_decoder.specs.Verdict.{ListsAtMostOne}
 use Rattle.block_decoder.specs.declared.verdict.Verdict.{Verdict}
 use Rattle.block_decoder.specs.declared.verdict.Verdict.TheVariants.{Listed}
 
--- r rows of s bytes each
-pub record IsMatrix (matrix : List (List ℕ)) (r s : ℕ) : Type 0 where
-  pub rows : length matrix ≡ r
-  pub widths : All (λ row. length row ≡ s) matrix
-  pub bytes : All (λ row. All (λ b. b < 256) row) matrix
-
 -- the block with this number: a row of the matrix
 abbrev pub block_of : List (List ℕ) → ℕ → List ℕ
 block_of matrix block = slice_index_or matrix block []
 
--- what an honest server that holds the matrix answers to a query: their product, a byte for each column
-unfoldable pub reply_to : List (List ℕ) → ℕ → List ℕ → List ℕ
-reply_to matrix width query = map (product_at query matrix) (range_with_len 0 width)
-
 -- at least h of the answers are those of honest servers that hold the matrix, each to its own query for the block
 pub record Honest (answers : List Answer) (matrix : List (List ℕ)) (coins : List ℕ) (t r s block h : ℕ) : Type 0 where
   pub matrix_is : IsMatrix matrix r s
-  pub enough : h ≤ count_by (λ a. bytes_eq a.payload (reply_to matrix s (query coins t r block a.index))) answers
+  pub enough : h ≤ count_by (λ a. bytes_eq a.payload (product matrix s (query coins t r block a.index))) answers
 
 -- at least h of a session's usable answers are honest ones, for the session's own numbers
 abbrev pub IsHonest : Transcript → List (List ℕ) → List ℕ → ℕ → Type 0
@@ -36,7 +26,7 @@ IsHonest session matrix coins block = Honest (answers session) matrix coins sess
 
 -- the frame in which honest server i answers in a session: the header of status 0, and the answer
 unfoldable pub honest_frame : SessionParams → List (List ℕ) → List ℕ → ℕ → ℕ → List ℕ
-honest_frame p matrix coins block i = answer_header (asked p i) 0 ++ reply_to matrix p.s (query coins p.t p.r block i)
+honest_frame p matrix coins block i = answer_header (asked p i) 0 ++ product matrix p.s (query coins p.t p.r block i)
 
 -- whether a server's record is this frame
 abbrev pub is_frame : List ℕ → Option (List ℕ) → Bool
