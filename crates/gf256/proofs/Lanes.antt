@@ -1,38 +1,101 @@
 -- Products with one factor, by lanes.
-use Rattle.std.proofs.Common.{◌≡◌, ℕ, zero, suc, ◌+◌, ◌*◌, ◌/◌, ◌%◌, ◌^◌, ◌<◌, ◌≤◌, List, [], ◌∷◌, length, map, get_or, bit_and, bit_xor, nat_eq, nat_le, true, false, cond, inl, inr, eqb-true, refl, sym, ap, ap₂, ◌∙◌, arith, lit<, w8}
+use Rattle.std.proofs.Common.{◌≡◌, ℕ, ◌+◌, ◌*◌, ◌/◌, ◌%◌, ◌^◌, ◌<◌, ◌≤◌, List, [], ◌∷◌, length, map, get_or, bit_and, bit_xor, nat_eq, nat_le, true, false, cond, inl, inr, eqb-true, refl, sym, ap, ap₂, ◌∙◌, arith, lit<, w8}
 use Rattle.std.specs.Prelude.{replicate}
 use Rattle.std.specs.List.{range_with_len}
+use Rattle.std.specs.Int.Bits.{and_zero_r}
 use Rattle.std.specs.Simd.Lanes.{zip2, sel_l, top}
 use Rattle.std.proofs.lemmas.Bool.{cases_lt, le-leb, lt-leb}
 use Rattle.std.proofs.lemmas.List.{length-map, get_or-map, same_lists, get_or_past}
 use Rattle.std.proofs.lemmas.List.FromFn.{get_or-range_with_len, get_or-map-range_with_len}
 use Rattle.std.proofs.lemmas.Nat.{and_mask, mod_below}
-use Rattle.std.proofs.lemmas.Simd.{Each1-get_or, Each1-from_get_or, SwzOk, SwzOk-from_below, swz_l, length-zip2, length-swz_l, length-replicate, get_or-zip2, get_or-swz_l_below, get_or-replicate, tops_compared, length-sel_l, get_or-sel_l, below_from_Fits}
+use Rattle.std.proofs.lemmas.Simd.{Each1-from_get_or, SwzOk, SwzOk-from_below, swz_l, length-zip2, length-swz_l, length-replicate, get_or-zip2, get_or-swz_l_below, get_or-replicate, tops_compared, length-sel_l, get_or-sel_l}
 use Rattle.gf256.specs.Field.{◌⊕◌, ◌⊗◌, carryless, reduced}
 use Rattle.gf256.proofs.Below.{all_below, all_below-at}
 use Rattle.gf256.proofs.Xor.{add_comm, add_parts}
 use Rattle.gf256.proofs.FieldLaws.{mul_add, mul_zero, mul_one, mul_assoc}
 
--- the sum of two products with one factor
-plus : (one x y a b : ℕ) → x ≡ one ⊗ a → y ≡ one ⊗ b → bit_xor x y ≡ one ⊗ bit_xor a b
-unfolding ◌⊕◌
-plus one x y a b e f = ap₂ bit_xor e f ∙ sym (mul_add one a b)
+-- ---- the products with 0 to 15
 
--- a number times 0 to 15, by its products with 1, 2, 4 and 8
-pub multiples_are : (one two four eight : ℕ) → one < 256 → two ≡ one ⊗ 2 → four ≡ one ⊗ 4 → eight ≡ one ⊗ 8
-    → 0 ∷ one ∷ two ∷ bit_xor one two ∷ four ∷ bit_xor four one ∷ bit_xor four two ∷ bit_xor four (bit_xor one two)
-    ∷ eight ∷ bit_xor eight one ∷ bit_xor eight two ∷ bit_xor eight (bit_xor one two)
-    ∷ bit_xor four eight ∷ bit_xor (bit_xor four eight) one ∷ bit_xor (bit_xor four eight) two ∷ bit_xor (bit_xor four eight) (bit_xor one two) ∷ []
+-- a number below 128 doubles as a plain number
+twice_ok : all_below (λ x. nat_eq (x ⊗ 2) (x * 2)) 128 ≡ true
+unfolding all_below ◌⊗◌ ◌⊕◌ carryless reduced
+twice_ok = refl
+
+-- the double of one multiple is the next power's
+pub doubled : (one x y b : ℕ) → b < 128 → x ≡ one ⊗ b → y ≡ x ⊗ 2 → y ≡ one ⊗ (b * 2)
+doubled one x y b small e h =
+    h ∙ ap (λ z. z ⊗ 2) e ∙ mul_assoc one b 2
+    ∙ ap (λ z. one ⊗ z) (eqb-true _ _ (all_below-at (λ x. nat_eq (x ⊗ 2) (x * 2)) 128 b twice_ok small))
+
+-- the sum of four products with one factor
+plus4 : {w x y z : ℕ} (one a b c d : ℕ) → w ≡ one ⊗ a → x ≡ one ⊗ b → y ≡ one ⊗ c → z ≡ one ⊗ d
+    → bit_xor (bit_xor (bit_xor w x) y) z ≡ one ⊗ bit_xor (bit_xor (bit_xor a b) c) d
+unfolding ◌⊕◌
+plus4 one a b c d e f g h =
+    ap₂ bit_xor (ap₂ bit_xor (ap₂ bit_xor e f) g) h
+    ∙ sym (mul_add one (bit_xor (bit_xor a b) c) d ∙ ap (λ s. bit_xor s (one ⊗ d)) (mul_add one (bit_xor a b) c ∙ ap (λ s. bit_xor s (one ⊗ c)) (mul_add one a b)))
+
+-- a mask of ones keeps a product
+kept : (one x b : ℕ) → x < 256 → x ≡ one ⊗ b → bit_and x 255 ≡ one ⊗ b
+kept one x b byte e = and_mask x 8 ∙ omega arith ∙ e
+
+-- a mask of zeros leaves that with 0
+dropped : (one x : ℕ) → bit_and x 0 ≡ one ⊗ 0
+dropped one x = and_zero_r x ∙ sym (mul_zero one)
+
+-- a number times 0 to 15, by its products with 1, 2, 4 and 8 under the masks of the bits
+pub multiples_are : (one two four eight : ℕ) → one < 256 → two < 256 → four < 256 → eight < 256 → two ≡ one ⊗ 2 → four ≡ one ⊗ 4 → eight ≡ one ⊗ 8
+    → bit_xor (bit_xor (bit_xor (bit_and one 0) (bit_and two 0)) (bit_and four 0)) (bit_and eight 0)
+    ∷ bit_xor (bit_xor (bit_xor (bit_and one 255) (bit_and two 0)) (bit_and four 0)) (bit_and eight 0)
+    ∷ bit_xor (bit_xor (bit_xor (bit_and one 0) (bit_and two 255)) (bit_and four 0)) (bit_and eight 0)
+    ∷ bit_xor (bit_xor (bit_xor (bit_and one 255) (bit_and two 255)) (bit_and four 0)) (bit_and eight 0)
+    ∷ bit_xor (bit_xor (bit_xor (bit_and one 0) (bit_and two 0)) (bit_and four 255)) (bit_and eight 0)
+    ∷ bit_xor (bit_xor (bit_xor (bit_and one 255) (bit_and two 0)) (bit_and four 255)) (bit_and eight 0)
+    ∷ bit_xor (bit_xor (bit_xor (bit_and one 0) (bit_and two 255)) (bit_and four 255)) (bit_and eight 0)
+    ∷ bit_xor (bit_xor (bit_xor (bit_and one 255) (bit_and two 255)) (bit_and four 255)) (bit_and eight 0)
+    ∷ bit_xor (bit_xor (bit_xor (bit_and one 0) (bit_and two 0)) (bit_and four 0)) (bit_and eight 255)
+    ∷ bit_xor (bit_xor (bit_xor (bit_and one 255) (bit_and two 0)) (bit_and four 0)) (bit_and eight 255)
+    ∷ bit_xor (bit_xor (bit_xor (bit_and one 0) (bit_and two 255)) (bit_and four 0)) (bit_and eight 255)
+    ∷ bit_xor (bit_xor (bit_xor (bit_and one 255) (bit_and two 255)) (bit_and four 0)) (bit_and eight 255)
+    ∷ bit_xor (bit_xor (bit_xor (bit_and one 0) (bit_and two 0)) (bit_and four 255)) (bit_and eight 255)
+    ∷ bit_xor (bit_xor (bit_xor (bit_and one 255) (bit_and two 0)) (bit_and four 255)) (bit_and eight 255)
+    ∷ bit_xor (bit_xor (bit_xor (bit_and one 0) (bit_and two 255)) (bit_and four 255)) (bit_and eight 255)
+    ∷ bit_xor (bit_xor (bit_xor (bit_and one 255) (bit_and two 255)) (bit_and four 255)) (bit_and eight 255) ∷ []
     ≡ map (λ i. one ⊗ i) (range_with_len 0 16)
-multiples_are one two four eight byte e2 e4 e8 =
-    let e0 : 0 ≡ one ⊗ 0 = sym (mul_zero one) in
-    let e1 : one ≡ one ⊗ 1 = sym (mul_one one byte) in
-    let e3 : bit_xor one two ≡ one ⊗ 3 = plus one one two 1 2 e1 e2 in
-    let e12 : bit_xor four eight ≡ one ⊗ 12 = plus one four eight 4 8 e4 e8 in
-    λ i. e0 i ∷ e1 i ∷ e2 i ∷ e3 i ∷ e4 i ∷ plus one four one 4 1 e4 e1 i ∷ plus one four two 4 2 e4 e2 i ∷ plus one four (bit_xor one two) 4 3 e4 e3 i
-    ∷ e8 i ∷ plus one eight one 8 1 e8 e1 i ∷ plus one eight two 8 2 e8 e2 i ∷ plus one eight (bit_xor one two) 8 3 e8 e3 i
-    ∷ e12 i ∷ plus one (bit_xor four eight) one 12 1 e12 e1 i ∷ plus one (bit_xor four eight) two 12 2 e12 e2 i
-    ∷ plus one (bit_xor four eight) (bit_xor one two) 12 3 e12 e3 i ∷ []
+multiples_are one two four eight b1 b2 b4 b8 e2 e4 e8 =
+    let k1 = kept one one 1 b1 (sym (mul_one one b1)) in
+    let k2 = kept one two 2 b2 e2 in
+    let k4 = kept one four 4 b4 e4 in
+    let k8 = kept one eight 8 b8 e8 in
+    let n1 = dropped one one in
+    let n2 = dropped one two in
+    let n4 = dropped one four in
+    let n8 = dropped one eight in
+    λ i. plus4 one 0 0 0 0 n1 n2 n4 n8 i
+    ∷ plus4 one 1 0 0 0 k1 n2 n4 n8 i
+    ∷ plus4 one 0 2 0 0 n1 k2 n4 n8 i
+    ∷ plus4 one 1 2 0 0 k1 k2 n4 n8 i
+    ∷ plus4 one 0 0 4 0 n1 n2 k4 n8 i
+    ∷ plus4 one 1 0 4 0 k1 n2 k4 n8 i
+    ∷ plus4 one 0 2 4 0 n1 k2 k4 n8 i
+    ∷ plus4 one 1 2 4 0 k1 k2 k4 n8 i
+    ∷ plus4 one 0 0 0 8 n1 n2 n4 k8 i
+    ∷ plus4 one 1 0 0 8 k1 n2 n4 k8 i
+    ∷ plus4 one 0 2 0 8 n1 k2 n4 k8 i
+    ∷ plus4 one 1 2 0 8 k1 k2 n4 k8 i
+    ∷ plus4 one 0 0 4 8 n1 n2 k4 k8 i
+    ∷ plus4 one 1 0 4 8 k1 n2 k4 k8 i
+    ∷ plus4 one 0 2 4 8 n1 k2 k4 k8 i
+    ∷ plus4 one 1 2 4 8 k1 k2 k4 k8 i ∷ []
+
+-- the shift of a byte from which the polynomial is taken
+double_ok : all_below (λ x. nat_eq (bit_xor (bit_and x 127 * 2) (x / 2 ^ 7 * 27)) (x ⊗ 2)) 256 ≡ true
+unfolding all_below ◌⊗◌ ◌⊕◌ carryless reduced
+double_ok = refl
+
+-- it is the product with 2
+pub double_is : (x : ℕ) → x < 256 → bit_xor (bit_and x 127 * 2) (x / 2 ^ 7 * 27) ≡ x ⊗ 2
+double_is x byte = eqb-true _ _ (all_below-at (λ x. nat_eq (bit_xor (bit_and x 127 * 2) (x / 2 ^ 7 * 27)) (x ⊗ 2)) 256 x double_ok byte)
 
 -- the high four bits of each lane
 abbrev pub down : ℕ → ℕ → ℕ

@@ -36,13 +36,14 @@ impl Model for Products {
 
 impl Products {
     /// Those with `factor`.
+    #[inline(always)]
     pub fn of(factor: u8) -> Products
         ensures { result ≡ factor }
     {
         Products {
             factor,
             low: multiples(factor),
-            high: multiples(mul(factor, 16)),
+            high: multiples(double(double(double(double(factor))))),
         }
     }
 
@@ -57,33 +58,39 @@ impl Products {
     }
 }
 
-/// The products of `one` with 0 to 15.
+/// The products of `one` with 0 to 15: in the lanes whose number has bit i, the product with `2^i` is added. Nothing here
+/// branches or reads a table, since a short row needs the products of one factor for a few bytes alone.
+#[inline(always)]
 fn multiples(one: u8) -> u8x16
     ensures { result ≡ map (λ i. one ⊗ i) (range_with_len 0 16) }
 {
-    let two = mul(one, 2);
-    let four = mul(one, 4);
-    let eight = mul(one, 8);
-    let three = one ^ two;
-    let twelve = four ^ eight;
-    u8x16::from_array([
-        0,
-        one,
-        two,
-        three,
-        four,
-        four ^ one,
-        four ^ two,
-        four ^ three,
-        eight,
-        eight ^ one,
-        eight ^ two,
-        eight ^ three,
-        twelve,
-        twelve ^ one,
-        twelve ^ two,
-        twelve ^ three,
-    ])
+    let two = double(one);
+    let four = double(two);
+    let eight = double(four);
+    let with_1 = u8x16::from_array([
+        0, 255, 0, 255, 0, 255, 0, 255, 0, 255, 0, 255, 0, 255, 0, 255,
+    ]);
+    let with_2 = u8x16::from_array([
+        0, 0, 255, 255, 0, 0, 255, 255, 0, 0, 255, 255, 0, 0, 255, 255,
+    ]);
+    let with_4 = u8x16::from_array([
+        0, 0, 0, 0, 255, 255, 255, 255, 0, 0, 0, 0, 255, 255, 255, 255,
+    ]);
+    let with_8 = u8x16::from_array([
+        0, 0, 0, 0, 0, 0, 0, 0, 255, 255, 255, 255, 255, 255, 255, 255,
+    ]);
+    (u8x16::splat(one) & with_1)
+        ^ (u8x16::splat(two) & with_2)
+        ^ (u8x16::splat(four) & with_4)
+        ^ (u8x16::splat(eight) & with_8)
+}
+
+/// The product of `x` with 2: a shift, from which the polynomial of the field is taken if it came to `x^8`.
+#[inline(always)]
+fn double(x: u8) -> u8
+    ensures { result ≡ x ⊗ 2 }
+{
+    (x & 127) * 2 ^ (x >> 7) * 27
 }
 
 /// Adds `factor` times `row` to `acc`, which is as long: `acc[i]` becomes `acc[i] + factor * row[i]`, for each place i.

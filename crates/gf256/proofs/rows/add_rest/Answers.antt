@@ -1,6 +1,5 @@
-use Rattle.std.proofs.Common.{◌≡◌, ℕ, ◌+◌, ◌-◌, length, get_or, subst, sym, ap, ◌∙◌, arith}
+use Rattle.std.proofs.Common.{◌+◌, get_or, ap, ◌∙◌, arith}
 use Rattle.gf256.specs.Field.{◌⊗◌}
-use Rattle.gf256.specs.Rows.{IsAdded}
 use Rattle.gf256.proofs.RowSums.{added-on, added-place, added-last}
 use Rattle.gf256.proofs.rows.add_rest.Goals as goal
 

@@ -1,4 +1,4 @@
-use Rattle.std.proofs.Common.{ℕ, ◌<◌, w8, map, ap, ◌∙◌, arith}
+use Rattle.std.proofs.Common.{◌<◌, w8, map, ap, ◌∙◌, arith}
 use Rattle.std.proofs.lemmas.Simd.{Each1-get_or, below_from_Fits}
 use Rattle.gf256.specs.Field.{◌⊗◌}
 use Rattle.gf256.proofs.Lanes.{low_ok, high_ok, times_are}
