@@ -1,0 +1,2 @@
+pub mod FourRows
+pub mod Runs
