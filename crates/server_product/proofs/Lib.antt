@@ -1,2 +1,2 @@
 pub mod LaneSums
-pub mod Runs
+pub mod RunSums
