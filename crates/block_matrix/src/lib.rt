@@ -5,6 +5,8 @@
 //! is refused. Not promised: that memory is found.
 #![tactic(auto)]
 
+mod file;
 mod matrix;
 
+pub use file::load;
 pub use matrix::{LoadFault, Matrix, most_bytes};

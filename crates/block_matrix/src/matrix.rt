@@ -60,7 +60,8 @@ fn are_bytes(bytes: &[u8])
 /// The most bytes of a file whose rows have this width.
 pub fn most_bytes(width: u32) -> u64
     requires { 1 ≤ width }
-    ensures { result ≡ limit width }
+    ensures is { result ≡ limit width }
+    ensures few { result ≤ 2 ^ 30 }
 {
     u64::from(width) * u64::from(MOST_ROWS).min(MOST_CELLS / u64::from(width))
 }
