@@ -2,9 +2,8 @@
 
 ghost use Rattle.std.specs.Prelude.{◌≡◌, ◌≤◌, ◌<◌, OnOk, OnErr};
 ghost use Rattle.pir_ports.specs.Moves.{Touches};
-ghost use Rattle.pir_ports.specs.Serving.{Served};
-ghost use Rattle.serve_core.specs.Attended.{IsServed};
-ghost use Rattle.pir_tool.specs.ServeOutcome.{OpensDesk, Listens, StopsServing, TouchesGuests, TouchesDoor, ServeEnds, TouchesServer};
+ghost use Rattle.pir_tool.specs.ServeSteps.{OpensDesk, Listens, ServesGuests, RunsDry, TouchesGuests, TouchesDoor};
+ghost use Rattle.pir_tool.specs.ServeOutcome.{ServeEnds, TouchesServer};
 
 use crate::status::{Bad, Status};
 use block_matrix::{LoadFault, load};
@@ -90,9 +89,9 @@ fn serve_guests<R: Threads + Sync, P: Ports>(
     guests: u32,
     ports: &mut P,
 ) -> Result<(), Failed>
-    ensures ok { OnOk result (Served (IsServed desk.old) guests (P.world ports.old) (P.world ports.new)) }
+    ensures ok { OnOk result (ServesGuests desk.old guests (P.world ports.old) (P.world ports.new)) }
     ensures door { OnOk result ((P.world ports.new).at 5 ≡ (P.world ports.old).at 5) }
-    ensures failed { OnErr result (StopsServing desk.old guests (P.world ports.old) (P.world ports.new)) }
+    ensures failed { OnErr result (RunsDry desk.old guests (P.world ports.old) (P.world ports.new)) }
     ensures others { TouchesGuests (P.world ports.old) (P.world ports.new) }
 {
     'guests: for _ in 0..guests {

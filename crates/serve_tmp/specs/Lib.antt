@@ -1,0 +1,5 @@
+pub mod Table
+pub mod Told
+pub mod ServeOrder
+pub mod ServeSteps
+pub mod ServeOutcome

@@ -1,0 +1,32 @@
+-- The exit code and the line of each status, and the status of each verdict.
+use Rattle.std.specs.Prelude.{ℕ, List, [], ◌∷◌, codes}
+use Rattle.serve_tmp.specs.declared.status.Status.{Status}
+use Rattle.serve_tmp.specs.declared.status.Status.TheVariants.{One, Usage, NoBlock, Several, TooFew, TooWeak, ReadFault, WriteFault, BadInput, DoorFault, Memory}
+
+abbrev pub code_of : Status → ℕ
+code_of One = 0
+code_of Usage = 2
+code_of NoBlock = 3
+code_of Several = 4
+code_of (TooFew k h) = 5
+code_of (TooWeak k t h) = 6
+code_of ReadFault = 8
+code_of WriteFault = 9
+code_of (BadInput bad) = 10
+code_of DoorFault = 11
+code_of Memory = 12
+
+-- what stands on standard error, empty where nothing does
+abbrev pub line_of : Status → List ℕ
+line_of One = []
+line_of Usage = codes "pir: usage"
+line_of NoBlock = []
+line_of Several = []
+line_of (TooFew k h) = []
+line_of (TooWeak k t h) = []
+line_of ReadFault = codes "pir: read fault"
+line_of WriteFault = codes "pir: write fault"
+line_of (BadInput bad) = codes "pir: bad input"
+line_of DoorFault = codes "pir: door fault"
+line_of Memory = codes "pir: no memory"
+

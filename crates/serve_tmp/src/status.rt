@@ -1,0 +1,82 @@
+//! How a run ends.
+
+ghost use Rattle.std.specs.Prelude.{◌≡◌};
+ghost use Rattle.serve_tmp.specs.Table.{code_of, line_of};
+
+/// What is wrong with the input.
+#[derive(Clone, Copy, Debug, PartialEq, Eq)]
+pub enum Bad {
+    /// Input holds no session: `place` is the length of the longest prefix of its bytes that begins some session.
+    Session { place: u64 },
+    /// The database has no bytes. Nobody was served.
+    EmptyFile,
+    /// The database has more bytes than one of its width may have: `limit`. Nobody was served.
+    TooBig { limit: u64 },
+    /// Coins holds only `taken` bytes, fewer than the fetch needs. No server was asked.
+    CoinsEnded { taken: u64 },
+}
+
+/// How a run ends.
+#[derive(Clone, Copy, Debug, PartialEq, Eq)]
+pub enum Status {
+    /// One block is listed; or a server served all its guests.
+    One,
+    /// The words don't have the form of a command; nothing was touched.
+    Usage,
+    /// No block is listed.
+    NoBlock,
+    /// Two blocks or more are listed.
+    Several,
+    /// Only `k` answers are usable, fewer than the `h` that have to agree.
+    TooFew { k: u32, h: u32 },
+    /// With `k` answers and degree `t` an agreement of `h` is too weak.
+    TooWeak { k: u32, t: u32, h: u32 },
+    /// A call on Input, Coins or Database failed; nothing was written, no server was asked and nobody was served.
+    ReadFault,
+    /// A call on Output or Record failed. Output has a proper front of the text, and nothing of it where Record failed.
+    WriteFault,
+    /// The input is wrong; nothing was written.
+    BadInput(Bad),
+    /// A call on Door failed: a server can't listen, or has no further guest.
+    DoorFault,
+    /// Want of memory; nothing was written.
+    Memory,
+}
+
+/// The exit code of the program for a status.
+pub fn code(status: &Status) -> u8
+    ensures { result ≡ code_of status.now }
+{
+    match status {
+        Status::One => 0,
+        Status::Usage => 2,
+        Status::NoBlock => 3,
+        Status::Several => 4,
+        Status::TooFew { .. } => 5,
+        Status::TooWeak { .. } => 6,
+        Status::ReadFault => 8,
+        Status::WriteFault => 9,
+        Status::BadInput(_) => 10,
+        Status::DoorFault => 11,
+        Status::Memory => 12,
+    }
+}
+
+/// The line that the program writes to standard error for a status, without its newline; empty where it writes none.
+pub fn line(status: &Status) -> &'static str
+    ensures { result.now ≡ line_of status.now }
+{
+    match status {
+        Status::One
+        | Status::NoBlock
+        | Status::Several
+        | Status::TooFew { .. }
+        | Status::TooWeak { .. } => "",
+        Status::Usage => "pir: usage",
+        Status::ReadFault => "pir: read fault",
+        Status::WriteFault => "pir: write fault",
+        Status::BadInput(_) => "pir: bad input",
+        Status::DoorFault => "pir: door fault",
+        Status::Memory => "pir: no memory",
+    }
+}
