@@ -1,2 +1,3 @@
 pub mod Headline
+mod Serving
 pub mod Fetching

@@ -14,6 +14,7 @@ use std::alloc::{AllocError, Global};
 use std::thread::Threads;
 
 /// What is served, where, to how many guests, and by how many workers.
+#[derive(Drop)]
 pub(crate) struct Serving<'a> {
     pub(crate) scheme: u8,
     pub(crate) database: &'a str,
@@ -95,7 +96,9 @@ fn serve_guests<R: Threads + Sync, P: Ports>(
     ensures others { TouchesGuests (P.world ports.old) (P.world ports.new) }
 {
     'guests: for _ in 0..guests {
-        ports.next_guest()?;
+        let Ok(()) = ports.next_guest() else {
+            return Err(Failed);
+        };
         serve_one(rt, desk, ports, &OpenGate);
     }
     Ok(())
@@ -128,8 +131,9 @@ pub(crate) fn serve_file<R: Threads + Sync, P: Ports>(
         Ok(desk) => desk,
         Err(status) => return status,
     };
-    if let Err(status) = listen(order.listen, ports) {
-        return status;
+    match listen(order.listen, ports) {
+        Ok(()) => {}
+        Err(status) => return status,
     }
     match serve_guests(rt, &mut desk, order.guests, ports) {
         Ok(()) => Status::One,

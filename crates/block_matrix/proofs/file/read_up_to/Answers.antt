@@ -42,4 +42,4 @@ returns-in-Ended-clause-read g c =
     (reads_ended c.args.most c.in-Ended.n read before after _ v u kept still c.fill_rest.auto.bytes (omega (arith, c.deref_mut.ensures.len, c.lengthen.new.bytes.ok.0, c.in_ok-lengthen.ensures.within)) c.pieces.invariant.so_far ends)
 
 pub returns-in-Failed-clause-read : goal.returns-in-Failed-clause-read
-returns-in-Failed-clause-read g c = reads_failed _ _ _ _ c.pieces.invariant.so_far c.in-Failed.ensures.rest
+returns-in-Failed-clause-read g c = reads_failed _ _ _ _ c.pieces.invariant.so_far c.in-Failed.ensures.rest.after

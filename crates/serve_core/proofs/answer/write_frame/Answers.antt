@@ -1,3 +1,4 @@
+use Rattle.std.proofs.Common.{◌∙◌}
 use Rattle.serve_core.proofs.Replying.{frame_is}
 use Rattle.serve_core.proofs.answer.write_frame.Goals as goal
 
