@@ -95,19 +95,25 @@ module _ (acc a b c d pa pb pc pd : List ℕ) (fa fb fc fd at : ℕ) (room : at 
     (is_a : AreProducts pa a fa at) (is_b : AreProducts pb b fb at) (is_c : AreProducts pc c fc at) (is_d : AreProducts pd d fd at) where
   abbrev lanes_a : List ℕ
   lanes_a = zip2 bit_xor (chunk at 16 acc) pa
+
   abbrev lanes_b : List ℕ
   lanes_b = zip2 bit_xor lanes_a pb
+
   abbrev lanes_c : List ℕ
   lanes_c = zip2 bit_xor lanes_b pc
+
   abbrev pub lanes_d : List ℕ
   lanes_d = zip2 bit_xor lanes_c pd
 
   size_a : length lanes_a ≡ 16
   size_a = length-zip2 bit_xor (chunk at 16 acc) pa (length-chunk at 16 acc room ∙ sym is_a.size) ∙ length-chunk at 16 acc room
+
   size_b : length lanes_b ≡ 16
   size_b = length-zip2 bit_xor lanes_a pb (size_a ∙ sym is_b.size) ∙ size_a
+
   size_c : length lanes_c ≡ 16
   size_c = length-zip2 bit_xor lanes_b pc (size_b ∙ sym is_c.size) ∙ size_b
+
   pub four-size : length lanes_d ≡ 16
   four-size = length-zip2 bit_xor lanes_c pd (size_c ∙ sym is_d.size) ∙ size_c
 

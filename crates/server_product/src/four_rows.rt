@@ -33,7 +33,7 @@ pub fn add_four_rows(acc: &mut [u8], a: Scaled, b: Scaled, c: Scaled, d: Scaled)
     requires d { length d.row.now ≡ length acc.old }
     ensures { (k : ℕ) → slice_index acc.new k ≡ slice_index acc.old k
         ⊕ four_at a.entry.row.now b.entry.row.now c.entry.row.now d.entry.row.now
-            a.entry.factor b.entry.factor c.entry.factor d.entry.factor k }
+        a.entry.factor b.entry.factor c.entry.factor d.entry.factor k }
 {
     if acc.len() < 16 {
         return add_four_short(acc, a, b, c, d);
@@ -69,7 +69,7 @@ fn add_four_short(acc: &mut [u8], a: Scaled, b: Scaled, c: Scaled, d: Scaled)
     requires d { length d.row.now ≡ length acc.old }
     ensures { (k : ℕ) → slice_index acc.new k ≡ slice_index acc.old k
         ⊕ four_at a.entry.row.now b.entry.row.now c.entry.row.now d.entry.row.now
-            a.entry.factor b.entry.factor c.entry.factor d.entry.factor k }
+        a.entry.factor b.entry.factor c.entry.factor d.entry.factor k }
 {
     for i in 0..acc.len() {
         acc[i] ^= mul(a.factor, a.row[i])
