@@ -1,11 +1,11 @@
 -- Sums of lanes with places of a list, in pieces.
 use Rattle.std.proofs.Common.{◌≡◌, ℕ, ◌+◌, ◌-◌, ◌<◌, ◌≤◌, List, length, get_or, bit_xor, set, refl, sym, ap, ap₂, subst, ◌∙◌, arith, inl, inr}
 use Rattle.std.specs.Simd.Lanes.{zip2, chunk, put_chunk}
-use Rattle.std.proofs.lemmas.Bool.{cases_lt, cases_eq}
+use Rattle.std.proofs.lemmas.Bool.{cases_lt}
 use Rattle.std.proofs.lemmas.List.{get_or_past, get_or-set_same, get_or-set_other}
 use Rattle.std.proofs.lemmas.Simd.{length-chunk, length-zip2, get_or-chunk, get_or-zip2, get_or-put_chunk_at, get_or-put_chunk_below, get_or-put_chunk_above}
 use Rattle.gf256.specs.Field.{◌⊕◌, ◌⊗◌}
-use Rattle.gf256.proofs.Xor.{sums, add_zero, add_assoc}
+use Rattle.gf256.proofs.Xor.{add_zero, add_assoc}
 use Rattle.gf256.proofs.FieldLaws.{mul_zero}
 use Rattle.server_product.specs.FourRows.{four_at}
 

@@ -1,7 +1,7 @@
-use Rattle.std.proofs.Common.{◌≡◌, ℕ, ◌+◌, ◌-◌, ◌≤◌, List, length, slice_index, refl, ap, subst, sym, ◌∙◌, arith}
+use Rattle.std.proofs.Common.{◌≡◌, ◌+◌, ◌-◌, length, slice_index, refl, ap, ◌∙◌, arith}
 use Rattle.gf256.specs.Field.{◌⊕◌}
 use Rattle.server_product.specs.FourRows.{four_at}
-use Rattle.server_product.proofs.LaneSums.{IsSummed, summed-none, summed-all, four-past, four-same, AreProducts, four-put}
+use Rattle.server_product.proofs.LaneSums.{summed-none, summed-all, four-past, four-same, four-put}
 use Rattle.server_product.proofs.four_rows.add_four_rows.Goals as goal
 
 pub lanes-init : goal.lanes-init

@@ -1,4 +1,3 @@
-use Rattle.std.proofs.Common.{◌≡◌, arith}
 use Rattle.gf256.proofs.RowSums.{times-lanes}
 use Rattle.server_product.proofs.four_rows.products_at.Goals as goal
 
