@@ -25,7 +25,8 @@ fn products_at(row: &[u8], products: &Products, at: usize) -> u8x16
     products.times(u8x16::from_slice(&row[at..]))
 }
 
-/// Adds the four rows, each times its factor, to `acc`: each is as long.
+/// Adds the four rows, each times its factor, to `acc`: each is as long. The last 16 places may overlap those before, so
+/// their sums are taken from what stood there at first.
 pub fn add_four_rows(acc: &mut [u8], a: Scaled, b: Scaled, c: Scaled, d: Scaled)
     requires a { length a.row.now ≡ length acc.old }
     requires b { length b.row.now ≡ length acc.old }
@@ -43,11 +44,7 @@ pub fn add_four_rows(acc: &mut [u8], a: Scaled, b: Scaled, c: Scaled, d: Scaled)
     let by_c = Products::of(c.factor);
     let by_d = Products::of(d.factor);
     let last = acc.len() - 16;
-    let end = u8x16::from_slice(&acc[last..])
-        ^ products_at(a.row, &by_a, last)
-        ^ products_at(b.row, &by_b, last)
-        ^ products_at(c.row, &by_c, last)
-        ^ products_at(d.row, &by_d, last);
+    let end = u8x16::from_slice(&acc[last..]);
     let mut at = 0;
     'lanes: while at < last {
         let sum = u8x16::from_slice(&acc[at..])
@@ -58,7 +55,12 @@ pub fn add_four_rows(acc: &mut [u8], a: Scaled, b: Scaled, c: Scaled, d: Scaled)
         sum.copy_to_slice(&mut acc[at..]);
         at += 16;
     }
-    end.copy_to_slice(&mut acc[last..]);
+    let sum = end
+        ^ products_at(a.row, &by_a, last)
+        ^ products_at(b.row, &by_b, last)
+        ^ products_at(c.row, &by_c, last)
+        ^ products_at(d.row, &by_d, last);
+    sum.copy_to_slice(&mut acc[last..]);
 }
 
 /// The same for rows of fewer than 16 bytes.

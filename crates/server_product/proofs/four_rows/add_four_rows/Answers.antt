@@ -14,10 +14,10 @@ pub lanes-preserved : goal.lanes-preserved
 lanes-preserved c =
     let at = c.lanes.at in
     let acc = c.lanes.acc in
-    let p = c.products_at-in-lanes in
-    let p2 = c.products_at-in-lanes-2 in
-    let p3 = c.products_at-in-lanes-3 in
-    let p4 = c.products_at-in-lanes-4 in
+    let p = c.products_at in
+    let p2 = c.products_at-in-lanes in
+    let p3 = c.products_at-in-lanes-2 in
+    let p4 = c.products_at-in-lanes-3 in
     record {
       within = omega arith;
       summed =
@@ -32,10 +32,10 @@ lanes-preserved c =
 pub returns : goal.returns
 returns c = λ k.
     let old = c.args.acc.now in
-    let p = c.products_at in
-    let p2 = c.products_at-2 in
-    let p3 = c.products_at-3 in
-    let p4 = c.products_at-4 in
+    let p = c.products_at-2 in
+    let p2 = c.products_at-3 in
+    let p3 = c.products_at-4 in
+    let p4 = c.products_at-5 in
     let a = c.args.a in
     let b = c.args.b in
     let third = c.args.c in
