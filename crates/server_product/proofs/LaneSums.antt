@@ -7,7 +7,7 @@ use Rattle.std.proofs.lemmas.Simd.{length-chunk, length-zip2, get_or-chunk, get_
 use Rattle.gf256.specs.Field.{◌⊕◌, ◌⊗◌}
 use Rattle.gf256.proofs.Xor.{add_zero, add_assoc}
 use Rattle.gf256.proofs.FieldLaws.{mul_zero}
-use Rattle.server_product.specs.FourRows.{four_at}
+use Rattle.server_product.specs.FourRows.{four_at, AreProducts}
 
 -- `new` is `old` plus g in the places below n, and `old` in the others
 pub record IsSummed (new old : List ℕ) (g : ℕ → ℕ) (n : ℕ) : Type 0 where
@@ -82,11 +82,7 @@ pub four-same : (a b c d : List ℕ) (fa fb fc fd ga gb gc gd k : ℕ) → ga �
     → four_at a b c d ga gb gc gd k ≡ four_at a b c d fa fb fc fd k
 four-same a b c d fa fb fc fd ga gb gc gd k ea eb ec ed = λ i. four_at a b c d (ea i) (eb i) (ec i) (ed i) k
 
--- the products of 16 places of a row from `at` on
-pub record AreProducts (products row : List ℕ) (f at : ℕ) : Type 0 where
-  pub size : length products ≡ 16
-  pub lanes : (k : ℕ) → k < 16 → get_or products k 0 ≡ f ⊗ get_or row (at + k) 0
-
+-- four terms, one by one or as one
 plus-four : (x a b c d : ℕ) → x ⊕ a ⊕ b ⊕ c ⊕ d ≡ x ⊕ (a ⊕ b ⊕ c ⊕ d)
 plus-four x a b c d = simp add_assoc
 
@@ -130,10 +126,10 @@ module _ (acc a b c d pa pb pc pd : List ℕ) (fa fb fc fd at : ℕ) (room : at 
       (one_more lanes_a pb k size_a is_b.size l
       ∙ ap₂ bit_xor
       (one_more (chunk at 16 acc) pa k (length-chunk at 16 acc room) is_a.size l
-      ∙ ap₂ bit_xor (get_or-chunk at 16 acc k 0 l) (is_a.lanes k l))
-      (is_b.lanes k l))
-      (is_c.lanes k l))
-      (is_d.lanes k l)
+      ∙ ap₂ bit_xor (get_or-chunk at 16 acc k 0 l) (is_a.each k l))
+      (is_b.each k l))
+      (is_c.each k l))
+      (is_d.each k l)
       ∙ plus-four (get_or acc (at + k) 0) (fa ⊗ get_or a (at + k) 0) (fb ⊗ get_or b (at + k) 0) (fc ⊗ get_or c (at + k) 0) (fd ⊗ get_or d (at + k) 0)
 
 -- 16 places with their products with four rows, stored where they stand; `base` is what was read

@@ -2,7 +2,7 @@
 
 ghost use Rattle.std.specs.Prelude.{◌≡◌, ℕ, ◌+◌, ◌<◌, ◌≤◌, length, slice_index};
 ghost use Rattle.gf256.specs.Field.{◌⊕◌, ◌⊗◌};
-ghost use Rattle.server_product.specs.FourRows.{four_at};
+ghost use Rattle.server_product.specs.FourRows.{four_at, AreProducts};
 
 use gf256::mul;
 use gf256::rows::Products;
@@ -19,8 +19,7 @@ pub struct Scaled<'a> {
 #[inline(always)]
 fn products_at(row: &[u8], products: &Products, at: usize) -> u8x16
     requires { at + 16 ≤ length row.now }
-    ensures length { length result ≡ 16 }
-    ensures lanes { (k : ℕ) → k < 16 → slice_index result k ≡ products.now ⊗ slice_index row.now (at + k) }
+    ensures { AreProducts result row.now products.now at }
 {
     products.times(u8x16::from_slice(&row[at..]))
 }

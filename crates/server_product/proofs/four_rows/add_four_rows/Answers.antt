@@ -24,8 +24,7 @@ lanes-preserved c =
           four-put acc c.args.acc.now acc c.args.a.row.now c.args.b.row.now c.args.c.row.now c.args.d.row.now
           p.result p2.result p3.result p4.result c.of-by_a.result c.of-by_b.result c.of-by_c.result c.of-by_d.result at at
           (omega arith) refl (omega arith) (omega arith) c.lanes.invariant.summed.after
-          (record { size = p.ensures.length; lanes = p.ensures.lanes }) (record { size = p2.ensures.length; lanes = p2.ensures.lanes })
-          (record { size = p3.ensures.length; lanes = p3.ensures.lanes }) (record { size = p4.ensures.length; lanes = p4.ensures.lanes })
+          p.ensures p2.ensures p3.ensures p4.ensures
           c.lanes.invariant.summed;
     }
 
@@ -51,7 +50,6 @@ returns c = λ k.
     (four-put c.lanes.acc old old a.row.now b.row.now third.row.now d.row.now
     p.result p2.result p3.result p4.result fa fb fc fd last c.lanes.at
     (omega arith) (omega arith) c.lanes-test.false c.lanes.invariant.within (λ j l. refl)
-    (record { size = p.ensures.length; lanes = p.ensures.lanes }) (record { size = p2.ensures.length; lanes = p2.ensures.lanes })
-    (record { size = p3.ensures.length; lanes = p3.ensures.lanes }) (record { size = p4.ensures.length; lanes = p4.ensures.lanes })
+    p.ensures p2.ensures p3.ensures p4.ensures
     c.lanes.invariant.summed) k
     ∙ ap (◌⊕◌ (slice_index old k)) (four-same a.row.now b.row.now third.row.now d.row.now a.factor b.factor third.factor d.factor fa fb fc fd k c.of-by_a.ensures c.of-by_b.ensures c.of-by_c.ensures c.of-by_d.ensures)
