@@ -9,13 +9,17 @@ use std::io::{Input, Print};
 use std::net::Net;
 use std::rt::Files;
 
-/// Files, standard streams and TCP streams as ports. Each failed call is counted, also one for want
+/// Files, standard streams, TCP streams and a listener as ports. Each failed call is counted, also one for want
 /// of memory.
 ///
 /// - `Input` is opened as standard input by the name `-`, and else as the file of that name.
 /// - `Output` is standard output.
-/// - `Coins` is opened as a file to read, `Record` as a file to write, which is made anew. The name
-///   `-` is that of a file here.
+/// - `Database` and `Coins` are opened as files to read, `Record` as a file to write, which is made
+///   anew. The name `-` is that of a file here.
+/// - `Door` is opened by the address to listen at, a text `host:port`.
+/// - `Guest` is the TCP stream to the guest that `next_guest` let in. That call first closes the stream
+///   to the guest before, also where no other comes in, and waits for as long as none comes. Each read
+///   and each write on the stream may take ten seconds, and fails then.
 /// - `Link(i)` is opened as a TCP stream to the address, a text `host:port`. To open it, and each read
 ///   and each write on it, may take ten seconds, and fails then.
 ///
@@ -72,6 +76,13 @@ impl<R: Files + Input + Print + Net + AllocGlobal + Drop> Ports for OsPorts<R> {
         match self.streams.write(p, piece) {
             Ok(n) if n > 0 => Ok(n),
             _ => Err(self.counts.raise(p)),
+        }
+    }
+
+    fn next_guest(&mut self) -> Result<(), Failed> {
+        match self.streams.meet() {
+            Ok(()) => Ok(()),
+            Err(_) => Err(self.counts.raise(Port::Door)),
         }
     }
 }

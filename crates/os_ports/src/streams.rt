@@ -3,13 +3,14 @@ ghost use Rattle.std.specs.Prelude.{◌≤◌, length, IfOk};
 
 use pir_ports::Port;
 use std::io::{ErrorKind, Input, Print, Read, Write};
-use std::net::{Net, OpenStream, TcpStream, ToSocketAddrs};
+use std::net::{Net, OpenListener, OpenStream, TcpListener, TcpStream, ToSocketAddrs};
 use std::rt::Files;
 use std::time::Duration;
 use std::{fs, io};
 
-// How long a link may wait to be opened, and then each read and each write on it.
-const LINK_SECONDS: u64 = 10;
+// How long a link may wait to be opened, and then each read and each write on it, or on the stream to a
+// guest.
+const STREAM_SECONDS: u64 = 10;
 
 // Where Input reads from.
 #[derive(Drop)]
@@ -31,13 +32,23 @@ struct Link<R: Net> {
 pub struct Streams<R: Files + Input + Print + Net + AllocGlobal + Drop> {
     rt: R,
     input: Source<R>,
+    database: Option<R::File>,
     coins: Option<R::File>,
     record: Option<R::File>,
+    door: Option<R::Listener>,
+    guest: Option<R::Stream>,
     links: Vec<Link<R>>,
 }
 
 fn closed() -> io::Error {
     io::Error::from(ErrorKind::NotConnected)
+}
+
+// Lets each read and each write on the stream wait no longer than it may.
+fn limit_waits<S: OpenStream>(stream: &S) -> io::Result<()> {
+    let timeout = Some(Duration::from_secs(STREAM_SECONDS));
+    stream.set_read_timeout(timeout)?;
+    stream.set_write_timeout(timeout)
 }
 
 // Reads from what is open.
@@ -67,8 +78,11 @@ impl<R: Files + Input + Print + Net + AllocGlobal + Drop> Streams<R> {
         Streams {
             rt,
             input: Source::Closed,
+            database: None,
             coins: None,
             record: None,
+            door: None,
+            guest: None,
             links: Vec::new(alloc),
         }
     }
@@ -78,9 +92,11 @@ impl<R: Files + Input + Print + Net + AllocGlobal + Drop> Streams<R> {
         match p {
             Port::Input if name == "-" => self.input = Source::Standard(self.rt.reader()),
             Port::Input => self.input = Source::File(fs::open(&self.rt, name)?),
-            Port::Output => return Err(closed()),
+            Port::Output | Port::Guest => return Err(closed()),
+            Port::Database => self.database = Some(fs::open(&self.rt, name)?),
             Port::Coins => self.coins = Some(fs::open(&self.rt, name)?),
             Port::Record => self.record = Some(fs::create(&self.rt, name)?),
+            Port::Door => self.door = Some(TcpListener::bind(&self.rt, name)?),
             Port::Link(i) => self.connect(i, name)?,
         }
         Ok(())
@@ -89,9 +105,7 @@ impl<R: Files + Input + Print + Net + AllocGlobal + Drop> Streams<R> {
     // Connects to the server, at the first of its addresses that answers.
     fn connect(&mut self, server: u8, address: &str) -> io::Result<()> {
         let stream = self.reach(address)?;
-        let timeout = Some(Duration::from_secs(LINK_SECONDS));
-        stream.set_read_timeout(timeout)?;
-        stream.set_write_timeout(timeout)?;
+        limit_waits(&stream)?;
         match self.link(server) {
             Some(link) => *link = stream,
             None => self.links.push(Link { server, stream })?,
@@ -100,7 +114,7 @@ impl<R: Files + Input + Print + Net + AllocGlobal + Drop> Streams<R> {
     }
 
     fn reach(&self, address: &str) -> io::Result<R::Stream> {
-        let timeout = Duration::from_secs(LINK_SECONDS);
+        let timeout = Duration::from_secs(STREAM_SECONDS);
         let mut fault = io::Error::from(ErrorKind::NotFound);
         for place in address.to_socket_addrs(&self.rt)? {
             match TcpStream::connect_timeout(&self.rt, &place, timeout) {
@@ -109,6 +123,20 @@ impl<R: Files + Input + Print + Net + AllocGlobal + Drop> Streams<R> {
             }
         }
         Err(fault)
+    }
+
+    /// Closes the stream to the guest before, waits for the next guest, and opens the stream to it.
+    pub fn meet(&mut self) -> io::Result<()> {
+        self.guest = None;
+        match &self.door {
+            Some(door) => {
+                let (stream, _) = door.accept()?;
+                limit_waits(&stream)?;
+                self.guest = Some(stream);
+                Ok(())
+            }
+            None => Err(closed()),
+        }
     }
 
     // The stream to the server.
@@ -139,9 +167,11 @@ impl<R: Files + Input + Print + Net + AllocGlobal + Drop> Streams<R> {
                 Source::Standard(reader) => reader.read(into),
                 Source::File(file) => file.read(into),
             },
+            Port::Database => read_from(self.database.as_mut(), into),
             Port::Coins => read_from(self.coins.as_mut(), into),
+            Port::Guest => read_from(self.guest.as_mut(), into),
             Port::Link(i) => read_from(self.link(i), into),
-            Port::Output | Port::Record => Err(closed()),
+            Port::Output | Port::Record | Port::Door => Err(closed()),
         }
     }
 
@@ -164,8 +194,9 @@ impl<R: Files + Input + Print + Net + AllocGlobal + Drop> Streams<R> {
         match p {
             Port::Output => io::writer(&self.rt).write(piece),
             Port::Record => write_to(self.record.as_mut(), piece),
+            Port::Guest => write_to(self.guest.as_mut(), piece),
             Port::Link(i) => write_to(self.link(i), piece),
-            Port::Input | Port::Coins => Err(closed()),
+            Port::Input | Port::Database | Port::Coins | Port::Door => Err(closed()),
         }
     }
 }

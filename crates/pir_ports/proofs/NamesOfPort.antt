@@ -2,6 +2,7 @@
 use Rattle.std.proofs.Common.{◌≡◌, ◌≢◌, ℕ, List, [], ◌∷◌, ◌++◌, get_or, refl, ◌∙◌, ap, arith}
 use Rattle.std.specs.Prelude.{Bool, true, false, cond, eqb}
 use Rattle.std.proofs.lemmas.Bool.Decides.{nat_tests}
+use Rattle.pir_ports.specs.World.{Crowd}
 use Rattle.pir_ports.specs.MemoryCell.{MemoryCell, empty_cell}
 use Rattle.pir_ports.specs.NameLog.{names_of}
 use Rattle.pir_ports.specs.Memory.{told, world_from}
@@ -25,13 +26,14 @@ names_of-push_other : (p q : ℕ) (names : List (ℕ × List ℕ)) (name : List 
 names_of-push_other p q [] name ne = grind (arith, nat_tests)
 names_of-push_other p q (n ∷ names) name ne = λ i. cond (eqb n.0 q) (n.1 ∷ names_of-push_other p q names name ne i) (names_of-push_other p q names name ne i)
 
-module _ (cells : List MemoryCell) (names : List (ℕ × List ℕ)) (p : ℕ) (name : List ℕ) where
+module _ (cells : List MemoryCell) (names : List (ℕ × List ℕ)) (crowd : Crowd) (p : ℕ) (name : List ℕ) where
   -- an opening is told of its port
-  pub told_name : (world_from cells (names ++ (p, name) ∷ [])).at p ≡ named name ((world_from cells names).at p)
+  pub told_name : (world_from cells (names ++ (p, name) ∷ []) crowd).at p ≡ named name ((world_from cells names crowd).at p)
   told_name = ap (λ (ns : List (List ℕ)). told ns (get_or cells p empty_cell)) (names_of-push_same p names name)
 
   -- an opening touches its own port alone
-  pub touches_name : Touches p (world_from cells names) (world_from cells (names ++ (p, name) ∷ []))
+  pub touches_name : Touches p (world_from cells names crowd) (world_from cells (names ++ (p, name) ∷ []) crowd)
   touches_name = record {
     others = λ q lq ne. ap (λ (ns : List (List ℕ)). told ns (get_or cells q empty_cell)) (names_of-push_other p q names name ne);
+    crowd = refl;
   }

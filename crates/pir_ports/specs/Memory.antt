@@ -1,18 +1,22 @@
 -- Ports in memory.
-use Rattle.std.specs.Prelude.{ℕ, ◌+◌, ◌-◌, ◌^◌, min, Contains, List, get_or, set, replicate, Some, ◌++◌}
+use Rattle.std.specs.Prelude.{ℕ, ◌+◌, ◌-◌, ◌^◌, min, Contains, List, [], ◌∷◌, get_or, set, replicate, map, drop, Some, ◌++◌}
 use Rattle.std.specs.Option.{option_map}
 use Rattle.pir_ports.specs.declared.port.TheConstants.{PORT_COUNT}
-use Rattle.pir_ports.specs.World.{Cell, World}
-use Rattle.pir_ports.specs.MemoryCell.{MemoryCell, empty_cell}
+use Rattle.pir_ports.specs.World.{Cell, Crowd, World, everyone}
+use Rattle.pir_ports.specs.MemoryCell.{MemoryCell, empty_cell, came_in}
 use Rattle.pir_ports.specs.NameLog.{NameLog, no_names, names_of, with_name}
 
 -- the most bytes that a call moves, the numbers of the calls that fail, the count of calls so far,
--- the ports by their numbers, and the names that they were opened with
+-- the ports by their numbers, the guests still to come, what those that left were given, the count of Guest as
+-- each so far came in, and the names that the ports were opened with
 pub record Memory : Type 0 where
   pub cut : ℕ
   pub fail : List ℕ
   pub calls : ℕ
   pub cells : List MemoryCell
+  pub waiting : List MemoryCell
+  pub gone : List (List ℕ)
+  pub since : List ℕ
   pub log : NameLog
 
 -- one port
@@ -28,19 +32,34 @@ told names c = record {
   faults = c.faults;
 }
 
--- what is told of ports that are these cells and were opened with these names
-abbrev pub world_from : List MemoryCell → List (ℕ × List ℕ) → World
-world_from cells names = record { at = λ p. told (names_of p names) (get_or cells p empty_cell) }
+-- what is told of ports that are these cells and were opened with these names, beside these guests
+abbrev pub world_from : List MemoryCell → List (ℕ × List ℕ) → Crowd → World
+world_from cells names crowd = record {
+  at = λ p. told (names_of p names) (get_or cells p empty_cell);
+  crowd = crowd;
+}
+
+-- what is still to come from a port
+abbrev pub held_by : MemoryCell → List ℕ
+held_by c = c.holds
+
+-- what is told of the guests: everything but their room
+abbrev pub crowd_of : Memory → Crowd
+crowd_of m = record { guests = Some (map held_by m.waiting); since = Some m.since; gone = Some m.gone }
 
 -- what ports in memory tell
 abbrev pub world_of : Memory → World
-world_of m = world_from m.cells m.log.names
+world_of m = world_from m.cells m.log.names (crowd_of m)
 
 -- what is told of the port after bytes were put behind those still to come
 abbrev pub filled : List ℕ → Cell → Cell
 filled bytes c = record c { holds = option_map (λ h. h ++ bytes) c.holds }
 
--- ports that hold nothing and have no room, before any call, with room for so many names with so
+-- what is told of the guests after one more joined those still to come
+abbrev pub joined_by : List ℕ → Crowd → Crowd
+joined_by bytes c = record c { guests = option_map (λ gs. gs ++ bytes ∷ []) c.guests }
+
+-- ports that hold nothing and have no room, with no guests, before any call, with room for so many names with so
 -- many bytes in all
 abbrev pub fresh : ℕ → List ℕ → ℕ → ℕ → Memory
 fresh cut fail names bytes = record {
@@ -48,6 +67,9 @@ fresh cut fail names bytes = record {
   fail = fail;
   calls = 0;
   cells = replicate PORT_COUNT empty_cell;
+  waiting = [];
+  gone = [];
+  since = [];
   log = no_names names bytes;
 }
 
@@ -58,6 +80,21 @@ changed p f m = record m { cells = set m.cells p (f (cell_at m p)) }
 -- the memory with one name more
 abbrev pub opened : ℕ → List ℕ → Memory → Memory
 opened p name m = record m { log = with_name p name m.log }
+
+-- the memory with one guest more to come, who has these bytes and room for n
+abbrev pub invited : List ℕ → ℕ → Memory → Memory
+invited bytes n m = record m {
+  waiting = m.waiting ++ (record { holds = bytes; accepted = []; room = n; faults = 0 }) ∷ [];
+}
+
+-- the memory once the first of the guests still to come is in, and the one before has left
+abbrev pub met : Memory → Memory
+met m = record m {
+  cells = set m.cells 6 (came_in (get_or m.waiting 0 empty_cell) (cell_at m 6));
+  waiting = drop 1 m.waiting;
+  gone = everyone m.since m.gone (cell_at m 6).accepted;
+  since = m.since ++ (cell_at m 6).faults ∷ [];
+}
 
 -- the count of calls after one more
 abbrev pub next_call : ℕ → ℕ

@@ -32,6 +32,10 @@ accept bytes c = record c { accepted = c.accepted ++ bytes; room = c.room - leng
 abbrev pub fault : MemoryCell → MemoryCell
 fault c = record c { faults = min (c.faults + 1) (2 ^ 64 - 1) }
 
+-- the cell of a guest that comes in after another: it was given nothing, and the count of failed calls goes on
+abbrev pub came_in : MemoryCell → MemoryCell → MemoryCell
+came_in guest before = record guest { accepted = []; faults = before.faults }
+
 -- how many bytes a call moves: as many as were asked for and are there, and at most the cut
 abbrev pub moved : ℕ → ℕ → ℕ → ℕ
 moved cut asked there = min cut (min asked there)

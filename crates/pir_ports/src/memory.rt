@@ -1,12 +1,13 @@
 // Ports in memory.
-ghost use Rattle.std.specs.Prelude.{◌≡◌, ◌<◌, ◌≤◌, ◌-◌, ◌^◌, ◌↔◌, ℕ, [], Some, length, take, slice_get, Contains, IfOk, IfSome, OnOk, OnErr, IsErr, IsTrue, ◌⊎◌};
+ghost use Rattle.std.specs.Prelude.{◌≡◌, ◌≢◌, ◌<◌, ◌≤◌, ◌-◌, ◌^◌, ◌↔◌, ℕ, [], Some, length, take, slice_get, Contains, IfOk, IfSome, OnOk, OnErr, IsErr, IsTrue, ◌⊎◌};
 ghost use Rattle.std.specs.Option.{option_copied};
+ghost use Rattle.pir_ports.specs.World.{answered};
 ghost use Rattle.pir_ports.specs.Number.{number};
 ghost use Rattle.pir_ports.specs.Moves.{Touches, Hands, Fails, gave, named};
+ghost use Rattle.pir_ports.specs.Guests.{Meets};
 ghost use Rattle.pir_ports.specs.MemoryCell.{empty_cell, put, with_room, hand, accept, fault, moved};
 ghost use Rattle.pir_ports.specs.NameLog.{CanKeep};
-ghost use Rattle.pir_ports.specs.Memory.{Memory, world_of, cell_at, told, filled, fresh, changed, opened, next_call, called, IsDue};
-ghost use Rattle.pir_ports.specs.declared.port.TheConstants.{PORT_COUNT};
+ghost use Rattle.pir_ports.specs.Memory.{Memory, world_of, cell_at, told, filled, joined_by, fresh, changed, opened, invited, met, next_call, called, IsDue};
 
 use crate::cell::MemCell;
 use crate::names::Names;
@@ -17,8 +18,9 @@ use std::marker::Model;
 /// Ports in memory, which tell everything and fail only where they are asked to.
 ///
 /// A call of [`Ports`] moves as many bytes as it can, but at most `cut`. It fails exactly if its
-/// number stands in `fail`, if it is an `open` whose name there is no room to keep, or if it is a
-/// `give` on a port with no room left. Numbers count the calls over all ports from 1, and stop at
+/// number stands in `fail`, if it is an `open` whose name there is no room to keep, if it is a
+/// `give` on a port with no room left, or if it is a `next_guest` and no guest is left. Before the
+/// first guest `Guest` holds nothing and has no room. Numbers count the calls over all ports from 1, and stop at
 /// `2^64 - 1`. No call of [`Ports`] takes memory.
 ///
 /// ```
@@ -37,25 +39,22 @@ pub struct MemPorts {
     fail: Vec<u64>,
     calls: u64,
     cells: Vec<MemCell>,
+    guests: Vec<MemCell>,
+    met: usize,
+    since: Vec<u64>,
     names: Names,
 }
 
 impl Model for MemPorts {
-    ghost use Rattle.std.specs.Prelude.{◌<◌, ◌≡◌, length};
-    ghost use Rattle.pir_ports.specs.declared.port.TheConstants.{PORT_COUNT};
     ghost use Rattle.pir_ports.specs.Memory.{Memory};
 
     ghost Value = { Memory };
 
-    ghost view = { λ m. record {
-      cut = m.cut;
-      fail = m.fail.items;
-      calls = m.calls;
-      cells = m.cells.items;
-      log = m.names;
-    } };
+    ghost use Rattle.pir_ports.specs.PortsInside.{memory_of, IsSound};
 
-    ghost invariant = { λ m. (0 < m.cut) × (length m.cells.items ≡ PORT_COUNT) };
+    ghost view = { memory_of };
+
+    ghost invariant = { IsSound };
 }
 
 // Counts one call more, and tells whether it is due to fail.
@@ -68,7 +67,7 @@ fn is_due(calls: &mut u64, fail: &[u64]) -> bool
 }
 
 impl MemPorts {
-    /// Ports that hold nothing and have no room, with room for `names` names of `open` that have
+    /// Ports that hold nothing and have no room, with no guests, and with room for `names` names of `open` that have
     /// `bytes` bytes in all. `cut` and `fail` stand above.
     ///
     /// # Errors
@@ -97,17 +96,21 @@ impl MemPorts {
             fail,
             calls: 0,
             cells,
+            guests: Vec::new(alloc),
+            met: 0,
+            since: Vec::new(alloc),
             names,
         })
     }
 
     /// Puts bytes behind those that the port has still to hand out. They lie in memory of the
-    /// allocator that `new` was given.
+    /// allocator that `new` was given. Guests bring their bytes: see `guest`.
     ///
     /// # Errors
     ///
     /// `AllocError` if memory is short; nothing is changed then.
     pub fn put(&mut self, _alloc: Global, p: Port, bytes: &[u8]) -> Result<(), AllocError>
+        requires guests { number p ≢ 6 }
         ensures ok { OnOk result (self.new ≡ changed (number p) (put bytes.now) self.old) }
         ensures told { OnOk result ((world_of self.new).at (number p)
             ≡ filled bytes.now ((world_of self.old).at (number p))) }
@@ -119,12 +122,13 @@ impl MemPorts {
     }
 
     /// Sets how many bytes more the port can take, and takes memory for them from the allocator that
-    /// `new` was given.
+    /// `new` was given. For guests `guest` does so.
     ///
     /// # Errors
     ///
     /// `AllocError` if memory is short; nothing is changed then.
     pub fn room(&mut self, _alloc: Global, p: Port, n: usize) -> Result<(), AllocError>
+        requires guests { number p ≢ 6 }
         ensures ok { OnOk result (self.new ≡ changed (number p) (with_room n) self.old) }
         ensures told { (world_of self.new).at (number p) ≡ (world_of self.old).at (number p) }
         ensures others { Touches (number p) (world_of self.old) (world_of self.new) }
@@ -132,6 +136,42 @@ impl MemPorts {
     {
         let cell = &mut self.cells[p.number()];
         cell.set_room(n)
+    }
+
+    /// Adds one guest to those still to come, who has these bytes, and room for `n` bytes.
+    ///
+    /// # Errors
+    ///
+    /// `AllocError` if memory is short; nothing is changed then.
+    pub fn guest(&mut self, alloc: Global, bytes: &[u8], n: usize) -> Result<(), AllocError>
+        ensures ok { OnOk result (self.new ≡ invited bytes.now n self.old) }
+        ensures told { OnOk result ((world_of self.new).crowd
+            ≡ joined_by bytes.now (world_of self.old).crowd) }
+        ensures ports { (p : ℕ) → (world_of self.new).at p ≡ (world_of self.old).at p }
+        ensures err { OnErr result (self.new ≡ self.old) }
+    {
+        let mut cell = MemCell::new(alloc);
+        cell.put(bytes)?;
+        cell.set_room(n)?;
+        self.since.reserve(self.guests.len() + 1 - self.met)?;
+        self.guests.push(cell)?;
+        Ok(())
+    }
+
+    /// What guest `i` was given, counted from 0 in the order in which they came in; `None` exactly
+    /// where no such guest came in yet.
+    pub fn answered_to(&self, i: usize) -> Option<&[u8]>
+        ensures { IfSome (answered (world_of self.now))
+            (λ answers. option_copied result ≡ slice_get answers i) }
+    {
+        if i >= self.met {
+            return None;
+        }
+        if i + 1 == self.met {
+            Some(self.cells[6].accepted())
+        } else {
+            Some(self.guests[i + 1].accepted())
+        }
     }
 
     /// The bytes that the port has taken so far.
@@ -219,5 +259,29 @@ impl Ports for MemPorts {
             return Err(cell.fault());
         }
         Ok(cell.accept(self.cut, piece))
+    }
+
+    fn next_guest(&mut self) -> Result<(), Failed>
+        ensures ok { OnOk result (Meets (world_of self.old) (world_of self.new)) }
+        ensures failed { OnErr result (Fails 5 (world_of self.old) (world_of self.new)) }
+        ensures others { OnErr result (Touches 5 (world_of self.old) (world_of self.new)) }
+
+        // It fails exactly where it is due to fail or no guest is left.
+        ensures exactly { IsErr result ↔ (IsDue self.old ⊎ (self.old.waiting ≡ [])) }
+        ensures meets { OnOk result (self.new ≡ met (called self.old)) }
+        ensures counts { OnErr result (self.new ≡ changed 5 fault (called self.old)) }
+    {
+        if is_due(&mut self.calls, &self.fail) || self.met == self.guests.len() {
+            let door = &mut self.cells[5];
+            return Err(door.fault());
+        }
+        let present = &mut self.cells[6];
+        match self.since.push(present.faults()) {
+            Ok(()) => {}
+            Err(_) => unreachable!(),
+        }
+        present.let_in(&mut self.guests[self.met]);
+        self.met += 1;
+        Ok(())
     }
 }

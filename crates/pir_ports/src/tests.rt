@@ -84,13 +84,54 @@ fn names_are_kept_in_order(rt: HostRuntime) -> Result<(), Fail> {
     Ok(())
 }
 
+// Lets the next guest in, reads the whole of its bytes, and answers it with six.
+fn serve(ports: &mut MemPorts) -> (Result<(), Failed>, Filled, [u8; 4], Result<(), Failed>) {
+    let met = ports.next_guest();
+    let mut text = [0; 4];
+    let filled = read_exactly(ports, Port::Guest, &mut text);
+    let given = write_all(ports, Port::Guest, b"answer");
+    (met, filled, text, given)
+}
+
+#[test]
+fn guests_come_in_one_after_another(rt: HostRuntime) -> Result<(), Fail> {
+    let alloc = rt.alloc();
+    let mut ports = MemPorts::new(alloc, 4, &[], 0, 0)?;
+    let mut byte = [0; 1];
+    assert_eq!(rt; ports.take(Port::Guest, &mut byte), Ok(0));
+    assert_eq!(rt; ports.give(Port::Guest, b"a"), Err(Failed));
+    ports.guest(alloc, b"first", 6)?;
+    ports.guest(alloc, b"two", 3)?;
+    for (met, filled, text, given) in [
+        (Ok(()), Filled::Full, *b"firs", Ok(())),
+        // The second guest ends early, and has too little room.
+        (Ok(()), Filled::Ended(3), *b"two\0", Err(Failed)),
+        // No third guest comes, and the second is still in.
+        (Err(Failed), Filled::Ended(0), [0; 4], Err(Failed)),
+    ] {
+        assert_eq!(rt; serve(&mut ports), (met, filled, text, given));
+    }
+    for (i, answer) in [
+        (0, Some(b"answer".as_slice())),
+        (1, Some(b"ans".as_slice())),
+        (2, None),
+    ] {
+        assert_eq!(rt; ports.answered_to(i), answer, "guest {i}");
+    }
+    assert_eq!(rt; ports.seen(Port::Guest), b"ans".as_slice());
+    Ok(())
+}
+
 #[test]
 fn ports_have_their_numbers(rt: HostRuntime) -> Result<(), Fail> {
     for (port, number) in [
         (Port::Input, 0),
         (Port::Output, 1),
+        (Port::Database, 2),
         (Port::Coins, 3),
         (Port::Record, 4),
+        (Port::Door, 5),
+        (Port::Guest, 6),
         (Port::Link(0), 256),
         (Port::Link(255), 511),
     ] {

@@ -95,9 +95,10 @@ FetchEnds o (BadInput (CoinsEnded taken)) old new = FetchRefused o taken old new
 FetchEnds o Memory old new = FetchUnfinished o old new
 FetchEnds o status old new = FetchReported o status old new
 
--- no port is touched but Output, Coins, Record and the links to so many servers
+-- no port is touched but Output, Coins, Record and the links to so many servers, and no guest comes or goes
 pub record TouchesFetch (n : ℕ) (old new : World) : Type 0 where
   pub others : (q : ℕ) → q < 1024 → q ≢ 1 → q ≢ 3 → q ≢ 4 → (257 ≤ q → q < 257 + n → ⊥) → new.at q ≡ old.at q
+  pub crowd : new.crowd ≡ old.crowd
 
 -- what `fetch` did, and that it did no more
 pub record FetchOutcome (o : FetchOrder) (status : Status) (old new : World) : Type 0 where
@@ -109,9 +110,10 @@ abbrev pub Keeps : Option (List ℕ) → Transcript → Result (Unit {0}) Failed
 Keeps keep session (Ok _) old new = Recorded keep session old new
 Keeps keep session (Err _) old new = Unrecorded keep session old new
 
--- no port but Output and Record is touched
+-- no port but Output and Record is touched, and no guest comes or goes
 pub record TouchesFiles (old new : World) : Type 0 where
   pub others : (q : ℕ) → q < 1024 → q ≢ 1 → q ≢ 4 → new.at q ≡ old.at q
+  pub crowd : new.crowd ≡ old.crowd
 
 -- the session is recorded and its verdict written; or one of them was cut short, and nothing was written after it
 abbrev pub Reports : Option (List ℕ) → Transcript → Verdict → Status → World → World → Type 0

@@ -60,9 +60,10 @@ ReplayEnds name (BadInput (CoinsEnded taken)) old new = ⊥
 ReplayEnds name Memory old new = Unfinished name old new
 ReplayEnds name status old new = Reported name status old new
 
--- no port but Input and Output is touched
+-- no port but Input and Output is touched, and no guest comes or goes
 pub record TouchesStreams (old new : World) : Type 0 where
   pub others : (q : ℕ) → q < 1024 → q ≢ 0 → q ≢ 1 → new.at q ≡ old.at q
+  pub crowd : new.crowd ≡ old.crowd
 
 -- what `replay FILE` did, and that it did no more
 pub record ReplayOutcome (name : List ℕ) (status : Status) (old new : World) : Type 0 where

@@ -1,4 +1,4 @@
-use Rattle.std.proofs.Common.{◌≡◌, ◌∙◌, ap, arith, replicate}
+use Rattle.std.proofs.Common.{◌≡◌, ◌∙◌, ap, arith, replicate, []}
 use Rattle.pir_ports.specs.MemoryCell.{empty_cell}
 use Rattle.pir_ports.specs.declared.port.TheConstants.{PORT_COUNT}
 use Rattle.pir_ports.proofs.memory.MemPorts.new.Goals as goal
@@ -12,5 +12,8 @@ returns-clause-fresh c =
       fail = c.in_ok-fail.ensures.items_if_clones_equal (λ x y same. same) i;
       calls = 0;
       cells = cells i;
+      waiting = c.new-2.ensures.items i;
+      gone = [];
+      since = c.new-3.ensures.items i;
       log = c.in_ok-names.ensures i;
     }

@@ -11,6 +11,6 @@ returns-then-is_due-clause-exactly c = elim c.then-is_due.branch [
   | then-is_due-via-else-is_due+then-room-eq0 w ↦
       let m = c.self.inside in
       let cell : c.index_mut-cell.result.now ≡ get_or m.cells.items c.number.result empty_cell =
-      get_or_read m.cells.items c.number.result c.index_mut-cell.result.now (omega (arith, c.number.ensures.within, c.self.invariant.1)) c.index_mut-cell.ensures.value empty_cell in
+      get_or_read m.cells.items c.number.result c.index_mut-cell.result.now (omega (arith, c.number.ensures.within, c.self.invariant.ports)) c.index_mut-cell.ensures.value empty_cell in
       (λ e. inr (rw (← c.self.view_is, ← c.number.ensures.is) (sym (ap (λ (x : MemoryCell). x.room) cell) ∙ sym w.room.ensures ∙ w.if-room-eq0.true)), λ e. refl)
 ]

@@ -2,7 +2,8 @@ use Rattle.std.proofs.Common.{◌≡◌, ℕ, ap, sym, subst, ◌∙◌, inl, in
 use Rattle.pir_ports.specs.Number.{number}
 use Rattle.pir_ports.specs.Moves.{Touches, named}
 use Rattle.pir_ports.specs.NameLog.{NameLog, with_name}
-use Rattle.pir_ports.specs.Memory.{Memory, world_from, world_of}
+use Rattle.pir_ports.specs.Memory.{Memory, world_from, world_of, crowd_of}
+use Rattle.pir_ports.specs.PortsInside.{memory_of}
 use Rattle.pir_ports.proofs.NamesOfPort.{told_name, touches_name}
 use Rattle.pir_ports.proofs.memory.MemPortsPorts.open.Goals as goal
 use Rattle.pir_ports.proofs.memory.MemPortsPorts.open.Goals.{then-is_due-via-then-is_due, then-is_due-via-else-is_due+then-not-can_keep}
@@ -17,19 +18,21 @@ returns-then-is_due-clause-exactly c = elim c.then-is_due.branch [
 pub returns-clause-ok : goal.returns-clause-ok
 returns-clause-ok c =
     let m = c.self.inside in
+    let crowd = crowd_of (memory_of m) in
     let p = number c.args.p in
     let name = c.args.name.now in
     let log : c.push.new.self ≡ with_name p name m.names = c.push.ensures ∙ ap (λ (k : ℕ). with_name k name m.names) c.number-2.ensures.is in
-    ap (λ (l : NameLog). (world_from m.cells.items l.names).at p) log
-    ∙ told_name m.cells.items m.names.names p name
+    ap (λ (l : NameLog). (world_from m.cells.items l.names crowd).at p) log
+    ∙ told_name m.cells.items m.names.names crowd p name
     ∙ ap (λ (old : Memory). named name ((world_of old).at p)) c.self.view_is
 
 pub returns-clause-others : goal.returns-clause-others
 returns-clause-others c =
     let m = c.self.inside in
+    let crowd = crowd_of (memory_of m) in
     let p = number c.args.p in
     let name = c.args.name.now in
     let log : c.push.new.self ≡ with_name p name m.names = c.push.ensures ∙ ap (λ (k : ℕ). with_name k name m.names) c.number-2.ensures.is in
-    subst (λ (old : Memory). Touches p (world_of old) (world_from m.cells.items c.push.new.self.names)) c.self.view_is
-    (subst (λ (l : NameLog). Touches p (world_from m.cells.items m.names.names) (world_from m.cells.items l.names)) (sym log)
-    (touches_name m.cells.items m.names.names p name))
+    subst (λ (old : Memory). Touches p (world_of old) (world_from m.cells.items c.push.new.self.names crowd)) c.self.view_is
+    (subst (λ (l : NameLog). Touches p (world_from m.cells.items m.names.names crowd) (world_from m.cells.items l.names crowd)) (sym log)
+    (touches_name m.cells.items m.names.names crowd p name))
