@@ -29,7 +29,8 @@ fn lengthen(bytes: &mut Vec<u8>, most: usize) -> Result<(), LoadFault>
             return Err(LoadFault::Memory);
         };
     }
-    match bytes.resize(len + left.min(PIECE), 0) {
+    let more = left.min(PIECE).min(bytes.capacity() - len);
+    match bytes.resize(len + more, 0) {
         Ok(()) => Ok(()),
         Err(_) => Err(LoadFault::Memory),
     }

@@ -7,6 +7,8 @@
 
 mod file;
 mod matrix;
+#[cfg(test)]
+mod tests;
 
 pub use file::load;
 pub use matrix::{LoadFault, Matrix, most_bytes};
