@@ -1,26 +1,70 @@
 -- The steps of `serve`, put together.
-use Rattle.std.proofs.Common.{◌≡◌, ◌≢◌, ◌⊎◌, inl, inr, ℕ, ◌+◌, ◌<◌, List, length, refl, sym, ◌∙◌, ap, ap₂, subst, arith}
+use Rattle.std.proofs.Common.{◌≡◌, ◌≢◌, ◌⊎◌, inl, inr, ℕ, ◌+◌, ◌-◌, ◌^◌, ◌<◌, ◌≤◌, min, List, length, refl, sym, ◌∙◌, ap, ap₂, subst, arith}
 use Rattle.std.specs.Prelude.{Result, Ok, Err}
 use Rattle.pir_ports.specs.World.{Cell, World, answers}
 use Rattle.pir_ports.specs.Moves.{Rose, Touches, Fails, named, counted, gave}
 use Rattle.pir_ports.proofs.Carried.{fails_writing_before}
 use Rattle.pir_ports.specs.Whole.{FailsWithin}
 use Rattle.pir_ports.specs.Guests.{Meets}
-use Rattle.pir_ports.specs.Serving.{Served}
+use Rattle.pir_ports.specs.Serving.{ServesOne, Served as IsServing}
 use Rattle.pir_ports.proofs.Served.{served_none, served_still, served_more}
 use Rattle.block_matrix.specs.Database.{Database}
 use Rattle.serve_core.specs.Service.{Service}
-use Rattle.serve_core.specs.Attended.{Attends, IsServed}
+use Rattle.serve_core.specs.Attended.{Answered, Broke, Attends, HasReply, IsServed}
 use Rattle.serve_core.specs.declared.met.Met.{Met}
-use Rattle.serve_core.proofs.ServingOne.{serves_one}
+use Rattle.serve_core.specs.declared.met.Met.TheVariants.{Served, Refused, Gone, GuestFault}
+use Rattle.serve_core.proofs.ServingOne.{serves_one, replies_one}
+use Rattle.pir_tool.specs.Told.{DidRise}
 use Rattle.pir_tool.specs.ServeOrder.{ServeOrder, service_of}
 use Rattle.pir_tool.specs.declared.status.Status.TheVariants.{WriteFault, DoorFault}
-use Rattle.pir_tool.specs.ServeSteps.{ready, Loaded, OpensDesk, Listens, IsOpen, IsShut, IsMute, TouchesDoor, ServesGuests, RunsDry, TouchesGuests}
+use Rattle.pir_tool.specs.ServeSteps.{ready, Loaded, OpensDesk, Listens, TouchesDoor, ServesGuests, RepliesToGuests, RunsDry, TouchesGuests}
 use Rattle.pir_tool.specs.ServeOutcome.{Nobody, ServedAll, NoFurtherGuest, CannotListen, CannotSayReady, TouchesServer}
 
 -- no guest was served yet
 pub guests_none : (service : Service) (w : World) → ServesGuests service 0 w w
 guests_none service w = served_none (IsServed service) w
+
+-- what the guests so far were given, where the count of Guest hasn't risen; it is no less than it was
+pub record Replying (service : Service) (n : ℕ) (w v : World) : Type 0 where
+  pub least : min (w.at 6).faults (2 ^ 64 - 1) ≤ (v.at 6).faults
+  pub replied : (DidRise 6 w v → ⊥) → RepliesToGuests service n w v
+
+-- before the first guest
+pub replying_none : (service : Service) (w : World) → Replying service 0 w w
+replying_none service w = record {
+  least = omega arith;
+  replied = λ stayed. served_none (λ guest out before after. HasReply service guest out) w;
+}
+
+-- one guest more, which was given its whole reply
+replying_answered : (service : Service) (met : Met) (n : ℕ) (w v m u : World) → Replying service n w v → Meets v m → Touches 6 m u → Answered service met m u → Replying service (n + 1) w u
+replying_answered service met n w v m u r meets touch a =
+    let same : (u.at 6).faults ≡ (v.at 6).faults = ap (λ (c : Cell). c.faults) a.cell ∙ meets.faults in
+    record {
+      least = let least = r.least in omega (arith, same);
+      replied = λ stayed. served_more (λ guest out before after. HasReply service guest out) n w v m u (r.replied (λ rose. stayed (subst (λ (k : ℕ). Rose (w.at 6).faults k) (sym same) rose))) meets touch (replies_one service met m u a);
+    }
+
+-- one guest more, on which a call failed
+replying_broken : (service : Service) (n : ℕ) (w v m u : World) → Replying service n w v → Meets v m → Broke service m u → Replying service (n + 1) w u
+replying_broken service n w v m u r meets b =
+    let same : (m.at 6).faults ≡ (v.at 6).faults = meets.faults in
+    let rose = b.rose in
+    let least = r.least in
+    record {
+      least = omega arith;
+      replied = λ stayed. absurd (stayed (omega arith));
+    }
+
+-- whatever it was met with
+pub replying_more : (service now : Service) (n : ℕ) (met : Met) (w v m u : World) → now ≡ service → Replying service n w v → Meets v m → Touches 6 m u → Attends now met m u → Replying service (n + 1) w u
+replying_more service now n met w v m u same r meets touch attends = by met (subst (λ (d : Service). Attends d met m u) same attends)
+  where
+    by : (met : Met) → Attends service met m u → Replying service (n + 1) w u
+    by Served a = replying_answered service Served n w v m u r meets touch a
+    by (Refused status) a = replying_answered service (Refused status) n w v m u r meets touch a
+    by Gone a = replying_answered service Gone n w v m u r meets touch a
+    by GuestFault a = replying_broken service n w v m u r meets a
 
 -- one guest more
 pub guests_more : (service now : Service) (n : ℕ) (met : Met) (w v m u : World) → now ≡ service → ServesGuests service n w v → Meets v m → Touches 6 m u → Attends now met m u → ServesGuests service (n + 1) w u
@@ -52,15 +96,22 @@ guests_dry_touch w v u s touch = record {
 }
 
 -- a world with the same guests, and the same of the one that is in
+module _ (F : List ℕ → List ℕ → ℕ → ℕ → Type 0) where
+  same_guests : (n : ℕ) (w u x : World) → u.crowd ≡ w.crowd → u.at 6 ≡ w.at 6 → IsServing F n u x → IsServing F n w x
+  same_guests n w u x crowd guest s = record {
+    told = λ gs others earlier before a b c d.
+        s.told gs others earlier before
+        (ap (λ k. k.guests) crowd ∙ a)
+        ((λ i. answers (crowd i).since (crowd i).gone (guest i).accepted) ∙ b)
+        (ap (λ k. k.since) crowd ∙ c)
+        (ap (λ (k : Cell). k.accepted) guest ∙ d);
+  }
+
 served_from : (service : Service) (n : ℕ) (w u x : World) → u.crowd ≡ w.crowd → u.at 6 ≡ w.at 6 → ServesGuests service n u x → ServesGuests service n w x
-served_from service n w u x crowd guest s = record {
-  told = λ gs others earlier before a b c d.
-      s.told gs others earlier before
-      (ap (λ k. k.guests) crowd ∙ a)
-      ((λ i. answers (crowd i).since (crowd i).gone (guest i).accepted) ∙ b)
-      (ap (λ k. k.since) crowd ∙ c)
-      (ap (λ (k : Cell). k.accepted) guest ∙ d);
-}
+served_from service = same_guests (IsServed service)
+
+replied_from : (service : Service) (n : ℕ) (w u x : World) → u.crowd ≡ w.crowd → u.at 6 ≡ w.at 6 → RepliesToGuests service n u x → RepliesToGuests service n w x
+replied_from service = same_guests (λ guest out before after. HasReply service guest out)
 
 -- the database is loaded, which later calls leave alone
 loaded_still : (name : List ℕ) (width : ℕ) (database : Database) (w v u : World) → Loaded name width database w v → u.at 2 ≡ v.at 2 → Loaded name width database w u
@@ -122,13 +173,17 @@ module _ (o : ServeOrder) (service : Service) (w v : World) (opens : OpensDesk o
     door_opened = l.door ∙ ap (named o.listen) door_is
 
     -- all guests were served
-    pub served_all : ServesGuests service o.guests u x → x.at 5 ≡ u.at 5 → ServedAll o w x
-    served_all s same = record {
+    pub served_all : ServesGuests service o.guests u x → ((DidRise 6 u x → ⊥) → RepliesToGuests service o.guests u x) → x.at 5 ≡ u.at 5 → ServedAll o w x
+    served_all s r same = record {
       database = database;
       loaded = loaded_at_end;
       door = same ∙ door_opened;
       written = output_is;
       guests = guests_from o.guests s;
+      replied = λ stayed.
+          let none = nobody u t in
+          subst (λ (d : Service). RepliesToGuests d o.guests w x) service_is
+          (replied_from service o.guests w u x none.crowd none.guest (r (λ rose. stayed (subst (λ (c : Cell). Rose c.faults (x.at 6).faults) none.guest rose))));
     }
 
     -- no further guest came in

@@ -6,7 +6,7 @@ use Rattle.pir_ports.specs.Whole.{FailsWithin}
 use Rattle.block_matrix.specs.Database.{Database}
 use Rattle.pir_tool.specs.Told.{DidRise, Unread}
 use Rattle.pir_tool.specs.ServeOrder.{ServeOrder, service_of}
-use Rattle.pir_tool.specs.ServeSteps.{ready, Loaded, HasNoBytes, HasTooMany, HasBegun, ServesGuests}
+use Rattle.pir_tool.specs.ServeSteps.{ready, Loaded, HasNoBytes, HasTooMany, HasBegun, ServesGuests, RepliesToGuests}
 use Rattle.pir_tool.specs.declared.status.Status.{Status}
 use Rattle.pir_tool.specs.declared.status.Status.TheVariants.{One, ReadFault, WriteFault, BadInput, DoorFault, Memory}
 use Rattle.pir_tool.specs.declared.status.Bad.TheVariants.{EmptyFile, TooBig}
@@ -16,13 +16,15 @@ pub record Nobody (old new : World) : Type 0 where
   pub guest : new.at 6 ≡ old.at 6
   pub crowd : new.crowd ≡ old.crowd
 
--- the database was loaded, guests could come in and that is written whole, and all of them were served
+-- the database was loaded, guests could come in and that is written whole, and all of them were served. Where no call on a
+-- guest failed, each was given its whole reply
 pub record ServedAll (o : ServeOrder) (old new : World) : Type 0 where
   pub database : Database
   pub loaded : Loaded o.database o.width database old new
   pub door : new.at 5 ≡ named o.listen (old.at 5)
   pub written : new.at 1 ≡ gave ready (old.at 1)
   pub guests : ServesGuests (service_of o database) o.guests old new
+  pub replied : (DidRise 6 old new → ⊥) → RepliesToGuests (service_of o database) o.guests old new
 
 -- the same, but when some guests were served no further one came in
 pub record NoFurtherGuest (o : ServeOrder) (old new : World) : Type 0 where

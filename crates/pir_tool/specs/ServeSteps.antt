@@ -7,7 +7,7 @@ use Rattle.pir_ports.specs.Serving.{Served}
 use Rattle.block_matrix.specs.Database.{Database, limit}
 use Rattle.block_matrix.specs.Loaded.{IsFileOf}
 use Rattle.serve_core.specs.Service.{Service}
-use Rattle.serve_core.specs.Attended.{IsServed}
+use Rattle.serve_core.specs.Attended.{HasReply, IsServed}
 use Rattle.pir_tool.specs.Told.{DidRise, Unread}
 use Rattle.pir_tool.specs.declared.status.Status.{Status}
 use Rattle.pir_tool.specs.declared.status.Status.TheVariants.{ReadFault, WriteFault, BadInput, DoorFault, Memory}
@@ -80,6 +80,10 @@ pub record TouchesDoor (old new : World) : Type 0 where
 -- n guests were served
 abbrev pub ServesGuests : Service → ℕ → World → World → Type 0
 ServesGuests service n old new = Served (IsServed service) n old new
+
+-- n guests were given their whole replies
+abbrev pub RepliesToGuests : Service → ℕ → World → World → Type 0
+RepliesToGuests service n old new = Served (λ guest out before after. HasReply service guest out) n old new
 
 -- when some of n guests were served, no further one came in
 pub record RunsDry (service : Service) (n : ℕ) (old new : World) : Type 0 where

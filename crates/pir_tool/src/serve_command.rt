@@ -2,7 +2,8 @@
 
 ghost use Rattle.std.specs.Prelude.{◌≡◌, ◌≤◌, ◌<◌, OnOk, OnErr};
 ghost use Rattle.pir_ports.specs.Moves.{Touches};
-ghost use Rattle.pir_tool.specs.ServeSteps.{OpensDesk, Listens, ServesGuests, RunsDry, TouchesGuests, TouchesDoor};
+ghost use Rattle.pir_tool.specs.Told.{DidRise};
+ghost use Rattle.pir_tool.specs.ServeSteps.{OpensDesk, Listens, ServesGuests, RepliesToGuests, RunsDry, TouchesGuests, TouchesDoor};
 ghost use Rattle.pir_tool.specs.ServeOutcome.{ServeEnds, TouchesServer};
 
 use crate::status::{Bad, Status};
@@ -91,6 +92,7 @@ fn serve_guests<R: Threads + Sync, P: Ports>(
     ports: &mut P,
 ) -> Result<(), Failed>
     ensures ok { OnOk result (ServesGuests desk.old guests (P.world ports.old) (P.world ports.new)) }
+    ensures replied { OnOk result ((DidRise 6 (P.world ports.old) (P.world ports.new) → ⊥) → RepliesToGuests desk.old guests (P.world ports.old) (P.world ports.new)) }
     ensures door { OnOk result ((P.world ports.new).at 5 ≡ (P.world ports.old).at 5) }
     ensures failed { OnErr result (RunsDry desk.old guests (P.world ports.old) (P.world ports.new)) }
     ensures others { TouchesGuests (P.world ports.old) (P.world ports.new) }

@@ -40,3 +40,15 @@ serves_one service Served w v a = serves_whole service Served w v a
 serves_one service (Refused status) w v a = serves_whole service (Refused status) w v a
 serves_one service Gone w v a = serves_whole service Gone w v a
 serves_one service GuestFault w v a = serves_broken service w v a
+
+-- where no call failed, it was given its whole reply
+pub replies_one : (service : Service) (met : Met) (w v : World) → Answered service met w v → ServesOne (λ guest out before after. HasReply service guest out) (w.at 6) (v.at 6)
+replies_one service met w v a = record {
+  told = λ guest holds accepted.
+      let reply = subst (λ (o : Option (List ℕ)). IfSome o (IsReply service met a.n a.frame)) holds a.told in
+      record {
+        out = a.frame;
+        accepted = ap (λ (c : Cell). c.accepted) a.cell ∙ ap (λ (o : Option (List ℕ)). option_map (λ x. x ++ a.frame) o) accepted;
+        by = record { met = met; replies = reply.replies };
+      };
+}

@@ -1,12 +1,13 @@
 use Rattle.std.proofs.Common.{◌≡◌, ◌∙◌, ℕ, refl, subst, arith}
-use Rattle.pir_tool.specs.ServeSteps.{ServesGuests}
-use Rattle.pir_tool.proofs.Serving.{guests_none, guests_more, guests_touch, guests_door, guests_dry, guests_dry_touch}
+use Rattle.pir_tool.specs.ServeSteps.{ServesGuests, RepliesToGuests}
+use Rattle.pir_tool.proofs.Serving.{replying_none, replying_more, guests_none, guests_more, guests_touch, guests_door, guests_dry, guests_dry_touch}
 use Rattle.pir_tool.proofs.serve_command.serve_guests.Goals as goal
 
 pub guests-init : goal.guests-init
 guests-init g c = record {
   desk = refl;
   served = guests_none c.args.desk.now (g.P.Ports.world c.args.ports.now);
+  replying = replying_none c.args.desk.now (g.P.Ports.world c.args.ports.now);
   door = refl;
   others = record { others = λ q l a b. refl };
 }
@@ -23,6 +24,7 @@ guests-preserved g c =
     record {
       desk = c.serve_one.ensures.kept ∙ i.desk;
       served = guests_more _ _ c.guests.counter c.serve_one.result start before met after i.desk i.served meets touch c.serve_one.ensures.attends;
+      replying = replying_more _ _ c.guests.counter c.serve_one.result start before met after i.desk i.replying meets touch c.serve_one.ensures.attends;
       door = guests_door start before met after i.door meets touch;
       others = guests_touch start before met after i.others meets touch;
     }
@@ -39,3 +41,8 @@ pub returns-clause-ok : goal.returns-clause-ok
 returns-clause-ok g c =
     let all : c.guests.counter ≡ c.args.guests = omega arith in
     subst (λ (n : ℕ). ServesGuests c.args.desk.now n (g.P.Ports.world c.args.ports.now) (g.P.Ports.world c.guests.ports)) all c.guests.invariant.served
+
+pub returns-clause-replied : goal.returns-clause-replied
+returns-clause-replied g c = λ stayed.
+    let all : c.guests.counter ≡ c.args.guests = omega arith in
+    subst (λ (n : ℕ). RepliesToGuests c.args.desk.now n (g.P.Ports.world c.args.ports.now) (g.P.Ports.world c.guests.ports)) all (c.guests.invariant.replying.replied stayed)
