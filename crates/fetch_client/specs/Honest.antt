@@ -39,9 +39,12 @@ pub record HonestRecords (session : Transcript) (matrix : List (List ℕ)) (coin
   pub enough : session.params.h ≤ count_by (λ i. is_frame (honest_frame session.params matrix coins block i) (slice_index_or session.records (i - 1) None)) (range_with_len 1 (length session.records))
 
 -- whatever the matrix that enough honest servers hold: where the verdict lists blocks, its block is among them, and
--- where 2 h > k + t, the verdict lists it alone. Whatever the answers: where h <= k and 2 h > k + t, one block is listed,
+-- where 2 h > k + t, the verdict lists it alone. The same where enough records are the frames of such servers. Whatever
+-- the answers: where h <= k and 2 h > k + t, one block is listed,
 -- or none
 pub record FindsHonestBlock (session : Transcript) (coins : List ℕ) (block : ℕ) (verdict : Verdict) : Type 0 where
   pub listed : (matrix : List (List ℕ)) → IsHonest session matrix coins block → (blocks : List (List ℕ)) → verdict ≡ Listed blocks → Contains blocks (block_of matrix block)
   pub alone : (matrix : List (List ℕ)) → IsHonest session matrix coins block → length (answers session) + session.params.t < 2 * session.params.h → verdict ≡ Listed (block_of matrix block ∷ [])
   pub close : session.params.h ≤ length (answers session) → length (answers session) + session.params.t < 2 * session.params.h → ListsAtMostOne verdict
+  pub listed_by_frames : (matrix : List (List ℕ)) → HonestRecords session matrix coins block → (blocks : List (List ℕ)) → verdict ≡ Listed blocks → Contains blocks (block_of matrix block)
+  pub alone_by_frames : (matrix : List (List ℕ)) → HonestRecords session matrix coins block → length (answers session) + session.params.t < 2 * session.params.h → verdict ≡ Listed (block_of matrix block ∷ [])

@@ -9,7 +9,7 @@ use wire_frames::Session;
 
 /// Where `h` or more of the usable answers of a session are those of honest servers that hold one matrix, a verdict that
 /// lists blocks lists the row of the matrix that was asked for, and where `2h > k + t`, for k usable answers, the verdict
-/// lists it alone (Goldberg 2007). The queries are those of the `r * t` coins, for the row `block`. Whatever the servers did,
+/// lists it alone (Goldberg 2007). The same where `h` or more of the records are the frames of such servers. The queries are those of the `r * t` coins, for the row `block`. Whatever the servers did,
 /// where `h <= k` and `2h > k + t` the verdict lists one block, or none.
 pub fn honest_block_is_found(session: &Session, coins: &[u8], block: u32, verdict: &Verdict)
     requires coins { length coins.now ≡ session.now.params.r * session.now.params.t }

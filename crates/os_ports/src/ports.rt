@@ -9,7 +9,7 @@ use std::io::{Input, Print};
 use std::net::Net;
 use std::rt::Files;
 
-/// Files, standard streams and TCP streams as ports. Each failed call is counted, also one for want
+/// Files, standard streams, TCP streams and a listener as ports. Each failed call is counted, also one for want
 /// of memory.
 ///
 /// - `Input` is opened as standard input by the name `-`, and else as the file of that name.

@@ -10,8 +10,8 @@ use Rattle.replay.specs.Replayed.{Judged, NoSession}
 use Rattle.replay.proofs.Readings.{at_told}
 use Rattle.fetch_client.specs.Plan.{need}
 use Rattle.pir_tool.specs.declared.status.Status.{Status}
-use Rattle.pir_tool.specs.declared.status.Status.TheVariants.{One, Usage, NoBlock, Several, TooFew, TooWeak, ReadFault, WriteFault, BadInput, Memory}
-use Rattle.pir_tool.specs.declared.status.Bad.TheVariants.{Session, CoinsEnded}
+use Rattle.pir_tool.specs.declared.status.Status.TheVariants.{One, Usage, NoBlock, Several, TooFew, TooWeak, ReadFault, WriteFault, BadInput, DoorFault, Memory}
+use Rattle.pir_tool.specs.declared.status.Bad.TheVariants.{Session, EmptyFile, TooBig, CoinsEnded}
 use Rattle.pir_tool.specs.Told.{NoneRose}
 use Rattle.pir_tool.specs.ReplayOutcome.{ReplayEnds, Reported, Answered}
 use Rattle.pir_tool.specs.FetchOrder.{FetchOrder}
@@ -39,6 +39,9 @@ answered name (TooFew k h) old new bytes session told whole none said = inl (ans
 answered name (TooWeak k t h) old new bytes session told whole none said = inl (answered_by name (TooWeak k t h) old new bytes session told whole said)
 answered name ReadFault old new bytes session told whole none said = absurd (none 0 (lit< tt) said.input.rose)
 answered name WriteFault old new bytes session told whole none said = absurd (none 1 (lit< tt) said.written.rose)
+answered name (BadInput EmptyFile) old new bytes session told whole none said = absurd said
+answered name (BadInput (TooBig limit)) old new bytes session told whole none said = absurd said
+answered name DoorFault old new bytes session told whole none said = absurd said
 answered name (BadInput (Session place)) old new bytes session told whole none said = absurd ((at_told (NoSession place) (old.at 0).holds bytes told said.none).none session whole)
 answered name (BadInput (CoinsEnded taken)) old new bytes session told whole none said = absurd said
 answered name Memory old new bytes session told whole none said = inr refl
@@ -59,6 +62,9 @@ refused name (TooFew k h) old new bytes told nothing none said = absurd (no_repo
 refused name (TooWeak k t h) old new bytes told nothing none said = absurd (no_report name (TooWeak k t h) old new bytes told nothing said)
 refused name ReadFault old new bytes told nothing none said = absurd (none 0 (lit< tt) said.input.rose)
 refused name WriteFault old new bytes told nothing none said = absurd (none 1 (lit< tt) said.written.rose)
+refused name (BadInput EmptyFile) old new bytes told nothing none said = absurd said
+refused name (BadInput (TooBig limit)) old new bytes told nothing none said = absurd said
+refused name DoorFault old new bytes told nothing none said = absurd said
 refused name (BadInput (Session place)) old new bytes told nothing none said = inl (place, refl, at_told (NoSession place) (old.at 0).holds bytes told said.none)
 refused name (BadInput (CoinsEnded taken)) old new bytes told nothing none said = absurd said
 refused name Memory old new bytes told nothing none said = inr refl
@@ -79,6 +85,9 @@ reported o (TooFew k h) old new held told enough none said = inl said
 reported o (TooWeak k t h) old new held told enough none said = inl said
 reported o ReadFault old new held told enough none said = absurd (none 3 (lit< tt) said.unread.rose)
 reported o WriteFault old new held told enough none said = absurd (elim said.cut [ inl c ↦ unrecorded_rose o.keep said.session old new none c.0 | inr c ↦ none 1 (lit< tt) c.1.rose ])
+reported o (BadInput EmptyFile) old new held told enough none said = absurd said
+reported o (BadInput (TooBig limit)) old new held told enough none said = absurd said
+reported o DoorFault old new held told enough none said = absurd said
 reported o (BadInput (Session place)) old new held told enough none said = absurd said
 reported o (BadInput (CoinsEnded taken)) old new held told enough none said =
     let all = at_told (λ (h : List ℕ). length h ≡ taken) (old.at 3).holds held told said.short.all in
@@ -103,6 +112,9 @@ too_few o (TooFew k h) old new held told few none said = absurd (no_coins o (Too
 too_few o (TooWeak k t h) old new held told few none said = absurd (no_coins o (TooWeak k t h) old new held told few said)
 too_few o ReadFault old new held told few none said = absurd (none 3 (lit< tt) said.unread.rose)
 too_few o WriteFault old new held told few none said = absurd (elim said.cut [ inl c ↦ unrecorded_rose o.keep said.session old new none c.0 | inr c ↦ none 1 (lit< tt) c.1.rose ])
+too_few o (BadInput EmptyFile) old new held told few none said = absurd said
+too_few o (BadInput (TooBig limit)) old new held told few none said = absurd said
+too_few o DoorFault old new held told few none said = absurd said
 too_few o (BadInput (Session place)) old new held told few none said = absurd said
 too_few o (BadInput (CoinsEnded taken)) old new held told few none said =
     inl (ap (λ (n : ℕ). BadInput (CoinsEnded n)) (sym (at_told (λ (h : List ℕ). length h ≡ taken) (old.at 3).holds held told said.short.all)))

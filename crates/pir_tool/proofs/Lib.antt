@@ -1,2 +1,4 @@
 pub mod Headline
+mod Serving
+mod ServeHeadline
 pub mod Fetching

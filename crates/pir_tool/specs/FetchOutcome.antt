@@ -16,8 +16,8 @@ use Rattle.pir_ports.specs.declared.port.Failed.{Failed}
 use Rattle.pir_tool.specs.Told.{Told, Unread, Unwritten}
 use Rattle.pir_tool.specs.FetchOrder.{FetchOrder}
 use Rattle.pir_tool.specs.declared.status.Status.{Status}
-use Rattle.pir_tool.specs.declared.status.Status.TheVariants.{Usage, ReadFault, WriteFault, BadInput, Memory}
-use Rattle.pir_tool.specs.declared.status.Bad.TheVariants.{Session, CoinsEnded}
+use Rattle.pir_tool.specs.declared.status.Status.TheVariants.{Usage, ReadFault, WriteFault, BadInput, DoorFault, Memory}
+use Rattle.pir_tool.specs.declared.status.Bad.TheVariants.{Session, EmptyFile, TooBig, CoinsEnded}
 
 -- Coins was opened by its name and gave these coins, and every server was asked with them, in this session
 pub record InSession (o : FetchOrder) (coins : List ℕ) (session : Transcript) (old new : World) : Type 0 where
@@ -91,7 +91,10 @@ FetchEnds o Usage old new = ⊥
 FetchEnds o ReadFault old new = FetchUnreadable o old new
 FetchEnds o WriteFault old new = FetchCutShort o old new
 FetchEnds o (BadInput (Session place)) old new = ⊥
+FetchEnds o (BadInput EmptyFile) old new = ⊥
+FetchEnds o (BadInput (TooBig limit)) old new = ⊥
 FetchEnds o (BadInput (CoinsEnded taken)) old new = FetchRefused o taken old new
+FetchEnds o DoorFault old new = ⊥
 FetchEnds o Memory old new = FetchUnfinished o old new
 FetchEnds o status old new = FetchReported o status old new
 

@@ -3,4 +3,7 @@ pub mod Told
 pub mod ReplayOutcome
 pub mod FetchOrder
 pub mod FetchOutcome
+pub mod ServeOrder
+pub mod ServeSteps
+pub mod ServeOutcome
 pub mod Outcome

@@ -2,10 +2,11 @@
 use Rattle.std.specs.Prelude.{◌≡◌, ◌⊎◌, ℕ, List, length, Option}
 use Rattle.pir_ports.specs.World.{World}
 use Rattle.pir_words.specs.declared.asked.Asked.{Asked}
-use Rattle.pir_words.specs.declared.asked.Asked.TheVariants.{Replay, Fetch}
+use Rattle.pir_words.specs.declared.asked.Asked.TheVariants.{Replay, Fetch, Serve}
 use Rattle.pir_tool.specs.FetchOrder.{FetchOrder}
 use Rattle.pir_tool.specs.ReplayOutcome.{ReplayOutcome}
 use Rattle.pir_tool.specs.FetchOutcome.{FetchOutcome}
+use Rattle.pir_tool.specs.ServeOutcome.{ServeOutcome}
 use Rattle.pir_tool.specs.declared.status.Status.{Status}
 use Rattle.pir_tool.specs.declared.status.Status.TheVariants.{Memory}
 
@@ -22,6 +23,7 @@ order_of scheme rows width block degree agree coins keep addresses = record {
 abbrev pub Outcome : Asked → Status → World → World → Type 0
 Outcome (Replay file) status old new = ReplayOutcome file status old new
 Outcome (Fetch scheme rows width block degree agree coins keep addresses) status old new = FetchOutcome (order_of scheme rows width block degree agree coins keep addresses) status old new
+Outcome (Serve scheme database width guests listen workers) status old new = ServeOutcome (record { scheme = scheme; database = database; width = width; guests = guests; listen = listen; workers = workers }) status old new
 
 -- memory ran out before the command, which nothing was touched for; or this is what the command did
 abbrev pub Runs : Asked → Status → World → World → Type 0

@@ -11,8 +11,8 @@ use Rattle.replay.specs.Replayed.{Judged, NoSession}
 use Rattle.pir_tool.specs.Table.{status_of}
 use Rattle.pir_tool.specs.Told.{Unread}
 use Rattle.pir_tool.specs.declared.status.Status.{Status}
-use Rattle.pir_tool.specs.declared.status.Status.TheVariants.{Usage, ReadFault, WriteFault, BadInput, Memory}
-use Rattle.pir_tool.specs.declared.status.Bad.TheVariants.{Session, CoinsEnded}
+use Rattle.pir_tool.specs.declared.status.Status.TheVariants.{Usage, ReadFault, WriteFault, BadInput, DoorFault, Memory}
+use Rattle.pir_tool.specs.declared.status.Bad.TheVariants.{Session, EmptyFile, TooBig, CoinsEnded}
 
 -- Input was opened under this name, and some of its bytes were taken
 pub record Opened (name : List ℕ) (old new : World) : Type 0 where
@@ -56,7 +56,10 @@ ReplayEnds name Usage old new = ⊥
 ReplayEnds name ReadFault old new = Unreadable name old new
 ReplayEnds name WriteFault old new = CutShort name old new
 ReplayEnds name (BadInput (Session place)) old new = Refused name place old new
+ReplayEnds name (BadInput EmptyFile) old new = ⊥
+ReplayEnds name (BadInput (TooBig limit)) old new = ⊥
 ReplayEnds name (BadInput (CoinsEnded taken)) old new = ⊥
+ReplayEnds name DoorFault old new = ⊥
 ReplayEnds name Memory old new = Unfinished name old new
 ReplayEnds name status old new = Reported name status old new
 

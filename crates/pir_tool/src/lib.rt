@@ -4,6 +4,7 @@
 mod fetch_command;
 mod replay_command;
 mod report;
+mod serve_command;
 mod status;
 mod top;
 

@@ -8,6 +8,10 @@ ghost use Rattle.pir_tool.specs.Table.{code_of, line_of};
 pub enum Bad {
     /// Input holds no session: `place` is the length of the longest prefix of its bytes that begins some session.
     Session { place: u64 },
+    /// The database has no bytes. Nobody was served.
+    EmptyFile,
+    /// The database has more bytes than one of its width may have: `limit`. Nobody was served.
+    TooBig { limit: u64 },
     /// Coins holds only `taken` bytes, fewer than the fetch needs. No server was asked.
     CoinsEnded { taken: u64 },
 }
@@ -15,7 +19,7 @@ pub enum Bad {
 /// How a run ends.
 #[derive(Clone, Copy, Debug, PartialEq, Eq)]
 pub enum Status {
-    /// One block is listed.
+    /// One block is listed; or a server served all its guests.
     One,
     /// The words don't have the form of a command; nothing was touched.
     Usage,
@@ -27,12 +31,14 @@ pub enum Status {
     TooFew { k: u32, h: u32 },
     /// With `k` answers and degree `t` an agreement of `h` is too weak.
     TooWeak { k: u32, t: u32, h: u32 },
-    /// A call on Input or Coins failed; nothing was written, and no server was asked.
+    /// A call on Input, Coins or Database failed; nothing was written, no server was asked and nobody was served.
     ReadFault,
     /// A call on Output or Record failed. Output has a proper front of the text, and nothing of it where Record failed.
     WriteFault,
     /// The input is wrong; nothing was written.
     BadInput(Bad),
+    /// A call on Door failed: a server can't listen, or has no further guest.
+    DoorFault,
     /// Want of memory; nothing was written.
     Memory,
 }
@@ -51,6 +57,7 @@ pub fn code(status: &Status) -> u8
         Status::ReadFault => 8,
         Status::WriteFault => 9,
         Status::BadInput(_) => 10,
+        Status::DoorFault => 11,
         Status::Memory => 12,
     }
 }
@@ -69,6 +76,7 @@ pub fn line(status: &Status) -> &'static str
         Status::ReadFault => "pir: read fault",
         Status::WriteFault => "pir: write fault",
         Status::BadInput(_) => "pir: bad input",
+        Status::DoorFault => "pir: door fault",
         Status::Memory => "pir: no memory",
     }
 }

@@ -1,24 +1,29 @@
 //! The top call.
 
-ghost use Rattle.std.specs.Prelude.{◌≡◌, ◌<◌, ◌≤◌, ◌⊎◌, List, ℕ, length, Some, None, map, string_bytes};
+ghost use Rattle.std.specs.Prelude.{◌≡◌, ◌<◌, ◌≤◌, ◌⊎◌, List, ℕ, [], length, Some, None, map, string_bytes};
 ghost use Rattle.std.specs.Option.{option_copied};
 ghost use Rattle.wire_frames.specs.Session.{Transcript, IsSession};
 ghost use Rattle.pir_words.specs.Form.{asked_of, InRange};
 ghost use Rattle.replay.specs.Replayed.{NoSession};
 ghost use Rattle.fetch_client.specs.Plan.{need};
-ghost use Rattle.pir_tool.specs.Told.{NoneRose};
+ghost use Rattle.block_matrix.specs.Database.{limit};
+ghost use Rattle.pir_tool.specs.Told.{NoneRose, NoneRoseButGuests};
 ghost use Rattle.pir_tool.specs.ReplayOutcome.{Answered};
 ghost use Rattle.pir_tool.specs.FetchOrder.{FetchOrder, Orders};
 ghost use Rattle.pir_tool.specs.FetchOutcome.{FetchReported};
+ghost use Rattle.pir_tool.specs.ServeOrder.{ServeOrder, asked_to_serve};
+ghost use Rattle.pir_tool.specs.ServeOutcome.{ServedAll};
 ghost use Rattle.pir_tool.specs.Outcome.{Outcome, Runs};
 
 use crate::fetch_command::fetch_block;
 use crate::replay_command::replay_file;
+use crate::serve_command::{Serving, serve_file};
 use crate::status::{Bad, Status};
 use fetch_client::FetchPlan;
 use pir_ports::Ports;
 use pir_words::{Asked, Text, WordsFault, read_words};
 use std::alloc::Global;
+use std::thread::Threads;
 
 /// The text of a word, where there is one.
 fn text_of(word: &Option<Text>) -> Option<&str>
@@ -31,7 +36,12 @@ fn text_of(word: &Option<Text>) -> Option<&str>
 }
 
 /// Does what the command says.
-fn obey<P: Ports>(alloc: Global, asked: &Asked, ports: &mut P) -> Status
+fn obey<R: Threads + Sync, P: Ports>(
+    rt: &R,
+    alloc: Global,
+    asked: &Asked,
+    ports: &mut P,
+) -> Status
     requires { InRange asked.now }
     ensures { Outcome asked.now result (P.world ports.old) (P.world ports.new) }
 {
@@ -67,6 +77,24 @@ fn obey<P: Ports>(alloc: Global, asked: &Asked, ports: &mut P) -> Status
                 ports,
             )
         }
+        Asked::Serve {
+            scheme,
+            database,
+            width,
+            conns,
+            listen,
+            workers,
+        } => {
+            let order = Serving {
+                scheme: *scheme,
+                database: database.as_str(),
+                width: *width,
+                guests: *conns,
+                listen: listen.as_str(),
+                workers: *workers,
+            };
+            serve_file(rt, alloc, &order, ports)
+        }
     }
 }
 
@@ -74,8 +102,14 @@ fn obey<P: Ports>(alloc: Global, asked: &Asked, ports: &mut P) -> Status
 ///
 /// `replay FILE` opens FILE as Input (`-` is standard input), judges the session that it holds, and writes the verdict's
 /// text to Output. `fetch` reads coins, asks each server for its share of a block, records the session where a file for it
-/// is named, and writes the verdict's text.
-pub fn run<R, P: Ports>(_rt: &R, alloc: Global, words: &[String], ports: &mut P) -> Status
+/// is named, and writes the verdict's text. `serve` loads a database, opens Door, writes `ready` to Output, and serves its
+/// guests one after the other.
+pub fn run<R: Threads + Sync, P: Ports>(
+    rt: &R,
+    alloc: Global,
+    words: &[String],
+    ports: &mut P,
+) -> Status
     // Words without a form touch nothing.
     ensures usage { result ≡ Status.Usage → asked_of (map string_bytes words.now) ≡ None }
     ensures formless { asked_of (map string_bytes words.now) ≡ None → (result ≡ Status.Usage) ⊎ (result ≡ Status.Memory) }
@@ -100,9 +134,19 @@ pub fn run<R, P: Ports>(_rt: &R, alloc: Global, words: &[String], ports: &mut P)
     // Where it holds fewer and no call failed, that is said, with their number.
     ensures too_few_coins { (order : FetchOrder) (held : List ℕ) → Orders (map string_bytes words.now) order → ((P.world ports.old).at 3).holds ≡ Some held → length held < need order.plan
         → NoneRose (P.world ports.old) (P.world ports.new) → (result ≡ Status.BadInput (Bad.CoinsEnded (length held))) ⊎ (result ≡ Status.Memory) }
+
+    // Where Database holds a database and no call failed but on guests, each guest was served, or memory ran out.
+    ensures served { (order : ServeOrder) (bytes : List ℕ) → asked_of (map string_bytes words.now) ≡ Some (asked_to_serve order) → ((P.world ports.old).at 2).holds ≡ Some bytes → 0 < length bytes → length bytes ≤ limit order.width
+        → NoneRoseButGuests (P.world ports.old) (P.world ports.new) → ((result ≡ Status.One) × ServedAll order (P.world ports.old) (P.world ports.new)) ⊎ (result ≡ Status.Memory) }
+
+    // Where it holds none and no call failed, that is said.
+    ensures empty_file { (order : ServeOrder) → asked_of (map string_bytes words.now) ≡ Some (asked_to_serve order) → ((P.world ports.old).at 2).holds ≡ Some []
+        → NoneRoseButGuests (P.world ports.old) (P.world ports.new) → (result ≡ Status.BadInput Bad.EmptyFile) ⊎ (result ≡ Status.Memory) }
+    ensures too_big { (order : ServeOrder) (bytes : List ℕ) → asked_of (map string_bytes words.now) ≡ Some (asked_to_serve order) → ((P.world ports.old).at 2).holds ≡ Some bytes → limit order.width < length bytes
+        → NoneRoseButGuests (P.world ports.old) (P.world ports.new) → (result ≡ Status.BadInput (Bad.TooBig (limit order.width))) ⊎ (result ≡ Status.Memory) }
 {
     match read_words(alloc, words) {
-        Ok(asked) => obey(alloc, &asked, ports),
+        Ok(asked) => obey(rt, alloc, &asked, ports),
         Err(WordsFault::Usage) => Status::Usage,
         Err(WordsFault::Memory) => Status::Memory,
     }

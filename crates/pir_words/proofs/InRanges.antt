@@ -6,12 +6,14 @@ use Rattle.std.proofs.lemmas.Bool.{and_parts, leb-true, ltb-true}
 use Rattle.clap.specs.Words.{Row, Text, all_of, first_of, subcommand_of}
 use Rattle.wire_frames.specs.Limits.{IsShape}
 use Rattle.wire_frames.specs.declared.TheConstants.{MOST_DEGREE, MOST_SERVERS, MOST_ROWS, MOST_WIDTH, MOST_CELLS}
-use Rattle.pir_words.specs.Numbers.{limited, number_in}
+use Rattle.pir_words.specs.Numbers.{limited, number, number_in}
 use Rattle.pir_words.specs.Ranges.{block_in, scheme_in, scheme_named, sharing_in, sizes_in}
 use Rattle.pir_words.specs.ReplayForm.{replay_of}
 use Rattle.pir_words.specs.FetchForm.{addresses_in, fetch_of}
+use Rattle.pir_words.specs.ServeForm.{serve_of, workers_in}
 use Rattle.pir_words.specs.Form.{InRange, are_taken, asked_by, asked_in, asked_of}
 use Rattle.pir_words.specs.Command.{pir}
+use Rattle.pir_words.specs.declared.TheConstants.{MOST_CONNS, MOST_WORKERS}
 use Rattle.pir_words.specs.declared.ranges.Sizes.{Sizes}
 use Rattle.pir_words.specs.declared.ranges.Sharing.{Sharing}
 use Rattle.pir_words.specs.declared.asked.Asked.{Asked}
@@ -118,15 +120,48 @@ fetch_range m asked e =
       few_servers = addresses_range m addresses.0 addresses.1;
     })
 
+-- there are as many workers as there may be
+workers_range : (m : List Row) (workers : ℕ) → workers_in m ≡ Some workers → (1 ≤ workers) × (workers ≤ MOST_WORKERS)
+unfolding workers_in
+workers_range m workers e =
+    let given = value_of (number (unwrap_or (first_of (codes "workers") m) (codes "1"))) _ workers e in
+    let tested = test_of (nat_le 1 given.0 && nat_le given.0 MOST_WORKERS) _ workers given.2 in
+    let both = and_parts (nat_le 1 given.0) (nat_le given.0 MOST_WORKERS) tested.0 in
+    subst (λ n. (1 ≤ n) × (n ≤ MOST_WORKERS)) (some_is given.0 workers tested.1) (leb-true _ _ both.0, leb-true _ _ both.1)
+
+-- the values of `serve`
+serve_range : (m : List Row) (asked : Asked) → serve_of m ≡ Some asked → InRange asked
+unfolding serve_of
+serve_range m asked e =
+    let width = value_of (limited (codes "width") 1 MOST_WIDTH m) _ asked e in
+    let conns = value_of (limited (codes "conns") 1 MOST_CONNS m) _ asked width.2 in
+    let scheme = value_of (scheme_in m) _ asked conns.2 in
+    let workers = value_of (workers_in m) _ asked scheme.2 in
+    let database = value_of (first_of (codes "database") m) _ asked workers.2 in
+    let listen = value_of (first_of (codes "listen") m) _ asked database.2 in
+    let s = limited_range _ _ _ m _ width.1 in
+    let n = limited_range _ _ _ m _ conns.1 in
+    let w = workers_range m workers.0 workers.1 in
+    subst InRange (some_is _ asked listen.2) (record {
+      shamir = scheme_range m scheme.0 scheme.1;
+      some_bytes = s.0;
+      few_bytes = s.1;
+      some_conns = n.0;
+      few_conns = n.1;
+      some_workers = w.0;
+      few_workers = w.1;
+    })
+
 -- the values of a command by its name
 named_range : (name : Text) (m : List Row) (asked : Asked) → asked_by name m ≡ Some asked → InRange asked
 unfolding asked_by
-named_range name m asked e = by_name (bytes_eq name (codes "replay")) (bytes_eq name (codes "fetch")) e
+named_range name m asked e = by_name (bytes_eq name (codes "replay")) (bytes_eq name (codes "fetch")) (bytes_eq name (codes "serve")) e
   where
-    by_name : (is_replay is_fetch : Bool) → (if is_replay then replay_of m else (if is_fetch then fetch_of m else None)) ≡ Some asked → InRange asked
-    by_name true is_fetch h = replay_range m asked h
-    by_name false true h = fetch_range m asked h
-    by_name false false h = cc
+    by_name : (is_replay is_fetch is_serve : Bool) → (if is_replay then replay_of m else (if is_fetch then fetch_of m else (if is_serve then serve_of m else None))) ≡ Some asked → InRange asked
+    by_name true is_fetch is_serve h = replay_range m asked h
+    by_name false true is_serve h = fetch_range m asked h
+    by_name false false true h = serve_range m asked h
+    by_name false false false h = cc
 
 -- the values of the command that words ask for
 pub asked_range : (words : List Text) (asked : Asked) → asked_of words ≡ Some asked → InRange asked

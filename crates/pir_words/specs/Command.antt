@@ -40,6 +40,16 @@ fetch_app =
     let keep = with_option coins (codes "record") false in
     with_rule keep (operands_rule (codes "addresses"))
 
+-- `serve --database FILE --width S --conns N --listen ADDR`
+unfoldable pub serve_app : App
+serve_app =
+    let database = with_option (new_app (codes "serve")) (codes "database") true in
+    let width = with_option database (codes "width") true in
+    let conns = with_option width (codes "conns") true in
+    let listen = with_option conns (codes "listen") true in
+    let scheme = with_option listen (codes "scheme") false in
+    with_option scheme (codes "workers") false
+
 -- `pir` with no command, whose words begin after the program's name
 abbrev pub bare : App
 bare = let a = new_app (codes "pir") in record a { top = record a.top { no_binary_name = true } }
@@ -48,4 +58,5 @@ bare = let a = new_app (codes "pir") in record a { top = record a.top { no_binar
 unfoldable pub pir : App
 pir =
     let replay = with_subcommand bare replay_app.top in
-    with_subcommand replay fetch_app.top
+    let fetch = with_subcommand replay fetch_app.top in
+    with_subcommand fetch serve_app.top

@@ -8,8 +8,9 @@ use Rattle.pir_words.specs.Chain.{◌>>=◌, ◌>>◌}
 use Rattle.pir_words.specs.Command.{pir}
 use Rattle.pir_words.specs.ReplayForm.{replay_of}
 use Rattle.pir_words.specs.FetchForm.{IsFetch, fetch_of}
+use Rattle.pir_words.specs.ServeForm.{IsServe, serve_of}
 use Rattle.pir_words.specs.declared.asked.Asked.{Asked}
-use Rattle.pir_words.specs.declared.asked.Asked.TheVariants.{Replay, Fetch}
+use Rattle.pir_words.specs.declared.asked.Asked.TheVariants.{Replay, Fetch, Serve}
 use Rattle.pir_words.specs.declared.asked.WordsFault.{WordsFault}
 use Rattle.pir_words.specs.declared.asked.WordsFault.TheVariants.{Usage, Memory}
 
@@ -22,7 +23,8 @@ is_memory _ = false
 unfoldable pub asked_by : Text → List Row → Option Asked
 asked_by name m =
     if bytes_eq name (codes "replay") then replay_of m
-    else (if bytes_eq name (codes "fetch") then fetch_of m else None)
+    else (if bytes_eq name (codes "fetch") then fetch_of m
+    else (if bytes_eq name (codes "serve") then serve_of m else None))
 
 -- the command that a parse entered
 unfoldable pub asked_in : Option (Text × List Row) → Option Asked
@@ -50,3 +52,4 @@ Answers wanted (Err Memory) = Unit {0}
 abbrev pub InRange : Asked → Type 0
 InRange (Replay file) = Unit {0}
 InRange (Fetch scheme r s b t h coins keep addresses) = IsFetch scheme r s b t h (length addresses)
+InRange (Serve scheme database s conns listen workers) = IsServe scheme s conns workers

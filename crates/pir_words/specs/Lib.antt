@@ -4,4 +4,5 @@ pub mod Ranges
 pub mod Command
 pub mod ReplayForm
 pub mod FetchForm
+pub mod ServeForm
 pub mod Form

@@ -32,6 +32,21 @@ pub enum Asked {
         /// The address of each server.
         addresses: Texts,
     },
+    /// Serve a database to guests, one after the other.
+    Serve {
+        /// The scheme's number: 1, Shamir's.
+        scheme: u8,
+        /// The file of the database.
+        database: Text,
+        /// How many bytes a row has.
+        width: u32,
+        /// After so many guests the server ends.
+        conns: u32,
+        /// The address that guests come to.
+        listen: Text,
+        /// How many workers share the work on an answer.
+        workers: u8,
+    },
 }
 
 /// Why words give no command.

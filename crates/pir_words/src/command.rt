@@ -3,7 +3,7 @@
 ghost use Rattle.std.specs.Prelude.{◌≡◌, Bool, false, IfOk};
 ghost use Rattle.clap.specs.Words.{app_of};
 ghost use Rattle.clap.specs.declared.builder.command.Command.TheViews.{out-Command};
-ghost use Rattle.pir_words.specs.Command.{with_option, replay_app, fetch_app, pir};
+ghost use Rattle.pir_words.specs.Command.{with_option, replay_app, fetch_app, serve_app, pir};
 
 use clap::{Arg, ArgAction, Command};
 use std::alloc::{AllocError, Global};
@@ -56,6 +56,20 @@ fn fetch_command<'a>(alloc: Global) -> Result<Command<'a>, AllocError>
     keep.arg(addresses)
 }
 
+/// `serve`.
+fn serve_command<'a>(alloc: Global) -> Result<Command<'a>, AllocError>
+    ensures app { IfOk result (λ c. app_of c ≡ serve_app) }
+    ensures local { IfOk result (λ c. (out-Command c).has_globals ≡ false) }
+{
+    let start = Command::new(alloc, "serve");
+    let database = with_option(alloc, start, "database", true)?;
+    let width = with_option(alloc, database, "width", true)?;
+    let conns = with_option(alloc, width, "conns", true)?;
+    let listen = with_option(alloc, conns, "listen", true)?;
+    let scheme = with_option(alloc, listen, "scheme", false)?;
+    with_option(alloc, scheme, "workers", false)
+}
+
 /// `pir` with its commands. The words come without the program's name.
 pub fn pir_command<'a>(alloc: Global) -> Result<Command<'a>, AllocError>
     ensures { IfOk result (λ c. app_of c ≡ pir) }
@@ -63,6 +77,8 @@ pub fn pir_command<'a>(alloc: Global) -> Result<Command<'a>, AllocError>
     let top = Command::new(alloc, "pir").no_binary_name(true);
     let replay = replay_command(alloc)?;
     let fetch = fetch_command(alloc)?;
+    let serve = serve_command(alloc)?;
     let with_replay = top.subcommand(replay)?;
-    with_replay.subcommand(fetch)
+    let with_fetch = with_replay.subcommand(fetch)?;
+    with_fetch.subcommand(serve)
 }

@@ -22,6 +22,7 @@ mod command;
 mod fetch_words;
 mod ranges;
 mod replay_words;
+mod serve_words;
 #[cfg(test)]
 mod tests;
 mod text;
@@ -33,8 +34,15 @@ use clap::{ArgMatches, Error};
 use command::pir_command;
 use fetch_words::read_fetch;
 use replay_words::read_replay;
+use serve_words::read_serve;
 use std::alloc::Global;
 pub use text::{Text, Texts};
+
+/// The greatest number of guests that a server takes before it ends.
+pub const MOST_CONNS: u32 = 65535;
+
+/// The greatest number of workers of a server.
+pub const MOST_WORKERS: u8 = 16;
 
 /// What a parse that doesn't end with matches comes to.
 fn fault_by(error: Error) -> WordsFault
@@ -70,6 +78,7 @@ fn read_command(alloc: Global, name: &str, matches: &ArgMatches) -> Result<Asked
     match name {
         "replay" => read_replay(alloc, matches),
         "fetch" => read_fetch(alloc, matches),
+        "serve" => read_serve(alloc, matches),
         _ => Err(WordsFault::Usage),
     }
 }
@@ -90,6 +99,7 @@ fn read_matches(alloc: Global, matches: &ArgMatches) -> Result<Asked, WordsFault
 /// |---|---|---|
 /// | `replay` | FILE | |
 /// | `fetch` | `--rows R --width S --block B --degree T --agree H`, one address or more | `--scheme shamir`, `--coins FILE` (`/dev/urandom`), `--record FILE` |
+/// | `serve` | `--database FILE --width S --conns N --listen ADDR` | `--scheme shamir`, `--workers W` (1) |
 ///
 /// Options come in any order, each once, as `--rows 2` or `--rows=2`, and addresses may stand between them. What follows
 /// the word `--` is no option. A value that begins with `-` is written `--coins=-x`; `-` alone is a value.
@@ -98,7 +108,8 @@ fn read_matches(alloc: Global, matches: &ArgMatches) -> Result<Asked, WordsFault
 /// of rows and S of their bytes are at least 1 and at most [`MOST_ROWS`](wire_frames::MOST_ROWS) and
 /// [`MOST_WIDTH`](wire_frames::MOST_WIDTH), their product is at most [`MOST_CELLS`](wire_frames::MOST_CELLS), and the
 /// block B is below R. Of n addresses, at most [`MOST_SERVERS`](wire_frames::MOST_SERVERS), degree and agreement have
-/// `1 <= T < H <= n`, and T is at most [`MOST_DEGREE`](wire_frames::MOST_DEGREE).
+/// `1 <= T < H <= n`, and T is at most [`MOST_DEGREE`](wire_frames::MOST_DEGREE). The number N of guests is at least 1 and at most
+/// [`MOST_CONNS`], and the number W of workers at most [`MOST_WORKERS`].
 ///
 /// # Errors
 ///

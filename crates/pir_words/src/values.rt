@@ -38,7 +38,7 @@ fn are_digits(text: &[u8]) -> bool
 
 /// The number that decimal digits write, below `2^64`.
 #[tactic(auto, unfolding(crate::specs::Numbers::number))]
-fn number_of(text: &str) -> Option<u64>
+pub fn number_of(text: &str) -> Option<u64>
     ensures { result ≡ number text.now }
 {
     if !are_digits(text.as_bytes()) {

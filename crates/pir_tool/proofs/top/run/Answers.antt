@@ -1,7 +1,8 @@
-use Rattle.std.proofs.Common.{subst}
+use Rattle.std.proofs.Common.{[], refl, subst}
 use Rattle.pir_tool.specs.Outcome.{Outcome}
 use Rattle.pir_tool.specs.FetchOutcome.{FetchOutcome}
 use Rattle.pir_tool.proofs.Headline.{answered, refused, reported, too_few}
+use Rattle.pir_tool.proofs.ServeHeadline.{served, empty_file, too_big}
 use Rattle.pir_tool.proofs.Fetching.{one_command, order_is}
 use Rattle.pir_tool.proofs.top.run.Goals as goal
 
@@ -18,3 +19,24 @@ returns-in-Ok-clause-fetched g c = λ order held orders told enough none.
     let new = g.P.Ports.world c.obey.new.ports in
     let outcome = subst (λ a. Outcome a c.obey.result old new) (one_command _ _ _ c.in-Ok.ensures.form orders.command) c.obey.ensures in
     reported order c.obey.result old new held told enough none (subst (λ o. FetchOutcome o c.obey.result old new) (order_is order orders.servers) outcome).ends
+
+pub returns-in-Ok-clause-served : goal.returns-in-Ok-clause-served
+returns-in-Ok-clause-served g c = λ order bytes command held some few none.
+    let old = g.P.Ports.world c.args.ports.now in
+    let new = g.P.Ports.world c.obey.new.ports in
+    let outcome = subst (λ a. Outcome a c.obey.result old new) (one_command _ _ _ c.in-Ok.ensures.form command) c.obey.ensures in
+    served order old new none bytes held c.obey.result some few outcome.ends
+
+pub returns-in-Ok-clause-empty_file : goal.returns-in-Ok-clause-empty_file
+returns-in-Ok-clause-empty_file g c = λ order command held none.
+    let old = g.P.Ports.world c.args.ports.now in
+    let new = g.P.Ports.world c.obey.new.ports in
+    let outcome = subst (λ a. Outcome a c.obey.result old new) (one_command _ _ _ c.in-Ok.ensures.form command) c.obey.ensures in
+    empty_file order old new none [] held c.obey.result refl outcome.ends
+
+pub returns-in-Ok-clause-too_big : goal.returns-in-Ok-clause-too_big
+returns-in-Ok-clause-too_big g c = λ order bytes command held more none.
+    let old = g.P.Ports.world c.args.ports.now in
+    let new = g.P.Ports.world c.obey.new.ports in
+    let outcome = subst (λ a. Outcome a c.obey.result old new) (one_command _ _ _ c.in-Ok.ensures.form command) c.obey.ensures in
+    too_big order old new none bytes held c.obey.result more outcome.ends

@@ -12,5 +12,6 @@ returns c =
     let top_is : app_of c.no_binary_name-top.result ≡ bare = ap app_of_fields c.no_binary_name-top.ensures
     ∙ ap (λ (a : App). record a { top = record a.top { no_binary_name = true } }) c.new.ensures.app in
     let replay_is = c.in_ok-with_replay.ensures.shape c.in_ok-replay.ensures.local ∙ ap₂ with_subcommand top_is (ap above c.in_ok-replay.ensures.app) in
-    IfOk-weaker c.subcommand-2.result _ _ (λ r h. h.shape c.in_ok-fetch.ensures.local
-    ∙ ap₂ with_subcommand replay_is (ap above c.in_ok-fetch.ensures.app)) c.subcommand-2.ensures
+    let fetch_is = c.in_ok-with_fetch.ensures.shape c.in_ok-fetch.ensures.local ∙ ap₂ with_subcommand replay_is (ap above c.in_ok-fetch.ensures.app) in
+    IfOk-weaker c.subcommand-3.result _ _ (λ r h. h.shape c.in_ok-serve.ensures.local
+    ∙ ap₂ with_subcommand fetch_is (ap above c.in_ok-serve.ensures.app)) c.subcommand-3.ensures

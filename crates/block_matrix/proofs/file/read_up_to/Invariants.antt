@@ -1,0 +1,14 @@
+use Rattle.std.proofs.Common.{◌-◌, ◌≤◌, vec_len}
+use Rattle.pir_ports.specs.Moves.{Touches}
+use Rattle.pir_ports.specs.Whole.{Reads}
+use Rattle.block_matrix.proofs.file.read_up_to.Given as goal
+
+abbrev pub invariant-pieces : goal.invariant-pieces
+invariant-pieces g l = record {
+  few : vec_len l.bytes ≤ l.most;
+  so_far : Reads 2 l.bytes.items (g.P.Ports.world l.initial.ports) (g.P.Ports.world l.ports);
+  others : Touches 2 (g.P.Ports.world l.initial.ports) (g.P.Ports.world l.ports);
+}
+
+abbrev pub decreases-pieces : goal.decreases-pieces
+decreases-pieces g l = l.most - vec_len l.bytes

@@ -1,0 +1,4 @@
+pub mod Database
+pub mod Held
+pub mod Loaded
+pub mod Loading

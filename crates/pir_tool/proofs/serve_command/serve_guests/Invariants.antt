@@ -1,0 +1,13 @@
+use Rattle.std.proofs.Common.{◌≡◌}
+use Rattle.pir_tool.specs.ServeSteps.{ServesGuests, TouchesGuests}
+use Rattle.pir_tool.proofs.Serving.{Replying}
+use Rattle.pir_tool.proofs.serve_command.serve_guests.Given as goal
+
+abbrev pub invariant-guests : goal.invariant-guests
+invariant-guests g l = record {
+  desk : l.desk ≡ l.initial.desk;
+  served : ServesGuests l.initial.desk l.counter (g.P.Ports.world l.initial.ports) (g.P.Ports.world l.ports);
+  replying : Replying l.initial.desk l.counter (g.P.Ports.world l.initial.ports) (g.P.Ports.world l.ports);
+  door : (g.P.Ports.world l.ports).at 5 ≡ (g.P.Ports.world l.initial.ports).at 5;
+  others : TouchesGuests (g.P.Ports.world l.initial.ports) (g.P.Ports.world l.ports);
+}

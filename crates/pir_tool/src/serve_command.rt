@@ -1,0 +1,144 @@
+//! The command `serve`.
+
+ghost use Rattle.std.specs.Prelude.{◌≡◌, ◌≤◌, ◌<◌, OnOk, OnErr};
+ghost use Rattle.pir_ports.specs.Moves.{Touches};
+ghost use Rattle.pir_tool.specs.Told.{DidRise};
+ghost use Rattle.pir_tool.specs.ServeSteps.{OpensDesk, Listens, ServesGuests, RepliesToGuests, RunsDry, TouchesGuests, TouchesDoor};
+ghost use Rattle.pir_tool.specs.ServeOutcome.{ServeEnds, TouchesServer};
+
+use crate::status::{Bad, Status};
+use block_matrix::{LoadFault, load};
+use pir_ports::{Failed, Port, Ports, write_all};
+use serve_core::{Desk, serve_one};
+use server_product::OpenGate;
+use std::alloc::{AllocError, Global};
+use std::thread::Threads;
+
+/// What is served, where, to how many guests, and by how many workers.
+#[derive(Drop)]
+pub(crate) struct Serving<'a> {
+    pub(crate) scheme: u8,
+    pub(crate) database: &'a str,
+    pub(crate) width: u32,
+    pub(crate) guests: u32,
+    pub(crate) listen: &'a str,
+    pub(crate) workers: u8,
+}
+
+/// Loads the database, and opens the desk at which it is served.
+///
+/// # Errors
+///
+/// The status that the run ends with.
+fn open_desk<P: Ports>(
+    alloc: Global,
+    database: &str,
+    width: u32,
+    scheme: u8,
+    workers: u8,
+    ports: &mut P,
+) -> Result<Desk, Status>
+    requires scheme { scheme ≡ 1 }
+    requires some_width { 1 ≤ width }
+    requires few_width { width ≤ 65536 }
+    requires some { 1 ≤ workers }
+    requires few { workers ≤ 16 }
+    ensures opens { OpensDesk database.now width scheme workers result (P.world ports.old) (P.world ports.new) }
+    ensures others { Touches 2 (P.world ports.old) (P.world ports.new) }
+{
+    let Ok(()) = ports.open(Port::Database, database) else {
+        return Err(Status::ReadFault);
+    };
+    let matrix = match load(alloc, ports, width) {
+        Ok(matrix) => matrix,
+        Err(LoadFault::EmptyFile) => return Err(Status::BadInput(Bad::EmptyFile)),
+        Err(LoadFault::TooBig { limit }) => return Err(Status::BadInput(Bad::TooBig { limit })),
+        Err(LoadFault::ReadFault) => return Err(Status::ReadFault),
+        Err(LoadFault::Memory) => return Err(Status::Memory),
+    };
+    match Desk::open(alloc, matrix, scheme, workers) {
+        Ok(desk) => Ok(desk),
+        Err(AllocError) => Err(Status::Memory),
+    }
+}
+
+/// Lets guests come in at this address, and says so.
+///
+/// # Errors
+///
+/// The status that the run ends with.
+fn listen<P: Ports>(address: &str, ports: &mut P) -> Result<(), Status>
+    ensures listens { Listens address.now result (P.world ports.old) (P.world ports.new) }
+    ensures others { TouchesDoor (P.world ports.old) (P.world ports.new) }
+{
+    let Ok(()) = ports.open(Port::Door, address) else {
+        return Err(Status::DoorFault);
+    };
+    match write_all(ports, Port::Output, b"ready\n") {
+        Ok(()) => Ok(()),
+        Err(Failed) => Err(Status::WriteFault),
+    }
+}
+
+/// Serves so many guests, one after the other. A guest that is refused, that goes away or whose calls fail counts as one.
+///
+/// # Errors
+///
+/// `Failed` if there was no further guest.
+fn serve_guests<R: Threads + Sync, P: Ports>(
+    rt: &R,
+    desk: &mut Desk,
+    guests: u32,
+    ports: &mut P,
+) -> Result<(), Failed>
+    ensures ok { OnOk result (ServesGuests desk.old guests (P.world ports.old) (P.world ports.new)) }
+    ensures replied { OnOk result ((DidRise 6 (P.world ports.old) (P.world ports.new) → ⊥) → RepliesToGuests desk.old guests (P.world ports.old) (P.world ports.new)) }
+    ensures door { OnOk result ((P.world ports.new).at 5 ≡ (P.world ports.old).at 5) }
+    ensures failed { OnErr result (RunsDry desk.old guests (P.world ports.old) (P.world ports.new)) }
+    ensures others { TouchesGuests (P.world ports.old) (P.world ports.new) }
+{
+    'guests: for _ in 0..guests {
+        let Ok(()) = ports.next_guest() else {
+            return Err(Failed);
+        };
+        serve_one(rt, desk, ports, &OpenGate);
+    }
+    Ok(())
+}
+
+/// Serves a database: loads it, lets guests come in and says so, and answers the query of each.
+pub(crate) fn serve_file<R: Threads + Sync, P: Ports>(
+    rt: &R,
+    alloc: Global,
+    order: &Serving,
+    ports: &mut P,
+) -> Status
+    requires scheme { order.now.scheme ≡ 1 }
+    requires some_width { 1 ≤ order.now.width }
+    requires few_width { order.now.width ≤ 65536 }
+    requires some { 1 ≤ order.now.workers }
+    requires few { order.now.workers ≤ 16 }
+    ensures ends { ServeEnds (record { scheme = order.now.scheme; database = order.now.database.now; width = order.now.width; guests = order.now.guests; listen = order.now.listen.now; workers = order.now.workers }) result (P.world ports.old) (P.world ports.new) }
+    ensures others { TouchesServer (P.world ports.old) (P.world ports.new) }
+{
+    let opened = open_desk(
+        alloc,
+        order.database,
+        order.width,
+        order.scheme,
+        order.workers,
+        ports,
+    );
+    let mut desk = match opened {
+        Ok(desk) => desk,
+        Err(status) => return status,
+    };
+    match listen(order.listen, ports) {
+        Ok(()) => {}
+        Err(status) => return status,
+    }
+    match serve_guests(rt, &mut desk, order.guests, ports) {
+        Ok(()) => Status::One,
+        Err(Failed) => Status::DoorFault,
+    }
+}

@@ -1,0 +1,38 @@
+-- The form of `serve`.
+use Rattle.std.specs.Prelude.{ℕ, ◌≡◌, ◌≤◌, ◌&&◌, List, Option, Some, codes, nat_le, unwrap_or}
+use Rattle.clap.specs.Words.{Row, first_of}
+use Rattle.wire_frames.specs.declared.TheConstants.{MOST_WIDTH}
+use Rattle.pir_words.specs.Chain.{◌>>=◌, ◌>>◌}
+use Rattle.pir_words.specs.Numbers.{limited, number}
+use Rattle.pir_words.specs.Ranges.{scheme_in}
+use Rattle.pir_words.specs.declared.TheConstants.{MOST_CONNS, MOST_WORKERS}
+use Rattle.pir_words.specs.declared.asked.Asked.{Asked}
+use Rattle.pir_words.specs.declared.asked.Asked.TheVariants.{Serve}
+
+-- the number of workers, one where it isn't given
+unfoldable pub workers_in : List Row → Option ℕ
+workers_in m = do
+  n ← number (unwrap_or (first_of (codes "workers") m) (codes "1"))
+  nat_le 1 n && nat_le n MOST_WORKERS
+  Some n
+
+-- `serve` with its values, each in its range
+unfoldable pub serve_of : List Row → Option Asked
+serve_of m = do
+  width ← limited (codes "width") 1 MOST_WIDTH m
+  conns ← limited (codes "conns") 1 MOST_CONNS m
+  scheme ← scheme_in m
+  workers ← workers_in m
+  database ← first_of (codes "database") m
+  listen ← first_of (codes "listen") m
+  Some (Serve scheme database width conns listen workers)
+
+-- the ranges of the values of `serve`
+pub record IsServe (scheme s conns workers : ℕ) : Type 0 where
+  pub shamir : scheme ≡ 1
+  pub some_bytes : 1 ≤ s
+  pub few_bytes : s ≤ MOST_WIDTH
+  pub some_conns : 1 ≤ conns
+  pub few_conns : conns ≤ MOST_CONNS
+  pub some_workers : 1 ≤ workers
+  pub few_workers : workers ≤ MOST_WORKERS

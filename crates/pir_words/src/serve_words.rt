@@ -1,0 +1,62 @@
+//! The words of `serve`.
+
+ghost use Rattle.std.specs.Prelude.{◌≡◌};
+ghost use Rattle.pir_words.specs.Numbers.{given};
+ghost use Rattle.pir_words.specs.ServeForm.{serve_of, workers_in};
+ghost use Rattle.pir_words.specs.Form.{Answers};
+
+use crate::asked::{Asked, WordsFault};
+use crate::ranges::scheme_at;
+use crate::values::{limited_at, number_of, owned, text_at};
+use crate::{MOST_CONNS, MOST_WORKERS};
+use clap::ArgMatches;
+use std::alloc::Global;
+use wire_frames::MOST_WIDTH;
+
+/// The number of workers, one where it isn't given.
+#[tactic(auto, unfolding(crate::specs::ServeForm::workers_in))]
+fn workers_at(matches: &ArgMatches) -> Option<u8>
+    ensures { result ≡ workers_in (given matches.now) }
+{
+    let n = number_of(text_at(matches, "workers").unwrap_or("1"))?;
+    if 1 <= n && n <= u64::from(MOST_WORKERS) {
+        Some(n as u8)
+    } else {
+        None
+    }
+}
+
+/// `serve` with its values, each in its range.
+#[tactic(auto, unfolding(crate::specs::ServeForm::serve_of))]
+pub fn read_serve(alloc: Global, matches: &ArgMatches) -> Result<Asked, WordsFault>
+    ensures { Answers (serve_of (given matches.now)) result }
+{
+    let Some(width) = limited_at(matches, "width", 1, u64::from(MOST_WIDTH)) else {
+        return Err(WordsFault::Usage);
+    };
+    let Some(conns) = limited_at(matches, "conns", 1, u64::from(MOST_CONNS)) else {
+        return Err(WordsFault::Usage);
+    };
+    let Some(scheme) = scheme_at(matches) else {
+        return Err(WordsFault::Usage);
+    };
+    let Some(workers) = workers_at(matches) else {
+        return Err(WordsFault::Usage);
+    };
+    let Some(database) = text_at(matches, "database") else {
+        return Err(WordsFault::Usage);
+    };
+    let Some(listen) = text_at(matches, "listen") else {
+        return Err(WordsFault::Usage);
+    };
+    let database = owned(alloc, database)?;
+    let listen = owned(alloc, listen)?;
+    Ok(Asked::Serve {
+        scheme,
+        database,
+        width: width as u32,
+        conns: conns as u32,
+        listen,
+        workers,
+    })
+}

@@ -1,0 +1,2 @@
+mod Replying
+pub mod ServingOne

@@ -1,0 +1,63 @@
+-- What a server does with the guest that is in.
+use Rattle.std.specs.Prelude.{◌≡◌, ◌⊎◌, ℕ, ◌+◌, ◌<◌, ◌≤◌, List, [], length, take, IfSome}
+use Rattle.pir_ports.specs.World.{World}
+use Rattle.pir_ports.specs.Moves.{Rose, took, gave, counted}
+use Rattle.serve_core.specs.Service.{Service}
+use Rattle.serve_core.specs.Reply.{Replies, Suits, taken}
+use Rattle.serve_core.specs.declared.met.Met.{Met}
+use Rattle.serve_core.specs.declared.met.Met.TheVariants.{GuestFault}
+
+-- the reply to these bytes takes so many of them and is this frame
+pub record IsReply (service : Service) (met : Met) (n : ℕ) (frame bytes : List ℕ) : Type 0 where
+  pub replies : Replies service bytes met frame
+  pub takes : n ≡ taken service bytes met
+  pub there : n ≤ length bytes
+
+-- the guest was given the whole reply, and no byte was taken that the reply doesn't take
+pub record Answered (service : Service) (met : Met) (old new : World) : Type 0 where
+  pub n : ℕ
+  pub frame : List ℕ
+  pub cell : new.at 6 ≡ gave frame (took n (old.at 6))
+  pub told : IfSome (old.at 6).holds (IsReply service met n frame)
+
+-- a front of the reply to these bytes: nothing, or n bytes of its frame
+pub record IsFrontOfReply (service : Service) (front bytes : List ℕ) : Type 0 where
+  pub met : Met
+  pub frame : List ℕ
+  pub n : ℕ
+  pub replies : Replies service bytes met frame
+  pub proper : n < length frame
+  pub front_is : front ≡ take n frame
+
+-- no more was taken than a header, and the payload of one that suits
+abbrev pub MayTake : Service → ℕ → List ℕ → Type 0
+MayTake service n bytes = (n ≤ 24) ⊎ (Suits service bytes × (n ≤ 24 + length service.database.rows))
+
+-- what was taken and given before a call on the guest failed
+pub record IsBroken (service : Service) (n : ℕ) (given bytes : List ℕ) : Type 0 where
+  pub takes : MayTake service n bytes
+  pub there : n ≤ length bytes
+  pub gives : (given ≡ []) ⊎ IsFrontOfReply service given bytes
+
+-- a call on the guest failed: it was given nothing, or a front of the reply
+pub record Broke (service : Service) (old new : World) : Type 0 where
+  pub n : ℕ
+  pub given : List ℕ
+  pub cell : new.at 6 ≡ counted (new.at 6).faults (gave given (took n (old.at 6)))
+  pub rose : Rose (old.at 6).faults (new.at 6).faults
+  pub told : IfSome (old.at 6).holds (IsBroken service n given)
+
+-- what was done with the guest, by what it was met with
+abbrev pub Attends : Service → Met → World → World → Type 0
+Attends service GuestFault old new = Broke service old new
+Attends service met old new = Answered service met old new
+
+-- the guest with these bytes was given its whole reply
+pub record HasReply (service : Service) (guest out : List ℕ) : Type 0 where
+  pub met : Met
+  pub replies : Replies service guest met out
+
+-- what a guest was given, by the count of Guest as it came in and at its end: its whole reply where no call on it failed,
+-- else nothing, or a front of the reply
+abbrev pub IsServed : Service → List ℕ → List ℕ → ℕ → ℕ → Type 0
+IsServed service guest out before after = ((after ≡ before) × HasReply service guest out) ⊎ (Rose before after × ((out ≡ []) ⊎ IsFrontOfReply service out guest))

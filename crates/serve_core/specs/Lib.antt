@@ -1,0 +1,4 @@
+pub mod Service
+pub mod Reply
+pub mod Attended
+pub mod Stages

@@ -1,0 +1,62 @@
+-- The steps of a reply: the header is judged, the payload is taken, the frame is given.
+use Rattle.std.specs.Prelude.{◌≡◌, ◌≢◌, ◌⊎◌, ℕ, ◌<◌, List, length, Result, Ok, Err}
+use Rattle.pir_ports.specs.World.{World}
+use Rattle.pir_ports.specs.Moves.{Hands, gave}
+use Rattle.pir_ports.specs.Whole.{Ends, FailsShort, FailsWithin}
+use Rattle.wire_frames.specs.declared.header.QueryHeader.{QueryHeader}
+use Rattle.wire_frames.specs.Query.{IsQueryHeader}
+use Rattle.block_matrix.specs.Database.{Database}
+use Rattle.serve_core.specs.Service.{Service}
+use Rattle.serve_core.specs.Reply.{IsShaped, answer_frame}
+use Rattle.serve_core.specs.declared.met.Met.{Met}
+use Rattle.serve_core.specs.declared.met.Met.TheVariants.{Served, Refused, Gone, GuestFault}
+use Rattle.serve_core.specs.declared.header.Refusal.{Refusal}
+use Rattle.serve_core.specs.declared.header.Refusal.TheVariants.{Malformed, OtherScheme, OtherShape}
+
+-- the status of a refusal
+abbrev pub status_of : Refusal → ℕ
+status_of Malformed = 1
+status_of OtherShape = 2
+status_of OtherScheme = 3
+
+-- the 24 bytes are the header of this query, and it is the scheme's
+pub record IsOfScheme (service : Service) (header : List ℕ) (query : QueryHeader) : Type 0 where
+  pub is : IsQueryHeader header query
+  pub scheme : query.scheme ≡ service.scheme
+
+-- what is judged of the 24 bytes of a header
+abbrev pub Judges : Service → List ℕ → Result (Unit {0}) Refusal → Type 0
+Judges service header (Ok _) = (query : QueryHeader) × IsOfScheme service header query × IsShaped service query
+Judges service header (Err Malformed) = (query : QueryHeader) → IsQueryHeader header query → ⊥
+Judges service header (Err OtherScheme) = (query : QueryHeader) × IsQueryHeader header query × (query.scheme ≢ service.scheme)
+Judges service header (Err OtherShape) = (query : QueryHeader) × IsOfScheme service header query × (IsShaped service query → ⊥)
+
+-- the guest was given the frame, and is met with `met`; or a call failed when it had taken a proper front of the frame
+abbrev pub Gives : Met → List ℕ → Met → World → World → Type 0
+Gives met frame result old new = ((result ≡ met) × (new.at 6 ≡ gave frame (old.at 6))) ⊎ ((result ≡ GuestFault) × FailsWithin 6 frame old new)
+
+-- the payload of a query was taken whole
+pub record Takes (database : Database) (query : List ℕ) (old new : World) : Type 0 where
+  pub before : List ℕ
+  pub size : length query ≡ length database.rows
+  pub hands : Hands 6 (length before) before query old new
+  pub full : length before ≡ length query
+
+-- the payload of a query was taken, and its answer given
+pub record Finishes (database : Database) (header : List ℕ) (met : Met) (old new : World) : Type 0 where
+  pub query : List ℕ
+  pub mid : World
+  pub takes : Takes database query old mid
+  pub gives : Gives Served (answer_frame database header query) met mid new
+
+-- the guest ended before its payload was whole
+pub record Stops (database : Database) (old new : World) : Type 0 where
+  pub n : ℕ
+  pub before : List ℕ
+  pub after : List ℕ
+  pub size : length before ≡ length database.rows
+  pub ends : Ends 6 n before after old new
+
+-- what is done once the header suits
+abbrev pub Answers : Database → List ℕ → Met → World → World → Type 0
+Answers database header met old new = Finishes database header met old new ⊎ ((met ≡ Gone) × Stops database old new) ⊎ ((met ≡ GuestFault) × FailsShort 6 (length database.rows) old new)

@@ -1,0 +1,15 @@
+//! How a guest is met.
+
+/// What became of a guest.
+#[derive(Clone, Copy, Debug, PartialEq, Eq)]
+pub enum Met {
+    /// Its query was answered: the frame of status 0, with the product, was given whole.
+    Served,
+    /// Its query was refused by a frame of this status alone, given whole: 1 where its first 24 bytes are no header of a
+    /// query, 2 where the query is for a database of another shape, 3 where it is of another scheme.
+    Refused(u8),
+    /// It ended before its query was whole, and was given nothing.
+    Gone,
+    /// A call on it failed. What it was given is a front of the reply.
+    GuestFault,
+}
