@@ -1,0 +1,8 @@
+-- Four rows at once.
+use Rattle.std.specs.Prelude.{ℕ, List, slice_index}
+use Rattle.gf256.specs.Field.{◌⊕◌, ◌⊗◌}
+
+-- place k of the sum of four rows, each times its factor
+unfoldable pub four_at : List ℕ → List ℕ → List ℕ → List ℕ → ℕ → ℕ → ℕ → ℕ → ℕ → ℕ
+four_at a b c d fa fb fc fd k =
+    fa ⊗ slice_index a k ⊕ fb ⊗ slice_index b k ⊕ fc ⊗ slice_index c k ⊕ fd ⊗ slice_index d k

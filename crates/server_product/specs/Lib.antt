@@ -1,0 +1,3 @@
+pub mod FourRows
+pub mod Runs
+pub mod Parts

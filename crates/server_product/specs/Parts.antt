@@ -1,0 +1,12 @@
+-- Which rows each worker adds up.
+use Rattle.std.specs.Prelude.{ℕ, ◌+◌, ◌*◌, ◌/◌, List, length}
+use Rattle.server_product.specs.Runs.{run_sum}
+
+-- the first row of a worker, which is where the worker before it ends
+abbrev pub first_row : ℕ → ℕ → ℕ → ℕ
+first_row rows workers worker = worker * rows / workers
+
+-- column c of what a worker adds up: the sum over its rows
+abbrev pub part : List ℕ → List (List ℕ) → ℕ → ℕ → ℕ → ℕ
+part query rows workers worker c =
+    run_sum query rows c (first_row (length rows) workers worker) (first_row (length rows) workers (worker + 1))

@@ -1,0 +1,20 @@
+//! The server's product of a query and a database (Goldberg 2007): in each column the sum over all rows of the query's
+//! byte for the row times the row's byte.
+//!
+//! Promised: [`product_into`] gives exactly this product, for each shape of a database and each number of workers from 1 to
+//! 16; it is the product that [`plain_into`] computes row by row, in one loop. No call takes memory, and none can fail.
+//!
+//! Not promised: that the workers run at the same time, or anything of time. Which bytes are read doesn't depend on the
+//! query, but how long a product of two bytes takes may.
+#![tactic(auto)]
+
+mod gate;
+mod plain;
+mod four_rows;
+mod runs;
+mod whole;
+
+pub use gate::{Gate, OpenGate};
+pub use plain::plain_into;
+pub use runs::mul_add_row;
+pub use whole::product_into;
