@@ -1,2 +1,3 @@
 pub mod LaneSums
 pub mod RunSums
+pub mod Workers

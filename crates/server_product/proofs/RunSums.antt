@@ -1,8 +1,10 @@
 -- Sums over runs of rows.
-use Rattle.std.proofs.Common.{◌≡◌, ℕ, zero, suc, ◌+◌, ◌*◌, ◌-◌, ◌≤◌, ◌<◌, List, [], length, slice_index, slice_index_or, refl, sym, ap, ap₂, ◌∙◌, arith, add-suc, add-one}
+use Rattle.std.proofs.Common.{◌≡◌, ℕ, zero, suc, ◌+◌, ◌*◌, ◌-◌, ◌≤◌, ◌<◌, List, [], length, get_or, slice_index, slice_index_or, refl, sym, ap, ap₂, ◌∙◌, arith, add-suc, add-one}
+use Rattle.std.proofs.lemmas.List.{same_lists, get_or_default}
+use Rattle.std.proofs.lemmas.List.FromFn.{length-map-range_with_len, get_or-map-range_with_len}
 use Rattle.gf256.specs.Field.{◌⊕◌, ◌⊗◌}
 use Rattle.gf256.specs.Sums.{sum_to}
-use Rattle.gf256.specs.Product.{product_at}
+use Rattle.gf256.specs.Product.{product_at, product}
 use Rattle.gf256.proofs.Xor.{sums, add_zero, add_swap, add_self_left}
 use Rattle.gf256.proofs.Sums.{sum_to-append, sum_to-same}
 use Rattle.server_product.specs.FourRows.{four_at}
@@ -110,3 +112,19 @@ pub four-terms : (q : List ℕ) (rows : List (List ℕ)) (c i j k l : ℕ) (ri r
 unfolding four_at term
 four-terms q rows c i j k l ri rj rk rl fi fj fk fl ei ej ek el gi gj gk gl =
     λ t. four_at (ei t) (ej t) (ek t) (el t) (gi t) (gj t) (gk t) (gl t) c
+
+-- one more row of all
+pub term-next : (q : List ℕ) (rows : List (List ℕ)) (c j sum next : ℕ) → sum ≡ sum_to (term q rows c) j
+    → next ≡ sum ⊕ slice_index q j ⊗ slice_index (slice_index_or rows j []) c → next ≡ sum_to (term q rows c) (j + 1)
+unfolding sum_to term
+term-next q rows c j sum next e is = is ∙ ap (λ s. s ⊕ term q rows c j) e ∙ sym (ap (sum_to (term q rows c)) (add-one j))
+
+-- the bytes of the product
+pub product-is : (q out : List ℕ) (rows : List (List ℕ)) (width : ℕ) → length out ≡ width
+    → ((k : ℕ) → k < width → get_or out k 0 ≡ product_at q rows k) → out ≡ product rows width q
+unfolding product
+product-is q out rows width size is =
+    same_lists _ _ (size ∙ sym (length-map-range_with_len (product_at q rows) 0 width))
+    (λ k d l.
+    get_or_default out k d 0 l ∙ is k (omega arith)
+    ∙ sym (get_or-map-range_with_len (product_at q rows) 0 width k k d (omega arith) (omega arith)))
