@@ -1,13 +1,13 @@
 -- Sums of lanes with places of a list, in pieces.
 use Rattle.std.proofs.Common.{◌≡◌, ℕ, ◌+◌, ◌-◌, ◌<◌, ◌≤◌, List, length, get_or, bit_xor, set, refl, sym, ap, ap₂, subst, ◌∙◌, arith, inl, inr}
 use Rattle.std.specs.Simd.Lanes.{zip2, chunk, put_chunk}
-use Rattle.std.proofs.lemmas.Bool.{cases_lt, cases_eq}
+use Rattle.std.proofs.lemmas.Bool.{cases_lt}
 use Rattle.std.proofs.lemmas.List.{get_or_past, get_or-set_same, get_or-set_other}
 use Rattle.std.proofs.lemmas.Simd.{length-chunk, length-zip2, get_or-chunk, get_or-zip2, get_or-put_chunk_at, get_or-put_chunk_below, get_or-put_chunk_above}
 use Rattle.gf256.specs.Field.{◌⊕◌, ◌⊗◌}
-use Rattle.gf256.proofs.Xor.{sums, add_zero, add_assoc}
+use Rattle.gf256.proofs.Xor.{add_zero, add_assoc}
 use Rattle.gf256.proofs.FieldLaws.{mul_zero}
-use Rattle.server_product.specs.FourRows.{four_at}
+use Rattle.server_product.specs.FourRows.{four_at, AreProducts}
 
 -- `new` is `old` plus g in the places below n, and `old` in the others
 pub record IsSummed (new old : List ℕ) (g : ℕ → ℕ) (n : ℕ) : Type 0 where
@@ -82,11 +82,7 @@ pub four-same : (a b c d : List ℕ) (fa fb fc fd ga gb gc gd k : ℕ) → ga �
     → four_at a b c d ga gb gc gd k ≡ four_at a b c d fa fb fc fd k
 four-same a b c d fa fb fc fd ga gb gc gd k ea eb ec ed = λ i. four_at a b c d (ea i) (eb i) (ec i) (ed i) k
 
--- the products of 16 places of a row from `at` on
-pub record AreProducts (products row : List ℕ) (f at : ℕ) : Type 0 where
-  pub size : length products ≡ 16
-  pub lanes : (k : ℕ) → k < 16 → get_or products k 0 ≡ f ⊗ get_or row (at + k) 0
-
+-- four terms, one by one or as one
 plus-four : (x a b c d : ℕ) → x ⊕ a ⊕ b ⊕ c ⊕ d ≡ x ⊕ (a ⊕ b ⊕ c ⊕ d)
 plus-four x a b c d = simp add_assoc
 
@@ -95,19 +91,25 @@ module _ (acc a b c d pa pb pc pd : List ℕ) (fa fb fc fd at : ℕ) (room : at 
     (is_a : AreProducts pa a fa at) (is_b : AreProducts pb b fb at) (is_c : AreProducts pc c fc at) (is_d : AreProducts pd d fd at) where
   abbrev lanes_a : List ℕ
   lanes_a = zip2 bit_xor (chunk at 16 acc) pa
+
   abbrev lanes_b : List ℕ
   lanes_b = zip2 bit_xor lanes_a pb
+
   abbrev lanes_c : List ℕ
   lanes_c = zip2 bit_xor lanes_b pc
+
   abbrev pub lanes_d : List ℕ
   lanes_d = zip2 bit_xor lanes_c pd
 
   size_a : length lanes_a ≡ 16
   size_a = length-zip2 bit_xor (chunk at 16 acc) pa (length-chunk at 16 acc room ∙ sym is_a.size) ∙ length-chunk at 16 acc room
+
   size_b : length lanes_b ≡ 16
   size_b = length-zip2 bit_xor lanes_a pb (size_a ∙ sym is_b.size) ∙ size_a
+
   size_c : length lanes_c ≡ 16
   size_c = length-zip2 bit_xor lanes_b pc (size_b ∙ sym is_c.size) ∙ size_b
+
   pub four-size : length lanes_d ≡ 16
   four-size = length-zip2 bit_xor lanes_c pd (size_c ∙ sym is_d.size) ∙ size_c
 
@@ -124,10 +126,10 @@ module _ (acc a b c d pa pb pc pd : List ℕ) (fa fb fc fd at : ℕ) (room : at 
       (one_more lanes_a pb k size_a is_b.size l
       ∙ ap₂ bit_xor
       (one_more (chunk at 16 acc) pa k (length-chunk at 16 acc room) is_a.size l
-      ∙ ap₂ bit_xor (get_or-chunk at 16 acc k 0 l) (is_a.lanes k l))
-      (is_b.lanes k l))
-      (is_c.lanes k l))
-      (is_d.lanes k l)
+      ∙ ap₂ bit_xor (get_or-chunk at 16 acc k 0 l) (is_a.each k l))
+      (is_b.each k l))
+      (is_c.each k l))
+      (is_d.each k l)
       ∙ plus-four (get_or acc (at + k) 0) (fa ⊗ get_or a (at + k) 0) (fb ⊗ get_or b (at + k) 0) (fc ⊗ get_or c (at + k) 0) (fd ⊗ get_or d (at + k) 0)
 
 -- 16 places with their products with four rows, stored where they stand; `base` is what was read

@@ -2,7 +2,7 @@
 
 ghost use Rattle.std.specs.Prelude.{◌≡◌, ℕ, ◌+◌, ◌<◌, ◌≤◌, length, slice_index};
 ghost use Rattle.gf256.specs.Field.{◌⊕◌, ◌⊗◌};
-ghost use Rattle.server_product.specs.FourRows.{four_at};
+ghost use Rattle.server_product.specs.FourRows.{four_at, AreProducts};
 
 use gf256::mul;
 use gf256::rows::Products;
@@ -19,13 +19,13 @@ pub struct Scaled<'a> {
 #[inline(always)]
 fn products_at(row: &[u8], products: &Products, at: usize) -> u8x16
     requires { at + 16 ≤ length row.now }
-    ensures length { length result ≡ 16 }
-    ensures lanes { (k : ℕ) → k < 16 → slice_index result k ≡ products.now ⊗ slice_index row.now (at + k) }
+    ensures { AreProducts result row.now products.now at }
 {
     products.times(u8x16::from_slice(&row[at..]))
 }
 
-/// Adds the four rows, each times its factor, to `acc`: each is as long.
+/// Adds the four rows, each times its factor, to `acc`: each is as long. The last 16 places may overlap those before, so
+/// their sums are taken from what stood there at first.
 pub fn add_four_rows(acc: &mut [u8], a: Scaled, b: Scaled, c: Scaled, d: Scaled)
     requires a { length a.row.now ≡ length acc.old }
     requires b { length b.row.now ≡ length acc.old }
@@ -33,7 +33,7 @@ pub fn add_four_rows(acc: &mut [u8], a: Scaled, b: Scaled, c: Scaled, d: Scaled)
     requires d { length d.row.now ≡ length acc.old }
     ensures { (k : ℕ) → slice_index acc.new k ≡ slice_index acc.old k
         ⊕ four_at a.entry.row.now b.entry.row.now c.entry.row.now d.entry.row.now
-            a.entry.factor b.entry.factor c.entry.factor d.entry.factor k }
+        a.entry.factor b.entry.factor c.entry.factor d.entry.factor k }
 {
     if acc.len() < 16 {
         return add_four_short(acc, a, b, c, d);
@@ -43,11 +43,7 @@ pub fn add_four_rows(acc: &mut [u8], a: Scaled, b: Scaled, c: Scaled, d: Scaled)
     let by_c = Products::of(c.factor);
     let by_d = Products::of(d.factor);
     let last = acc.len() - 16;
-    let end = u8x16::from_slice(&acc[last..])
-        ^ products_at(a.row, &by_a, last)
-        ^ products_at(b.row, &by_b, last)
-        ^ products_at(c.row, &by_c, last)
-        ^ products_at(d.row, &by_d, last);
+    let end = u8x16::from_slice(&acc[last..]);
     let mut at = 0;
     'lanes: while at < last {
         let sum = u8x16::from_slice(&acc[at..])
@@ -58,7 +54,12 @@ pub fn add_four_rows(acc: &mut [u8], a: Scaled, b: Scaled, c: Scaled, d: Scaled)
         sum.copy_to_slice(&mut acc[at..]);
         at += 16;
     }
-    end.copy_to_slice(&mut acc[last..]);
+    let sum = end
+        ^ products_at(a.row, &by_a, last)
+        ^ products_at(b.row, &by_b, last)
+        ^ products_at(c.row, &by_c, last)
+        ^ products_at(d.row, &by_d, last);
+    sum.copy_to_slice(&mut acc[last..]);
 }
 
 /// The same for rows of fewer than 16 bytes.
@@ -69,7 +70,7 @@ fn add_four_short(acc: &mut [u8], a: Scaled, b: Scaled, c: Scaled, d: Scaled)
     requires d { length d.row.now ≡ length acc.old }
     ensures { (k : ℕ) → slice_index acc.new k ≡ slice_index acc.old k
         ⊕ four_at a.entry.row.now b.entry.row.now c.entry.row.now d.entry.row.now
-            a.entry.factor b.entry.factor c.entry.factor d.entry.factor k }
+        a.entry.factor b.entry.factor c.entry.factor d.entry.factor k }
 {
     for i in 0..acc.len() {
         acc[i] ^= mul(a.factor, a.row[i])

@@ -8,10 +8,12 @@
 //! query, but how long a product of two bytes takes may.
 #![tactic(auto)]
 
+mod four_rows;
 mod gate;
 mod plain;
-mod four_rows;
 mod runs;
+#[cfg(test)]
+mod tests;
 mod whole;
 
 pub use gate::{Gate, OpenGate};

@@ -81,7 +81,14 @@ fn sum_parts<R: Threads + Sync, G: Gate + Sync>(
 }
 
 /// What the worker does whose sums begin at `start` in the scratch.
-fn sum_part<G: Gate>(matrix: &Matrix, q: &[u8], workers: u32, start: usize, gate: &G, sums: &mut [u8])
+fn sum_part<G: Gate>(
+    matrix: &Matrix,
+    q: &[u8],
+    workers: u32,
+    start: usize,
+    gate: &G,
+    sums: &mut [u8],
+)
     requires some { (1 ≤ matrix.now.width) × (length matrix.now.rows ≤ 2 ^ 20) }
     requires few { workers ≤ 16 }
     requires multiple { start % matrix.now.width ≡ 0 }

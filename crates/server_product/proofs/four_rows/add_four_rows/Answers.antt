@@ -1,7 +1,7 @@
-use Rattle.std.proofs.Common.{◌≡◌, ℕ, ◌+◌, ◌-◌, ◌≤◌, List, length, slice_index, refl, ap, subst, sym, ◌∙◌, arith}
+use Rattle.std.proofs.Common.{◌≡◌, ◌+◌, ◌-◌, length, slice_index, refl, ap, ◌∙◌, arith}
 use Rattle.gf256.specs.Field.{◌⊕◌}
 use Rattle.server_product.specs.FourRows.{four_at}
-use Rattle.server_product.proofs.LaneSums.{IsSummed, summed-none, summed-all, four-past, four-same, AreProducts, four-put}
+use Rattle.server_product.proofs.LaneSums.{summed-none, summed-all, four-past, four-same, four-put}
 use Rattle.server_product.proofs.four_rows.add_four_rows.Goals as goal
 
 pub lanes-init : goal.lanes-init
@@ -14,28 +14,27 @@ pub lanes-preserved : goal.lanes-preserved
 lanes-preserved c =
     let at = c.lanes.at in
     let acc = c.lanes.acc in
-    let p = c.products_at-in-lanes in
-    let p2 = c.products_at-in-lanes-2 in
-    let p3 = c.products_at-in-lanes-3 in
-    let p4 = c.products_at-in-lanes-4 in
+    let p = c.products_at in
+    let p2 = c.products_at-in-lanes in
+    let p3 = c.products_at-in-lanes-2 in
+    let p4 = c.products_at-in-lanes-3 in
     record {
       within = omega arith;
       summed =
           four-put acc c.args.acc.now acc c.args.a.row.now c.args.b.row.now c.args.c.row.now c.args.d.row.now
           p.result p2.result p3.result p4.result c.of-by_a.result c.of-by_b.result c.of-by_c.result c.of-by_d.result at at
           (omega arith) refl (omega arith) (omega arith) c.lanes.invariant.summed.after
-          (record { size = p.ensures.length; lanes = p.ensures.lanes }) (record { size = p2.ensures.length; lanes = p2.ensures.lanes })
-          (record { size = p3.ensures.length; lanes = p3.ensures.lanes }) (record { size = p4.ensures.length; lanes = p4.ensures.lanes })
+          p.ensures p2.ensures p3.ensures p4.ensures
           c.lanes.invariant.summed;
     }
 
 pub returns : goal.returns
 returns c = λ k.
     let old = c.args.acc.now in
-    let p = c.products_at in
-    let p2 = c.products_at-2 in
-    let p3 = c.products_at-3 in
-    let p4 = c.products_at-4 in
+    let p = c.products_at-2 in
+    let p2 = c.products_at-3 in
+    let p3 = c.products_at-4 in
+    let p4 = c.products_at-5 in
     let a = c.args.a in
     let b = c.args.b in
     let third = c.args.c in
@@ -51,7 +50,6 @@ returns c = λ k.
     (four-put c.lanes.acc old old a.row.now b.row.now third.row.now d.row.now
     p.result p2.result p3.result p4.result fa fb fc fd last c.lanes.at
     (omega arith) (omega arith) c.lanes-test.false c.lanes.invariant.within (λ j l. refl)
-    (record { size = p.ensures.length; lanes = p.ensures.lanes }) (record { size = p2.ensures.length; lanes = p2.ensures.lanes })
-    (record { size = p3.ensures.length; lanes = p3.ensures.lanes }) (record { size = p4.ensures.length; lanes = p4.ensures.lanes })
+    p.ensures p2.ensures p3.ensures p4.ensures
     c.lanes.invariant.summed) k
     ∙ ap (◌⊕◌ (slice_index old k)) (four-same a.row.now b.row.now third.row.now d.row.now a.factor b.factor third.factor d.factor fa fb fc fd k c.of-by_a.ensures c.of-by_b.ensures c.of-by_c.ensures c.of-by_d.ensures)

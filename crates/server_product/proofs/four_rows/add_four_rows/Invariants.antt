@@ -1,4 +1,4 @@
-use Rattle.std.proofs.Common.{ℕ, ◌-◌, ◌+◌, ◌≤◌}
+use Rattle.std.proofs.Common.{◌-◌, ◌+◌, ◌≤◌}
 use Rattle.server_product.specs.FourRows.{four_at}
 use Rattle.server_product.proofs.LaneSums.{IsSummed}
 use Rattle.server_product.proofs.four_rows.add_four_rows.Given as goal

@@ -1,4 +1,4 @@
-use Rattle.std.proofs.Common.{◌≡◌, ℕ, ◌+◌, length, refl, subst, ap₂, sym, ◌∙◌, arith}
+use Rattle.std.proofs.Common.{◌≡◌, length, refl, subst, arith}
 use Rattle.server_product.specs.FourRows.{four_at}
 use Rattle.server_product.proofs.LaneSums.{IsSummed, summed-none, summed-place, summed-all, four-past, four-place}
 use Rattle.server_product.proofs.four_rows.add_four_short.Goals as goal

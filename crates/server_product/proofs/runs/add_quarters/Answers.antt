@@ -1,7 +1,6 @@
 use Rattle.std.proofs.Common.{◌≡◌, ◌∙◌, ◌+◌, ◌*◌, sym, ap, ap₂, arith, slice_index}
 use Rattle.gf256.specs.Field.{◌⊕◌}
 use Rattle.gf256.proofs.Xor.{add_zero, add_assoc}
-use Rattle.server_product.specs.Runs.{run_sum, term}
 use Rattle.server_product.proofs.RunSums.{quarters, quarters-none, quarters-next, quarters-all, four-terms}
 use Rattle.server_product.proofs.runs.add_quarters.Goals as goal
 

@@ -1,7 +1,7 @@
 use Rattle.std.proofs.Common.{◌≡◌, ◌∙◌, ◌+◌, ◌-◌, ◌*◌, ◌/◌, length, ap, ap₂, sym, arith, slice_index, take, drop}
 use Rattle.gf256.specs.Field.{◌⊕◌}
 use Rattle.server_product.specs.Runs.{run_sum}
-use Rattle.server_product.specs.Parts.{first_row, part}
+use Rattle.server_product.specs.Parts.{part}
 use Rattle.server_product.proofs.RunSums.{run-none, run-all, product-is}
 use Rattle.server_product.proofs.Workers.{at-range, first-zero, first-all, next-part}
 use Rattle.server_product.proofs.whole.product_into.Goals as goal

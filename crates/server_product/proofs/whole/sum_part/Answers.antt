@@ -1,4 +1,4 @@
-use Rattle.std.proofs.Common.{◌≡◌, ◌≤◌, ◌<◌, ◌+◌, ◌*◌, ◌/◌, length, subst, sym, ap, ap₂, ◌∙◌, arith}
+use Rattle.std.proofs.Common.{◌≤◌, ◌<◌, ◌+◌, ◌*◌, ◌/◌, length, subst, sym, arith}
 use Rattle.server_product.proofs.Workers.{first-within, worker-below}
 use Rattle.server_product.proofs.whole.sum_part.Goals as goal
 
