@@ -1,101 +1,16 @@
 -- Products with one factor, by lanes.
-use Rattle.std.proofs.Common.{◌≡◌, ℕ, ◌+◌, ◌*◌, ◌/◌, ◌%◌, ◌^◌, ◌<◌, ◌≤◌, List, [], ◌∷◌, length, map, get_or, bit_and, bit_xor, nat_eq, nat_le, true, false, cond, inl, inr, eqb-true, refl, sym, ap, ap₂, ◌∙◌, arith, lit<, w8}
+use Rattle.std.proofs.Common.{◌≡◌, ℕ, ◌+◌, ◌*◌, ◌/◌, ◌%◌, ◌^◌, ◌<◌, ◌≤◌, List, length, map, get_or, bit_and, bit_xor, nat_le, false, cond, inl, inr, refl, sym, ap, ap₂, ◌∙◌, arith, lit<, w8}
 use Rattle.std.specs.Prelude.{replicate}
 use Rattle.std.specs.List.{range_with_len}
-use Rattle.std.specs.Int.Bits.{and_zero_r}
 use Rattle.std.specs.Simd.Lanes.{zip2, sel_l, top}
 use Rattle.std.proofs.lemmas.Bool.{cases_lt, le-leb, lt-leb}
 use Rattle.std.proofs.lemmas.List.{length-map, get_or-map, same_lists, get_or_past}
 use Rattle.std.proofs.lemmas.List.FromFn.{get_or-range_with_len, get_or-map-range_with_len}
 use Rattle.std.proofs.lemmas.Nat.{and_mask, mod_below}
 use Rattle.std.proofs.lemmas.Simd.{Each1-from_get_or, SwzOk, SwzOk-from_below, swz_l, length-zip2, length-swz_l, length-replicate, get_or-zip2, get_or-swz_l_below, get_or-replicate, tops_compared, length-sel_l, get_or-sel_l}
-use Rattle.gf256.specs.Field.{◌⊕◌, ◌⊗◌, carryless, reduced}
-use Rattle.gf256.proofs.Below.{all_below, all_below-at}
+use Rattle.gf256.specs.Field.{◌⊕◌, ◌⊗◌}
 use Rattle.gf256.proofs.Xor.{add_comm, add_parts}
-use Rattle.gf256.proofs.FieldLaws.{mul_add, mul_zero, mul_one, mul_assoc}
-
--- ---- the products with 0 to 15
-
--- a number below 128 doubles as a plain number
-twice_ok : all_below (λ x. nat_eq (x ⊗ 2) (x * 2)) 128 ≡ true
-unfolding all_below ◌⊗◌ ◌⊕◌ carryless reduced
-twice_ok = refl
-
--- the double of one multiple is the next power's
-pub doubled : (one x y b : ℕ) → b < 128 → x ≡ one ⊗ b → y ≡ x ⊗ 2 → y ≡ one ⊗ (b * 2)
-doubled one x y b small e h =
-    h ∙ ap (λ z. z ⊗ 2) e ∙ mul_assoc one b 2
-    ∙ ap (λ z. one ⊗ z) (eqb-true _ _ (all_below-at (λ x. nat_eq (x ⊗ 2) (x * 2)) 128 b twice_ok small))
-
--- the sum of four products with one factor
-plus4 : {w x y z : ℕ} (one a b c d : ℕ) → w ≡ one ⊗ a → x ≡ one ⊗ b → y ≡ one ⊗ c → z ≡ one ⊗ d
-    → bit_xor (bit_xor (bit_xor w x) y) z ≡ one ⊗ bit_xor (bit_xor (bit_xor a b) c) d
-unfolding ◌⊕◌
-plus4 one a b c d e f g h =
-    ap₂ bit_xor (ap₂ bit_xor (ap₂ bit_xor e f) g) h
-    ∙ sym (mul_add one (bit_xor (bit_xor a b) c) d ∙ ap (λ s. bit_xor s (one ⊗ d)) (mul_add one (bit_xor a b) c ∙ ap (λ s. bit_xor s (one ⊗ c)) (mul_add one a b)))
-
--- a mask of ones keeps a product
-kept : (one x b : ℕ) → x < 256 → x ≡ one ⊗ b → bit_and x 255 ≡ one ⊗ b
-kept one x b byte e = and_mask x 8 ∙ omega arith ∙ e
-
--- a mask of zeros leaves that with 0
-dropped : (one x : ℕ) → bit_and x 0 ≡ one ⊗ 0
-dropped one x = and_zero_r x ∙ sym (mul_zero one)
-
--- a number times 0 to 15, by its products with 1, 2, 4 and 8 under the masks of the bits
-pub multiples_are : (one two four eight : ℕ) → one < 256 → two < 256 → four < 256 → eight < 256 → two ≡ one ⊗ 2 → four ≡ one ⊗ 4 → eight ≡ one ⊗ 8
-    → bit_xor (bit_xor (bit_xor (bit_and one 0) (bit_and two 0)) (bit_and four 0)) (bit_and eight 0)
-    ∷ bit_xor (bit_xor (bit_xor (bit_and one 255) (bit_and two 0)) (bit_and four 0)) (bit_and eight 0)
-    ∷ bit_xor (bit_xor (bit_xor (bit_and one 0) (bit_and two 255)) (bit_and four 0)) (bit_and eight 0)
-    ∷ bit_xor (bit_xor (bit_xor (bit_and one 255) (bit_and two 255)) (bit_and four 0)) (bit_and eight 0)
-    ∷ bit_xor (bit_xor (bit_xor (bit_and one 0) (bit_and two 0)) (bit_and four 255)) (bit_and eight 0)
-    ∷ bit_xor (bit_xor (bit_xor (bit_and one 255) (bit_and two 0)) (bit_and four 255)) (bit_and eight 0)
-    ∷ bit_xor (bit_xor (bit_xor (bit_and one 0) (bit_and two 255)) (bit_and four 255)) (bit_and eight 0)
-    ∷ bit_xor (bit_xor (bit_xor (bit_and one 255) (bit_and two 255)) (bit_and four 255)) (bit_and eight 0)
-    ∷ bit_xor (bit_xor (bit_xor (bit_and one 0) (bit_and two 0)) (bit_and four 0)) (bit_and eight 255)
-    ∷ bit_xor (bit_xor (bit_xor (bit_and one 255) (bit_and two 0)) (bit_and four 0)) (bit_and eight 255)
-    ∷ bit_xor (bit_xor (bit_xor (bit_and one 0) (bit_and two 255)) (bit_and four 0)) (bit_and eight 255)
-    ∷ bit_xor (bit_xor (bit_xor (bit_and one 255) (bit_and two 255)) (bit_and four 0)) (bit_and eight 255)
-    ∷ bit_xor (bit_xor (bit_xor (bit_and one 0) (bit_and two 0)) (bit_and four 255)) (bit_and eight 255)
-    ∷ bit_xor (bit_xor (bit_xor (bit_and one 255) (bit_and two 0)) (bit_and four 255)) (bit_and eight 255)
-    ∷ bit_xor (bit_xor (bit_xor (bit_and one 0) (bit_and two 255)) (bit_and four 255)) (bit_and eight 255)
-    ∷ bit_xor (bit_xor (bit_xor (bit_and one 255) (bit_and two 255)) (bit_and four 255)) (bit_and eight 255) ∷ []
-    ≡ map (λ i. one ⊗ i) (range_with_len 0 16)
-multiples_are one two four eight b1 b2 b4 b8 e2 e4 e8 =
-    let k1 = kept one one 1 b1 (sym (mul_one one b1)) in
-    let k2 = kept one two 2 b2 e2 in
-    let k4 = kept one four 4 b4 e4 in
-    let k8 = kept one eight 8 b8 e8 in
-    let n1 = dropped one one in
-    let n2 = dropped one two in
-    let n4 = dropped one four in
-    let n8 = dropped one eight in
-    λ i. plus4 one 0 0 0 0 n1 n2 n4 n8 i
-    ∷ plus4 one 1 0 0 0 k1 n2 n4 n8 i
-    ∷ plus4 one 0 2 0 0 n1 k2 n4 n8 i
-    ∷ plus4 one 1 2 0 0 k1 k2 n4 n8 i
-    ∷ plus4 one 0 0 4 0 n1 n2 k4 n8 i
-    ∷ plus4 one 1 0 4 0 k1 n2 k4 n8 i
-    ∷ plus4 one 0 2 4 0 n1 k2 k4 n8 i
-    ∷ plus4 one 1 2 4 0 k1 k2 k4 n8 i
-    ∷ plus4 one 0 0 0 8 n1 n2 n4 k8 i
-    ∷ plus4 one 1 0 0 8 k1 n2 n4 k8 i
-    ∷ plus4 one 0 2 0 8 n1 k2 n4 k8 i
-    ∷ plus4 one 1 2 0 8 k1 k2 n4 k8 i
-    ∷ plus4 one 0 0 4 8 n1 n2 k4 k8 i
-    ∷ plus4 one 1 0 4 8 k1 n2 k4 k8 i
-    ∷ plus4 one 0 2 4 8 n1 k2 k4 k8 i
-    ∷ plus4 one 1 2 4 8 k1 k2 k4 k8 i ∷ []
-
--- the shift of a byte from which the polynomial is taken
-double_ok : all_below (λ x. nat_eq (bit_xor (bit_and x 127 * 2) (x / 2 ^ 7 * 27)) (x ⊗ 2)) 256 ≡ true
-unfolding all_below ◌⊗◌ ◌⊕◌ carryless reduced
-double_ok = refl
-
--- it is the product with 2
-pub double_is : (x : ℕ) → x < 256 → bit_xor (bit_and x 127 * 2) (x / 2 ^ 7 * 27) ≡ x ⊗ 2
-double_is x byte = eqb-true _ _ (all_below-at (λ x. nat_eq (bit_xor (bit_and x 127 * 2) (x / 2 ^ 7 * 27)) (x ⊗ 2)) 256 x double_ok byte)
+use Rattle.gf256.proofs.FieldLaws.{mul_add}
 
 -- the high four bits of each lane
 abbrev pub down : ℕ → ℕ → ℕ
@@ -175,21 +90,6 @@ module _ (v : List ℕ) (long : length v ≡ 16) where
       ∙ get_or-map-range_with_len (λ i. f ⊗ (i * 16)) 0 16 (x / 16) (x / 16) 0 (let b = bytes k small in omega arith) (omega arith))
       ∙ halves f x
       ∙ sym (get_or-map (λ x. f ⊗ x) v k 0 d (omega arith)))
-
--- 16 times a number below 16 is a shift
-shifts_ok : all_below (λ i. nat_eq (16 ⊗ i) (i * 16)) 16 ≡ true
-unfolding all_below ◌⊗◌ ◌⊕◌ carryless reduced
-shifts_ok = refl
-
--- the products with 0, 16, .. 240, by those of 16 times the factor
-pub shifted_multiples : (f g : ℕ) → g ≡ f ⊗ 16 → map (λ i. g ⊗ i) (range_with_len 0 16) ≡ map (λ i. f ⊗ (i * 16)) (range_with_len 0 16)
-shifted_multiples f g e =
-    same_lists _ _ refl
-    (λ k d l.
-    get_or-map-range_with_len (λ i. g ⊗ i) 0 16 k k d (omega arith) (omega arith)
-    ∙ ap (λ x. x ⊗ k) e ∙ mul_assoc f 16 k
-    ∙ ap (λ x. f ⊗ x) (eqb-true _ _ (all_below-at (λ i. nat_eq (16 ⊗ i) (i * 16)) 16 k shifts_ok (omega arith)))
-    ∙ sym (get_or-map-range_with_len (λ i. f ⊗ (i * 16)) 0 16 k k d (omega arith) (omega arith)))
 
 -- the lanes from the first n on
 module _ (bytes : List ℕ) (n : ℕ) (long : length bytes ≡ 16) where

@@ -1,4 +1,3 @@
-mod Nibbles
 mod Horner
 mod Rows
 pub mod Queries

@@ -1,15 +1,9 @@
-use Rattle.std.proofs.Common.{◌≡◌, ℕ, ◌*◌, ◌<◌, get_or, length}
+use Rattle.std.proofs.Common.{◌≡◌, ℕ, ◌<◌, get_or, length}
 use Rattle.gf256.specs.Field.{◌⊗◌}
 use Rattle.shamir_share.proofs.products.Products.of.Given as goal
 
 abbrev pub invariant-loop-x : goal.invariant-loop-x
 invariant-loop-x l = record {
   size : length l.table ≡ 256;
-  at : (k : ℕ) → k < l.x → get_or l.table k 0 ≡ l.factor ⊗ (k * 1);
-}
-
-abbrev pub invariant-loop-x-2 : goal.invariant-loop-x-2
-invariant-loop-x-2 l = record {
-  size : length l.high ≡ 16;
-  at : (k : ℕ) → k < l.x → get_or l.high k 0 ≡ l.factor ⊗ (k * 16);
+  at : (k : ℕ) → k < l.x → get_or l.table k 0 ≡ l.factor ⊗ k;
 }

@@ -11,10 +11,11 @@ lanes-preserved c =
     let at = c.lanes.at in
     let from = c.args.from.now in
     let f = ◌⊗◌ c.args.self.now in
-    let made = c.times_lanes.result in
-    let long : length made ≡ 16 = ap length c.times_lanes.ensures ∙ length-map (chunk at 16 from) f ∙ length-chunk at 16 from (omega arith) in
+    let made = c.times.result in
+    let is : made ≡ map f (chunk at 16 from) = c.times.ensures ∙ ap (λ a. map (◌⊗◌ a) (chunk at 16 from)) c.self.view_is in
+    let long : length made ≡ 16 = ap length is ∙ length-map (chunk at 16 from) f ∙ length-chunk at 16 from (omega arith) in
     record {
       within = omega (arith, length-put_chunk at c.lanes.into made);
       done = take_more_put_chunk at c.lanes.into made (at + 16) (omega arith) (omega arith)
-          ∙ ap₂ ◌++◌ c.lanes.invariant.done c.times_lanes.ensures ∙ sym (map-append f (take at from) (chunk at 16 from)) ∙ ap (map f) (sym (take-add at 16 from));
+          ∙ ap₂ ◌++◌ c.lanes.invariant.done is ∙ sym (map-append f (take at from) (chunk at 16 from)) ∙ ap (map f) (sym (take-add at 16 from));
     }

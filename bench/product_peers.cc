@@ -1,0 +1,189 @@
+// Peers of the server's product over GF(256): for each number of workers a line for each peer, with its name, the shape,
+// the number of workers, the best time of so many calls in nanoseconds, and the checksum of the result if its field is
+// ours. bench/product.sh builds it, with HAVE_ISAL and HAVE_GF_COMPLETE where those libraries are installed.
+// usage: product_peers ROWS WIDTH CALLS WORKERS..
+#include <algorithm>
+#include <chrono>
+#include <cinttypes>
+#include <cstdint>
+#include <cstdio>
+#include <cstdlib>
+#include <cstring>
+#include <thread>
+#include <vector>
+#ifdef HAVE_ISAL
+#include <isa-l/erasure_code.h>
+#endif
+#ifdef HAVE_GF_COMPLETE
+extern "C" {
+#include <gf_complete.h>
+}
+#endif
+
+using Byte = uint8_t;
+
+struct Case {
+  size_t rows, width;
+  const Byte *matrix, *query;
+};
+
+// What a worker does for the rows from `from` up to `to`: it adds their products to `sums`.
+using Kernel = void (*)(const Case &, size_t from, size_t to, Byte *sums);
+
+// ---- the classic loop: one look-up in a table of 256 x 256 products a byte
+
+static Byte products[256][256];
+
+static Byte product(unsigned a, unsigned b) {
+  unsigned sum = 0;
+  for (; b; b >>= 1) {
+    if (b & 1) sum ^= a;
+    a = a << 1 ^ (a >> 7) * 0x11B;
+  }
+  return sum;
+}
+
+static void by_table(const Case &c, size_t from, size_t to, Byte *sums) {
+  for (size_t j = from; j < to; j++) {
+    const Byte *row = c.matrix + j * c.width, *table = products[c.query[j]];
+    for (size_t i = 0; i < c.width; i++) sums[i] ^= table[row[i]];
+  }
+}
+
+// ---- ISA-L's multiply and add, in its own field, whose polynomial is 0x11D
+
+#ifdef HAVE_ISAL
+static void by_isal(const Case &c, size_t from, size_t to, Byte *sums) {
+  Byte table[32];
+  for (size_t j = from; j < to; j++) {
+    gf_vect_mul_init(c.query[j], table);
+    gf_vect_mad(c.width, 1, 0, table, const_cast<Byte *>(c.matrix + j * c.width), sums);
+  }
+}
+#endif
+
+// ---- gf-complete's multiplication of a region, in our field
+
+#ifdef HAVE_GF_COMPLETE
+static gf_t field;
+
+static void by_gf_complete(const Case &c, size_t from, size_t to, Byte *sums) {
+  for (size_t j = from; j < to; j++) {
+    field.multiply_region.w32(&field, const_cast<Byte *>(c.matrix + j * c.width), sums, c.query[j], c.width, 1);
+  }
+}
+#endif
+
+// ---- the limit of the machine: the same bytes are only read, in four streams
+
+using Lanes = uint64_t __attribute__((vector_size(32)));
+
+static void by_reading(const Case &c, size_t from, size_t to, Byte *sums) {
+  size_t quarter = (to - from) / 4 * c.width;
+  const Byte *start = c.matrix + from * c.width;
+  Lanes sum[4] = {};
+  for (size_t i = 0; i + 64 <= quarter; i += 64) {
+    for (size_t k = 0; k < 4; k++) {
+      Lanes pair[2];
+      memcpy(pair, start + k * quarter + i, 64);
+      sum[k] ^= pair[0] ^ pair[1];
+    }
+  }
+  sum[0] ^= sum[1] ^ sum[2] ^ sum[3];
+  sums[0] = sum[0][0] ^ sum[0][1] ^ sum[0][2] ^ sum[0][3];
+}
+
+// ---- one product, on so many threads
+
+static Byte *lanes_of(size_t bytes) {
+  void *place = aligned_alloc(64, (bytes + 63) / 64 * 64);
+  if (!place) {
+    fprintf(stderr, "no memory\n");
+    exit(1);
+  }
+  return static_cast<Byte *>(place);
+}
+
+static void multiply(const Case &c, Kernel kernel, size_t workers, Byte *scratch, size_t stride, Byte *out) {
+  auto part = [&](size_t worker) {
+    Byte *sums = scratch + worker * stride;
+    memset(sums, 0, c.width);
+    kernel(c, worker * c.rows / workers, (worker + 1) * c.rows / workers, sums);
+  };
+  std::vector<std::thread> threads;
+  for (size_t worker = 1; worker < workers; worker++) threads.emplace_back(part, worker);
+  part(0);
+  for (auto &thread : threads) thread.join();
+  memset(out, 0, c.width);
+  for (size_t worker = 0; worker < workers; worker++) {
+    for (size_t i = 0; i < c.width; i++) out[i] ^= scratch[worker * stride + i];
+  }
+}
+
+static void measure(const Case &c, const char *name, Kernel kernel, size_t workers, long calls, bool same_field) {
+  size_t stride = (c.width + 63) / 64 * 64;
+  Byte *scratch = lanes_of(workers * stride), *out = lanes_of(c.width);
+  int64_t best = INT64_MAX;
+  for (long call = 0; call < calls; call++) {
+    auto start = std::chrono::steady_clock::now();
+    multiply(c, kernel, workers, scratch, stride, out);
+    auto time = std::chrono::steady_clock::now() - start;
+    best = std::min<int64_t>(best, std::chrono::duration_cast<std::chrono::nanoseconds>(time).count());
+  }
+  uint64_t hash = 0xcbf29ce484222325;
+  for (size_t i = 0; i < c.width; i++) hash = (hash ^ out[i]) * 0x00000100000001b3;
+  printf("%s %zu %zu %zu %" PRId64 " ", name, c.rows, c.width, workers, best);
+  if (same_field) {
+    printf("%016" PRIx64 "\n", hash);
+  } else {
+    printf("-\n");
+  }
+  free(scratch);
+  free(out);
+}
+
+// Bytes that look random, eight from each number, as crates/bench_product makes them.
+static void fill(uint64_t &state, Byte *bytes, size_t count) {
+  for (size_t i = 0; i < count; i += 8) {
+    state ^= state << 13;
+    state ^= state >> 7;
+    state ^= state << 17;
+    memcpy(bytes + i, &state, std::min<size_t>(8, count - i));
+  }
+}
+
+int main(int argc, char **argv) {
+  if (argc < 5) {
+    fprintf(stderr, "usage: product_peers ROWS WIDTH CALLS WORKERS..\n");
+    return 2;
+  }
+  size_t rows = strtoul(argv[1], nullptr, 10), width = strtoul(argv[2], nullptr, 10);
+  long calls = strtol(argv[3], nullptr, 10);
+  for (unsigned a = 0; a < 256; a++) {
+    for (unsigned b = 0; b < 256; b++) products[a][b] = product(a, b);
+  }
+  Byte *matrix = lanes_of(rows * width), *query = lanes_of(rows);
+  uint64_t state = 88172645463325252;
+  fill(state, matrix, rows * width);
+  fill(state, query, rows);
+  Case c = {rows, width, matrix, query};
+#ifdef HAVE_GF_COMPLETE
+  if (!gf_init_hard(&field, 8, GF_MULT_DEFAULT, GF_REGION_DEFAULT, GF_DIVIDE_DEFAULT, 0x11B, 0, 0, nullptr, nullptr)) {
+    fprintf(stderr, "gf-complete doesn't make the field\n");
+    return 1;
+  }
+#endif
+  for (int i = 4; i < argc; i++) {
+    size_t workers = strtoul(argv[i], nullptr, 10);
+    measure(c, "reading", by_reading, workers, calls, false);
+#ifdef HAVE_ISAL
+    measure(c, "isal", by_isal, workers, calls, false);
+#endif
+#ifdef HAVE_GF_COMPLETE
+    // A region must begin as its sums do.
+    if (width % 16 == 0) measure(c, "gf-complete", by_gf_complete, workers, calls, true);
+#endif
+    // The table is slow: a tenth of the calls tells enough.
+    measure(c, "table", by_table, workers, std::max(calls / 10, 2L), true);
+  }
+}

@@ -1,0 +1,120 @@
+//! bench_product ROWS WIDTH CALLS WORKERS..: a product of a query and a matrix of that shape. For each number of workers it
+//! prints the shape, that number, the best time of so many calls in nanoseconds, and a checksum of the product. With no
+//! words it prints the checksums of a few small shapes, without times.
+#![tactic(auto)]
+
+ghost use Rattle.std.specs.Prelude.{◌≡◌, ◌*◌, ◌≤◌, length};
+
+use anyhow::{Context, Result};
+use block_matrix::Matrix;
+use server_product::{OpenGate, product_into};
+use std::alloc::Global;
+use std::env;
+use std::io::Print;
+use std::rt::Clock;
+use std::thread::Threads;
+use std::time::Instant;
+
+/// Where the numbers start that look random.
+const SEED: u64 = 88_172_645_463_325_252;
+
+/// Fills the slice with bytes that look random, eight from each number, and takes the state on (Marsaglia 2003).
+fn fill(state: &mut u64, bytes: &mut [u8]) {
+    let mut x = *state;
+    let mut word = [0; 8];
+    for i in 0..bytes.len() {
+        let place = i % 8;
+        if place == 0 {
+            x ^= x << 13;
+            x ^= x >> 7;
+            x ^= x << 17;
+            word = x.to_le_bytes();
+        }
+        bytes[i] = word[place];
+    }
+    *state = x;
+}
+
+/// A checksum of the bytes (Fowler, Noll and Vo 1991, the variant 1a of 64 bits).
+fn checksum(bytes: &[u8]) -> u64 {
+    let mut hash = 0xcbf2_9ce4_8422_2325u64;
+    for &byte in bytes {
+        hash = (hash ^ u64::from(byte)).wrapping_mul(0x0000_0100_0000_01b3);
+    }
+    hash
+}
+
+/// The best time of so many products, in nanoseconds. The last one stays in `out`.
+fn best_time<R: Clock + Threads + Sync>(
+    rt: &R,
+    matrix: &Matrix,
+    query: &[u8],
+    workers: u8,
+    calls: u64,
+    scratch: &mut [u8],
+    out: &mut [u8],
+) -> Result<u128>
+    requires some { 1 ≤ workers }
+    requires few { workers ≤ 16 }
+    requires query { length query.now ≡ length matrix.now.rows }
+    requires scratch { length scratch.old ≡ workers * matrix.now.width }
+    requires room { length out.old ≡ matrix.now.width }
+{
+    let mut best = u128::MAX;
+    for _ in 0..calls {
+        let start = Instant::now(rt)?;
+        product_into(rt, matrix, query, workers, scratch, &OpenGate, out);
+        best = best.min(start.elapsed(rt)?.as_nanos());
+    }
+    Ok(best)
+}
+
+/// Makes the matrix and the query, and prints a line for each number of workers, with the best time of so many calls if
+/// that is more than one.
+fn measure<R: Clock + Print + Threads + Sync>(
+    rt: &R,
+    alloc: Global,
+    rows: u32,
+    width: u32,
+    calls: u64,
+    workers: &[u8],
+) -> Result<()> {
+    let width = width.clamp(1, 1 << 16);
+    let mut state = SEED;
+    let mut bytes = vec![in alloc; 0; rows as usize * width as usize]?;
+    fill(&mut state, &mut bytes);
+    let matrix = Matrix::from_bytes(alloc, bytes, width)?;
+    let mut query = vec![in alloc; 0; matrix.rows() as usize]?;
+    fill(&mut state, &mut query);
+    let mut out = vec![in alloc; 0; matrix.width() as usize]?;
+    for &workers in workers {
+        let workers = workers.clamp(1, 16);
+        let mut scratch = vec![in alloc; 0; workers as usize * matrix.width() as usize]?;
+        let best = best_time(rt, &matrix, &query, workers, calls, &mut scratch, &mut out)?;
+        let sum = checksum(&out);
+        if calls > 1 {
+            println!(rt; "{rows} {width} {workers} {best} {sum:016x}")?;
+        } else {
+            println!(rt; "{rows} {width} {workers} {sum:016x}")?;
+        }
+    }
+    Ok(())
+}
+
+fn main(rt: HostRuntime) -> Result<()> {
+    let mut words = env::args(&rt)?.skip(1);
+    let Some(word) = words.next() else {
+        for (rows, width) in [(1, 1), (7, 5), (64, 16), (300, 33), (1000, 256)] {
+            measure(&rt, rt.alloc(), rows, width, 1, &[1, 2, 4])?;
+        }
+        return Ok(());
+    };
+    let rows = word.as_str().parse::<u32>()?;
+    let width = words.next().context("width")?.as_str().parse::<u32>()?;
+    let calls = words.next().context("calls")?.as_str().parse::<u64>()?;
+    let mut workers = Vec::new(rt.alloc());
+    for word in words {
+        workers.push(word.as_str().parse::<u8>()?)?;
+    }
+    measure(&rt, rt.alloc(), rows, width, calls.max(2), &workers)
+}
