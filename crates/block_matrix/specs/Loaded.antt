@@ -19,9 +19,9 @@ Parses width bytes (Err ReadFault) = ⊥
 Parses width bytes (Err Memory) = Unit {0}
 
 -- zeros were put behind the bytes until they were so many
-abbrev pub Fills : ℕ → List ℕ → List ℕ → Result (Unit {0}) LoadFault → Type 0
-Fills whole old new (Ok x) = new ≡ old ++ replicate (whole - length old) 0
-Fills whole old new (Err EmptyFile) = ⊥
-Fills whole old new (Err (TooBig most)) = ⊥
-Fills whole old new (Err ReadFault) = ⊥
-Fills whole old new (Err Memory) = Unit {0}
+abbrev pub FillsUp : ℕ → List ℕ → List ℕ → Result (Unit {0}) LoadFault → Type 0
+FillsUp whole old new (Ok x) = new ≡ old ++ replicate (whole - length old) 0
+FillsUp whole old new (Err EmptyFile) = ⊥
+FillsUp whole old new (Err (TooBig most)) = ⊥
+FillsUp whole old new (Err ReadFault) = ⊥
+FillsUp whole old new (Err Memory) = Unit {0}

@@ -2,7 +2,7 @@
 ghost use Rattle.std.specs.Prelude.{◌≡◌, ℕ, [], ◌+◌, ◌*◌, ◌<◌, ◌≤◌, ◌^◌, All, length, slice_index_or, vec_len, IfOk, IfErr};
 ghost use Rattle.gf256.specs.Product.{IsMatrix};
 ghost use Rattle.block_matrix.specs.Database.{Database, limit, rows_of, database};
-ghost use Rattle.block_matrix.specs.Loaded.{Parses, Fills};
+ghost use Rattle.block_matrix.specs.Loaded.{Parses, FillsUp};
 
 use std::alloc::Global;
 use std::marker::Model;
@@ -131,10 +131,10 @@ impl Matrix {
     }
 }
 
-/// Fills the bytes up with zeros to so many.
+/// FillsUp the bytes up with zeros to so many.
 fn fill_up(bytes: &mut Vec<u8>, whole: usize) -> Result<(), LoadFault>
     requires { vec_len bytes.old ≤ whole }
-    ensures { Fills whole bytes.old.items bytes.new.items result }
+    ensures { FillsUp whole bytes.old.items bytes.new.items result }
 {
     let missing = whole - bytes.len();
     let Ok(()) = bytes.try_reserve_exact(missing) else {

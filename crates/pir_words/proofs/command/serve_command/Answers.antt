@@ -1,4 +1,4 @@
-use Rattle.std.proofs.Common.{◌≡◌, ◌∙◌, true, false, ap, codes}
+use Rattle.std.proofs.Common.{◌∙◌, true, false, ap, codes}
 use Rattle.std.proofs.lemmas.Result.{IfOk-weaker}
 use Rattle.clap.specs.Words.{App}
 use Rattle.pir_words.specs.Command.{serve_app, with_option}
