@@ -2,10 +2,10 @@
 //! byte for the row times the row's byte.
 //!
 //! Promised: [`product_into`] gives exactly this product, for each shape of a database and each number of workers from 1 to
-//! 16; it is the product that [`plain_into`] computes row by row, in one loop. No call takes memory, and none can fail.
+//! 16; it is the product that [`plain_into`] computes byte by byte. No call takes memory, and none can fail.
 //!
-//! Not promised: that the workers run at the same time, or anything of time. Which bytes are read doesn't depend on the
-//! query, but how long a product of two bytes takes may.
+//! Not promised: that the workers run at the same time, or anything of time. Each query reads the whole database, but which
+//! entries of the field's tables it reads depends on its bytes.
 #![tactic(auto)]
 
 mod four_rows;

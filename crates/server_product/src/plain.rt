@@ -8,8 +8,8 @@ use gf256::{add, mul};
 
 /// Makes `out` the product of the query `q`, a byte for each row, and the matrix: a byte for each column.
 ///
-/// It costs two multiplications' look-ups for each byte of the matrix: it is the yardstick for
-/// [`product_into`](crate::product_into).
+/// Each byte of the matrix costs one product by itself. This is the yardstick for
+/// [`product_into`](crate::product_into), whose contract says the same.
 pub fn plain_into(matrix: &Matrix, q: &[u8], out: &mut [u8])
     requires query { length q.now ≡ length matrix.now.rows }
     requires room { length out.old ≡ matrix.now.width }

@@ -50,6 +50,7 @@ fn add_quarters(matrix: &Matrix, q: &[u8], from: u32, quarter: u32, sums: &mut [
     ensures { (k : ℕ) → slice_index sums.new k
         ≡ slice_index sums.old k ⊕ run_sum q.now matrix.now.rows k from (from + 4 * quarter) }
 {
+    // Its contract bounds the number of rows.
     let _rows = matrix.rows();
     for i in 0..quarter {
         add_four_rows(

@@ -11,7 +11,8 @@ use block_matrix::Matrix;
 use std::thread;
 use std::thread::Threads;
 
-/// Makes `out` the product of the query `q`, a byte for each row, and the matrix: a byte for each column.
+/// Makes `out` the product of the query `q`, a byte for each row, and the matrix: a byte for each column. The query `01 02`
+/// and the rows `05 00` and `00 03` have the product `05 06`.
 ///
 /// With r rows, worker w, counted from 0, passes the gate once and sums the rows from `w * r / workers` up to
 /// `(w + 1) * r / workers` into its own part of `scratch`, which has `workers` times the width bytes and is written over.
@@ -33,6 +34,7 @@ pub fn product_into<R: Threads + Sync, G: Gate + Sync>(
     ensures { out.new ≡ product matrix.now.rows matrix.now.width q.now }
 {
     let width = matrix.width() as usize;
+    // Its contract bounds the number of rows.
     let _rows = matrix.rows();
     sum_parts(rt, matrix, q, u32::from(workers), scratch, gate);
     clear(out);
