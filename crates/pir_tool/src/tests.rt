@@ -1,5 +1,6 @@
 mod fetches;
 mod grammar;
+mod serving;
 
 ghost use Rattle.std.specs.Prelude.{◌<◌};
 
@@ -8,6 +9,7 @@ use grammar::place_by_format;
 use pir_ports::{MemPorts, Port};
 use std::alloc::{AllocError, Global};
 use std::test::Fail;
+use std::thread::Threads;
 
 // The session of three servers in examples/: degree 1, agreement 2, session number 7, two rows of two bytes.
 #[rattlefmt::skip]
@@ -72,7 +74,12 @@ fn words_in(alloc: Global, text: &str) -> Result<Vec<String>, AllocError> {
 }
 
 /// The run over ports in memory. The tests look at what it did, and need nothing of what it promises.
-fn run_in_memory<R>(rt: &R, alloc: Global, words: &[String], ports: &mut MemPorts) -> Status {
+fn run_in_memory<R: Threads + Sync>(
+    rt: &R,
+    alloc: Global,
+    words: &[String],
+    ports: &mut MemPorts,
+) -> Status {
     run(rt, alloc, words, ports)
 }
 
@@ -242,6 +249,8 @@ fn words_without_form(rt: HostRuntime) -> Result<(), Fail> {
         "fetch --rows 2 --width 2 --block 2 --degree 1 --agree 2 a b c",
         "fetch --rows 2 --width 2 --block 1 --degree 1 --agree 2",
         "fetch --rows 2 --width 2 --block 1 --scheme xor --degree 1 a b",
+        "serve --database D --width 2 --conns 1",
+        "serve --database D --width 2 --conns 1 --listen L --workers 17",
     ] {
         let words = words_in(alloc, text)?;
         let mut ports = ports_with(alloc, 1000, None, &SESSION, 100)?;
@@ -251,7 +260,7 @@ fn words_without_form(rt: HostRuntime) -> Result<(), Fail> {
             Status::Usage,
             "{text}"
         );
-        for port in [Port::Input, Port::Coins, Port::Link(1)] {
+        for port in [Port::Input, Port::Coins, Port::Link(1), Port::Door] {
             assert_eq!(rt; ports.opened_as(port, 0), None, "{text}");
         }
         assert_eq!(rt; ports.seen(Port::Output), b"".as_slice(), "{text}");

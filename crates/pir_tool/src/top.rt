@@ -36,12 +36,7 @@ fn text_of(word: &Option<Text>) -> Option<&str>
 }
 
 /// Does what the command says.
-fn obey<R: Threads + Sync, P: Ports>(
-    rt: &R,
-    alloc: Global,
-    asked: &Asked,
-    ports: &mut P,
-) -> Status
+fn obey<R: Threads + Sync, P: Ports>(rt: &R, alloc: Global, asked: &Asked, ports: &mut P) -> Status
     requires { InRange asked.now }
     ensures { Outcome asked.now result (P.world ports.old) (P.world ports.new) }
 {

@@ -7,6 +7,7 @@ use crate::{Bad, Status};
 use pir_ports::{MemPorts, Port};
 use std::alloc::{AllocError, Global};
 use std::test::Fail;
+use std::thread::Threads;
 
 const WORDS: &str =
     "fetch --rows 2 --width 2 --block 1 --degree 1 --agree 2 --coins C --record F a b c";
@@ -60,7 +61,7 @@ fn was_asked(ports: &MemPorts, link: u8, address: &str, query: &[u8]) -> bool {
 }
 
 /// Whether the replay of this record gives the block.
-fn is_replayed<R>(rt: &R, alloc: Global, record: &[u8]) -> Result<bool, Fail> {
+fn is_replayed<R: Threads + Sync>(rt: &R, alloc: Global, record: &[u8]) -> Result<bool, Fail> {
     let words = words_in(alloc, "replay F")?;
     let mut ports = MemPorts::new(alloc, 50, &[], 1, 1)?;
     ports.put(alloc, Port::Input, record)?;
@@ -80,7 +81,7 @@ fn is_record(record: &[u8], len: usize, front: usize, back: usize) -> bool {
 }
 
 /// How a fetch over these ports ends.
-fn fetched<R>(rt: &R, alloc: Global, ports: &mut MemPorts) -> Result<Status, Fail> {
+fn fetched<R: Threads + Sync>(rt: &R, alloc: Global, ports: &mut MemPorts) -> Result<Status, Fail> {
     let words = words_in(alloc, WORDS)?;
     Ok(run_in_memory(rt, alloc, &words, ports))
 }
