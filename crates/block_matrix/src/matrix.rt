@@ -73,7 +73,7 @@ impl Matrix {
     /// # Errors
     ///
     /// `EmptyFile` exactly where there are no bytes, `TooBig` exactly where there are more than `limit`, which is the width
-    /// times the greatest number of rows; `Memory` for want of memory. The bytes are dropped then.
+    /// times the greatest number of rows of that width; `Memory` for want of memory. The bytes are dropped then.
     pub fn from_bytes(_alloc: Global, mut bytes: Vec<u8>, width: u32) -> Result<Matrix, LoadFault>
         requires some { 1 ≤ width }
         requires few { width ≤ 2 ^ 16 }
