@@ -1,4 +1,5 @@
 pub mod Headline
 mod Serving
 mod ServeHeadline
+mod HonestReplies
 pub mod Fetching

@@ -6,4 +6,5 @@ pub mod FetchOutcome
 pub mod ServeOrder
 pub mod ServeSteps
 pub mod ServeOutcome
+pub mod HonestReply
 pub mod Outcome

@@ -2,6 +2,7 @@
 #![tactic(auto)]
 
 mod fetch_command;
+pub mod laws;
 mod replay_command;
 mod report;
 mod serve_command;

@@ -1,0 +1,114 @@
+-- A server's reply to the query of a fetch.
+use Rattle.std.proofs.Common.{◌≡◌, ◌⊎◌, inl, inr, ℕ, ◌+◌, ◌<◌, ◌≤◌, ◌^◌, List, ◌++◌, length, take, drop, get_or, refl, sym, ◌∙◌, ap, ap₂, subst, arith, length-append, All}
+use Rattle.std.proofs.Math.Seq.{take-append_seam, drop-append_seam}
+use Rattle.std.proofs.lemmas.List.{take_all}
+use Rattle.gf256.specs.Product.{IsMatrix, product}
+use Rattle.shamir_share.specs.Query.{query}
+use Rattle.shamir_share.proofs.Queries.{length-query}
+use Rattle.wire_frames.specs.declared.header.QueryHeader.{QueryHeader}
+use Rattle.wire_frames.specs.Header.{query_header, answer_to}
+use Rattle.wire_frames.specs.Limits.{IsQuery}
+use Rattle.wire_frames.specs.Query.{IsQueryHeader}
+use Rattle.wire_frames.proofs.Parsing.{same_digits}
+use Rattle.fetch_client.specs.declared.plan.FetchPlan.{FetchPlan}
+use Rattle.fetch_client.specs.Plan.{IsPlan, need}
+use Rattle.fetch_client.specs.Sent.{session_number, header_to, sent}
+use Rattle.fetch_client.specs.Honest.{honest_frame}
+use Rattle.serve_core.specs.Service.{Service}
+use Rattle.serve_core.specs.Reply.{Asks, IsShaped, Suits, Refuses, Replies, answer_frame, payload}
+use Rattle.serve_core.specs.declared.met.Met.{Met}
+use Rattle.serve_core.specs.declared.met.Met.TheVariants.{Served, Refused, Gone, GuestFault}
+use Rattle.pir_tool.specs.HonestReply.{service_with, frame_of, RepliesHonestly}
+
+-- two headers of queries with the same bytes are of one scheme and one shape
+module _ (q p : QueryHeader) (hq : IsQuery q) (hp : IsQuery p) (same : query_header q ≡ query_header p) where
+  same_scheme : q.scheme ≡ p.scheme
+  same_scheme = ap (λ (l : List ℕ). get_or l 5 0) same
+
+  same_rows : q.r ≡ p.r
+  same_rows = same_digits 4 q.r p.r (omega (arith, hq.shape.few_rows)) (omega (arith, hp.shape.few_rows)) (ap (λ (l : List ℕ). take 4 (drop 16 l)) same)
+
+  same_width : q.s ≡ p.s
+  same_width = same_digits 4 q.s p.s (omega (arith, hq.shape.few_bytes)) (omega (arith, hp.shape.few_bytes)) (ap (λ (l : List ℕ). take 4 (drop 20 l)) same)
+
+module _ (p : FetchPlan) (coins : List ℕ) (i : ℕ) (is_query : IsQuery (header_to p coins i)) (matrix : List (List ℕ)) (workers : ℕ) (is : IsMatrix matrix p.r p.s) where
+  abbrev header : QueryHeader
+  header = header_to p coins i
+
+  abbrev asked_for : List ℕ
+  asked_for = query (drop 8 coins) p.t p.r p.block i
+
+  front : take 24 (sent p coins i) ≡ query_header header
+  unfolding sent
+  front = take-append_seam (query_header header) asked_for
+
+  rest : drop 24 (sent p coins i) ≡ asked_for
+  unfolding sent
+  rest = drop-append_seam (query_header header) asked_for
+
+  size : length (sent p coins i) ≡ 24 + p.r
+  unfolding sent
+  size = length-append (query_header header) asked_for ∙ ap (λ n. 24 + n) (length-query (drop 8 coins) p.t p.r p.block i)
+
+  abbrev service : Service
+  service = service_with p matrix workers
+
+  suits : Suits service (sent p coins i)
+  suits = record {
+    query = header;
+    asks = record { whole = omega (arith, size); header = record { range = is_query; spelled = front } };
+    scheme = refl;
+    shape = record { rows = sym is.rows; width = refl };
+  }
+
+  frame_is : answer_frame service.database (take 24 (sent p coins i)) (payload service.database (sent p coins i)) ≡ frame_of p coins matrix i
+  unfolding honest_frame
+  frame_is =
+      let query_is : payload service.database (sent p coins i) ≡ asked_for =
+      ap₂ take is.rows rest ∙ take_all p.r asked_for (let n = length-query (drop 8 coins) p.t p.r p.block i in omega (arith, n)) in
+      ap₂ (answer_frame service.database) front query_is
+
+  -- another header has the same bytes, but is of another query: there is none
+  no_other : (other : QueryHeader) → IsQueryHeader (take 24 (sent p coins i)) other → (other.scheme ≡ p.scheme) × IsShaped service other
+  no_other other h =
+      let same : query_header other ≡ query_header header = sym h.spelled ∙ front in
+      (same_scheme other header h.range is_query same, record { rows = same_rows other header h.range is_query same ∙ sym is.rows; width = same_width other header h.range is_query same })
+
+  never_refused : (status : ℕ) → Refuses service (sent p coins i) status → ⊥
+  never_refused status (inl bad) = bad.1.none header (record { range = is_query; spelled = front })
+  never_refused status (inr (inl other)) = other.1.other (no_other other.1.query other.1.asks.header).0
+  never_refused status (inr (inr other)) = other.1.other (no_other other.1.query other.1.asks.header).1
+
+  only_reply : (met : Met) (frame : List ℕ) → Replies service (sent p coins i) met frame → (met ≡ Served) × (frame ≡ frame_of p coins matrix i)
+  only_reply Served frame r = (refl, r.1 ∙ frame_is)
+  only_reply (Refused status) frame r = absurd (never_refused status r.0)
+  only_reply Gone frame (inl short, none) = absurd (omega (arith, size, short))
+  only_reply Gone frame (inr cut, none) = let few = cut.1 in let rows = is.rows in absurd (omega (arith, size, few, rows))
+  only_reply GuestFault frame r = absurd r
+
+  the_reply : (met : Met) (frame : List ℕ) → (met ≡ Served) × (frame ≡ frame_of p coins matrix i) → Replies service (sent p coins i) met frame
+  the_reply met frame r = subst (λ (m : Met). Replies service (sent p coins i) m frame) (sym r.0)
+      (record { suits = suits; enough = let rows = is.rows in omega (arith, size, rows) }, r.1 ∙ sym frame_is)
+
+-- the reply is the frame of an honest server
+pub replies_honestly : (p : FetchPlan) (coins : List ℕ) (i : ℕ) (matrix : List (List ℕ)) (workers : ℕ) → IsQuery (header_to p coins i) → RepliesHonestly p coins i matrix workers
+replies_honestly p coins i matrix workers is_query is met frame = (only_reply p coins i is_query matrix workers is met frame, the_reply p coins i is_query matrix workers is met frame)
+
+-- the number of a session has eight bytes
+session_below : (coins : List ℕ) → ((k : ℕ) → k < 8 → get_or coins k 0 < 256) → session_number coins < 2 ^ 64
+unfolding session_number
+session_below coins byte =
+    omega (arith, byte 0 (omega arith), byte 1 (omega arith), byte 2 (omega arith), byte 3 (omega arith), byte 4 (omega arith), byte 5 (omega arith), byte 6 (omega arith), byte 7 (omega arith))
+
+-- what a fetch asks is a query
+pub asks_a_query : (p : FetchPlan) (coins : List ℕ) (i : ℕ) → IsPlan p → length coins ≡ need p → All (λ b. b < 256) coins → 1 ≤ i → i < 256 → IsQuery (header_to p coins i)
+asks_a_query p coins i plan size bytes some few =
+    let one = plan.numbers.scheme in
+    record {
+      some_scheme = omega (arith, one);
+      two_schemes = omega (arith, one);
+      some_index = some;
+      few_indices = omega (arith, few);
+      session = session_below coins (λ k l. bytes k 0 (omega (arith, size, l)));
+      shape = plan.numbers.shape;
+    }
