@@ -1,6 +1,6 @@
 -- Bitmaps, which say of each row of a database whether a server is asked for it (Chor, Goldreich, Kushilevitz and
 -- Sudan 1995).
-use Rattle.std.specs.Prelude.{◌≡◌, ℕ, ◌+◌, ◌-◌, ◌*◌, ◌/◌, ◌%◌, ◌^◌, ◌≤◌, List, map, slice_index, ◌==◌, if◌then◌else◌}
+use Rattle.std.specs.Prelude.{◌≡◌, ℕ, ◌+◌, ◌-◌, ◌*◌, ◌/◌, ◌%◌, ◌^◌, ◌≤◌, Bool, not, List, map, slice_index, ◌==◌, if◌then◌else◌}
 use Rattle.std.specs.List.{range_with_len}
 use Rattle.std.specs.Int.{bit_at, div_ceil}
 use Rattle.gf256.specs.Field.{◌⊕◌}
@@ -41,3 +41,7 @@ bitmap coins n r block index = map (λ k. if index == n then last_byte coins n r
 -- no bit past those of the r rows is set
 abbrev pub IsTrim : ℕ → List ℕ → Type 0
 IsTrim r bitmap = (j : ℕ) → r ≤ j → bit_of bitmap j ≡ 0
+
+-- the same as a test of the last byte: it has an unused bit that is set
+unfoldable pub has_unused : ℕ → List ℕ → Bool
+has_unused r bitmap = not (slice_index bitmap (size_of r - 1) % 2 ^ unused_bits r (size_of r - 1) == 0)

@@ -1,9 +1,9 @@
 //! The bitmaps that a client sends.
 
-ghost use Rattle.std.specs.Prelude.{◌≡◌, ℕ, ◌+◌, ◌-◌, ◌*◌, ◌<◌, ◌≤◌, ◌^◌, Bool, Decides, length, slice_index, if◌then◌else◌};
+ghost use Rattle.std.specs.Prelude.{◌≡◌, ℕ, ◌+◌, ◌-◌, ◌*◌, ◌<◌, ◌≤◌, ◌^◌, MatchBool, length, slice_index, if◌then◌else◌};
 ghost use Rattle.gf256.specs.Field.{◌⊕◌};
 ghost use Rattle.gf256.specs.Sums.{sum_to};
-ghost use Rattle.chor_xor.specs.Bitmap.{IsTrim, bit_of, bitmap, cleared, size_of};
+ghost use Rattle.chor_xor.specs.Bitmap.{IsTrim, bit_of, bitmap, cleared, has_unused, size_of};
 
 use crate::answer::{clear, combine_into};
 
@@ -71,11 +71,11 @@ pub fn has_unused_bits(bitmap: &[u8], r: u32) -> bool
     requires some { 1 ≤ r }
     requires few { r ≤ 2 ^ 20 }
     requires size { length bitmap.now ≡ size_of r }
-    ensures { Decides (not result) (IsTrim r bitmap.now) }
+    ensures is { result ≡ has_unused r bitmap.now }
+    ensures bits { MatchBool result (IsTrim r bitmap.now → ⊥) (IsTrim r bitmap.now) }
 {
     let unused = 8 * bitmap.len() as u32 - r;
-    let used = 0xff << unused;
-    bitmap[bitmap.len() - 1] & !used != 0
+    bitmap[bitmap.len() - 1] & ((1 << unused) - 1) != 0
 }
 
 /// Whether row `j` has its bit set.
