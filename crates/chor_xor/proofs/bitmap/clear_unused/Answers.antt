@@ -1,4 +1,4 @@
-use Rattle.std.proofs.Common.{◌≡◌, ◌-◌, ◌*◌, length, arith}
+use Rattle.std.proofs.Common.{rules, ◌≡◌, ◌-◌, ◌*◌, length, arith}
 use Rattle.chor_xor.specs.Bitmap.{unused_bits}
 use Rattle.chor_xor.proofs.Bits.{cleared-by_mask}
 use Rattle.chor_xor.proofs.Places.{cleared-last}
@@ -10,4 +10,4 @@ returns c =
     let last = length bitmap - 1 in
     let unused = 8 * length bitmap - c.args.r in
     cleared-last bitmap c.args.r _ c.requires.some c.requires.size
-    (cleared-by_mask c.args.r last unused _ (omega (arith, c.requires.some, c.requires.size)) (omega (arith, c.requires.some, c.requires.size)) (let h = c.items_fit in ?))
+    (cleared-by_mask c.args.r last unused _ (omega (arith, c.requires.some, c.requires.size)) (omega (arith, c.requires.some, c.requires.size)) (search rules))
