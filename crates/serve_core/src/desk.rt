@@ -57,12 +57,7 @@ impl Desk {
     /// # Errors
     ///
     /// `AllocError` for want of memory.
-    pub fn open(
-        alloc: Global,
-        matrix: Matrix,
-        scheme: u8,
-        workers: u8,
-    ) -> Result<Desk, AllocError>
+    pub fn open(alloc: Global, matrix: Matrix, scheme: u8, workers: u8) -> Result<Desk, AllocError>
         requires scheme { scheme ≡ 1 }
         requires some { 1 ≤ workers }
         requires few { workers ≤ 16 }

@@ -9,6 +9,7 @@ use std::test::Fail;
 use std::thread::Threads;
 
 const QUERY: &[u8] = b"PIRQ\x01\x01\x01\0\0\0\0\0\0\0\0\x07\0\0\0\x02\0\0\0\x02\x05\x06";
+
 const ANSWER: &[u8] = b"PIRA\x01\x01\x01\0\0\0\0\0\0\0\0\x07\0\0\0\x02\0\0\0\x02\xcf\xd2";
 
 /// A desk for the database of the rows `41 42` and `43 44`.
