@@ -4,3 +4,4 @@ pub mod Shares
 pub mod ChosenSums
 pub mod PlaceSums
 pub mod RunSums
+pub mod NextBits

@@ -92,15 +92,23 @@ pub(crate) fn is_set(bitmap: &[u8], j: u32) -> bool
 pub(crate) fn next_set(bitmap: &[u8], from: u32, to: u32) -> u32
     requires order { from ≤ to }
     requires within { to ≤ 8 * length bitmap.now }
+    requires few { to ≤ 2 ^ 20 }
     ensures from { from ≤ result }
     ensures to { result ≤ to }
     ensures others { (j : ℕ) → from ≤ j → j < result → bit_of bitmap.now j ≡ 0 }
     ensures set { result < to → bit_of bitmap.now result ≡ 1 }
 {
-    for j in from..to {
-        if is_set(bitmap, j) {
-            return j;
-        }
+    if from == to {
+        return to;
     }
-    to
+    let mut byte = from / 8;
+    let mut rest = bitmap[byte as usize] & 0xff >> (from % 8);
+    'bytes: while rest == 0 {
+        byte += 1;
+        if 8 * byte >= to {
+            return to;
+        }
+        rest = bitmap[byte as usize];
+    }
+    (8 * byte + rest.leading_zeros()).min(to)
 }
