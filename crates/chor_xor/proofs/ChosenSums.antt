@@ -1,10 +1,10 @@
 -- Sums of chosen rows, row by row and over the servers.
-use Rattle.std.proofs.Common.{◌≡◌, ℕ, ◌+◌, ◌-◌, ◌/◌, ◌%◌, ◌<◌, ◌≤◌, List, [], length, get_or, inl, inr, sym, ap, subst, ◌∙◌, arith, add-one, lit<}
+use Rattle.std.proofs.Common.{◌≡◌, ℕ, ◌+◌, ◌-◌, ◌/◌, ◌%◌, ◌<◌, ◌≤◌, List, [], length, get_or, inl, inr, sym, ap, subst, ◌∙◌, arith, lit<}
 use Rattle.std.specs.Int.{bit_at}
 use Rattle.std.proofs.lemmas.Bool.{cases_lt}
 use Rattle.std.proofs.lemmas.List.{ext_get_or, get_or_past}
 use Rattle.std.proofs.lemmas.List.FromFn.{length-map-range_with_len, get_or-map-range_with_len}
-use Rattle.gf256.specs.Field.{◌⊕◌, ◌⊗◌}
+use Rattle.gf256.specs.Field.{◌⊗◌}
 use Rattle.gf256.specs.Product.{IsMatrix}
 use Rattle.gf256.specs.Sums.{sum_to}
 use Rattle.gf256.proofs.FieldLaws.{zero_mul, one_mul}
@@ -83,12 +83,6 @@ pub given-left : (bitmap : List ℕ) (rows : List (List ℕ)) (c j : ℕ) → bi
 unfolding given
 given-left bitmap rows c j bit = ap (λ b. b ⊗ cell rows c j) bit ∙ zero_mul (cell rows c j)
 
--- one more row
-pub given-next : (bitmap : List ℕ) (rows : List (List ℕ)) (c j : ℕ)
-    → sum_to (given bitmap rows c) (j + 1) ≡ sum_to (given bitmap rows c) j ⊕ given bitmap rows c j
-unfolding sum_to
-given-next bitmap rows c j = ap (sum_to (given bitmap rows c)) (add-one j)
-
 -- the answers of all servers, column by column, are the row of the block
 pub answers-columns : (m : Database) (coins : List ℕ) (n r block : ℕ) → 1 ≤ n → block < r → IsMatrix m.rows r m.width
     → (c : ℕ) → sum_to (λ i. get_or (chosen m (bitmap coins n r block (i + 1))) c 0) n ≡ get_or (get_or m.rows block []) c 0
@@ -113,6 +107,14 @@ answer_at m coins n block i l = get_or-map-range_with_len (λ j. chosen m (bitma
 length-answers : (m : Database) (coins : List ℕ) (n block : ℕ) → length (answers m coins n block) ≡ n
 unfolding answers
 length-answers m coins n block = length-map-range_with_len (λ j. chosen m (bitmap coins n (length m.rows) block j)) 1 n
+
+-- a list that has the sum of the payloads in each place is what they give together; so a client's fold from zeros ends
+pub combined-is : (payloads : List (List ℕ)) (sum : List ℕ) (width : ℕ) → length sum ≡ width
+    → ((c : ℕ) → get_or sum c 0 ≡ combined_at payloads c) → sum ≡ combined width payloads
+unfolding combined
+combined-is payloads sum width size is =
+    ext_get_or 0 sum _ (size ∙ sym (length-map-range_with_len (combined_at payloads) 0 width))
+    (λ c l. is c ∙ sym (get_or-map-range_with_len (combined_at payloads) 0 width c c 0 (omega (arith, l, size)) (omega arith)))
 
 -- a column of the answers combined
 combined-column : (m : Database) (coins : List ℕ) (n block c : ℕ)

@@ -1,7 +1,6 @@
 //! The bitmaps that a client sends.
 
 ghost use Rattle.std.specs.Prelude.{◌≡◌, ℕ, ◌+◌, ◌-◌, ◌*◌, ◌<◌, ◌≤◌, ◌^◌, MatchBool, length, slice_index, if◌then◌else◌};
-ghost use Rattle.gf256.specs.Field.{◌⊕◌};
 ghost use Rattle.gf256.specs.Sums.{sum_to};
 ghost use Rattle.chor_xor.specs.Bitmap.{IsTrim, bit_of, bitmap, cleared, has_unused, size_of};
 
@@ -9,9 +8,10 @@ use crate::answer::{clear, combine_into};
 
 /// Writes the bitmap of server `index`, counted from 1, where `n` servers are asked for the row `block` of `r` rows.
 ///
-/// There are `(n - 1) * ceil(r / 8)` coins, and `out` has `ceil(r / 8)` bytes. Each server before the last gets a piece of
-/// the coins as its bitmap, with the unused low bits of the last byte cleared; the last gets the XOR of all those and of
-/// the bit of the block. It takes no memory.
+/// There are two servers or more, the index is from 1 to `n`, and the block is one of the rows, of which there are at most
+/// `2^20`. There are `(n - 1) * ceil(r / 8)` coins, and `out` has `ceil(r / 8)` bytes. Each server before the last gets a
+/// piece of the coins as its bitmap, with the unused low bits of the last byte cleared; the last gets the XOR of all those
+/// and of the bit of the block (Chor, Goldreich, Kushilevitz and Sudan 1995). It takes no memory.
 ///
 /// ```
 /// // Two servers, two rows, block 1: the bitmaps are `80` and `c0`.
@@ -65,8 +65,8 @@ fn clear_unused(bitmap: &mut [u8], r: u32)
     bitmap[last] &= 0xff << (8 * bitmap.len() as u32 - r);
 }
 
-/// Whether a bit past those of the `r` rows is set, for which a server refuses a query. The bitmap has `ceil(r / 8)`
-/// bytes.
+/// Whether a bit past those of the `r` rows is set, for which a server refuses a query. There are from 1 to `2^20` rows, and
+/// the bitmap has `ceil(r / 8)` bytes. With two rows `c0` has none, and `a0` has one.
 pub fn has_unused_bits(bitmap: &[u8], r: u32) -> bool
     requires some { 1 ≤ r }
     requires few { r ≤ 2 ^ 20 }

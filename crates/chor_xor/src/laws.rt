@@ -1,10 +1,10 @@
 //! The law of the scheme, as a call whose contract is the law. A call changes nothing.
 
-ghost use Rattle.std.specs.Prelude.{◌≡◌, ℕ, [], ◌*◌, ◌-◌, ◌+◌, ◌<◌, ◌≤◌, length, slice_index, slice_index_or};
+ghost use Rattle.std.specs.Prelude.{◌≡◌, ℕ, [], ◌+◌, ◌<◌, ◌≤◌, slice_index, slice_index_or};
 ghost use Rattle.gf256.specs.Product.{IsMatrix};
 ghost use Rattle.gf256.specs.Sums.{sum_to};
 ghost use Rattle.block_matrix.specs.Database.{Database};
-ghost use Rattle.chor_xor.specs.Bitmap.{bitmap, size_of};
+ghost use Rattle.chor_xor.specs.Bitmap.{bitmap};
 ghost use Rattle.chor_xor.specs.Chosen.{answers, chosen, combined};
 
 /// The answers of `n` servers that hold one matrix of `r` rows, each to its own bitmap for the row `block`, have that row
