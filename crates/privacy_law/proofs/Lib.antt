@@ -1,0 +1,3 @@
+pub mod HidingPolynomial
+pub mod ChangedRows
+pub mod SameQueries
