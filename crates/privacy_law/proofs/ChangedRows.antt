@@ -1,14 +1,14 @@
 -- Coins where a polynomial is added to one row.
-use Rattle.std.proofs.Common.{◌≡◌, ◌≢◌, ℕ, zero, suc, ◌+◌, ◌*◌, ◌/◌, ◌%◌, ◌<◌, ◌≤◌, List, [], ◌∷◌, length, get_or, drop, refl, sym, ap, ap₂, ◌∙◌, arith, inl, inr, zero-add, length-drop, ◌++◌, ◌-◌, take, length-append}
+use Rattle.std.proofs.Common.{◌≡◌, ◌≢◌, ℕ, ◌+◌, ◌*◌, ◌/◌, ◌%◌, ◌<◌, ◌≤◌, List, length, get_or, drop, refl, sym, ap, ap₂, ◌∙◌, arith, inl, inr, zero-add, length-drop, ◌++◌, ◌-◌, take, length-append}
 use Rattle.std.specs.Prelude.{if◌then◌else◌}
-use Rattle.std.proofs.lemmas.Bool.{cases_eq, cases_lt, eq-eqb, ne_eqb}
-use Rattle.std.proofs.lemmas.List.{ext_get_or, get_or-drop, get_or-take, get_or_past, get_or_append_left, get_or-append_right, length-take-le, length-take}
+use Rattle.std.proofs.lemmas.Bool.{cases_lt, eq-eqb, ne_eqb}
+use Rattle.std.proofs.lemmas.List.{ext_get_or, get_or-drop, get_or-take, get_or_past, get_or_append_left, get_or-append_right, length-take-le}
 use Rattle.std.proofs.Math.Nat.{div-mul-le_self, lt-div-mul-add}
 use borrow.Rule.Slice.PartMut.{put_mid}
 use Rattle.uni_poly.specs.Coefficients.{IsSum}
 use Rattle.std.proofs.lemmas.List.FromFn.{length-map-range_with_len, get_or-map-range_with_len}
 use Rattle.std.proofs.lemmas.Nat.{div-mul-add, mod-mul-add}
-use Rattle.gf256.specs.Field.{◌⊕◌, ◌⊗◌}
+use Rattle.gf256.specs.Field.{◌⊕◌}
 use Rattle.gf256.specs.Polynomial.{coef, val}
 use Rattle.gf256.proofs.Xor.{add_zero, add_self, add_assoc}
 use Rattle.uni_poly.proofs.Addition.{add_list, coef-add_list, val-add_list}
@@ -120,7 +120,7 @@ written_row coins g new t j some fits long sum =
     let within : i < length coins = omega (arith, all) in
     let now = added_at coins t g j i within in
     let stays : i / t ≢ j → get_or coins i 0 ≡ get_or (added coins t g j) i 0 =
-        λ isnt. sym (now ∙ ap (◌⊕◌ (get_or coins i 0)) (addend_outside g t j i isnt) ∙ add_zero _) in
+    λ isnt. sym (now ∙ ap (◌⊕◌ (get_or coins i 0)) (addend_outside g t j i isnt) ∙ add_zero _) in
     elim (cases_lt i m) [
       | inl before ↦ get_or_append_left front (new ++ back) 0 i (omega (arith, size, before)) ∙ get_or-take m coins i 0 before ∙ stays (before_row t j i before)
       | inr from ↦
@@ -128,15 +128,15 @@ written_row coins g new t j some fits long sum =
           let place : m + e ≡ i = omega (arith, from) in
           get_or-append_right front (new ++ back) m i 0 size from
           ∙ elim (cases_lt e t) [
-              | inl inside ↦
-                  get_or_append_left new back 0 e (omega (arith, long, inside)) ∙ sum e
-                  ∙ ap₂ ◌⊕◌ (get_or-take t (drop m coins) e 0 inside ∙ get_or-drop m coins e 0 ∙ ap (λ k. get_or coins k 0) place)
-                  (get_or-drop 1 g e 0 ∙ ap (λ k. get_or g k 0) (omega arith) ∙ sym (addend_here g t j j e inside refl) ∙ ap (addend g t j) place)
-                  ∙ sym now
-              | inr past ↦
-                  get_or-append_right new back t e 0 long past ∙ get_or-drop t (drop m coins) (e - t) 0 ∙ get_or-drop m coins (t + (e - t)) 0
-                  ∙ ap (λ k. get_or coins k 0) (omega (arith, past, place)) ∙ stays (after_row t j i some (omega (arith, past, place)))
-            ]
+            | inl inside ↦
+                get_or_append_left new back 0 e (omega (arith, long, inside)) ∙ sum e
+                ∙ ap₂ ◌⊕◌ (get_or-take t (drop m coins) e 0 inside ∙ get_or-drop m coins e 0 ∙ ap (λ k. get_or coins k 0) place)
+                (get_or-drop 1 g e 0 ∙ ap (λ k. get_or g k 0) (omega arith) ∙ sym (addend_here g t j j e inside refl) ∙ ap (addend g t j) place)
+                ∙ sym now
+            | inr past ↦
+                get_or-append_right new back t e 0 long past ∙ get_or-drop t (drop m coins) (e - t) 0 ∙ get_or-drop m coins (t + (e - t)) 0
+                ∙ ap (λ k. get_or coins k 0) (omega (arith, past, place)) ∙ stays (after_row t j i some (omega (arith, past, place)))
+          ]
     ])
 
 -- the slice of a row

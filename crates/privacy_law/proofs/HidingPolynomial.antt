@@ -1,12 +1,12 @@
 -- The hiding polynomial is the vanishing polynomial of the coalition, scaled so that its constant is 1.
-use Rattle.std.proofs.Common.{◌≡◌, ◌≢◌, ℕ, zero, suc, ◌+◌, ◌-◌, ◌<◌, ◌≤◌, List, [], ◌∷◌, length, map, get_or, fold, drop, All, refl, sym, ap, ap₂, ◌∙◌, arith, lit<, Contains}
+use Rattle.std.proofs.Common.{◌≡◌, ◌≢◌, ℕ, zero, suc, ◌+◌, ◌-◌, ◌<◌, List, [], ◌∷◌, length, map, get_or, fold, drop, All, refl, sym, ap, ap₂, ◌∙◌, arith, lit<, Contains}
 use Rattle.std.proofs.lemmas.List.{drop_more, length-map}
 use Rattle.std.proofs.lemmas.List.Elements.{All-head, All-tail}
 use Rattle.std.proofs.lemmas.List.FromFn.{length-map-range_with_len}
 use Rattle.gf256.specs.Field.{◌⊕◌, ◌⊗◌, inverse}
 use Rattle.gf256.specs.Sums.{sum_to}
 use Rattle.gf256.specs.Polynomial.{coef, val}
-use Rattle.gf256.proofs.Xor.{zero_add, add_zero, add-eq-zero}
+use Rattle.gf256.proofs.Xor.{zero_add, add-eq-zero}
 use Rattle.gf256.proofs.FieldLaws.{ring, mul_lt, mul_one, one_mul, mul_zero, mul_comm}
 use Rattle.gf256.proofs.Powers.{mul_inverse, inverse_lt, inverse_is}
 use Rattle.gf256.proofs.Sums.{sum_to-same, mul-sum_to}
@@ -51,7 +51,7 @@ times_factor : (k a : ℕ) (p : List ℕ) → a < 256 → a ≢ 0 → product (s
 unfolding product_coef
 times_factor k a p l n =
     let long = length-product_two (scale_list k p) 1 (inverse a) ∙ ap (λ m. m + 1) (length-scale_list k p)
-        ∙ sym (length-scale_list (k ⊗ inverse a) (product p (linear a)) ∙ length-product_two p a 1) in
+    ∙ sym (length-scale_list (k ⊗ inverse a) (product p (linear a)) ∙ length-product_two p a 1) in
     list_from_same (product (scale_list k p) (factor a)) (scale_list (k ⊗ inverse a) (product p (linear a))) long (λ e.
     coef-product (scale_list k p) (factor a) e
     ∙ sum_to-same (λ i. coef (scale_list k p) i ⊗ coef (factor a) (e - i)) (λ i. k ⊗ inverse a ⊗ (coef p i ⊗ coef (linear a) (e - i))) (e + 1) (λ i m.
@@ -125,8 +125,8 @@ pub vanishing_first : (xs : List ℕ) → All (λ a. a < 256) xs → All (λ a. 
 vanishing_first xs bytes nonzero none =
     let k = scaling 1 xs in
     let zero_is_one : ◌≡◌ {A = ℕ} 0 1 =
-        sym (mul_zero k) ∙ ap (◌⊗◌ k) (sym none) ∙ sym (coef-scale_list k (vanishing xs) 0)
-        ∙ ap (λ p. coef p 0) (sym (hiding_multiple xs bytes nonzero)) ∙ hiding_first xs in
+    sym (mul_zero k) ∙ ap (◌⊗◌ k) (sym none) ∙ sym (coef-scale_list k (vanishing xs) 0)
+    ∙ ap (λ p. coef p 0) (sym (hiding_multiple xs bytes nonzero)) ∙ hiding_first xs in
     absurd (omega (arith, zero_is_one))
 
 -- ---- what it hides
@@ -149,6 +149,6 @@ hiding_rest xs a bytes nonzero member =
     let g = hiding xs in
     let long : 0 < length g = let e = length-hiding xs bytes nonzero in omega (arith, e) in
     let split : val g a ≡ 1 ⊕ a ⊗ val (drop 1 g) a =
-        ap (λ p. val p a) (drop_more g 0 0 long) ∙ val_cons (get_or g 0 0) (drop 1 g) a
-        ∙ ap (λ c. c ⊗ 1 ⊕ a ⊗ val (drop 1 g) a) (hiding_first xs) ∙ ap (λ c. c ⊕ a ⊗ val (drop 1 g) a) (mul_one 1 (lit< tt)) in
+    ap (λ p. val p a) (drop_more g 0 0 long) ∙ val_cons (get_or g 0 0) (drop 1 g) a
+    ∙ ap (λ c. c ⊗ 1 ⊕ a ⊗ val (drop 1 g) a) (hiding_first xs) ∙ ap (λ c. c ⊕ a ⊗ val (drop 1 g) a) (mul_one 1 (lit< tt)) in
     sym (add-eq-zero 1 (a ⊗ val (drop 1 g) a) (sym split ∙ hiding_zero xs a bytes nonzero member))

@@ -1,80 +1,18 @@
-//! Privacy as a theorem.
+//! Privacy as a theorem: what a coalition within the bound sees doesn't tell which block is asked for.
+//!
+//! For any such coalition and any two blocks there is a bijection of the coins under which what the coalition is sent for
+//! the one block from the coins is what it is sent for the other from their image. Each call here is that bijection, and
+//! its contract says so: the same is sent, and the call with the blocks exchanged gives the coins back. So as many coins
+//! lead to what the coalition sees for one block as for another.
+//!
+//! [`partner`] is for the polynomials of Shamir's scheme, with at most as many members as their degree.
+//!
+//! Promised: exactly that, for all coins. Not promised: that coins are uniform, secret and used once. Where they are, what
+//! the coalition sees has the same distribution whichever block is asked for. Nothing is said of when bytes are sent.
 #![tactic(auto)]
 
-ghost use Rattle.std.specs.Prelude.{◌≡◌, ◌≢◌, ◌+◌, ◌*◌, ◌<◌, ◌≤◌, length, map, All, IfOk};
-ghost use Rattle.gf256.specs.Field.{◌⊗◌};
-ghost use Rattle.shamir_share.specs.Query.{query};
-ghost use Rattle.privacy_law.specs.Hiding.{hiding};
-ghost use Rattle.privacy_law.specs.Partner.{added, partner};
+mod shamir;
+#[cfg(test)]
+mod tests;
 
-use std::alloc::{AllocError, Global};
-
-pub fn partner(
-    alloc: Global,
-    coins: &[u8],
-    t: u32,
-    r: u32,
-    coalition: &[u8],
-    b: u32,
-    b2: u32,
-) -> Result<Vec<u8>, AllocError>
-    requires coins { length coins.now ≡ r * t }
-    requires degree { 1 ≤ t }
-    requires bound { length coalition.now ≤ t }
-    requires nonzero { All (λ a. a ≢ 0) coalition.now }
-    requires block { b < r }
-    requires other { b2 < r }
-    ensures is { IfOk result (λ v. v.items ≡ partner coins.now t coalition.now b b2) }
-    ensures queries { IfOk result (λ v. All (λ a. query v.items t r b2 a ≡ query coins.now t r b a) coalition.now) }
-    ensures length { IfOk result (λ v. length v.items ≡ length coins.now) }
-    ensures own_inverse { IfOk result (λ v. partner v.items t coalition.now b2 b ≡ coins.now) }
-{
-    let hiding = hiding(alloc, coalition)?;
-    let mut changed = Vec::from_slice(alloc, coins)?;
-    add_to_rows(&mut changed, &hiding, t as usize, b as usize, b2 as usize);
-    Ok(changed)
-}
-
-/// The product of `1 - x/a` over the members `a` of the coalition.
-fn hiding(alloc: Global, coalition: &[u8]) -> Result<Vec<u8>, AllocError>
-    requires { All (λ a. a ≢ 0) coalition.now }
-    ensures { IfOk result (λ v. v.items ≡ hiding coalition.now) }
-{
-    let mut made = uni_poly::vanishing(alloc, coalition)?;
-    let scale = gf256::inv(made[0]);
-    multiply(&mut made, scale);
-    Ok(made)
-}
-
-/// Multiplies each coefficient by the factor.
-fn multiply(p: &mut [u8], factor: u8)
-    ensures { p.new ≡ map (λ c. factor ⊗ c) p.old }
-{
-    for i in 0..p.len() {
-        p[i] = gf256::mul(factor, p[i]);
-    }
-}
-
-/// Adds the coefficients of `g` from 1 on to the coins of two rows, `t` a row, one after the other.
-fn add_to_rows(coins: &mut [u8], g: &[u8], t: usize, b: usize, b2: usize)
-    requires row { b * t + t ≤ length coins.old }
-    requires other { b2 * t + t ≤ length coins.old }
-    requires degree { 1 ≤ t }
-    requires some { 0 < length g.now }
-    requires few { length g.now ≤ t + 1 }
-    ensures { coins.new ≡ added (added coins.old t g.now b) t g.now b2 }
-{
-    add_to_row(coins, g, t, b);
-    add_to_row(coins, g, t, b2);
-}
-
-/// Adds them to the coins of one row.
-fn add_to_row(coins: &mut [u8], g: &[u8], t: usize, row: usize)
-    requires row { row * t + t ≤ length coins.old }
-    requires degree { 1 ≤ t }
-    requires some { 0 < length g.now }
-    requires few { length g.now ≤ t + 1 }
-    ensures { coins.new ≡ added coins.old t g.now row }
-{
-    uni_poly::add_into(&mut coins[row * t..row * t + t], &g[1..]);
-}
+pub use shamir::partner;

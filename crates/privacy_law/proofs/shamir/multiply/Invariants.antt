@@ -1,6 +1,6 @@
 use Rattle.std.proofs.Common.{◌≡◌, ℕ, ◌<◌, ◌≤◌, get_or}
 use Rattle.gf256.specs.Field.{◌⊗◌}
-use Rattle.privacy_law.proofs.multiply.Given as goal
+use Rattle.privacy_law.proofs.shamir.multiply.Given as goal
 
 abbrev pub invariant-loop-i : goal.invariant-loop-i
 invariant-loop-i l = record {

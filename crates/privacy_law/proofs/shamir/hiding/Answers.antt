@@ -1,4 +1,4 @@
-use Rattle.std.proofs.Common.{◌≡◌, ◌≢◌, ◌<◌, ℕ, All, ap, ap₂, ◌∙◌, sym, length, map, get_or, arith}
+use Rattle.std.proofs.Common.{◌≡◌, ◌<◌, ap, ap₂, ◌∙◌, sym, length, map, get_or, arith}
 use Rattle.std.proofs.lemmas.List.{take_at, get_or_default}
 use Rattle.gf256.specs.Field.{◌⊗◌, inverse}
 use Rattle.gf256.specs.Polynomial.{coef}
@@ -6,7 +6,7 @@ use Rattle.uni_poly.specs.Product.{vanishing}
 use Rattle.uni_poly.proofs.Coefficients.{bytes_from_get_or}
 use Rattle.uni_poly.proofs.VanishingPolynomial.{length-vanishing}
 use Rattle.privacy_law.proofs.HidingPolynomial.{vanishing_first, hiding_from_vanishing}
-use Rattle.privacy_law.proofs.hiding.Goals as goal
+use Rattle.privacy_law.proofs.shamir.hiding.Goals as goal
 
 pub index-requires : goal.index-requires
 index-requires c =
@@ -30,7 +30,7 @@ returns c =
     let first = c.index.result.now in
     let long : 0 < length (vanishing xs) = let e = length-vanishing xs in omega (arith, e) in
     let constant : first ≡ coef (vanishing xs) 0 =
-        c.index.ensures ∙ ap (λ p. get_or p 0 first) c.in_ok-made.ensures ∙ get_or_default (vanishing xs) 0 first 0 long in
+    c.index.ensures ∙ ap (λ p. get_or p 0 first) c.in_ok-made.ensures ∙ get_or_default (vanishing xs) 0 first 0 long in
     take_at c.multiply.new.p _ c.in_ok-made.made.len (c.multiply.auto.p ∙ c.deref_mut.ensures.len)
     ∙ c.multiply.ensures
     ∙ ap₂ (λ k p. map (◌⊗◌ k) p) (c.inv-scale.ensures.inverse ∙ ap inverse constant) (c.deref_mut.ensures.value ∙ c.in_ok-made.ensures)

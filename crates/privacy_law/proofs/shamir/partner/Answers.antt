@@ -1,12 +1,11 @@
-use Rattle.std.proofs.Common.{◌≡◌, ◌≢◌, ◌<◌, ◌≤◌, ◌+◌, ℕ, All, ap, ◌∙◌, sym, length, get_or, arith}
+use Rattle.std.proofs.Common.{ap, ◌∙◌, length, get_or, arith}
 use Rattle.std.proofs.lemmas.List.{take_at, get_or_default}
 use Rattle.shamir_share.specs.Query.{query}
 use Rattle.uni_poly.proofs.Coefficients.{bytes_from_get_or}
-use Rattle.privacy_law.specs.Hiding.{hiding}
-use Rattle.privacy_law.specs.Partner.{added, partner}
+use Rattle.privacy_law.specs.Partner.{partner}
 use Rattle.privacy_law.proofs.HidingPolynomial.{length-hiding}
 use Rattle.privacy_law.proofs.SameQueries.{same_query, partner_back, partner_is}
-use Rattle.privacy_law.proofs.partner.Goals as goal
+use Rattle.privacy_law.proofs.shamir.partner.Goals as goal
 
 pub add_to_rows-requires-clause-some : goal.add_to_rows-requires-clause-some
 add_to_rows-requires-clause-some c =

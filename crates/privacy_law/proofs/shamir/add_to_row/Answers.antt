@@ -1,9 +1,9 @@
-use Rattle.std.proofs.Common.{◌≡◌, ℕ, ◌+◌, ◌-◌, ◌*◌, ap, ◌∙◌, sym, subst, length, take, drop, arith}
+use Rattle.std.proofs.Common.{◌≡◌, ◌+◌, ◌-◌, ◌*◌, ap, ◌∙◌, subst, length, take, drop, arith}
 use Rattle.std.proofs.lemmas.List.{take_rest}
 use borrow.Rule.Slice.PartMut.{put_mid}
 use Rattle.uni_poly.specs.Coefficients.{IsSum}
 use Rattle.privacy_law.proofs.ChangedRows.{written_row, length-row_slice}
-use Rattle.privacy_law.proofs.add_to_row.Goals as goal
+use Rattle.privacy_law.proofs.shamir.add_to_row.Goals as goal
 
 pub returns : goal.returns
 returns c =
