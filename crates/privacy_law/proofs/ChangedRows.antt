@@ -1,87 +1,57 @@
 -- Coins where a polynomial is added to one row.
-use Rattle.std.proofs.Common.{◌≡◌, ◌≢◌, ℕ, ◌+◌, ◌*◌, ◌/◌, ◌%◌, ◌<◌, ◌≤◌, List, length, get_or, drop, refl, sym, ap, ap₂, ◌∙◌, arith, inl, inr, zero-add, length-drop, ◌++◌, ◌-◌, take, length-append}
-use Rattle.std.specs.Prelude.{if◌then◌else◌}
-use Rattle.std.proofs.lemmas.Bool.{cases_lt, eq-eqb, ne_eqb}
+use Rattle.std.proofs.Common.{◌≡◌, ◌≢◌, ℕ, ◌+◌, ◌-◌, ◌*◌, ◌/◌, ◌<◌, ◌≤◌, List, ◌++◌, length, get_or, take, drop, refl, sym, ap, ap₂, ◌∙◌, arith, inl, inr, length-drop, length-append}
+use Rattle.std.proofs.lemmas.Bool.{cases_lt}
 use Rattle.std.proofs.lemmas.List.{ext_get_or, get_or-drop, get_or-take, get_or_past, get_or_append_left, get_or-append_right, length-take-le}
-use Rattle.std.proofs.Math.Nat.{div-mul-le_self, lt-div-mul-add}
 use borrow.Rule.Slice.PartMut.{put_mid}
-use Rattle.uni_poly.specs.Coefficients.{IsSum}
-use Rattle.std.proofs.lemmas.List.FromFn.{length-map-range_with_len, get_or-map-range_with_len}
-use Rattle.std.proofs.lemmas.Nat.{div-mul-add, mod-mul-add}
 use Rattle.gf256.specs.Field.{◌⊕◌}
 use Rattle.gf256.specs.Polynomial.{coef, val}
-use Rattle.gf256.proofs.Xor.{add_zero, add_self, add_assoc}
+use Rattle.gf256.proofs.Xor.{add_zero}
+use Rattle.uni_poly.specs.Coefficients.{IsSum}
 use Rattle.uni_poly.proofs.Addition.{add_list, coef-add_list, val-add_list}
 use Rattle.uni_poly.proofs.Taylor.{val-same}
 use Rattle.shamir_share.specs.Query.{row_coins}
 use Rattle.shamir_share.proofs.Rows.{coin_at, length-row_coins, rows_fit}
-use Rattle.privacy_law.specs.Partner.{addend, added}
+use Rattle.privacy_law.specs.Pieces.{addend}
+use Rattle.privacy_law.specs.Partner.{added_to_row}
+use Rattle.privacy_law.proofs.ChangedPieces.{length-added, added_at, addend_here, addend_elsewhere, addend_outside, before_piece, after_piece}
 
--- the length stays
-pub length-added : (coins : List ℕ) (t : ℕ) (g : List ℕ) (j : ℕ) → length (added coins t g j) ≡ length coins
-unfolding added
-length-added coins t g j = length-map-range_with_len (λ i. get_or coins i 0 ⊕ addend g t j i) 0 (length coins)
-
--- each byte
-pub added_at : (coins : List ℕ) (t : ℕ) (g : List ℕ) (j i : ℕ) → i < length coins → get_or (added coins t g j) i 0 ≡ get_or coins i 0 ⊕ addend g t j i
-unfolding added
-added_at coins t g j i l = get_or-map-range_with_len (λ i. get_or coins i 0 ⊕ addend g t j i) 0 (length coins) i i 0 l (zero-add i)
-
--- adding twice is nothing
-pub added_twice : (coins : List ℕ) (t : ℕ) (g : List ℕ) (j : ℕ) → added (added coins t g j) t g j ≡ coins
-added_twice coins t g j =
-    let once = added coins t g j in
-    let long = length-added once t g j ∙ length-added coins t g j in
-    ext_get_or 0 (added once t g j) coins long (λ i l.
-    let within : i < length coins = omega (arith, long) in
-    added_at once t g j i (omega (arith, length-added coins t g j)) ∙ ap (λ x. x ⊕ addend g t j i) (added_at coins t g j i within)
-    ∙ add_assoc _ _ _ ∙ ap (◌⊕◌ (get_or coins i 0)) (add_self (addend g t j i)) ∙ add_zero _)
-
--- what is added to coin e of row k
-addend_here : (g : List ℕ) (t j k e : ℕ) → e < t → k ≡ j → addend g t j (k * t + e) ≡ coef g (e + 1)
-unfolding addend
-addend_here g t j k e l is =
-    ap (λ b. if b then coef g ((k * t + e) % t + 1) else 0) (eq-eqb ((k * t + e) / t) j (div-mul-add k t e l ∙ is))
-    ∙ ap (λ m. coef g (m + 1)) (mod-mul-add k t e l)
-
-addend_elsewhere : (g : List ℕ) (t j k e : ℕ) → e < t → k ≢ j → addend g t j (k * t + e) ≡ 0
-unfolding addend
-addend_elsewhere g t j k e l isnt =
-    ap (λ b. if b then coef g ((k * t + e) % t + 1) else 0) (ne_eqb ((k * t + e) / t) j (λ same. isnt (sym (div-mul-add k t e l) ∙ same)))
+-- what is added to coin e of the row
+abbrev above : List ℕ → ℕ → ℕ
+above g e = coef g (e + 1)
 
 -- a coin of row k among r rows
 added_coin : (coins : List ℕ) (t r : ℕ) (g : List ℕ) (j k e : ℕ) → length coins ≡ r * t → k < r → e < t
-    → get_or (row_coins (added coins t g j) t k) e 0 ≡ get_or (row_coins coins t k) e 0 ⊕ addend g t j (k * t + e)
+    → get_or (row_coins (added_to_row coins t g j) t k) e 0 ≡ get_or (row_coins coins t k) e 0 ⊕ addend (above g) t j (k * t + e)
 added_coin coins t r g j k e long row l =
     let fit = rows_fit k r t row in
-    coin_at (added coins t g j) t k e l ∙ added_at coins t g j (k * t + e) (omega (arith, fit, long))
-    ∙ ap (λ c. c ⊕ addend g t j (k * t + e)) (sym (coin_at coins t k e l))
+    coin_at (added_to_row coins t g j) t k e l ∙ added_at coins t j (above g) (k * t + e) (omega (arith, fit, long))
+    ∙ ap (λ c. c ⊕ addend (above g) t j (k * t + e)) (sym (coin_at coins t k e l))
 
 -- another row stays
-pub row_stays : (coins : List ℕ) (t r : ℕ) (g : List ℕ) (j k : ℕ) → length coins ≡ r * t → k < r → k ≢ j → row_coins (added coins t g j) t k ≡ row_coins coins t k
+pub row_stays : (coins : List ℕ) (t r : ℕ) (g : List ℕ) (j k : ℕ) → length coins ≡ r * t → k < r → k ≢ j → row_coins (added_to_row coins t g j) t k ≡ row_coins coins t k
 row_stays coins t r g j k long row isnt =
     let fit = rows_fit k r t row in
     let before = length-row_coins coins t k (omega (arith, fit, long)) in
-    let after = length-row_coins (added coins t g j) t k (omega (arith, fit, long, length-added coins t g j)) in
-    ext_get_or 0 (row_coins (added coins t g j) t k) (row_coins coins t k) (after ∙ sym before) (λ e l.
+    let after = length-row_coins (added_to_row coins t g j) t k (omega (arith, fit, long, length-added coins t j (above g))) in
+    ext_get_or 0 (row_coins (added_to_row coins t g j) t k) (row_coins coins t k) (after ∙ sym before) (λ e l.
     let few : e < t = omega (arith, after) in
-    added_coin coins t r g j k e long row few ∙ ap (◌⊕◌ (get_or (row_coins coins t k) e 0)) (addend_elsewhere g t j k e few isnt) ∙ add_zero _)
+    added_coin coins t r g j k e long row few ∙ ap (◌⊕◌ (get_or (row_coins coins t k) e 0)) (addend_elsewhere (above g) t j k e few isnt) ∙ add_zero _)
 
 -- the row is changed by the polynomial's coefficients from 1 on
 pub val-row_changed : (coins : List ℕ) (t r : ℕ) (g : List ℕ) (j a : ℕ) → length coins ≡ r * t → j < r → length g ≤ t + 1
-    → val (row_coins (added coins t g j) t j) a ≡ val (row_coins coins t j) a ⊕ val (drop 1 g) a
+    → val (row_coins (added_to_row coins t g j) t j) a ≡ val (row_coins coins t j) a ⊕ val (drop 1 g) a
 unfolding coef
 val-row_changed coins t r g j a long row few =
     let fit = rows_fit j r t row in
     let old = row_coins coins t j in
-    let new = row_coins (added coins t g j) t j in
+    let new = row_coins (added_to_row coins t g j) t j in
     let before = length-row_coins coins t j (omega (arith, fit, long)) in
-    let after = length-row_coins (added coins t g j) t j (omega (arith, fit, long, length-added coins t g j)) in
+    let after = length-row_coins (added_to_row coins t g j) t j (omega (arith, fit, long, length-added coins t j (above g))) in
     val-same new (add_list old (drop 1 g)) a (λ e.
     elim (cases_lt e t) [
       | inl l ↦
           added_coin coins t r g j j e long row l
-          ∙ ap (◌⊕◌ (get_or old e 0)) (addend_here g t j j e l refl ∙ ap (λ m. get_or g m 0) (omega arith) ∙ sym (get_or-drop 1 g e 0))
+          ∙ ap (◌⊕◌ (get_or old e 0)) (addend_here (above g) t j j e l refl ∙ ap (λ m. get_or g m 0) (omega arith) ∙ sym (get_or-drop 1 g e 0))
           ∙ sym (coef-add_list old (drop 1 g) e)
       | inr past ↦
           get_or_past new e 0 (omega (arith, after))
@@ -89,22 +59,9 @@ val-row_changed coins t r g j a long row few =
     ])
     ∙ val-add_list old (drop 1 g) a
 
--- nothing is added to the bytes of other rows
-addend_outside : (g : List ℕ) (t j i : ℕ) → i / t ≢ j → addend g t j i ≡ 0
-unfolding addend
-addend_outside g t j i isnt = ap (λ b. if b then coef g (i % t + 1) else 0) (ne_eqb (i / t) j isnt)
-
--- a byte before row j
-before_row : (t j i : ℕ) → i < j * t → i / t ≢ j
-before_row t j i l same = let low = div-mul-le_self i t in let e = ap (λ q. q * t) same in omega (arith, l, low, e)
-
--- a byte after row j
-after_row : (t j i : ℕ) → 0 < t → j * t + t ≤ i → i / t ≢ j
-after_row t j i some l same = let high = lt-div-mul-add {a = i} {b = t} some in let e = ap (λ q. q * t) same in omega (arith, l, high, e)
-
 -- where a polynomial was added to the slice of row j
 pub written_row : (coins g new : List ℕ) (t j : ℕ) → 0 < t → j * t + t ≤ length coins → length new ≡ t
-    → IsSum new (take t (drop (j * t) coins)) (drop 1 g) → put_mid (j * t) t coins new ≡ added coins t g j
+    → IsSum new (take t (drop (j * t) coins)) (drop 1 g) → put_mid (j * t) t coins new ≡ added_to_row coins t g j
 unfolding coef
 written_row coins g new t j some fits long sum =
     let m = j * t in
@@ -116,13 +73,13 @@ written_row coins g new t j some fits long sum =
     let size_back = length-drop t (drop m coins) in
     let size_drop = length-drop m coins in
     let all : length (put_mid m t coins new) ≡ length coins = omega (arith, size, size_new, size_rest, size_back, size_drop, long, fits) in
-    ext_get_or 0 (put_mid m t coins new) (added coins t g j) (all ∙ sym (length-added coins t g j)) (λ i l.
+    ext_get_or 0 (put_mid m t coins new) (added_to_row coins t g j) (all ∙ sym (length-added coins t j (above g))) (λ i l.
     let within : i < length coins = omega (arith, all) in
-    let now = added_at coins t g j i within in
-    let stays : i / t ≢ j → get_or coins i 0 ≡ get_or (added coins t g j) i 0 =
-    λ isnt. sym (now ∙ ap (◌⊕◌ (get_or coins i 0)) (addend_outside g t j i isnt) ∙ add_zero _) in
+    let now = added_at coins t j (above g) i within in
+    let stays : i / t ≢ j → get_or coins i 0 ≡ get_or (added_to_row coins t g j) i 0 =
+    λ isnt. sym (now ∙ ap (◌⊕◌ (get_or coins i 0)) (addend_outside (above g) t j i isnt) ∙ add_zero _) in
     elim (cases_lt i m) [
-      | inl before ↦ get_or_append_left front (new ++ back) 0 i (omega (arith, size, before)) ∙ get_or-take m coins i 0 before ∙ stays (before_row t j i before)
+      | inl before ↦ get_or_append_left front (new ++ back) 0 i (omega (arith, size, before)) ∙ get_or-take m coins i 0 before ∙ stays (before_piece t j i before)
       | inr from ↦
           let e = i - m in
           let place : m + e ≡ i = omega (arith, from) in
@@ -131,11 +88,11 @@ written_row coins g new t j some fits long sum =
             | inl inside ↦
                 get_or_append_left new back 0 e (omega (arith, long, inside)) ∙ sum e
                 ∙ ap₂ ◌⊕◌ (get_or-take t (drop m coins) e 0 inside ∙ get_or-drop m coins e 0 ∙ ap (λ k. get_or coins k 0) place)
-                (get_or-drop 1 g e 0 ∙ ap (λ k. get_or g k 0) (omega arith) ∙ sym (addend_here g t j j e inside refl) ∙ ap (addend g t j) place)
+                (get_or-drop 1 g e 0 ∙ ap (λ k. get_or g k 0) (omega arith) ∙ sym (addend_here (above g) t j j e inside refl) ∙ ap (addend (above g) t j) place)
                 ∙ sym now
             | inr past ↦
                 get_or-append_right new back t e 0 long past ∙ get_or-drop t (drop m coins) (e - t) 0 ∙ get_or-drop m coins (t + (e - t)) 0
-                ∙ ap (λ k. get_or coins k 0) (omega (arith, past, place)) ∙ stays (after_row t j i some (omega (arith, past, place)))
+                ∙ ap (λ k. get_or coins k 0) (omega (arith, past, place)) ∙ stays (after_piece t j i some (omega (arith, past, place)))
           ]
     ])
 

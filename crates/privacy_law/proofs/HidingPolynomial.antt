@@ -10,6 +10,7 @@ use Rattle.gf256.proofs.Xor.{zero_add, add-eq-zero}
 use Rattle.gf256.proofs.FieldLaws.{ring, mul_lt, mul_one, one_mul, mul_zero, mul_comm}
 use Rattle.gf256.proofs.Powers.{mul_inverse, inverse_lt, inverse_is}
 use Rattle.gf256.proofs.Sums.{sum_to-same, mul-sum_to}
+use Rattle.uni_poly.specs.Coefficients.{IsBytes}
 use Rattle.uni_poly.specs.Product.{linear, product_coef, product, vanishing}
 use Rattle.uni_poly.proofs.Coefficients.{list_from_same}
 use Rattle.uni_poly.proofs.LinearFactor.{IsBytes-product}
@@ -152,3 +153,8 @@ hiding_rest xs a bytes nonzero member =
     ap (λ p. val p a) (drop_more g 0 0 long) ∙ val_cons (get_or g 0 0) (drop 1 g) a
     ∙ ap (λ c. c ⊗ 1 ⊕ a ⊗ val (drop 1 g) a) (hiding_first xs) ∙ ap (λ c. c ⊕ a ⊗ val (drop 1 g) a) (mul_one 1 (lit< tt)) in
     sym (add-eq-zero 1 (a ⊗ val (drop 1 g) a) (sym split ∙ hiding_zero xs a bytes nonzero member))
+
+-- each coefficient is a byte
+pub IsBytes-hiding : (xs : List ℕ) → All (λ a. a < 256) xs → All (λ a. a ≢ 0) xs → IsBytes (hiding xs)
+IsBytes-hiding xs bytes nonzero e =
+    rw (hiding_multiple xs bytes nonzero, coef-scale_list (scaling 1 xs) (vanishing xs) e) (mul_lt (scaling 1 xs) (coef (vanishing xs) e))

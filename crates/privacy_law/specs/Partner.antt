@@ -1,20 +1,24 @@
--- The coins that show a coalition for one block what other coins show it for another.
-use Rattle.std.specs.Prelude.{ℕ, ◌+◌, ◌/◌, ◌%◌, List, length, map, slice_index, ◌==◌, if◌then◌else◌}
-use Rattle.std.specs.List.{range_with_len}
-use Rattle.gf256.specs.Field.{◌⊕◌}
+-- The partner of coins: from it a coalition is sent for one block what it is sent from the coins for another.
+use Rattle.std.specs.Prelude.{ℕ, ◌+◌, ◌-◌, List, ◌==◌, if◌then◌else◌}
 use Rattle.gf256.specs.Polynomial.{coef}
+use Rattle.chor_xor.specs.Bitmap.{size_of, unit_byte}
 use Rattle.privacy_law.specs.Hiding.{hiding}
+use Rattle.privacy_law.specs.Pieces.{added}
 
--- what is added to byte i of the coins where g is added to row j: coefficient e of g to byte j * t + e - 1, for e from 1
--- to t, and 0 to the bytes of other rows
-unfoldable pub addend : List ℕ → ℕ → ℕ → ℕ → ℕ
-addend g t j i = if i / t == j then coef g (i % t + 1) else 0
+-- the coins with coefficients 1 to t of g added to the t coins of row j
+abbrev pub added_to_row : List ℕ → ℕ → List ℕ → ℕ → List ℕ
+added_to_row coins t g j = added coins t j (λ e. coef g (e + 1))
 
--- the coins, t a row, where coefficients 1 to t of g are added to those of row j
-unfoldable pub added : List ℕ → ℕ → List ℕ → ℕ → List ℕ
-added coins t g j = map (λ i. slice_index coins i ⊕ addend g t j i) (range_with_len 0 (length coins))
-
--- the partner of coins, t a row, for a coalition and the blocks b and b2: the hiding polynomial is added to the rows of both,
--- so that coins stay where these are one row
+-- in Shamir's scheme, t coins a row: the hiding polynomial is added to the rows of both blocks, so that coins stay where
+-- these are one
 unfoldable pub partner : List ℕ → ℕ → List ℕ → ℕ → ℕ → List ℕ
-partner coins t coalition b b2 = added (added coins t (hiding coalition) b) t (hiding coalition) b2
+partner coins t coalition b b2 = added_to_row (added_to_row coins t (hiding coalition) b) t (hiding coalition) b2
+
+-- the coins with bit j flipped of one of the bitmaps of r bits that they are
+abbrev pub flipped : List ℕ → ℕ → ℕ → ℕ → List ℕ
+flipped coins r piece j = added coins (size_of r) piece (unit_byte j)
+
+-- in the XOR scheme of n servers, for all of them but one: the bits of both blocks are flipped in its bitmap, unless it is the
+-- last server, who alone has a bitmap that isn't coins
+unfoldable pub partner_xor : List ℕ → ℕ → ℕ → ℕ → ℕ → ℕ → List ℕ
+partner_xor coins n r left_out b b2 = if left_out == n then coins else flipped (flipped coins r (left_out - 1) b) r (left_out - 1) b2

@@ -11,8 +11,11 @@
 //! the coalition sees has the same distribution whichever block is asked for. Nothing is said of when bytes are sent.
 #![tactic(auto)]
 
+pub mod laws;
 mod shamir;
 #[cfg(test)]
 mod tests;
+mod xor;
 
 pub use shamir::partner;
+pub use xor::partner_xor;

@@ -4,7 +4,7 @@ ghost use Rattle.std.specs.Prelude.{◌≡◌, ◌≢◌, ◌+◌, ◌*◌, ◌<
 ghost use Rattle.gf256.specs.Field.{◌⊗◌};
 ghost use Rattle.shamir_share.specs.Query.{query};
 ghost use Rattle.privacy_law.specs.Hiding.{hiding};
-ghost use Rattle.privacy_law.specs.Partner.{added, partner};
+ghost use Rattle.privacy_law.specs.Partner.{added_to_row, partner};
 
 use std::alloc::{AllocError, Global};
 
@@ -79,7 +79,7 @@ fn add_to_rows(coins: &mut [u8], g: &[u8], t: usize, b: usize, b2: usize)
     requires degree { 1 ≤ t }
     requires some { 0 < length g.now }
     requires few { length g.now ≤ t + 1 }
-    ensures { coins.new ≡ added (added coins.old t g.now b) t g.now b2 }
+    ensures { coins.new ≡ added_to_row (added_to_row coins.old t g.now b) t g.now b2 }
 {
     add_to_row(coins, g, t, b);
     add_to_row(coins, g, t, b2);
@@ -91,7 +91,7 @@ fn add_to_row(coins: &mut [u8], g: &[u8], t: usize, row: usize)
     requires degree { 1 ≤ t }
     requires some { 0 < length g.now }
     requires few { length g.now ≤ t + 1 }
-    ensures { coins.new ≡ added coins.old t g.now row }
+    ensures { coins.new ≡ added_to_row coins.old t g.now row }
 {
     uni_poly::add_into(&mut coins[row * t..row * t + t], &g[1..]);
 }
