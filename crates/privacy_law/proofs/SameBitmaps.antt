@@ -1,5 +1,5 @@
 -- What all servers but one see in the XOR scheme: the same of the partner for one block as of the coins for the other.
-use Rattle.std.proofs.Common.{◌≡◌, ◌≢◌, ℕ, ◌+◌, ◌-◌, ◌*◌, ◌/◌, ◌%◌, ◌^◌, ◌<◌, ◌≤◌, ◌==◌, if◌then◌else◌, Bool, List, length, get_or, refl, sym, ap, ap₂, subst, ◌∙◌, arith, inl, inr, lit<, pow-add}
+use Rattle.std.proofs.Common.{◌≡◌, ◌≢◌, ℕ, ◌+◌, ◌-◌, ◌*◌, ◌/◌, ◌%◌, ◌^◌, ◌<◌, ◌≤◌, ◌==◌, if◌then◌else◌, Bool, List, length, get_or, refl, sym, ap, ap₂, subst, ◌∙◌, arith, inl, inr, lit<, pow-add, div-add-mod', bit_xor, set, length-set, get_or-set_same, get_or-set_other}
 use Rattle.std.proofs.Math.Nat.{add-mul, mul-le-mul_right, mul-div_left}
 use Rattle.std.proofs.lemmas.Bool.{cases_eq, eq-eqb, ne_eqb}
 use Rattle.std.proofs.lemmas.List.{ext_get_or}
@@ -9,12 +9,12 @@ use Rattle.gf256.specs.Sums.{sum_to}
 use Rattle.gf256.proofs.Xor.{sums, add_zero}
 use Rattle.gf256.proofs.Sums.{sum_to-same, sum_to-add, sum_to-one}
 use Rattle.chor_xor.specs.Bitmap.{size_of, unused_bits, cleared, random_byte, unit_byte, last_byte, bitmap}
-use Rattle.chor_xor.proofs.Bits.{cleared-add, cleared-zero}
+use Rattle.chor_xor.proofs.Bits.{cleared-add, cleared-zero, power-by_shift}
 use Rattle.chor_xor.proofs.Shares.{length-bitmap, bitmap-random, bitmap-last}
 use Rattle.privacy_law.specs.Pieces.{addend, added}
 use Rattle.privacy_law.specs.Partner.{flipped, partner_xor}
 use Rattle.privacy_law.specs.Bijection.{AreCoins, IsBijection}
-use Rattle.privacy_law.proofs.ChangedPieces.{length-added, added_at, added_twice, addend_here, addend_elsewhere, AreCoins-added}
+use Rattle.privacy_law.proofs.ChangedPieces.{length-added, added_at, added_twice, addend_here, addend_elsewhere, addend_outside, AreCoins-added}
 
 -- ---- unit vectors
 
@@ -44,10 +44,29 @@ unit_lt j k =
       | inr other ↦ rw (ne_eqb k (j / 8) other) (lit< tt)
     ]
 
+-- its one bit
+unit_here : (j : ℕ) → unit_byte j (j / 8) ≡ 2 ^ (7 - j % 8)
+unfolding unit_byte
+unit_here j = ap (λ t. if t then 2 ^ (7 - j % 8) else 0) (eq-eqb (j / 8) (j / 8) refl)
+
+-- nothing is added but at this bit
+unit_elsewhere : (size piece j i : ℕ) → i ≢ piece * size + j / 8 → addend (unit_byte j) size piece i ≡ 0
+unfolding unit_byte addend
+unit_elsewhere size piece j i ne =
+    elim (cases_eq (i / size) piece) [
+      | inl same ↦
+          elim (cases_eq (i % size) (j / 8)) [
+            | inl byte ↦ absurd (ne (sym (div-add-mod' i size) ∙ ap₂ (λ q m. q * size + m) same byte))
+            | inr other ↦
+                ap (λ t. if t then unit_byte j (i % size) else 0) (eq-eqb (i / size) piece same) ∙ ap (λ t. if t then 2 ^ (7 - j % 8) else 0) (ne_eqb (i % size) (j / 8) other)
+          ]
+      | inr other ↦ addend_outside (unit_byte j) size piece i other
+    ]
+
 -- ---- the bitmaps that are coins
 
 -- a byte of one of m pieces is among the coins
-piece_fits : (i m size k n : ℕ) → i < m → k < size → n ≡ m * size → i * size + k < n
+pub piece_fits : (i m size k n : ℕ) → i < m → k < size → n ≡ m * size → i * size + k < n
 piece_fits i m size k n low l long =
     let h = mul-le-mul_right size (let more : i + 1 ≤ m = omega arith in more) in omega (arith, h, add-mul i 1 size, l, long)
 
@@ -90,7 +109,7 @@ sum_flipped coins m r piece j k long low l row =
 -- ---- the partner
 
 -- where the last server is left out
-xor_stays : (coins : List ℕ) (n r left_out b b2 : ℕ) → left_out ≡ n → partner_xor coins n r left_out b b2 ≡ coins
+pub xor_stays : (coins : List ℕ) (n r left_out b b2 : ℕ) → left_out ≡ n → partner_xor coins n r left_out b b2 ≡ coins
 unfolding partner_xor
 xor_stays coins n r left_out b b2 same =
     ap (λ t. if t then coins else flipped (flipped coins r (left_out - 1) b) r (left_out - 1) b2) (eq-eqb left_out n same)
@@ -179,3 +198,27 @@ IsBijection-xor m n r left_out b b2 = record {
   left = λ coins h. xor_back coins n r left_out b b2;
   right = λ coins h. xor_back coins n r left_out b2 b;
 }
+
+-- where bit j of a piece was flipped
+pub written_bit : (coins : List ℕ) (size piece j : ℕ) → piece * size + size ≤ length coins → j / 8 < size
+    → set coins (piece * size + j / 8) (bit_xor (get_or coins (piece * size + j / 8) 0) (1 * 2 ^ (7 - j % 8) % 256)) ≡ added coins size piece (unit_byte j)
+unfolding ◌⊕◌
+written_bit coins size piece j fits low =
+    let place = piece * size + j / 8 in
+    let f = unit_byte j in
+    let x = bit_xor (get_or coins place 0) (1 * 2 ^ (7 - j % 8) % 256) in
+    let here : f (j / 8) ≡ 1 * 2 ^ (7 - j % 8) % 256 = unit_here j ∙ sym (power-by_shift (7 - j % 8) (omega arith)) in
+    ext_get_or 0 (set coins place x) (added coins size piece f) (length-set coins place x ∙ sym (length-added coins size piece f)) (λ i l.
+    let within : i < length coins = omega (arith, length-set coins place x) in
+    let now = added_at coins size piece f i within in
+    elim (cases_eq i place) [
+      | inl same ↦
+          ap (λ k. get_or (set coins place x) k 0) same ∙ get_or-set_same coins place x 0 (omega (arith, same, within))
+          ∙ ap₂ bit_xor (ap (λ k. get_or coins k 0) (sym same)) (sym here ∙ sym (addend_here f size piece piece (j / 8) low refl) ∙ ap (addend f size piece) (sym same))
+          ∙ sym now
+      | inr other ↦
+          get_or-set_other coins place i x 0 other ∙ sym (now ∙ ap (bit_xor (get_or coins i 0)) (unit_elsewhere size piece j i (λ e. other e)) ∙ nothing (get_or coins i 0))
+    ])
+  where
+    nothing : (a : ℕ) → bit_xor a 0 ≡ a
+    nothing a = add_zero a

@@ -45,30 +45,29 @@ pub fn partner_xor(
     ensures own_inverse { IfOk result (λ v. partner_xor v.items n r left_out b2 b ≡ coins.now) }
 {
     let mut changed = Vec::from_slice(alloc, coins)?;
-    if u32::from(left_out) != n {
-        flip_bits(
-            &mut changed,
-            r.div_ceil(8) as usize,
-            left_out as usize - 1,
-            b,
-            b2,
-        );
-    }
+    exchange(&mut changed, n, r, left_out, b, b2);
     Ok(changed)
 }
 
-/// Flips the bits of two rows in one of the bitmaps of so many bytes, one after the other.
-fn flip_bits(coins: &mut [u8], size: usize, piece: usize, b: u32, b2: u32)
-    requires room { piece * size + size ≤ length coins.old }
-    requires row { b / 8 < size }
-    requires other { b2 / 8 < size }
-    ensures { coins.new ≡ added (added coins.old size piece (unit_byte b)) size piece (unit_byte b2) }
+/// Makes the coins their partner.
+fn exchange(coins: &mut [u8], n: u32, r: u32, left_out: u8, b: u32, b2: u32)
+    requires first { 1 ≤ left_out }
+    requires last { left_out ≤ n }
+    requires block { b < r }
+    requires other { b2 < r }
+    requires coins { length coins.old ≡ (n - 1) * size_of r }
+    ensures { coins.new ≡ partner_xor coins.old n r left_out b b2 }
 {
+    if u32::from(left_out) == n {
+        return;
+    }
+    let size = r.div_ceil(8) as usize;
+    let piece = left_out as usize - 1;
     flip_bit(coins, size, piece, b);
     flip_bit(coins, size, piece, b2);
 }
 
-/// Flips the bit of one row.
+/// Flips the bit of one row in one of the bitmaps of so many bytes.
 fn flip_bit(coins: &mut [u8], size: usize, piece: usize, row: u32)
     requires room { piece * size + size ≤ length coins.old }
     requires row { row / 8 < size }
