@@ -1,4 +1,4 @@
-use Rattle.std.proofs.Common.{◌≡◌, get_or}
+use Rattle.std.proofs.Common.{get_or}
 use Rattle.std.proofs.lemmas.List.{get_or_default}
 use Rattle.uni_poly.proofs.Coefficients.{bytes_from_get_or}
 use Rattle.privacy_law.proofs.SameQueries.{same_query, IsBijection-partner}

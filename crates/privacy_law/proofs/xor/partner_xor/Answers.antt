@@ -1,4 +1,4 @@
-use Rattle.std.proofs.Common.{◌≡◌, ap, ◌∙◌, length, arith}
+use Rattle.std.proofs.Common.{ap, ◌∙◌}
 use Rattle.std.proofs.lemmas.List.{take_at}
 use Rattle.chor_xor.specs.Bitmap.{bitmap}
 use Rattle.privacy_law.specs.Partner.{partner_xor}
