@@ -1,10 +1,13 @@
-//! A fetch over sockets on loopback, from servers that answer, lie, say nothing or hang up.
+//! Fetches over sockets on loopback: from servers that answer, lie, say nothing or hang up, and from three processes
+//! that serve.
 
 use crate::OsPorts;
 use pir_tool::{Status, run};
 use std::alloc::Global;
-use std::io::{self, Read, Write};
+use std::io::{self, ErrorKind, Read, Write};
 use std::net::{Ipv4Addr, Net, OpenListener, TcpListener};
+use std::process::{Child, Command, OpenProcess, Processes, Stdio};
+use std::rt::Env;
 use std::test::Fail;
 use std::{env, fs, process, thread};
 
@@ -28,6 +31,16 @@ const MANNERS: [Manner; 6] = [
     Manner::SaysNothing,
     Manner::HangsUp,
 ];
+
+// The session's number, and the coins of the two rows.
+const COINS: [u8; 10] = [0, 0, 0, 0, 0, 0, 0, 7, 5, 7];
+
+/// The path of a file of this process among those that don't last.
+fn temp_path(rt: HostRuntime, name: &str) -> io::Result<String> {
+    let folder = env::temp_dir(&rt)?;
+    let id = process::id(rt.process());
+    Ok(format!(in rt.alloc(); "{}/pir-{name}-{id}", folder.display())?)
+}
 
 /// Meets one guest.
 fn serve<R: Net>(door: &R::Listener, manner: Manner) -> io::Result<()> {
@@ -65,13 +78,9 @@ fn words_of(alloc: Global, coins: &str, record: &str) -> Result<Vec<String>, Fai
 #[test]
 fn a_fetch_outlives_its_servers(rt: HostRuntime) -> Result<(), Fail> {
     let alloc = rt.alloc();
-    let folder = env::temp_dir(&rt)?;
-    let id = process::id(rt.process());
-    let coins = format!(in alloc; "{}/pir-coins-{id}", folder.display())?;
-    let record = format!(in alloc; "{}/pir-record-{id}", folder.display())?;
-    let mut file = fs::create(&rt, &coins)?;
-    file.write_all(&[0, 0, 0, 0, 0, 0, 0, 7, 5, 7])?;
-    drop(file);
+    let coins = temp_path(rt, "coins")?;
+    let record = temp_path(rt, "record")?;
+    fs::write(&rt, &coins, &COINS)?;
     let mut words = words_of(alloc, &coins, &record)?;
     let mut doors = Vec::new(alloc);
     for _ in 0..MANNERS.len() {
@@ -99,5 +108,147 @@ fn a_fetch_outlives_its_servers(rt: HostRuntime) -> Result<(), Fail> {
     fs::remove_file(&rt, &coins)?;
     fs::remove_file(&rt, &record)?;
     assert!(rt; matches!(seats.last(), Some(Some(Status::One))));
+    Ok(())
+}
+
+// What this executable is told to run in a process of a server: the one test, by its full name.
+const SERVER_TEST: &str = "tests::serve_if_asked";
+
+// Where the record of the session holds the payload of each server, and what it is.
+const PAYLOADS: [(usize, [u8; 2]); 3] = [
+    (58, [0xcf, 0xd2]),
+    (90, [0x40, 0x73]),
+    (122, [0xcc, 0xe5]),
+];
+
+/// The words after the name of the test.
+fn words_after_name<R: Env + AllocGlobal>(rt: &R) -> io::Result<Vec<String>> {
+    let mut words = Vec::new(rt.alloc());
+    for word in env::args(rt)?.skip(2) {
+        words.push(word)?;
+    }
+    Ok(words)
+}
+
+// No test of its own, but what a server's process runs: words after the name of the test are those of `run`.
+#[test]
+fn serve_if_asked(rt: HostRuntime) -> Result<(), Fail> {
+    let words = words_after_name(&rt)?;
+    if !words.is_empty() {
+        let mut ports = OsPorts::new(&rt)?;
+        let status = run(&rt, rt.alloc(), &words, &mut ports);
+        assert_eq!(rt; status, Status::One);
+    }
+    Ok(())
+}
+
+/// Three addresses on loopback at which nobody listens.
+fn free_addresses<R: Net + AllocGlobal>(rt: &R) -> io::Result<Vec<String>> {
+    let alloc = rt.alloc();
+    let mut doors = Vec::new(alloc);
+    let mut addresses = Vec::new(alloc);
+    for _ in 0..3 {
+        let door = TcpListener::bind(rt, (Ipv4Addr::LOCALHOST, 0))?;
+        addresses.push(format!(in alloc; "{}", door.local_addr()?)?)?;
+        doors.push(door)?;
+    }
+    Ok(addresses)
+}
+
+/// Starts a process that serves the database to one guest.
+fn start<R: Processes + Env + AllocGlobal>(
+    rt: &R,
+    database: &str,
+    address: &str,
+) -> io::Result<Child<R::Started>> {
+    // Not `current_exe`, which is the loader where a loader was told to run this executable.
+    let program = env::args(rt)?.next().ok_or(ErrorKind::NotFound)?;
+    let mut command = Command::new(rt.alloc(), program.as_str())?;
+    command.arg(SERVER_TEST)?;
+    command.arg("serve")?;
+    command.arg("--database")?.arg(database)?;
+    command.arg("--width")?.arg("2")?;
+    command.arg("--conns")?.arg("1")?;
+    command.arg("--listen")?.arg(address)?;
+    command.stdout(Stdio::piped());
+    command.spawn(rt)
+}
+
+/// Waits until the server says that it is ready.
+fn await_ready<P: OpenProcess>(server: &mut Child<P>) -> io::Result<()> {
+    let mut line = [0; 6];
+    if let Some(stdout) = server.stdout.as_mut() {
+        stdout.read_exact(&mut line)?;
+    }
+    if line == *b"ready\n" {
+        Ok(())
+    } else {
+        Err(io::Error::from(ErrorKind::InvalidData))
+    }
+}
+
+/// Starts a server at each address, and waits until all are ready. After an error those that were started are there.
+fn open_servers<R: Processes + Env + AllocGlobal>(
+    rt: &R,
+    database: &str,
+    addresses: &[String],
+    servers: &mut Vec<Child<R::Started>>,
+) -> io::Result<()> {
+    for address in addresses {
+        servers.push(start(rt, database, address.as_str())?)?;
+    }
+    for server in servers.iter_mut() {
+        await_ready(server)?;
+    }
+    Ok(())
+}
+
+/// Whether all servers end, and with success. Where not all were asked one may wait for its guest forever, so they are
+/// killed.
+fn all_end_well<P: OpenProcess>(servers: &mut [Child<P>], asked: bool) -> bool {
+    let mut well = asked;
+    for server in servers {
+        if !asked {
+            let _ = server.kill();
+        }
+        match server.wait() {
+            Ok(status) => well = well && status.success(),
+            Err(_) => well = false,
+        }
+    }
+    well
+}
+
+/// Whether the record holds the payloads.
+fn holds_payloads(record: &[u8]) -> bool {
+    PAYLOADS.iter().all(|(place, payload)| record.get(*place..*place + 2)
+        == Some(payload.as_slice()))
+}
+
+#[test]
+fn a_fetch_asks_three_processes(rt: HostRuntime) -> Result<(), Fail> {
+    let alloc = rt.alloc();
+    let database = temp_path(rt, "database")?;
+    let coins = temp_path(rt, "coins")?;
+    let record = temp_path(rt, "record")?;
+    fs::write(&rt, &database, b"ABCD")?;
+    fs::write(&rt, &coins, &COINS)?;
+    let addresses = free_addresses(&rt)?;
+    let mut words = words_of(alloc, &coins, &record)?;
+    for address in &addresses {
+        words.push(address.clone()?)?;
+    }
+    let mut ports = OsPorts::new(&rt)?;
+    let mut servers = Vec::new(alloc);
+    let opened = open_servers(&rt, &database, &addresses, &mut servers);
+    let fetched = opened.is_ok() && run(&rt, alloc, &words, &mut ports) == Status::One;
+    let ended = all_end_well(&mut servers, fetched);
+    let kept = fs::read(&rt, &record);
+    for file in [&database, &coins, &record] {
+        let _ = fs::remove_file(&rt, file);
+    }
+    assert!(rt; fetched);
+    assert!(rt; ended);
+    assert!(rt; holds_payloads(&kept?));
     Ok(())
 }

@@ -1,2 +1,3 @@
+pub mod OneReply
 mod Replying
 pub mod ServingOne

@@ -1,12 +1,12 @@
 -- The steps of a reply, put together.
-use Rattle.std.proofs.Common.{◌≡◌, ◌≢◌, ◌⊎◌, inl, inr, ℕ, ◌+◌, ◌<◌, ◌≤◌, List, [], ◌++◌, length, take, drop, refl, sym, ◌∙◌, ap, ap₂, subst, arith}
-use Rattle.std.specs.Prelude.{Option, Some, None, IfSome, Result, Ok, Err}
+use Rattle.std.proofs.Common.{◌≡◌, inl, inr, ℕ, ◌+◌, ◌≤◌, List, [], ◌++◌, length, take, drop, refl, sym, ◌∙◌, ap, ap₂, subst, arith}
+use Rattle.std.specs.Prelude.{Option, Some, None, IfSome, Ok, Err}
 use Rattle.std.specs.Option.{option_map}
 use Rattle.std.proofs.lemmas.List.{take_all, length-drop}
 use Rattle.gf256.specs.Product.{product}
-use Rattle.pir_ports.specs.World.{Cell, World}
+use Rattle.pir_ports.specs.World.{World}
 use Rattle.pir_ports.specs.Moves.{Rose, Came, Hands, took, gave, counted}
-use Rattle.pir_ports.specs.Whole.{Ends, FailsShort, FailsWithin}
+use Rattle.pir_ports.specs.Whole.{Ends, FailsShort}
 use Rattle.pir_ports.proofs.Cells.{took-took}
 use Rattle.pir_ports.proofs.Pieces.{gave_none}
 use Rattle.wire_frames.specs.declared.header.QueryHeader.{QueryHeader}
@@ -14,11 +14,11 @@ use Rattle.wire_frames.specs.Header.{answer_to}
 use Rattle.wire_frames.specs.Query.{IsQueryHeader}
 use Rattle.block_matrix.specs.Database.{Database}
 use Rattle.serve_core.specs.Service.{Service}
-use Rattle.serve_core.specs.Reply.{Asks, IsShaped, Malformed, OtherScheme, OtherShape, Suits, Refuses, Replies, answer_frame, payload}
-use Rattle.serve_core.specs.Attended.{IsReply, Answered, IsFrontOfReply, IsBroken, Broke, Attends}
-use Rattle.serve_core.specs.Stages.{status_of, IsOfScheme, Judges, Gives, Takes, Finishes, Stops, Answers}
+use Rattle.serve_core.specs.Reply.{Asks, Suits, Refuses, answer_frame, payload}
+use Rattle.serve_core.specs.Attended.{IsReply, Answered, IsBroken, Broke, Attends}
+use Rattle.serve_core.specs.Stages.{status_of, Judges, Gives, Takes, Stops, Answers}
 use Rattle.serve_core.specs.declared.met.Met.{Met}
-use Rattle.serve_core.specs.declared.met.Met.TheVariants.{Served, Refused as IsRefused, Gone, GuestFault}
+use Rattle.serve_core.specs.declared.met.Met.TheVariants.{Served, Refused as IsRefused, Gone}
 use Rattle.serve_core.specs.declared.header.Refusal.{Refusal}
 use Rattle.serve_core.specs.declared.header.Refusal.TheVariants.{Malformed as IsMalformed, OtherScheme as IsOtherScheme, OtherShape as IsOtherShape}
 

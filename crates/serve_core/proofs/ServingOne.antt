@@ -1,9 +1,8 @@
 -- The guest that is in, seen as one of a server's guests.
-use Rattle.std.proofs.Common.{◌≡◌, inl, inr, ℕ, List, [], ◌++◌, take, sym, ◌∙◌, ap, subst}
-use Rattle.std.specs.Prelude.{Option, Some, IfSome}
+use Rattle.std.proofs.Common.{inl, inr, ℕ, List, ◌++◌, ◌∙◌, ap, subst}
+use Rattle.std.specs.Prelude.{Option, IfSome}
 use Rattle.std.specs.Option.{option_map}
 use Rattle.pir_ports.specs.World.{Cell, World}
-use Rattle.pir_ports.specs.Moves.{took, gave, counted}
 use Rattle.pir_ports.specs.Serving.{ServesOne}
 use Rattle.serve_core.specs.Service.{Service}
 use Rattle.serve_core.specs.Attended.{IsReply, Answered, IsBroken, Broke, Attends, HasReply, IsServed}

@@ -72,6 +72,10 @@ Replies service bytes (Refused status) frame = Refuses service bytes status × (
 Replies service bytes Gone frame = IsCut service bytes × (frame ≡ [])
 Replies service bytes GuestFault frame = ⊥
 
+-- the bytes ask for one reply alone
+abbrev pub AsksForOneReply : Service → List ℕ → Type 0
+AsksForOneReply service bytes = (met other : Met) (frame out : List ℕ) → Replies service bytes met frame → Replies service bytes other out → (met ≡ other) × (frame ≡ out)
+
 -- how many of the guest's bytes the reply takes
 abbrev pub taken : Service → List ℕ → Met → ℕ
 taken service bytes Served = 24 + length service.database.rows

@@ -1,5 +1,5 @@
 -- The steps of a reply: the header is judged, the payload is taken, the frame is given.
-use Rattle.std.specs.Prelude.{◌≡◌, ◌≢◌, ◌⊎◌, ℕ, ◌<◌, List, length, Result, Ok, Err}
+use Rattle.std.specs.Prelude.{◌≡◌, ◌≢◌, ◌⊎◌, ℕ, List, length, Result, Ok, Err}
 use Rattle.pir_ports.specs.World.{World}
 use Rattle.pir_ports.specs.Moves.{Hands, gave}
 use Rattle.pir_ports.specs.Whole.{Ends, FailsShort, FailsWithin}
@@ -9,7 +9,7 @@ use Rattle.block_matrix.specs.Database.{Database}
 use Rattle.serve_core.specs.Service.{Service}
 use Rattle.serve_core.specs.Reply.{IsShaped, answer_frame}
 use Rattle.serve_core.specs.declared.met.Met.{Met}
-use Rattle.serve_core.specs.declared.met.Met.TheVariants.{Served, Refused, Gone, GuestFault}
+use Rattle.serve_core.specs.declared.met.Met.TheVariants.{Served, Gone, GuestFault}
 use Rattle.serve_core.specs.declared.header.Refusal.{Refusal}
 use Rattle.serve_core.specs.declared.header.Refusal.TheVariants.{Malformed, OtherScheme, OtherShape}
 

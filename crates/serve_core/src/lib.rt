@@ -1,9 +1,9 @@
 //! One server of private information retrieval: it takes a guest's query, and answers with the product of the query and
 //! its database (Goldberg 2007).
 //!
-//! Promised is, for the bytes that a guest holds: the outcome and the frame, each refusal exactly where it belongs, and
-//! that no byte is taken beyond those. A guest that goes away, or whose calls fail, leaves the server as it was. No memory
-//! is taken once the desk is open.
+//! Promised is, for the bytes that a guest holds: the outcome and the frame, each refusal exactly where it belongs
+//! (`laws::reply_is_one`), and that no byte is taken beyond those. A guest that goes away, or whose calls fail, leaves the
+//! server as it was. No memory is taken once the desk is open.
 //!
 //! Not promised: that a guest ever sends or takes a byte, and anything of time.
 #![tactic(auto)]
@@ -11,6 +11,7 @@
 mod answer;
 mod desk;
 mod header;
+pub mod laws;
 mod met;
 mod serve;
 #[cfg(test)]
