@@ -11,7 +11,6 @@ use Rattle.uni_poly.proofs.Values.{val_cons}
 use Rattle.shamir_share.specs.Query.{row_coins, row_polynomial, query}
 use Rattle.shamir_share.proofs.Queries.{query_at, length-query}
 use Rattle.privacy_law.specs.Hiding.{hiding}
-use Rattle.gf256.specs.Polynomial.{coef}
 use Rattle.privacy_law.specs.Pieces.{added}
 use Rattle.privacy_law.specs.Partner.{added_to_row, partner}
 use Rattle.privacy_law.specs.Bijection.{AreCoins, IsBijection}
