@@ -26,7 +26,13 @@ pub fn answer_into(matrix: &Matrix, bitmap: &[u8], out: &mut [u8])
     let mut c = next_set(bitmap, 2 * quarter, 3 * quarter);
     let mut d = next_set(bitmap, 3 * quarter, rows);
     'fours: while a < quarter && b < 2 * quarter && c < 3 * quarter && d < rows {
-        add_four_rows(out, matrix.row(a), matrix.row(b), matrix.row(c), matrix.row(d));
+        add_four_rows(
+            out,
+            matrix.row(a),
+            matrix.row(b),
+            matrix.row(c),
+            matrix.row(d),
+        );
         a = next_set(bitmap, a + 1, quarter);
         b = next_set(bitmap, b + 1, 2 * quarter);
         c = next_set(bitmap, c + 1, 3 * quarter);

@@ -1,4 +1,5 @@
-ghost use Rattle.std.specs.Prelude.{◌≡◌, ◌<◌, ◌≤◌, IfOk, vec_len};
+ghost use Rattle.std.specs.Prelude.{◌≡◌, ◌-◌, ◌*◌, ◌<◌, ◌≤◌, IfOk, length, vec_len};
+ghost use Rattle.chor_xor.specs.Bitmap.{size_of};
 
 use crate::{answer_into, bitmap_into, combine_into, has_unused_bits};
 use block_matrix::Matrix;
@@ -91,24 +92,51 @@ fn scattered(alloc: Global, count: usize) -> Result<Vec<u8>, AllocError>
     Ok(bytes)
 }
 
-/// What the answers of `n` servers give together, where they are asked for the row `block`.
-fn fetched(alloc: Global, matrix: &Matrix, n: u8, block: u32) -> Result<Vec<u8>, Fail>
-    requires { 2 ≤ n }
+/// Adds the answers of `n` servers to `sum`, where they are asked for the row `block`.
+fn add_answers(
+    matrix: &Matrix,
+    coins: &[u8],
+    n: u8,
+    block: u32,
+    bitmap: &mut [u8],
+    payload: &mut [u8],
+    sum: &mut [u8],
+)
+    requires servers { 2 ≤ n }
+    requires block { block < length matrix.now.rows }
+    requires coins { length coins.now ≡ (n - 1) * size_of (length matrix.now.rows) }
+    requires bitmap { length bitmap.old ≡ size_of (length matrix.now.rows) }
+    requires payload { length payload.old ≡ matrix.now.width }
+    requires sum { length sum.old ≡ matrix.now.width }
 {
     let rows = matrix.rows();
-    if block >= rows {
-        return Err(Fail::new("no such row"));
+    for index in 1..=n {
+        bitmap_into(coins, u32::from(n), rows, block, index, bitmap);
+        answer_into(matrix, bitmap, payload);
+        combine_into(sum, payload);
     }
-    let size = rows.div_ceil(8) as usize;
+}
+
+/// What the answers of `n` servers give together.
+fn fetched(alloc: Global, matrix: &Matrix, n: u8, block: u32) -> Result<Vec<u8>, Fail>
+    requires servers { 2 ≤ n }
+    requires block { block < length matrix.now.rows }
+{
+    let size = matrix.rows().div_ceil(8) as usize;
+    let width = matrix.width() as usize;
     let coins = scattered(alloc, (n as usize - 1) * size)?;
     let mut bitmap = vec![in alloc; 0xff; size]?;
-    let mut payload = vec![in alloc; 0xff; matrix.width() as usize]?;
-    let mut sum = vec![in alloc; 0; matrix.width() as usize]?;
-    for index in 1..=n {
-        bitmap_into(&coins, u32::from(n), rows, block, index, &mut bitmap);
-        answer_into(matrix, &bitmap, &mut payload);
-        combine_into(&mut sum, &payload);
-    }
+    let mut payload = vec![in alloc; 0xff; width]?;
+    let mut sum = vec![in alloc; 0; width]?;
+    add_answers(
+        matrix,
+        &coins,
+        n,
+        block,
+        &mut bitmap,
+        &mut payload,
+        &mut sum,
+    );
     Ok(sum)
 }
 

@@ -1,9 +1,9 @@
-use Rattle.std.proofs.Common.{◌≡◌, ◌∙◌, ◌*◌, ◌/◌, length, ap, ap₂, sym, arith}
+use Rattle.std.proofs.Common.{◌∙◌, ◌*◌, ◌/◌, ap, sym, arith}
 use Rattle.gf256.specs.Field.{◌⊕◌}
 use Rattle.chor_xor.specs.Chosen.{run_sum}
 use Rattle.chor_xor.proofs.PlaceSums.{four_at}
 use Rattle.chor_xor.proofs.ChosenSums.{chosen-is}
-use Rattle.chor_xor.proofs.RunSums.{quarters, quarters-none, quarters-next, quarters-all}
+use Rattle.chor_xor.proofs.RunSums.{quarters-none, quarters-next, quarters-all}
 use Rattle.chor_xor.proofs.answer.answer_into.Goals as goal
 
 pub fours-init : goal.fours-init
