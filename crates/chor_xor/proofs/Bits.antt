@@ -1,12 +1,12 @@
 -- The bits of sums, and bytes with low bits cleared.
-use Rattle.std.proofs.Common.{◌≡◌, ◌≢◌, ℕ, zero, suc, ◌+◌, ◌-◌, ◌*◌, ◌/◌, ◌%◌, ◌^◌, ◌<◌, ◌≤◌, Bool, ◌==◌, if◌then◌else◌, bit_and, bit_xor, refl, sym, ap, ap₂, ◌∙◌, arith, inl, inr, div-add-mod', w8}
+use Rattle.std.proofs.Common.{◌≡◌, ◌≢◌, ℕ, zero, suc, ◌+◌, ◌-◌, ◌*◌, ◌/◌, ◌%◌, ◌^◌, ◌<◌, ◌≤◌, ◌==◌, if◌then◌else◌, bit_and, refl, sym, ap, ◌∙◌, arith, inl, inr, div-add-mod'}
 use Rattle.std.specs.Int.{bit_at}
 use Rattle.std.proofs.lemmas.Bool.Decides.{eqb_tells}
-use Rattle.std.proofs.lemmas.Nat.{pow_pos, mod_below, xor_shr, and_mask, shl_whole, shr_split, pow_below}
-use Rattle.std.proofs.lemmas.Nat.Bits.{shr_and_one, bit_at-lt, bit_at-zero, bit_at_cat_low, bit_at-pow_same, bit_at-pow_other, same_from_bits_below, bit_at_above, ones_shl, and_high_mask}
+use Rattle.std.proofs.lemmas.Nat.{pow_pos, mod_below, xor_shr, and_mask, shl_whole, shr_split}
+use Rattle.std.proofs.lemmas.Nat.Bits.{bit_at-lt, bit_at-zero, bit_at_cat_low, bit_at-pow_same, bit_at-pow_other, same_from_bits_below, ones_shl, and_high_mask}
 use Rattle.gf256.specs.Field.{◌⊕◌}
 use Rattle.gf256.specs.Sums.{sum_to}
-use Rattle.gf256.proofs.Xor.{add_shl, bit_at_add, zero_add}
+use Rattle.gf256.proofs.Xor.{add_shl, bit_at_add}
 use Rattle.chor_xor.specs.Bitmap.{unused_bits, cleared, unit_byte}
 
 -- the sum of two bits

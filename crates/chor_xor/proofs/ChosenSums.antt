@@ -1,17 +1,16 @@
 -- Sums of chosen rows, row by row and over the servers.
-use Rattle.std.proofs.Common.{◌≡◌, ◌≢◌, ℕ, zero, suc, ◌+◌, ◌-◌, ◌*◌, ◌/◌, ◌%◌, ◌<◌, ◌≤◌, List, [], Bool, true, false, if◌then◌else◌, length, get_or, inl, inr, refl, sym, ap, ap₂, subst, ◌∙◌, arith, add-one, lit<}
+use Rattle.std.proofs.Common.{◌≡◌, ℕ, ◌+◌, ◌-◌, ◌/◌, ◌%◌, ◌<◌, ◌≤◌, List, [], length, get_or, inl, inr, sym, ap, subst, ◌∙◌, arith, add-one, lit<}
 use Rattle.std.specs.Int.{bit_at}
 use Rattle.std.proofs.lemmas.Bool.{cases_lt}
-use Rattle.std.proofs.lemmas.List.{ext_get_or, get_or_past, get_or_default}
+use Rattle.std.proofs.lemmas.List.{ext_get_or, get_or_past}
 use Rattle.std.proofs.lemmas.List.FromFn.{length-map-range_with_len, get_or-map-range_with_len}
 use Rattle.gf256.specs.Field.{◌⊕◌, ◌⊗◌}
 use Rattle.gf256.specs.Product.{IsMatrix}
 use Rattle.gf256.specs.Sums.{sum_to}
-use Rattle.gf256.proofs.Xor.{add_zero}
 use Rattle.gf256.proofs.FieldLaws.{zero_mul, one_mul}
 use Rattle.gf256.proofs.Sums.{sum_to-same, sum_to-zero, sum_to-one, sum_to-mul, sum_to-swap}
 use Rattle.block_matrix.specs.Database.{Database}
-use Rattle.chor_xor.specs.Bitmap.{bit_of, bitmap, size_of, unit_byte}
+use Rattle.chor_xor.specs.Bitmap.{bit_of, bitmap, unit_byte}
 use Rattle.chor_xor.specs.Chosen.{given, chosen_at, chosen, answers, combined_at, combined}
 use Rattle.chor_xor.proofs.Bits.{bit-sum_to, unit-same, unit-other}
 use Rattle.chor_xor.proofs.Shares.{sum_of_bitmaps}

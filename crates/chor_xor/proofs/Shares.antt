@@ -1,5 +1,5 @@
 -- The bytes of the servers' bitmaps, and their sum.
-use Rattle.std.proofs.Common.{◌≡◌, ◌≢◌, ℕ, zero, suc, ◌+◌, ◌-◌, ◌*◌, ◌/◌, ◌%◌, ◌^◌, ◌<◌, ◌≤◌, ◌==◌, Bool, if◌then◌else◌, List, length, get_or, set, bit_xor, slice_range, inl, inr, refl, sym, ap, ap₂, subst, ◌∙◌, arith, take, drop}
+use Rattle.std.proofs.Common.{◌≡◌, ◌≢◌, ℕ, zero, suc, ◌+◌, ◌-◌, ◌*◌, ◌/◌, ◌%◌, ◌^◌, ◌<◌, ◌≤◌, ◌==◌, Bool, if◌then◌else◌, List, length, get_or, set, bit_xor, slice_range, inl, inr, refl, sym, ap, ap₂, ◌∙◌, arith, drop}
 use Rattle.std.proofs.lemmas.Bool.Decides.{eqb_tells}
 use Rattle.std.proofs.lemmas.List.{ext_get_or, get_or-set_same, get_or-set_other, get_or-take, get_or-drop, length-set}
 use Rattle.std.proofs.lemmas.List.FromFn.{length-map-range_with_len, get_or-map-range_with_len}
@@ -7,7 +7,7 @@ use Rattle.gf256.specs.Field.{◌⊕◌}
 use Rattle.gf256.specs.Sums.{sum_to}
 use Rattle.gf256.proofs.Xor.{add_zero, add_self_left}
 use Rattle.gf256.proofs.Sums.{sum_to-same}
-use Rattle.chor_xor.specs.Bitmap.{size_of, unused_bits, cleared, random_byte, unit_byte, last_byte, bitmap}
+use Rattle.chor_xor.specs.Bitmap.{size_of, cleared, random_byte, unit_byte, last_byte, bitmap}
 use Rattle.chor_xor.proofs.Bits.{cleared-sum_to, power-by_shift}
 
 -- place k of the bytes from a place on

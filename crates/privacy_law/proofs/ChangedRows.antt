@@ -16,7 +16,7 @@ use Rattle.privacy_law.specs.Partner.{added_to_row}
 use Rattle.privacy_law.proofs.ChangedPieces.{length-added, added_at, addend_here, addend_elsewhere, addend_outside, before_piece, after_piece}
 
 -- what is added to coin e of the row
-abbrev above : List ℕ → ℕ → ℕ
+abbrev pub above : List ℕ → ℕ → ℕ
 above g e = coef g (e + 1)
 
 -- a coin of row k among r rows

@@ -95,13 +95,13 @@ pub hiding_first : (xs : List ℕ) → coef (hiding xs) 0 ≡ 1
 unfolding hiding coef
 hiding_first xs = constant_one (1 ∷ []) xs refl
 
--- it is a multiple of the vanishing polynomial
+-- the hiding polynomial is a multiple of the vanishing polynomial
 hiding_multiple : (xs : List ℕ) → All (λ a. a < 256) xs → All (λ a. a ≢ 0) xs → hiding xs ≡ scale_list (scaling 1 xs) (vanishing xs)
 unfolding hiding vanishing scale_list
 hiding_multiple xs bytes nonzero =
     ap (λ c. fold (λ p a. product p (factor a)) (c ∷ []) xs) (sym (one_mul 1 (lit< tt))) ∙ times_factors 1 (1 ∷ []) xs bytes nonzero
 
--- each coefficient of the vanishing polynomial is a byte
+-- the constant of the vanishing polynomial is a byte
 vanishing_first_lt : (xs : List ℕ) → coef (vanishing xs) 0 < 256
 unfolding vanishing coef
 vanishing_first_lt xs = all (1 ∷ []) xs (lit< tt)
@@ -110,7 +110,7 @@ vanishing_first_lt xs = all (1 ∷ []) xs (lit< tt)
     all p [] l = l
     all p (a ∷ xs) l = all (product p (linear a)) xs (IsBytes-product p (linear a) 0)
 
--- namely by the inverse of its constant
+-- the hiding polynomial is the vanishing polynomial times the inverse of the latter's constant
 pub hiding_from_vanishing : (xs : List ℕ) → All (λ a. a < 256) xs → All (λ a. a ≢ 0) xs
     → hiding xs ≡ map (◌⊗◌ (inverse (coef (vanishing xs) 0))) (vanishing xs)
 hiding_from_vanishing xs bytes nonzero =

@@ -11,17 +11,12 @@ use Rattle.uni_poly.proofs.Values.{val_cons}
 use Rattle.shamir_share.specs.Query.{row_coins, row_polynomial, query}
 use Rattle.shamir_share.proofs.Queries.{query_at, length-query}
 use Rattle.privacy_law.specs.Hiding.{hiding}
-use Rattle.gf256.specs.Polynomial.{coef}
 use Rattle.privacy_law.specs.Pieces.{added}
 use Rattle.privacy_law.specs.Partner.{added_to_row, partner}
 use Rattle.privacy_law.specs.Bijection.{AreCoins, IsBijection}
 use Rattle.privacy_law.proofs.ChangedPieces.{length-added, added_twice, AreCoins-added}
 use Rattle.privacy_law.proofs.HidingPolynomial.{length-hiding, IsBytes-hiding, hiding_rest}
-use Rattle.privacy_law.proofs.ChangedRows.{row_stays, val-row_changed}
-
--- what is added to coin e of a row
-abbrev above : List ℕ → ℕ → ℕ
-above g e = coef g (e + 1)
+use Rattle.privacy_law.proofs.ChangedRows.{above, row_stays, val-row_changed}
 
 -- 1 at row j, and 0 at the others
 unfoldable unit : ℕ → ℕ → ℕ

@@ -24,7 +24,7 @@ use std::alloc::{AllocError, Global};
 ///
 /// ```
 /// // Two rows and degree 1. Server 2 is asked for block 1 from `05 07`, and for block 0 from the partner, by `0a 0f`.
-/// let partner = partner(alloc, &[0x05, 0x07], 1, 2, &[2], 1, 0)?; // `88 8a`
+/// let changed = partner(alloc, &[0x05, 0x07], 1, 2, &[2], 1, 0)?; // `88 8a`
 /// ```
 pub fn partner(
     alloc: Global,
@@ -85,7 +85,7 @@ fn add_to_rows(coins: &mut [u8], g: &[u8], t: usize, b: usize, b2: usize)
     add_to_row(coins, g, t, b2);
 }
 
-/// Adds them to the coins of one row.
+/// Adds the coefficients of `g` from 1 on to the coins of one row.
 fn add_to_row(coins: &mut [u8], g: &[u8], t: usize, row: usize)
     requires row { row * t + t ≤ length coins.old }
     requires degree { 1 ≤ t }

@@ -21,7 +21,7 @@ use std::alloc::{AllocError, Global};
 ///
 /// ```
 /// // Two servers, two rows. Server 2 is sent `c0` for block 1 from `80`, and for block 0 from the partner.
-/// let partner = partner_xor(alloc, &[0x80], 2, 2, 1, 1, 0)?; // `40`
+/// let changed = partner_xor(alloc, &[0x80], 2, 2, 1, 1, 0)?; // `40`
 /// ```
 pub fn partner_xor(
     alloc: Global,
@@ -32,7 +32,6 @@ pub fn partner_xor(
     b: u32,
     b2: u32,
 ) -> Result<Vec<u8>, AllocError>
-    requires servers { 2 ≤ n }
     requires first { 1 ≤ left_out }
     requires last { left_out ≤ n }
     requires block { b < r }

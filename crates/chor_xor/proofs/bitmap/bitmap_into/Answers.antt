@@ -1,4 +1,4 @@
-use Rattle.std.proofs.Common.{◌≡◌, ◌∙◌, ◌-◌, get_or, ap, arith}
+use Rattle.std.proofs.Common.{◌≡◌, ◌∙◌, get_or, ap, arith}
 use Rattle.chor_xor.specs.Bitmap.{bitmap, cleared}
 use Rattle.chor_xor.proofs.Shares.{random-is, last-is}
 use Rattle.chor_xor.proofs.bitmap.bitmap_into.Goals as goal

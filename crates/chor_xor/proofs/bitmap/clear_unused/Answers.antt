@@ -1,5 +1,4 @@
-use Rattle.std.proofs.Common.{rules, ◌≡◌, ◌-◌, ◌*◌, length, arith}
-use Rattle.chor_xor.specs.Bitmap.{unused_bits}
+use Rattle.std.proofs.Common.{rules, ◌-◌, ◌*◌, length, arith}
 use Rattle.chor_xor.proofs.Bits.{cleared-by_mask}
 use Rattle.chor_xor.proofs.Places.{cleared-last}
 use Rattle.chor_xor.proofs.bitmap.clear_unused.Goals as goal

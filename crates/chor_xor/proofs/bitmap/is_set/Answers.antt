@@ -1,4 +1,4 @@
-use Rattle.std.proofs.Common.{◌≡◌, ◌-◌, ◌/◌, ◌%◌, ◌==◌, if◌then◌else◌, get_or, sym, ap, ◌∙◌}
+use Rattle.std.proofs.Common.{◌-◌, ◌/◌, ◌%◌, ◌==◌, if◌then◌else◌, get_or, sym, ap, ◌∙◌}
 use Rattle.std.specs.Int.{bit_at}
 use Rattle.std.proofs.lemmas.Nat.Bits.{shr_and_one, bit_at-lt}
 use Rattle.chor_xor.specs.Bitmap.{bit_of}
