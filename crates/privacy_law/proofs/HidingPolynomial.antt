@@ -143,7 +143,7 @@ hiding_zero xs a bytes nonzero member =
     ap (λ p. val p a) (hiding_multiple xs bytes nonzero) ∙ val-scale_list (scaling 1 xs) (vanishing xs) a
     ∙ ap (◌⊗◌ (scaling 1 xs)) (root_from_Contains xs a member) ∙ mul_zero _
 
--- so its coefficients from 1 on have the value 1 at a member, without the factor a of each
+-- so what stands above its constant is 1 at each member
 pub hiding_rest : (xs : List ℕ) (a : ℕ) → All (λ a. a < 256) xs → All (λ a. a ≢ 0) xs → Contains xs a → a ⊗ val (drop 1 (hiding xs)) a ≡ 1
 unfolding coef
 hiding_rest xs a bytes nonzero member =
