@@ -2,4 +2,5 @@ pub mod Headline
 mod Serving
 mod ServeHeadline
 mod HonestReplies
+mod SameFrames
 pub mod Fetching

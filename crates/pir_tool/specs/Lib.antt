@@ -7,4 +7,5 @@ pub mod ServeOrder
 pub mod ServeSteps
 pub mod ServeOutcome
 pub mod HonestReply
+pub mod Privacy
 pub mod Outcome

@@ -1,10 +1,13 @@
 //! Laws that join the client and the server, each as a call whose contract is the law. A call changes nothing.
 
-ghost use Rattle.std.specs.Prelude.{◌≡◌, ◌≤◌, ℕ, List, length};
+ghost use Rattle.std.specs.Prelude.{◌≡◌, ◌≢◌, ◌≤◌, ℕ, List, length, All};
 ghost use Rattle.fetch_client.specs.Plan.{IsPlan, need};
 ghost use Rattle.pir_tool.specs.HonestReply.{RepliesHonestly};
+ghost use Rattle.privacy_law.specs.Bijection.{IsBijection};
+ghost use Rattle.pir_tool.specs.Privacy.{IsSentTheSame, partner_coins};
 
 use fetch_client::FetchPlan;
+use privacy_law::laws::coalition_sees_no_block;
 
 /// What a server that holds a database of the plan's shape replies to the frame that a fetch sends it, is the frame of an
 /// honest server: the header of status 0, and the product of its query and the rows. It replies nothing else. So what
@@ -15,3 +18,16 @@ pub fn reply_is_the_honest_frame(plan: &FetchPlan, coins: &[u8], index: u8)
     requires index { 1 ≤ index }
     ensures { (matrix : List (List ℕ)) (workers : ℕ) → RepliesHonestly plan.now coins.now index matrix workers }
 {}
+
+/// What up to `t` servers together are sent for one block, they are sent for any other block from other coins, byte for byte,
+/// the session's number included; and a bijection of all coins takes the one to the other. So as many coins lead to what
+/// they see for one block as for another: where the coins are uniform, secret and used once, what they see doesn't tell the
+/// block (Goldberg 2007; Shamir 1979). `coalition` has the indices of these servers.
+pub fn coalition_is_sent_the_same(plan: &FetchPlan, coalition: &[u8], other: u32)
+    requires bound { length coalition.now ≤ plan.now.t }
+    requires nonzero { All (λ a. a ≢ 0) coalition.now }
+    ensures bijection { IsBijection (need plan.now) (λ coins. partner_coins plan.now coalition.now other coins) }
+    ensures same { IsSentTheSame plan.now coalition.now other }
+{
+    coalition_sees_no_block(u32::from(plan.t), plan.r, coalition, plan.block, other);
+}

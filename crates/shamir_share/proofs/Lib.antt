@@ -1,3 +1,3 @@
 mod Horner
-mod Rows
+pub mod Rows
 pub mod Queries

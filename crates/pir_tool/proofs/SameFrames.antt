@@ -1,0 +1,82 @@
+-- A coalition is sent the same frames.
+use Rattle.std.proofs.Common.{◌≡◌, ℕ, ◌+◌, ◌*◌, ◌<◌, List, ◌++◌, length, take, drop, get_or, All, refl, sym, ap, ap₂, subst, ◌∙◌, arith, length-append, length-drop}
+use Rattle.std.proofs.Math.Seq.{get_or-take, take-append_seam, drop-append_seam}
+use Rattle.std.proofs.lemmas.List.{length-take-le, take-append-drop}
+use Rattle.std.proofs.lemmas.List.Elements.{All-take, All-drop, All-append}
+use Rattle.shamir_share.specs.Query.{query}
+use Rattle.wire_frames.specs.Header.{query_header}
+use Rattle.fetch_client.specs.declared.plan.FetchPlan.{FetchPlan}
+use Rattle.fetch_client.specs.Plan.{need}
+use Rattle.fetch_client.specs.Sent.{session_number, sent}
+use Rattle.privacy_law.specs.Bijection.{AreCoins, IsBijection}
+use Rattle.privacy_law.specs.Partner.{partner}
+use Rattle.pir_tool.specs.Privacy.{with_block, partner_coins, IsSentTheSame}
+
+-- the number of a session is in the first 8 coins
+session_front : (coins : List ℕ) → session_number (take 8 coins) ≡ session_number coins
+unfolding session_number
+session_front coins =
+    let same : (k : ℕ) → k < 8 → get_or (take 8 coins) k 0 ≡ get_or coins k 0 = λ k l. get_or-take 8 coins k 0 l in
+    omega (arith, same 0 (omega arith), same 1 (omega arith), same 2 (omega arith), same 3 (omega arith), same 4 (omega arith), same 5 (omega arith), same 6 (omega arith), same 7 (omega arith))
+
+-- two lists of which the first has 8 members
+module _ (front rest : List ℕ) (size : length front ≡ 8) where
+  front_of : take 8 (front ++ rest) ≡ front
+  front_of = subst (λ (n : ℕ). take n (front ++ rest) ≡ front) size (take-append_seam front rest)
+
+  rest_of : drop 8 (front ++ rest) ≡ rest
+  rest_of = subst (λ (n : ℕ). drop n (front ++ rest) ≡ rest) size (drop-append_seam front rest)
+
+-- what is done to all coins but the first 8
+abbrev behind : (List ℕ → List ℕ) → List ℕ → List ℕ
+behind f coins = take 8 coins ++ f (drop 8 coins)
+
+module _ (n : ℕ) where
+  -- coins in two parts
+  parts : (coins : List ℕ) → AreCoins (8 + n) coins → (length (take 8 coins) ≡ 8) × AreCoins n (drop 8 coins)
+  parts coins is =
+      let size = is.size in
+      (length-take-le 8 coins (omega (arith, size)), record { size = let d = length-drop 8 coins in omega (arith, d, size); bytes = All-drop (λ c. c < 256) 8 coins is.bytes })
+
+  joined : (coins rest : List ℕ) → AreCoins (8 + n) coins → AreCoins n rest → AreCoins (8 + n) (take 8 coins ++ rest)
+  joined coins rest is more =
+      let front = (parts coins is).0 in
+      let size = more.size in
+      record {
+        size = omega (arith, length-append (take 8 coins) rest, front, size);
+        bytes = All-append (λ c. c < 256) (take 8 coins) rest (All-take (λ c. c < 256) 8 coins is.bytes) more.bytes;
+      }
+
+  -- one after the other
+  behind_both : (f g : List ℕ → List ℕ) (coins : List ℕ) → AreCoins (8 + n) coins → g (f (drop 8 coins)) ≡ drop 8 coins → behind g (behind f coins) ≡ coins
+  behind_both f g coins is back =
+      let front = (parts coins is).0 in
+      ap₂ (λ (x y : List ℕ). x ++ y)
+      (front_of (take 8 coins) (f (drop 8 coins)) front)
+      (ap g (rest_of (take 8 coins) (f (drop 8 coins)) front) ∙ back)
+      ∙ take-append-drop 8 coins
+
+  -- a bijection of the others is one of all
+  pub bijection_behind : (f : List ℕ → List ℕ) → IsBijection n f → IsBijection (8 + n) (behind f)
+  bijection_behind f b = record {
+    inverse = behind b.inverse;
+    into = λ coins is. joined coins (f (drop 8 coins)) is (b.into (drop 8 coins) (parts coins is).1);
+    back = λ coins is. joined coins (b.inverse (drop 8 coins)) is (b.back (drop 8 coins) (parts coins is).1);
+    left = λ coins is. behind_both f b.inverse coins is (b.left (drop 8 coins) (parts coins is).1);
+    right = λ coins is. behind_both b.inverse f coins is (b.right (drop 8 coins) (parts coins is).1);
+  }
+
+-- the frames are the same where the queries are
+pub same_frames : (p : FetchPlan) (coalition : List ℕ) (other : ℕ)
+    → ((coins : List ℕ) → AreCoins (p.r * p.t) coins → All (λ a. query (partner coins p.t coalition p.block other) p.t p.r other a ≡ query coins p.t p.r p.block a) coalition)
+    → IsSentTheSame p coalition other
+unfolding sent partner_coins
+same_frames p coalition other same coins is = λ k d l.
+    let i = get_or coalition k d in
+    let halves = parts (p.r * p.t) coins is in
+    let rest = partner (drop 8 coins) p.t coalition p.block other in
+    let number : session_number (take 8 coins ++ rest) ≡ session_number coins =
+    sym (session_front (take 8 coins ++ rest)) ∙ ap session_number (front_of (take 8 coins) rest halves.0) ∙ session_front coins in
+    ap₂ (λ (x y : List ℕ). x ++ y)
+    (ap (λ (n : ℕ). query_header (record { scheme = p.scheme; index = i; session = n; r = p.r; s = p.s })) number)
+    (ap (λ (l : List ℕ). query l p.t p.r other i) (rest_of (take 8 coins) rest halves.0) ∙ same (drop 8 coins) halves.1 k d l)

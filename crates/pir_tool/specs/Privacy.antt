@@ -1,0 +1,21 @@
+-- What a coalition of servers is sent for one block, it is sent for any other, from coins that a bijection gives.
+use Rattle.std.specs.Prelude.{◌≡◌, ℕ, List, ◌++◌, take, drop, All}
+use Rattle.fetch_client.specs.declared.plan.FetchPlan.{FetchPlan}
+use Rattle.fetch_client.specs.Plan.{need}
+use Rattle.fetch_client.specs.Sent.{sent}
+use Rattle.privacy_law.specs.Bijection.{AreCoins}
+use Rattle.privacy_law.specs.Partner.{partner}
+
+-- the same plan for another block
+abbrev pub with_block : FetchPlan → ℕ → FetchPlan
+with_block p block = record { scheme = p.scheme; t = p.t; h = p.h; n = p.n; r = p.r; s = p.s; block = block }
+
+-- the coins that show the coalition the same for another block: the number of the session stays, and the coins of the rows
+-- are those of the partner
+unfoldable pub partner_coins : FetchPlan → List ℕ → ℕ → List ℕ → List ℕ
+partner_coins p coalition other coins = take 8 coins ++ partner (drop 8 coins) p.t coalition p.block other
+
+-- each member is sent the same frame, session number and all
+abbrev pub IsSentTheSame : FetchPlan → List ℕ → ℕ → Type 0
+IsSentTheSame p coalition other = (coins : List ℕ) → AreCoins (need p) coins
+    → All (λ i. sent (with_block p other) (partner_coins p coalition other coins) i ≡ sent p coins i) coalition

@@ -1,0 +1,5 @@
+pub mod HidingPolynomial
+pub mod ChangedPieces
+pub mod ChangedRows
+pub mod SameQueries
+pub mod SameBitmaps

@@ -1,0 +1,4 @@
+pub mod Hiding
+pub mod Pieces
+pub mod Partner
+pub mod Bijection
