@@ -86,3 +86,21 @@ pub(crate) fn is_set(bitmap: &[u8], j: u32) -> bool
 {
     bitmap[j as usize / 8] >> (7 - j % 8) & 1 == 1
 }
+
+/// The first row from `from` on whose bit is set, or `to` where none before it has one.
+#[inline(always)]
+pub(crate) fn next_set(bitmap: &[u8], from: u32, to: u32) -> u32
+    requires order { from ≤ to }
+    requires within { to ≤ 8 * length bitmap.now }
+    ensures from { from ≤ result }
+    ensures to { result ≤ to }
+    ensures others { (j : ℕ) → from ≤ j → j < result → bit_of bitmap.now j ≡ 0 }
+    ensures set { result < to → bit_of bitmap.now result ≡ 1 }
+{
+    for j in from..to {
+        if is_set(bitmap, j) {
+            return j;
+        }
+    }
+    to
+}

@@ -1,39 +1,88 @@
-use Rattle.std.proofs.Common.{◌≡◌, ◌∙◌, if◌then◌else◌, get_or, length, ap, ap₂, sym, arith}
+use Rattle.std.proofs.Common.{◌≡◌, ◌∙◌, ◌*◌, ◌/◌, length, ap, ap₂, sym, arith}
 use Rattle.gf256.specs.Field.{◌⊕◌}
-use Rattle.gf256.proofs.Xor.{add_zero}
-use Rattle.gf256.specs.Sums.{sum_to}
-use Rattle.chor_xor.specs.Chosen.{given, chosen_at}
-use Rattle.chor_xor.proofs.ChosenSums.{given-chosen, given-left, given-next, chosen-is}
+use Rattle.chor_xor.specs.Chosen.{run_sum}
+use Rattle.chor_xor.proofs.PlaceSums.{four_at}
+use Rattle.chor_xor.proofs.ChosenSums.{chosen-is}
+use Rattle.chor_xor.proofs.RunSums.{quarters, quarters-none, quarters-next, quarters-all}
 use Rattle.chor_xor.proofs.answer.answer_into.Goals as goal
-use Rattle.chor_xor.proofs.answer.answer_into.Goals.{then-is_set, else-is_set}
 
-pub loop-j-init : goal.loop-j-init
-unfolding sum_to
-loop-j-init c = λ k. c.clear.ensures k
+pub fours-init : goal.fours-init
+fours-init c =
+    let quarter = c.rows-rows.result / 4 in
+    let a = c.next_set-a in
+    let b = c.next_set-b in
+    let third = c.next_set-c in
+    let d = c.next_set-d in
+    record {
+      a_to = a.ensures.to;
+      b_from = b.ensures.from;
+      b_to = b.ensures.to;
+      c_from = third.ensures.from;
+      c_to = third.ensures.to;
+      d_from = d.ensures.from;
+      d_to = d.ensures.to;
+      a_set = a.ensures.set;
+      b_set = b.ensures.set;
+      c_set = third.ensures.set;
+      d_set = d.ensures.set;
+      summed = λ k.
+          c.clear.ensures k
+          ∙ sym (quarters-none c.args.bitmap.now c.args.matrix.now.rows k quarter a.result b.result third.result d.result
+          a.ensures.others b.ensures.others third.ensures.others d.ensures.others);
+    }
 
-pub loop-j-preserved : goal.loop-j-preserved
-loop-j-preserved c = λ k.
+pub fours-preserved : goal.fours-preserved
+unfolding four_at
+fours-preserved c =
     let bitmap = c.args.bitmap.now in
     let rows = c.args.matrix.now.rows in
-    let j = c.loop-j.j in
-    let sum = sum_to (given bitmap rows k) j in
-    elim c.if-is_set.branch [
-      | then-is_set w ↦
-          let bit = c.is_set.ensures ∙ ap (λ t. if t then 1 else 0) w.if-is_set.true in
-          ap (λ xs. get_or xs k 0) w.out-is ∙ w.combine_into.ensures k
-          ∙ ap₂ ◌⊕◌ (c.loop-j.invariant k) (given-chosen bitmap w.row.result.now rows _ _ k j c.rows-j-end.ensures.matrix (omega arith) bit w.row.ensures.is)
-          ∙ sym (given-next bitmap rows k j)
-      | else-is_set w ↦
-          let bit = c.is_set.ensures ∙ ap (λ t. if t then 1 else 0) w.if-is_set.false in
-          ap (λ xs. get_or xs k 0) w.out-is ∙ c.loop-j.invariant k
-          ∙ sym (given-next bitmap rows k j ∙ ap (◌⊕◌ sum) (given-left bitmap rows k j bit) ∙ add_zero sum)
-    ]
+    let quarter = c.rows-rows.result / 4 in
+    let before = c.fours.invariant in
+    let a = c.next_set-a-in-fours in
+    let b = c.next_set-b-in-fours in
+    let third = c.next_set-c-in-fours in
+    let d = c.next_set-d-in-fours in
+    let ra = c.row in
+    let rb = c.row-in-fours in
+    let rc = c.row-in-fours-2 in
+    let rd = c.row-in-fours-3 in
+    record {
+      a_to = a.ensures.to;
+      b_from = omega (arith, b.ensures.from, before.b_from);
+      b_to = b.ensures.to;
+      c_from = omega (arith, third.ensures.from, before.c_from);
+      c_to = third.ensures.to;
+      d_from = omega (arith, d.ensures.from, before.d_from);
+      d_to = d.ensures.to;
+      a_set = a.ensures.set;
+      b_set = b.ensures.set;
+      c_set = third.ensures.set;
+      d_set = d.ensures.set;
+      summed = λ k.
+          c.add_four_rows.ensures k
+          ∙ ap (λ s. s ⊕ four_at ra.result.now rb.result.now rc.result.now rd.result.now k) (before.summed k)
+          ∙ sym (quarters-next bitmap rows _ _ k quarter c.fours.a c.fours.b c.fours.c c.fours.d a.result b.result third.result d.result
+          ra.result.now rb.result.now rc.result.now rd.result.now c.rows-rows.ensures.matrix (omega arith) (omega arith) (omega arith) (omega arith)
+          (record { begun = omega arith; on = a.ensures.from; set = before.a_set c.fours-test.true; is = ra.ensures.is; others = a.ensures.others })
+          (record { begun = before.b_from; on = b.ensures.from; set = before.b_set c.if-b-quarter.true; is = rb.ensures.is; others = b.ensures.others })
+          (record { begun = before.c_from; on = third.ensures.from; set = before.c_set c.if-c-quarter.true; is = rc.ensures.is; others = third.ensures.others })
+          (record { begun = before.d_from; on = d.ensures.from; set = before.d_set c.if-d-rows.true; is = rd.ensures.is; others = d.ensures.others }));
+    }
 
 pub returns : goal.returns
-unfolding chosen_at
 returns c =
     let bitmap = c.args.bitmap.now in
     let rows = c.args.matrix.now.rows in
-    let end : c.loop-j.j ≡ length rows = omega (arith, c.rows-j-end.ensures.is) in
-    chosen-is c.args.matrix.now bitmap c.loop-j.out (omega (arith, c.requires.room))
-    (λ k. c.loop-j.invariant k ∙ ap (sum_to (given bitmap rows k)) end)
+    let quarter = c.rows-rows.result / 4 in
+    let before = c.fours.invariant in
+    chosen-is c.args.matrix.now bitmap c.add_rows-4.new.sum (omega (arith, c.requires.room))
+    (λ k.
+    c.add_rows-4.ensures k
+    ∙ ap (λ s. s ⊕ run_sum bitmap rows k c.fours.d c.rows-rows.result)
+    (c.add_rows-3.ensures k
+    ∙ ap (λ s. s ⊕ run_sum bitmap rows k c.fours.c (3 * quarter))
+    (c.add_rows-2.ensures k
+    ∙ ap (λ s. s ⊕ run_sum bitmap rows k c.fours.b (2 * quarter))
+    (c.add_rows.ensures k ∙ ap (λ s. s ⊕ run_sum bitmap rows k c.fours.a quarter) (before.summed k))))
+    ∙ quarters-all bitmap rows k c.rows-rows.result quarter c.fours.a c.fours.b c.fours.c c.fours.d c.rows-rows.ensures.is (omega arith)
+    before.a_to before.b_from before.b_to before.c_from before.c_to before.d_from before.d_to)

@@ -1,19 +1,18 @@
-use Rattle.std.proofs.Common.{◌≡◌, ◌+◌, length, get_or, ap, sym, subst, ◌∙◌, arith}
-use Rattle.gf256.specs.Field.{◌⊕◌}
-use Rattle.gf256.specs.Rows.{IsAdded}
-use Rattle.gf256.proofs.FieldLaws.{one_mul}
-use Rattle.gf256.proofs.RowSums.{added-on, added-place, added-all}
+use Rattle.std.proofs.Common.{◌≡◌, length, slice_index, refl, subst, arith}
+use Rattle.std.proofs.lemmas.List.{get_or_past}
+use Rattle.chor_xor.proofs.PlaceSums.{IsSummed, summed-none, summed-place, summed-all}
 use Rattle.chor_xor.proofs.answer.combine_into.Goals as goal
+
+pub loop-i-init : goal.loop-i-init
+loop-i-init c = summed-none c.args.acc.now (slice_index c.args.payload.now)
 
 pub loop-i-preserved : goal.loop-i-preserved
 loop-i-preserved c =
-    added-on _ c.loop-i.acc c.args.acc.now c.args.payload.now 1 0 c.loop-i.i (c.loop-i.i + 1) (omega arith) (omega arith) c.loop-i.invariant
-    (added-place c.loop-i.acc c.args.payload.now 1 c.loop-i.i _ (omega arith)
-    (sym (one_mul _ (c.type_inv.payload c.loop-i.i).fits)))
+    summed-place c.loop-i.acc c.args.acc.now (slice_index c.args.payload.now) c.loop-i.i _ (omega arith) refl c.loop-i.invariant
 
 pub returns : goal.returns
-returns c = λ k.
+returns c =
     let end : c.loop-i.i ≡ length c.args.acc.now = omega arith in
-    added-all c.loop-i.acc c.args.acc.now c.args.payload.now 1 c.requires
-    (subst (IsAdded c.loop-i.acc c.args.acc.now c.args.payload.now 1 0) end c.loop-i.invariant) k
-    ∙ ap (◌⊕◌ (get_or c.args.acc.now k 0)) (one_mul _ (c.type_inv.payload k).fits)
+    summed-all c.loop-i.acc c.args.acc.now (slice_index c.args.payload.now) (length c.args.acc.now)
+    (λ k l. get_or_past c.args.payload.now k 0 (omega (arith, c.requires)))
+    (subst (IsSummed c.loop-i.acc c.args.acc.now (slice_index c.args.payload.now)) end c.loop-i.invariant)

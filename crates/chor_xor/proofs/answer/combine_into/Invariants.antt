@@ -1,5 +1,6 @@
-use Rattle.gf256.specs.Rows.{IsAdded}
+use Rattle.std.proofs.Common.{slice_index}
+use Rattle.chor_xor.proofs.PlaceSums.{IsSummed}
 use Rattle.chor_xor.proofs.answer.combine_into.Given as goal
 
 abbrev pub invariant-loop-i : goal.invariant-loop-i
-invariant-loop-i l = IsAdded l.acc l.initial.acc l.payload 1 0 l.i
+invariant-loop-i l = IsSummed l.acc l.initial.acc (slice_index l.payload) l.i

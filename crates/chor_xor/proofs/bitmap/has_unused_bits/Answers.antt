@@ -15,8 +15,8 @@ returns c =
     let few : unused ≡ unused_bits r (size_of r - 1) = omega (arith, c.requires.some, c.requires.size) in
     let here : last ≡ size_of r - 1 = omega (arith, c.requires.size) in
     let is =
-        ap (λ x. not (x == 0)) (low_by_mask (get_or bitmap last 0) unused (omega (arith, c.requires.some, c.requires.size))
-        ∙ ap₂ (λ k u. get_or bitmap k 0 % 2 ^ u) here few) in
+    ap (λ x. not (x == 0)) (low_by_mask (get_or bitmap last 0) unused (omega (arith, c.requires.some, c.requires.size))
+    ∙ ap₂ (λ k u. get_or bitmap k 0 % 2 ^ u) here few) in
     record {
       is = is;
       bits = subst (λ b. MatchBool b (IsTrim r bitmap → ⊥) (IsTrim r bitmap)) (sym is) (trim_tested bitmap r c.requires.some c.requires.size);
