@@ -1,5 +1,6 @@
 -- The bytes of a guest ask for one reply alone.
 use Rattle.std.proofs.Common.{◌≡◌, true, false, inl, inr, ℕ, ◌+◌, ◌≤◌, List, length, take, drop, get_or, refl, sym, ◌∙◌, ap, arith}
+use Rattle.std.proofs.lemmas.Bool.{false≢true}
 use Rattle.wire_frames.specs.declared.header.QueryHeader.{QueryHeader}
 use Rattle.wire_frames.specs.Header.{answer_to, query_header}
 use Rattle.wire_frames.specs.Query.{IsQueryHeader}
@@ -36,7 +37,7 @@ suits_or_refused service bytes status s (inr (inr a)) = a.1.other (shaped servic
 
 -- one whose payload sets no unused bit isn't refused by its payload
 unused_or_not : (service : Service) (bytes : List ℕ) → IsWholeWith false service bytes → IsWholeWith true service bytes → ⊥
-unused_or_not service bytes a b = absurd (sym a.unused_is ∙ b.unused_is)
+unused_or_not service bytes a b = false≢true (sym a.unused_is ∙ b.unused_is)
 
 -- nor is it refused at all
 good_or_refused : (service : Service) (bytes : List ℕ) (status : ℕ) → IsWholeWith false service bytes → Refuses service bytes status → ⊥
