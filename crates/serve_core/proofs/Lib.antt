@@ -1,4 +1,4 @@
 pub mod OneReply
 mod Replying
 pub mod ServingOne
-mod Sizes
+pub mod ShamirScheme

@@ -1,5 +1,5 @@
 use Rattle.std.proofs.Common.{◌∙◌}
-use Rattle.serve_core.proofs.Sizes.{a_byte_for_each_row}
+use Rattle.serve_core.proofs.ShamirScheme.{a_byte_for_each_row}
 use Rattle.serve_core.proofs.answer.write_payload.Goals as goal
 
 pub product_into-requires-clause-query : goal.product_into-requires-clause-query
