@@ -1,6 +1,7 @@
 -- A server's reply to the query of a fetch.
-use Rattle.std.proofs.Common.{◌≡◌, ◌⊎◌, inl, inr, ℕ, ◌+◌, ◌<◌, ◌≤◌, ◌^◌, List, ◌++◌, length, take, drop, get_or, refl, sym, ◌∙◌, ap, ap₂, subst, arith, length-append, All}
+use Rattle.std.proofs.Common.{◌≡◌, ◌≢◌, false, ◌⊎◌, inl, inr, ℕ, ◌+◌, ◌<◌, ◌≤◌, ◌^◌, List, ◌++◌, length, take, drop, get_or, refl, sym, ◌∙◌, ap, ap₂, subst, arith, length-append, All}
 use Rattle.std.proofs.Math.Seq.{take-append_seam, drop-append_seam}
+use Rattle.std.proofs.lemmas.Bool.{false≢true}
 use Rattle.std.proofs.lemmas.List.{take_all}
 use Rattle.gf256.specs.Product.{IsMatrix, product}
 use Rattle.shamir_share.specs.Query.{query}
@@ -15,7 +16,8 @@ use Rattle.fetch_client.specs.Plan.{IsPlan, need}
 use Rattle.fetch_client.specs.Sent.{session_number, header_to, sent}
 use Rattle.fetch_client.specs.Honest.{honest_frame}
 use Rattle.serve_core.specs.Service.{Service}
-use Rattle.serve_core.specs.Reply.{Asks, IsShaped, Suits, Refuses, Replies, answer_frame, payload}
+use Rattle.serve_core.specs.Reply.{Asks, IsShaped, Suits, RefusedByHeader, Replies, answer_frame, payload, payload_size, sets_unused}
+use Rattle.serve_core.proofs.ShamirScheme.{a_byte_for_each_row, is_the_product, none_unused}
 use Rattle.serve_core.specs.declared.met.Met.{Met}
 use Rattle.serve_core.specs.declared.met.Met.TheVariants.{Served, Refused, Gone, GuestFault}
 use Rattle.pir_tool.specs.HonestReply.{service_with, frame_of, RepliesHonestly}
@@ -31,7 +33,7 @@ module _ (q p : QueryHeader) (hq : IsQuery q) (hp : IsQuery p) (same : query_hea
   same_width : q.s ≡ p.s
   same_width = same_digits 4 q.s p.s (omega (arith, hq.shape.few_bytes)) (omega (arith, hp.shape.few_bytes)) (ap (λ (l : List ℕ). take 4 (drop 20 l)) same)
 
-module _ (p : FetchPlan) (coins : List ℕ) (i : ℕ) (is_query : IsQuery (header_to p coins i)) (matrix : List (List ℕ)) (workers : ℕ) (is : IsMatrix matrix p.r p.s) where
+module _ (p : FetchPlan) (one : p.scheme ≡ 1) (coins : List ℕ) (i : ℕ) (is_query : IsQuery (header_to p coins i)) (matrix : List (List ℕ)) (workers : ℕ) (is : IsMatrix matrix p.r p.s) where
   abbrev header : QueryHeader
   header = header_to p coins i
 
@@ -61,12 +63,23 @@ module _ (p : FetchPlan) (coins : List ℕ) (i : ℕ) (is_query : IsQuery (heade
     shape = record { rows = sym is.rows; width = refl };
   }
 
-  frame_is : answer_frame service.database (take 24 (sent p coins i)) (payload service.database (sent p coins i)) ≡ frame_of p coins matrix i
+  other_scheme : p.scheme ≢ 2
+  other_scheme = λ two. omega (arith, one, two)
+
+  -- its payload has a byte for each row
+  size_is : payload_size service.scheme service.database ≡ p.r
+  size_is = a_byte_for_each_row p.scheme service.database other_scheme ∙ is.rows
+
+  -- and sets no unused bit
+  trim : sets_unused service.scheme service.database (payload service (sent p coins i)) ≡ false
+  trim = none_unused p.scheme service.database other_scheme (payload service (sent p coins i))
+
+  query_is : payload service (sent p coins i) ≡ asked_for
+  query_is = ap₂ take size_is rest ∙ take_all p.r asked_for (let n = length-query (drop 8 coins) p.t p.r p.block i in omega (arith, n))
+
+  frame_is : answer_frame service.scheme service.database (take 24 (sent p coins i)) (payload service (sent p coins i)) ≡ frame_of p coins matrix i
   unfolding honest_frame
-  frame_is =
-      let query_is : payload service.database (sent p coins i) ≡ asked_for =
-      ap₂ take is.rows rest ∙ take_all p.r asked_for (let n = length-query (drop 8 coins) p.t p.r p.block i in omega (arith, n)) in
-      ap₂ (answer_frame service.database) front query_is
+  frame_is = ap₂ (answer_frame service.scheme service.database) front query_is ∙ ap (λ (l : List ℕ). answer_to (query_header header) 0 ++ l) (is_the_product p.scheme service.database other_scheme asked_for)
 
   -- another header has the same bytes, but is of another query: there is none
   no_other : (other : QueryHeader) → IsQueryHeader (take 24 (sent p coins i)) other → (other.scheme ≡ p.scheme) × IsShaped service other
@@ -74,25 +87,26 @@ module _ (p : FetchPlan) (coins : List ℕ) (i : ℕ) (is_query : IsQuery (heade
       let same : query_header other ≡ query_header header = sym h.spelled ∙ front in
       (same_scheme other header h.range is_query same, record { rows = same_rows other header h.range is_query same ∙ sym is.rows; width = same_width other header h.range is_query same })
 
-  never_refused : (status : ℕ) → Refuses service (sent p coins i) status → ⊥
+  never_refused : (status : ℕ) → RefusedByHeader service (sent p coins i) status → ⊥
   never_refused status (inl bad) = bad.1.none header (record { range = is_query; spelled = front })
   never_refused status (inr (inl other)) = other.1.other (no_other other.1.query other.1.asks.header).0
   never_refused status (inr (inr other)) = other.1.other (no_other other.1.query other.1.asks.header).1
 
   only_reply : (met : Met) (frame : List ℕ) → Replies service (sent p coins i) met frame → (met ≡ Served) × (frame ≡ frame_of p coins matrix i)
   only_reply Served frame r = (refl, r.1 ∙ frame_is)
-  only_reply (Refused status) frame r = absurd (never_refused status r.0)
+  only_reply (Refused status) frame (inl by_header, f) = absurd (never_refused status by_header)
+  only_reply (Refused status) frame (inr by_payload, f) = absurd (false≢true (sym trim ∙ by_payload.1.unused_is))
   only_reply Gone frame (inl short, none) = absurd (omega (arith, size, short))
-  only_reply Gone frame (inr cut, none) = let few = cut.1 in let rows = is.rows in absurd (omega (arith, size, few, rows))
+  only_reply Gone frame (inr cut, none) = let few = cut.1 in absurd (omega (arith, size, few, size_is))
   only_reply GuestFault frame r = absurd r
 
   the_reply : (met : Met) (frame : List ℕ) → (met ≡ Served) × (frame ≡ frame_of p coins matrix i) → Replies service (sent p coins i) met frame
   the_reply met frame r = subst (λ (m : Met). Replies service (sent p coins i) m frame) (sym r.0)
-      (record { suits = suits; enough = let rows = is.rows in omega (arith, size, rows) }, r.1 ∙ sym frame_is)
+      (record { whole = record { suits = suits; enough = omega (arith, size, size_is) }; unused_is = trim }, r.1 ∙ sym frame_is)
 
 -- the reply is the frame of an honest server
-pub replies_honestly : (p : FetchPlan) (coins : List ℕ) (i : ℕ) (matrix : List (List ℕ)) (workers : ℕ) → IsQuery (header_to p coins i) → RepliesHonestly p coins i matrix workers
-replies_honestly p coins i matrix workers is_query is met frame = (only_reply p coins i is_query matrix workers is met frame, the_reply p coins i is_query matrix workers is met frame)
+pub replies_honestly : (p : FetchPlan) (coins : List ℕ) (i : ℕ) (matrix : List (List ℕ)) (workers : ℕ) → p.scheme ≡ 1 → IsQuery (header_to p coins i) → RepliesHonestly p coins i matrix workers
+replies_honestly p coins i matrix workers one is_query is met frame = (only_reply p one coins i is_query matrix workers is met frame, the_reply p one coins i is_query matrix workers is met frame)
 
 -- the number of a session has eight bytes
 session_below : (coins : List ℕ) → ((k : ℕ) → k < 8 → get_or coins k 0 < 256) → session_number coins < 2 ^ 64

@@ -1,6 +1,6 @@
 //! The command `serve`.
 
-ghost use Rattle.std.specs.Prelude.{◌≡◌, ◌≤◌, ◌<◌, OnOk, OnErr};
+ghost use Rattle.std.specs.Prelude.{◌≡◌, ◌⊎◌, ◌≤◌, ◌<◌, OnOk, OnErr};
 ghost use Rattle.pir_ports.specs.Moves.{Touches};
 ghost use Rattle.pir_tool.specs.Told.{DidRise};
 ghost use Rattle.pir_tool.specs.ServeSteps.{OpensDesk, Listens, ServesGuests, RepliesToGuests, RunsDry, TouchesGuests, TouchesDoor};
@@ -38,7 +38,7 @@ fn open_desk<P: Ports>(
     workers: u8,
     ports: &mut P,
 ) -> Result<Desk, Status>
-    requires scheme { scheme ≡ 1 }
+    requires scheme { (scheme ≡ 1) ⊎ (scheme ≡ 2) }
     requires some_width { 1 ≤ width }
     requires few_width { width ≤ 65536 }
     requires some { 1 ≤ workers }
@@ -113,7 +113,7 @@ pub(crate) fn serve_file<R: Threads + Sync, P: Ports>(
     order: &Serving,
     ports: &mut P,
 ) -> Status
-    requires scheme { order.now.scheme ≡ 1 }
+    requires scheme { (order.now.scheme ≡ 1) ⊎ (order.now.scheme ≡ 2) }
     requires some_width { 1 ≤ order.now.width }
     requires few_width { order.now.width ≤ 65536 }
     requires some { 1 ≤ order.now.workers }

@@ -1,5 +1,5 @@
 -- The values of a command are in their ranges.
-use Rattle.std.proofs.Common.{◌≡◌, ℕ, ◌<◌, ◌≤◌, ◌*◌, ◌&&◌, List, length, Some, None, Bool, true, false, codes, unwrap_or, sym, subst}
+use Rattle.std.proofs.Common.{◌≡◌, ◌⊎◌, inl, inr, ℕ, ◌==◌, ◌<◌, ◌≤◌, ◌*◌, ◌&&◌, List, length, Some, None, Bool, true, false, codes, unwrap_or, sym, subst, eqb-true}
 use Rattle.std.specs.Prelude.{if◌then◌else◌, nat_le, nat_lt}
 use Rattle.std.specs.Str.{bytes_eq}
 use Rattle.std.proofs.lemmas.Bool.{and_parts, leb-true, ltb-true}
@@ -54,12 +54,17 @@ block_range rows m block e =
     let tested = test_of (nat_lt given.0 rows) _ block given.2 in
     subst (λ b. b < rows) (some_is _ block tested.1) (ltb-true _ _ tested.0)
 
--- the scheme is Shamir's
-pub scheme_range : (m : List Row) (scheme : ℕ) → scheme_in m ≡ Some scheme → scheme ≡ 1
+-- the scheme is one of the two
+pub scheme_range : (m : List Row) (scheme : ℕ) → scheme_in m ≡ Some scheme → (scheme ≡ 1) ⊎ (scheme ≡ 2)
 unfolding scheme_in scheme_named
 scheme_range m scheme e =
     let name = unwrap_or (first_of (codes "scheme") m) (codes "shamir") in
-    sym (some_is 1 scheme (test_of (bytes_eq name (codes "shamir")) _ scheme e).1)
+    by_name (bytes_eq name (codes "shamir")) (bytes_eq name (codes "xor")) e
+  where
+    by_name : (is_shamir is_xor : Bool) → (if is_shamir then Some 1 else (if is_xor then Some 2 else None)) ≡ Some scheme → (scheme ≡ 1) ⊎ (scheme ≡ 2)
+    by_name true is_xor h = inl (sym (some_is 1 scheme h))
+    by_name false true h = inr (sym (some_is 2 scheme h))
+    by_name false false h = cc
 
 -- degree t and agreement h of n servers
 pub record IsSharing (t h n : ℕ) : Type 0 where
@@ -106,11 +111,12 @@ fetch_range m asked e =
     let sizes = value_of (sizes_in m) _ asked e in
     let block = value_of (block_in sizes.0.rows m) _ asked sizes.2 in
     let scheme = value_of (scheme_in m) _ asked block.2 in
-    let addresses = value_of (addresses_in m) _ asked scheme.2 in
+    let shamir = test_of (scheme.0 == 1) _ asked scheme.2 in
+    let addresses = value_of (addresses_in m) _ asked shamir.1 in
     let sharing = value_of (sharing_in (length addresses.0) m) _ asked addresses.2 in
     let shares = sharing_range (length addresses.0) m sharing.0 sharing.1 in
     subst InRange (some_is _ asked sharing.2) (record {
-      shamir = scheme_range m scheme.0 scheme.1;
+      shamir = eqb-true scheme.0 1 shamir.0;
       shape = sizes_range m sizes.0 sizes.1;
       block = block_range sizes.0.rows m block.0 block.1;
       private = shares.private;
@@ -143,7 +149,7 @@ serve_range m asked e =
     let n = limited_range _ _ _ m _ conns.1 in
     let w = workers_range m workers.0 workers.1 in
     subst InRange (some_is _ asked listen.2) (record {
-      shamir = scheme_range m scheme.0 scheme.1;
+      known = scheme_range m scheme.0 scheme.1;
       some_bytes = s.0;
       few_bytes = s.1;
       some_conns = n.0;

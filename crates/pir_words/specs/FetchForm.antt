@@ -1,5 +1,5 @@
 -- The form of `fetch`.
-use Rattle.std.specs.Prelude.{ℕ, ◌≡◌, ◌<◌, ◌≤◌, List, length, Option, Some, codes, nat_le}
+use Rattle.std.specs.Prelude.{ℕ, ◌≡◌, ◌<◌, ◌≤◌, ◌==◌, List, length, Option, Some, codes, nat_le}
 use Rattle.clap.specs.Words.{Row, Text, all_of, first_of}
 use Rattle.wire_frames.specs.Limits.{IsShape}
 use Rattle.wire_frames.specs.declared.TheConstants.{MOST_DEGREE, MOST_SERVERS}
@@ -17,12 +17,13 @@ addresses_in m = do
   nat_le (length addresses) MOST_SERVERS
   Some addresses
 
--- `fetch` with its values, each in its range
+-- `fetch` with its values, each in its range; it is in Shamir's scheme alone
 unfoldable pub fetch_of : List Row → Option Asked
 fetch_of m = do
   (sizes : Sizes) ← sizes_in m
   block ← block_in sizes.rows m
   scheme ← scheme_in m
+  scheme == 1
   addresses ← addresses_in m
   (sharing : Sharing) ← sharing_in (length addresses) m
   Some (Fetch scheme sizes.rows sizes.width block sharing.degree sharing.agree (coins_in m) (first_of (codes "record") m) addresses)

@@ -1,5 +1,5 @@
 -- The values that several commands have, each in its range.
-use Rattle.std.specs.Prelude.{ℕ, ◌*◌, ◌&&◌, List, Option, Some, codes, nat_lt, nat_le, unwrap_or}
+use Rattle.std.specs.Prelude.{ℕ, ◌*◌, ◌&&◌, if◌then◌else◌, List, Option, Some, None, codes, nat_lt, nat_le, unwrap_or}
 use Rattle.std.specs.Str.{bytes_eq}
 use Rattle.clap.specs.Words.{Row, Text, first_of}
 use Rattle.wire_frames.specs.declared.TheConstants.{MOST_DEGREE, MOST_ROWS, MOST_WIDTH, MOST_CELLS}
@@ -23,11 +23,9 @@ block_in rows m = do
   nat_lt block rows
   Some block
 
--- the number of a scheme that can be named
+-- the number of a scheme by its name: Shamir's is 1, and the XOR scheme 2
 unfoldable pub scheme_named : Text → Option ℕ
-scheme_named name = do
-  bytes_eq name (codes "shamir")
-  Some 1
+scheme_named name = if bytes_eq name (codes "shamir") then Some 1 else (if bytes_eq name (codes "xor") then Some 2 else None)
 
 -- the scheme, Shamir's where none is named
 unfoldable pub scheme_in : List Row → Option ℕ

@@ -1,5 +1,5 @@
 -- The form of `serve`.
-use Rattle.std.specs.Prelude.{ℕ, ◌≡◌, ◌≤◌, ◌&&◌, List, Option, Some, codes, nat_le, unwrap_or}
+use Rattle.std.specs.Prelude.{ℕ, ◌≡◌, ◌⊎◌, ◌≤◌, ◌&&◌, List, Option, Some, codes, nat_le, unwrap_or}
 use Rattle.clap.specs.Words.{Row, first_of}
 use Rattle.wire_frames.specs.declared.TheConstants.{MOST_WIDTH}
 use Rattle.pir_words.specs.Chain.{◌>>=◌, ◌>>◌}
@@ -29,7 +29,7 @@ serve_of m = do
 
 -- the ranges of the values of `serve`
 pub record IsServe (scheme s conns workers : ℕ) : Type 0 where
-  pub shamir : scheme ≡ 1
+  pub known : (scheme ≡ 1) ⊎ (scheme ≡ 2)
   pub some_bytes : 1 ≤ s
   pub few_bytes : s ≤ MOST_WIDTH
   pub some_conns : 1 ≤ conns

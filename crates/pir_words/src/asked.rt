@@ -34,7 +34,7 @@ pub enum Asked {
     },
     /// Serve a database to guests, one after the other.
     Serve {
-        /// The scheme's number: 1, Shamir's.
+        /// The scheme's number: 1, Shamir's, or 2, the XOR scheme.
         scheme: u8,
         /// The file of the database.
         database: Text,

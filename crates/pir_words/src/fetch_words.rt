@@ -7,7 +7,7 @@ ghost use Rattle.pir_words.specs.FetchForm.{addresses_in, fetch_of};
 ghost use Rattle.pir_words.specs.Form.{Answers};
 
 use crate::asked::{Asked, WordsFault};
-use crate::ranges::{block_at, coins_at, scheme_at, sharing_at, sizes_at};
+use crate::ranges::{SHAMIR, block_at, coins_at, scheme_at, sharing_at, sizes_at};
 use crate::text::Texts;
 use crate::values::{kept, owned, text_at, texts_at};
 use clap::ArgMatches;
@@ -42,6 +42,9 @@ pub fn read_fetch(alloc: Global, matches: &ArgMatches) -> Result<Asked, WordsFau
     let Some(scheme) = scheme_at(matches) else {
         return Err(WordsFault::Usage);
     };
+    if scheme != SHAMIR {
+        return Err(WordsFault::Usage);
+    }
     let Some(addresses) = addresses_at(matches) else {
         return Err(WordsFault::Usage);
     };

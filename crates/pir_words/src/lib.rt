@@ -99,7 +99,7 @@ fn read_matches(alloc: Global, matches: &ArgMatches) -> Result<Asked, WordsFault
 /// |---|---|---|
 /// | `replay` | FILE | |
 /// | `fetch` | `--rows R --width S --block B --degree T --agree H`, one address or more | `--scheme shamir`, `--coins FILE` (`/dev/urandom`), `--record FILE` |
-/// | `serve` | `--database FILE --width S --conns N --listen ADDR` | `--scheme shamir`, `--workers W` (1) |
+/// | `serve` | `--database FILE --width S --conns N --listen ADDR` | `--scheme shamir` or `--scheme xor`, `--workers W` (1) |
 ///
 /// Options come in any order, each once, as `--rows 2` or `--rows=2`, and addresses may stand between them. What follows
 /// the word `--` is no option. A value that begins with `-` is written `--coins=-x`; `-` alone is a value.

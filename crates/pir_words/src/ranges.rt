@@ -52,13 +52,17 @@ pub fn block_at(matches: &ArgMatches, rows: u32) -> Option<u32>
     }
 }
 
+/// The number of Shamir's scheme; that of the XOR scheme is 2.
+pub const SHAMIR: u8 = 1;
+
 /// The number of a scheme by its name.
 #[tactic(auto, unfolding(crate::specs::Ranges::scheme_named))]
 fn scheme_of(name: &str) -> Option<u8>
     ensures { result ≡ scheme_named name.now }
 {
     match name {
-        "shamir" => Some(1),
+        "shamir" => Some(SHAMIR),
+        "xor" => Some(2),
         _ => None,
     }
 }

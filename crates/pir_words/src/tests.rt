@@ -185,7 +185,7 @@ const NO_FETCHES: [&str; 58] = [
 
 // Words of `serve`: the order of the options, their two spellings, names, and numbers at the edges of their ranges.
 #[rattlefmt::skip]
-const SERVES: [(&str, &str); 27] = [
+const SERVES: [(&str, &str); 29] = [
     ("serve %", "serve 1 <D> 2 5 <L> 1"),
     ("serve --database d --width 2 --conns 1 --listen 127.0.0.1:0", "serve 1 <d> 2 1 <127.0.0.1:0> 1"),
     ("serve --listen L --conns 5 --width 2 --database D", "serve 1 <D> 2 5 <L> 1"),
@@ -193,6 +193,8 @@ const SERVES: [(&str, &str); 27] = [
     ("serve % --", "serve 1 <D> 2 5 <L> 1"),
     ("serve % --scheme shamir", "serve 1 <D> 2 5 <L> 1"),
     ("serve --scheme=shamir %", "serve 1 <D> 2 5 <L> 1"),
+    ("serve % --scheme xor", "serve 2 <D> 2 5 <L> 1"),
+    ("serve --scheme=xor --workers 16 %", "serve 2 <D> 2 5 <L> 16"),
     ("serve % --workers 1", "serve 1 <D> 2 5 <L> 1"),
     ("serve --workers 16 %", "serve 1 <D> 2 5 <L> 16"),
     ("serve % --workers=007", "serve 1 <D> 2 5 <L> 7"),
@@ -236,7 +238,7 @@ const NO_SERVES: [&str; 54] = [
     "serve % ''",
     "serve % -- a",
     "serve % -",
-    "serve % --scheme xor",
+    "serve % --scheme xo",
     "serve % --scheme Shamir",
     "serve % --scheme 1",
     "serve % --scheme=",

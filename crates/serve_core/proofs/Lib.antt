@@ -1,3 +1,4 @@
 pub mod OneReply
 mod Replying
 pub mod ServingOne
+pub mod ShamirScheme

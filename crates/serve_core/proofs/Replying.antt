@@ -1,12 +1,11 @@
 -- The steps of a reply, put together.
 use Rattle.std.proofs.Common.{◌≡◌, inl, inr, ℕ, ◌+◌, ◌≤◌, List, [], ◌++◌, length, take, drop, refl, sym, ◌∙◌, ap, ap₂, subst, arith}
-use Rattle.std.specs.Prelude.{Option, Some, None, IfSome, Ok, Err}
+use Rattle.std.specs.Prelude.{Option, Some, None, IfSome, Ok, Err, Bool, true, false}
 use Rattle.std.specs.Option.{option_map}
 use Rattle.std.proofs.lemmas.List.{take_all, length-drop}
-use Rattle.gf256.specs.Product.{product}
 use Rattle.pir_ports.specs.World.{World}
 use Rattle.pir_ports.specs.Moves.{Rose, Came, Hands, took, gave, counted}
-use Rattle.pir_ports.specs.Whole.{Ends, FailsShort}
+use Rattle.pir_ports.specs.Whole.{Ends, FailsShort, FailsWithin}
 use Rattle.pir_ports.proofs.Cells.{took-took}
 use Rattle.pir_ports.proofs.Pieces.{gave_none}
 use Rattle.wire_frames.specs.declared.header.QueryHeader.{QueryHeader}
@@ -14,9 +13,9 @@ use Rattle.wire_frames.specs.Header.{answer_to}
 use Rattle.wire_frames.specs.Query.{IsQueryHeader}
 use Rattle.block_matrix.specs.Database.{Database}
 use Rattle.serve_core.specs.Service.{Service}
-use Rattle.serve_core.specs.Reply.{Asks, Suits, Refuses, answer_frame, payload}
-use Rattle.serve_core.specs.Attended.{IsReply, Answered, IsBroken, Broke, Attends}
-use Rattle.serve_core.specs.Stages.{status_of, Judges, Gives, Takes, Stops, Answers}
+use Rattle.serve_core.specs.Reply.{Asks, IsWholeWith, Suits, RefusedByHeader, answer, answer_frame, payload, payload_size, sets_unused}
+use Rattle.serve_core.specs.Attended.{IsReply, Answered, IsBroken, Broke, Attends, MayTake}
+use Rattle.serve_core.specs.Stages.{status_of, Judges, Gives, TakesPayload, Stops, Answers}
 use Rattle.serve_core.specs.declared.met.Met.{Met}
 use Rattle.serve_core.specs.declared.met.Met.TheVariants.{Served, Refused as IsRefused, Gone}
 use Rattle.serve_core.specs.declared.header.Refusal.{Refusal}
@@ -28,8 +27,34 @@ told_by P None f = tt
 told_by P (Some h) f = f h refl
 
 -- the frame of an answer, in its two parts
-pub frame_is : (database : Database) (header query front rest : List ℕ) → front ≡ answer_to header 0 → rest ≡ product database.rows database.width query → front ++ rest ≡ answer_frame database header query
-frame_is database header query front rest a b = ap₂ (λ (x y : List ℕ). x ++ y) a b
+pub frame_is : (scheme : ℕ) (database : Database) (header query front rest : List ℕ) → front ≡ answer_to header 0 → rest ≡ answer scheme database query → front ++ rest ≡ answer_frame scheme database header query
+frame_is scheme database header query front rest a b = ap₂ (λ (x y : List ℕ). x ++ y) a b
+
+-- a frame was given, behind the bytes that its reply takes
+module _ (service : Service) (want : Met) (n : ℕ) (frame : List ℕ) (w x u : World) (taken : x.at 6 ≡ took n (w.at 6)) (replies : (h : List ℕ) → (w.at 6).holds ≡ Some h → IsReply service want n frame h) where
+  -- whole
+  gave_whole : u.at 6 ≡ gave frame (x.at 6) → Answered service want w u
+  gave_whole given = record {
+    n = n;
+    frame = frame;
+    cell = given ∙ ap (gave frame) taken;
+    told = told_by (IsReply service want n frame) (w.at 6).holds replies;
+  }
+
+  -- up to a call that failed
+  gave_front : ((h : List ℕ) → (w.at 6).holds ≡ Some h → MayTake service n h) → FailsWithin 6 frame x u → Broke service w u
+  gave_front may f = record {
+    n = n;
+    given = take f.n frame;
+    cell = f.cell ∙ ap (λ c. counted (u.at 6).faults (gave (take f.n frame) c)) taken;
+    rose = subst (λ k. Rose k (u.at 6).faults) (ap (λ c. c.faults) taken) f.rose;
+    told = told_by (IsBroken service n (take f.n frame)) (w.at 6).holds
+        (λ h e. record {
+          takes = may h e;
+          there = (replies h e).there;
+          gives = inr (record { met = want; frame = frame; n = f.n; replies = (replies h e).replies; proper = f.proper; front_is = refl });
+        });
+  }
 
 -- the guest failed before its header was whole
 pub breaks_first : (service : Service) (w v : World) → FailsShort 6 24 w v → Broke service w v
@@ -78,15 +103,15 @@ module _ (service : Service) (before header : List ℕ) (w v : World) (size : le
     asks : (query : QueryHeader) → IsQueryHeader header query → Asks h query
     asks query is = record { whole = came.there; header = subst (λ l. IsQueryHeader l query) header_is is }
 
-    refuses : (refusal : Refusal) → Judges service header (Err refusal) → Refuses service h (status_of refusal)
+    refuses : (refusal : Refusal) → Judges service header (Err refusal) → RefusedByHeader service h (status_of refusal)
     refuses IsMalformed none = inl (refl, record { whole = came.there; none = λ query is. none query (subst (λ l. IsQueryHeader l query) (sym header_is) is) })
     refuses IsOtherScheme judged = inr (inl (refl, record { query = judged.0; asks = asks judged.0 judged.1; other = judged.2 }))
     refuses IsOtherShape judged = inr (inr (refl, record { query = judged.0; asks = asks judged.0 judged.1.is; scheme = judged.1.scheme; other = judged.2 }))
 
     refused : (refusal : Refusal) → Judges service header (Err refusal) → IsReply service (IsRefused (status_of refusal)) 24 (answer_to header (status_of refusal)) h
     refused refusal judged = record {
-      replies = (refuses refusal judged, ap (λ l. answer_to l (status_of refusal)) header_is);
-      takes = refl;
+      replies = (inl (refuses refusal judged), ap (λ l. answer_to l (status_of refusal)) header_is);
+      takes = inl (refuses refusal judged, refl);
       there = came.there;
     }
 
@@ -97,89 +122,72 @@ module _ (service : Service) (before header : List ℕ) (w v : World) (size : le
   count : (v.at 6).faults ≡ (w.at 6).faults
   count = ap (λ c. c.faults) hands.cell
 
-  -- a refusal
+  -- a refusal of the header
   pub attends_refusal : (refusal : Refusal) (met : Met) (u : World) → Judges service header (Err refusal) → Gives (IsRefused (status_of refusal)) (answer_to header (status_of refusal)) met v u → Attends service met w u
-  attends_refusal refusal met u judged (inl given) =
-      let frame = answer_to header (status_of refusal) in
-      subst (λ m. Attends service m w u) (sym given.0)
-      (record {
-        n = 24;
-        frame = frame;
-        cell = given.1 ∙ ap (gave frame) hands.cell;
-        told = told_by (IsReply service (IsRefused (status_of refusal)) 24 frame) (w.at 6).holds (λ h e. refused h e refusal judged);
-      })
-  attends_refusal refusal met u judged (inr failed) =
-      let frame = answer_to header (status_of refusal) in
-      let f = failed.1 in
-      subst (λ m. Attends service m w u) (sym failed.0)
-      (record {
-        n = 24;
-        given = take f.n frame;
-        cell = f.cell ∙ ap (λ c. counted (u.at 6).faults (gave (take f.n frame) c)) hands.cell;
-        rose = subst (λ k. Rose k (u.at 6).faults) count f.rose;
-        told = told_by (IsBroken service 24 (take f.n frame)) (w.at 6).holds
-            (λ h e. record {
-              takes = inl (omega arith);
-              there = (came h e).there;
-              gives = inr (record { met = IsRefused (status_of refusal); frame = frame; n = f.n; replies = (refused h e refusal judged).replies; proper = f.proper; front_is = refl });
-            });
-      })
+  attends_refusal refusal met u judged (inl given) = subst (λ m. Attends service m w u) (sym given.0)
+      (gave_whole service (IsRefused (status_of refusal)) 24 (answer_to header (status_of refusal)) w v u hands.cell (λ h e. refused h e refusal judged) given.1)
+  attends_refusal refusal met u judged (inr failed) = subst (λ m. Attends service m w u) (sym failed.0)
+      (gave_front service (IsRefused (status_of refusal)) 24 (answer_to header (status_of refusal)) w v u hands.cell (λ h e. refused h e refusal judged) (λ h e. inl (omega arith)) failed.1)
 
   module _ (judged : Judges service header (Ok tt)) where
-    abbrev rows : ℕ
-    rows = length service.database.rows
+    abbrev size_is : ℕ
+    size_is = payload_size service.scheme service.database
 
     -- the payload was taken
-    module _ (query : List ℕ) (x : World) (takes : Takes service.database query v x) where
-      abbrev frame : List ℕ
-      frame = answer_frame service.database header query
-
-      many : length takes.before ≡ rows
+    module _ (unused : Bool) (query : List ℕ) (x : World) (takes : TakesPayload unused service.scheme service.database query v x) where
+      many : length takes.before ≡ size_is
       many = takes.full ∙ takes.size
 
-      all_taken : x.at 6 ≡ took (24 + rows) (w.at 6)
+      all_taken : x.at 6 ≡ took (24 + size_is) (w.at 6)
       all_taken = takes.hands.cell ∙ ap (took (length takes.before)) hands.cell ∙ took-took (length takes.before) 24 (w.at 6) ∙ ap (λ n. took (24 + n) (w.at 6)) many
 
-      served : (h : List ℕ) → (w.at 6).holds ≡ Some h → IsReply service Served (24 + rows) frame h
-      served h e =
-          let second : Came (length takes.before) takes.before query (drop 24 h) = subst (λ o. IfSome o (Came (length takes.before) takes.before query)) (left h e) takes.hands.told in
-          let is : query ≡ payload service.database h = sym (take_all (length takes.before) query (omega (arith, takes.full))) ∙ second.bytes ∙ ap (λ n. take n (drop 24 h)) many in
-          let enough : 24 + rows ≤ length h = omega (arith, second.there, many, length-drop 24 h, (came h e).there) in
-          record {
-            replies = (record { suits = suits h e judged; enough = enough }, ap (λ l. answer_frame service.database l query) (header_is h e) ∙ ap (answer_frame service.database (take 24 h)) is);
-            takes = refl;
-            there = enough;
-          }
+      module _ (h : List ℕ) (e : (w.at 6).holds ≡ Some h) where
+        second : Came (length takes.before) takes.before query (drop 24 h)
+        second = subst (λ o. IfSome o (Came (length takes.before) takes.before query)) (left h e) takes.hands.told
 
-      same_count : (x.at 6).faults ≡ (w.at 6).faults
-      same_count = ap (λ c. c.faults) all_taken
+        query_is : query ≡ payload service h
+        query_is = sym (take_all (length takes.before) query (omega (arith, takes.full))) ∙ second.bytes ∙ ap (λ n. take n (drop 24 h)) many
 
-      attends_whole : (met : Met) (u : World) → Gives Served frame met x u → Attends service met w u
-      attends_whole met u (inl given) = subst (λ m. Attends service m w u) (sym given.0)
-          (record {
-            n = 24 + rows;
-            frame = frame;
-            cell = given.1 ∙ ap (gave frame) all_taken;
-            told = told_by (IsReply service Served (24 + rows) frame) (w.at 6).holds served;
-          })
-      attends_whole met u (inr failed) =
-          let f = failed.1 in
-          subst (λ m. Attends service m w u) (sym failed.0)
-          (record {
-            n = 24 + rows;
-            given = take f.n frame;
-            cell = f.cell ∙ ap (λ c. counted (u.at 6).faults (gave (take f.n frame) c)) all_taken;
-            rose = subst (λ k. Rose k (u.at 6).faults) same_count f.rose;
-            told = told_by (IsBroken service (24 + rows) (take f.n frame)) (w.at 6).holds
-                (λ h e. record {
-                  takes = inr (suits h e judged, omega arith);
-                  there = (served h e).there;
-                  gives = inr (record { met = Served; frame = frame; n = f.n; replies = (served h e).replies; proper = f.proper; front_is = refl });
-                });
-          })
+        enough : 24 + size_is ≤ length h
+        enough = omega (arith, second.there, many, length-drop 24 h, (came h e).there)
+
+        whole_with : IsWholeWith unused service h
+        whole_with = record { whole = record { suits = suits h e judged; enough = enough }; unused_is = subst (λ q. sets_unused service.scheme service.database q ≡ unused) query_is takes.unused_is }
+
+        may_take : MayTake service (24 + size_is) h
+        may_take = inr (suits h e judged, omega arith)
+
+    -- the payload is good
+    module _ (query : List ℕ) (x : World) (takes : TakesPayload false service.scheme service.database query v x) where
+      abbrev frame : List ℕ
+      frame = answer_frame service.scheme service.database header query
+
+      served : (h : List ℕ) → (w.at 6).holds ≡ Some h → IsReply service Served (24 + size_is) frame h
+      served h e = record {
+        replies = (whole_with false query x takes h e, ap (λ l. answer_frame service.scheme service.database l query) (header_is h e) ∙ ap (answer_frame service.scheme service.database (take 24 h)) (query_is false query x takes h e));
+        takes = refl;
+        there = enough false query x takes h e;
+      }
+
+      finishes : (met : Met) (u : World) → Gives Served frame met x u → Attends service met w u
+      finishes met u (inl given) = subst (λ m. Attends service m w u) (sym given.0) (gave_whole service Served (24 + size_is) frame w x u (all_taken false query x takes) served given.1)
+      finishes met u (inr failed) = subst (λ m. Attends service m w u) (sym failed.0) (gave_front service Served (24 + size_is) frame w x u (all_taken false query x takes) served (may_take false query x takes) failed.1)
+
+    -- the payload sets an unused bit
+    module _ (query : List ℕ) (x : World) (takes : TakesPayload true service.scheme service.database query v x) where
+      declined : (h : List ℕ) → (w.at 6).holds ≡ Some h → IsReply service (IsRefused 1) (24 + size_is) (answer_to header 1) h
+      declined h e = record {
+        replies = (inr (refl, whole_with true query x takes h e), ap (λ l. answer_to l 1) (header_is h e));
+        takes = inr ((refl, whole_with true query x takes h e), refl);
+        there = enough true query x takes h e;
+      }
+
+      declines : (met : Met) (u : World) → Gives (IsRefused 1) (answer_to header 1) met x u → Attends service met w u
+      declines met u (inl given) = subst (λ m. Attends service m w u) (sym given.0) (gave_whole service (IsRefused 1) (24 + size_is) (answer_to header 1) w x u (all_taken true query x takes) declined given.1)
+      declines met u (inr failed) = subst (λ m. Attends service m w u) (sym failed.0) (gave_front service (IsRefused 1) (24 + size_is) (answer_to header 1) w x u (all_taken true query x takes) declined (may_take true query x takes) failed.1)
 
     -- the guest ended before its payload was whole
-    stops : (u : World) → Stops service.database v u → Answered service Gone w u
+    stops : (u : World) → Stops service.scheme service.database v u → Answered service Gone w u
     stops u s = record {
       n = 24 + s.n;
       frame = [];
@@ -198,7 +206,7 @@ module _ (service : Service) (before header : List ℕ) (w v : World) (size : le
     }
 
     -- the guest failed before its payload was whole
-    breaks : (u : World) → FailsShort 6 rows v u → Broke service w u
+    breaks : (u : World) → FailsShort 6 size_is v u → Broke service w u
     breaks u f = record {
       n = 24 + f.after.n;
       given = [];
@@ -214,8 +222,9 @@ module _ (service : Service) (before header : List ℕ) (w v : World) (size : le
           });
     }
 
-    -- an answer
-    pub attends_answer : (met : Met) (u : World) → Answers service.database header met v u → Attends service met w u
-    attends_answer met u (inl done) = attends_whole done.query done.mid done.takes met u done.gives
-    attends_answer met u (inr (inl stopped)) = subst (λ m. Attends service m w u) (sym stopped.0) (stops u stopped.1)
-    attends_answer met u (inr (inr broke)) = subst (λ m. Attends service m w u) (sym broke.0) (breaks u broke.1)
+    -- what is done once the header suits
+    pub attends_answer : (met : Met) (u : World) → Answers service.scheme service.database header met v u → Attends service met w u
+    attends_answer met u (inl done) = finishes done.query done.mid done.takes met u done.gives
+    attends_answer met u (inr (inl done)) = declines done.query done.mid done.takes met u done.gives
+    attends_answer met u (inr (inr (inl stopped))) = subst (λ m. Attends service m w u) (sym stopped.0) (stops u stopped.1)
+    attends_answer met u (inr (inr (inr broke))) = subst (λ m. Attends service m w u) (sym broke.0) (breaks u broke.1)

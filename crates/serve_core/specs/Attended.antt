@@ -3,14 +3,14 @@ use Rattle.std.specs.Prelude.{◌≡◌, ◌⊎◌, ℕ, ◌+◌, ◌<◌, ◌�
 use Rattle.pir_ports.specs.World.{World}
 use Rattle.pir_ports.specs.Moves.{Rose, took, gave, counted}
 use Rattle.serve_core.specs.Service.{Service}
-use Rattle.serve_core.specs.Reply.{Replies, Suits, taken}
+use Rattle.serve_core.specs.Reply.{Replies, Suits, Takes, payload_size}
 use Rattle.serve_core.specs.declared.met.Met.{Met}
 use Rattle.serve_core.specs.declared.met.Met.TheVariants.{GuestFault}
 
 -- the reply to these bytes takes so many of them and is this frame
 pub record IsReply (service : Service) (met : Met) (n : ℕ) (frame bytes : List ℕ) : Type 0 where
   pub replies : Replies service bytes met frame
-  pub takes : n ≡ taken service bytes met
+  pub takes : Takes service bytes met n
   pub there : n ≤ length bytes
 
 -- the guest was given the whole reply, and no byte was taken that the reply doesn't take
@@ -31,7 +31,7 @@ pub record IsFrontOfReply (service : Service) (front bytes : List ℕ) : Type 0 
 
 -- no more was taken than a header, and the payload of one that suits
 abbrev pub MayTake : Service → ℕ → List ℕ → Type 0
-MayTake service n bytes = (n ≤ 24) ⊎ (Suits service bytes × (n ≤ 24 + length service.database.rows))
+MayTake service n bytes = (n ≤ 24) ⊎ (Suits service bytes × (n ≤ 24 + payload_size service.scheme service.database))
 
 -- what was taken and given before a call on the guest failed
 pub record IsBroken (service : Service) (n : ℕ) (given bytes : List ℕ) : Type 0 where

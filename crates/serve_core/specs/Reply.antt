@@ -1,10 +1,13 @@
--- What a server answers to the bytes of a guest: the frame, and what the guest was met with (Goldberg 2007).
-use Rattle.std.specs.Prelude.{◌≡◌, ◌≢◌, ◌⊎◌, ℕ, ◌+◌, ◌<◌, ◌≤◌, List, [], ◌++◌, length, take, drop}
+-- What a server answers to the bytes of a guest: the frame, and what the guest was met with. Scheme 1 is Shamir's sharing
+-- (Goldberg 2007), and 2 the XOR scheme (Chor, Goldreich, Kushilevitz and Sudan 1995).
+use Rattle.std.specs.Prelude.{◌≡◌, ◌≢◌, ◌⊎◌, ℕ, ◌+◌, ◌<◌, ◌≤◌, Bool, true, false, ◌==◌, ◌&&◌, if◌then◌else◌, List, [], ◌++◌, length, take, drop}
 use Rattle.gf256.specs.Product.{product}
 use Rattle.wire_frames.specs.declared.header.QueryHeader.{QueryHeader}
 use Rattle.wire_frames.specs.Header.{answer_to}
 use Rattle.wire_frames.specs.Query.{IsQueryHeader}
 use Rattle.block_matrix.specs.Database.{Database}
+use Rattle.chor_xor.specs.Bitmap.{has_unused, size_of}
+use Rattle.chor_xor.specs.Chosen.{chosen}
 use Rattle.serve_core.specs.Service.{Service}
 use Rattle.serve_core.specs.declared.met.Met.{Met}
 use Rattle.serve_core.specs.declared.met.Met.TheVariants.{Served, Refused, Gone, GuestFault}
@@ -44,30 +47,55 @@ pub record Suits (service : Service) (bytes : List ℕ) : Type 0 where
   pub scheme : query.scheme ≡ service.scheme
   pub shape : IsShaped service query
 
--- a query is answered by this status alone: 1 where it is malformed, 3 for its scheme, 2 for its shape
-abbrev pub Refuses : Service → List ℕ → ℕ → Type 0
-Refuses service bytes status = ((status ≡ 1) × Malformed bytes) ⊎ ((status ≡ 3) × OtherScheme service bytes) ⊎ ((status ≡ 2) × OtherShape service bytes)
+-- a query is refused by its header: with status 1 where it is malformed, 3 for its scheme, 2 for its shape
+abbrev pub RefusedByHeader : Service → List ℕ → ℕ → Type 0
+RefusedByHeader service bytes status = ((status ≡ 1) × Malformed bytes) ⊎ ((status ≡ 3) × OtherScheme service bytes) ⊎ ((status ≡ 2) × OtherShape service bytes)
 
--- the payload of a query: a byte for each row, behind the header
-abbrev pub payload : Database → List ℕ → List ℕ
-payload database bytes = take (length database.rows) (drop 24 bytes)
+-- how many bytes the payload of a query has: one for each row, and in the XOR scheme a bit for each row
+unfoldable pub payload_size : ℕ → Database → ℕ
+payload_size scheme database = if scheme == 2 then size_of (length database.rows) else length database.rows
 
--- the frame of an answer: the header of status 0, and the product of the query and the database
-abbrev pub answer_frame : Database → List ℕ → List ℕ → List ℕ
-answer_frame database header query = answer_to header 0 ++ product database.rows database.width query
+-- the payload of a query, behind the header
+abbrev pub payload : Service → List ℕ → List ℕ
+payload service bytes = take (payload_size service.scheme service.database) (drop 24 bytes)
+
+-- a payload of the XOR scheme sets a bit past those of the rows
+unfoldable pub sets_unused : ℕ → Database → List ℕ → Bool
+sets_unused scheme database query = scheme == 2 && has_unused (length database.rows) query
+
+-- the answer to a payload: the product of the payload and the database, and in the XOR scheme the sum of the chosen rows
+unfoldable pub answer : ℕ → Database → List ℕ → List ℕ
+answer scheme database query = if scheme == 2 then chosen database query else product database.rows database.width query
+
+-- the frame of an answer: the header of status 0, and the answer to the payload
+abbrev pub answer_frame : ℕ → Database → List ℕ → List ℕ → List ℕ
+answer_frame scheme database header query = answer_to header 0 ++ answer scheme database query
 
 -- the bytes are a whole query that suits
 pub record IsWhole (service : Service) (bytes : List ℕ) : Type 0 where
   pub suits : Suits service bytes
-  pub enough : 24 + length service.database.rows ≤ length bytes
+  pub enough : 24 + payload_size service.scheme service.database ≤ length bytes
+
+-- they are one whose payload sets an unused bit or none, as this says
+pub record IsWholeWith (unused : Bool) (service : Service) (bytes : List ℕ) : Type 0 where
+  pub whole : IsWhole service bytes
+  pub unused_is : sets_unused service.scheme service.database (payload service bytes) ≡ unused
+
+-- a whole query is refused by its payload: with status 1 where it sets an unused bit
+abbrev pub RefusedByPayload : Service → List ℕ → ℕ → Type 0
+RefusedByPayload service bytes status = (status ≡ 1) × IsWholeWith true service bytes
+
+-- a query is answered by this status alone
+abbrev pub Refuses : Service → List ℕ → ℕ → Type 0
+Refuses service bytes status = RefusedByHeader service bytes status ⊎ RefusedByPayload service bytes status
 
 -- the bytes end before the query does
 abbrev pub IsCut : Service → List ℕ → Type 0
-IsCut service bytes = (length bytes < 24) ⊎ (Suits service bytes × (length bytes < 24 + length service.database.rows))
+IsCut service bytes = (length bytes < 24) ⊎ (Suits service bytes × (length bytes < 24 + payload_size service.scheme service.database))
 
 -- the reply to a guest with these bytes: what it is met with, and the frame
 abbrev pub Replies : Service → List ℕ → Met → List ℕ → Type 0
-Replies service bytes Served frame = IsWhole service bytes × (frame ≡ answer_frame service.database (take 24 bytes) (payload service.database bytes))
+Replies service bytes Served frame = IsWholeWith false service bytes × (frame ≡ answer_frame service.scheme service.database (take 24 bytes) (payload service bytes))
 Replies service bytes (Refused status) frame = Refuses service bytes status × (frame ≡ answer_to (take 24 bytes) status)
 Replies service bytes Gone frame = IsCut service bytes × (frame ≡ [])
 Replies service bytes GuestFault frame = ⊥
@@ -76,9 +104,10 @@ Replies service bytes GuestFault frame = ⊥
 abbrev pub AsksForOneReply : Service → List ℕ → Type 0
 AsksForOneReply service bytes = (met other : Met) (frame out : List ℕ) → Replies service bytes met frame → Replies service bytes other out → (met ≡ other) × (frame ≡ out)
 
--- how many of the guest's bytes the reply takes
-abbrev pub taken : Service → List ℕ → Met → ℕ
-taken service bytes Served = 24 + length service.database.rows
-taken service bytes (Refused status) = 24
-taken service bytes Gone = length bytes
-taken service bytes GuestFault = 0
+-- the reply takes so many of the guest's bytes: the whole query where its payload is judged, and only the header where that
+-- is refused
+abbrev pub Takes : Service → List ℕ → Met → ℕ → Type 0
+Takes service bytes Served n = n ≡ 24 + payload_size service.scheme service.database
+Takes service bytes (Refused status) n = (RefusedByHeader service bytes status × (n ≡ 24)) ⊎ (RefusedByPayload service bytes status × (n ≡ 24 + payload_size service.scheme service.database))
+Takes service bytes Gone n = n ≡ length bytes
+Takes service bytes GuestFault n = ⊥

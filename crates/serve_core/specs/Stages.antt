@@ -1,5 +1,5 @@
 -- The steps of a reply: the header is judged, the payload is taken, the frame is given.
-use Rattle.std.specs.Prelude.{◌≡◌, ◌≢◌, ◌⊎◌, ℕ, List, length, Result, Ok, Err}
+use Rattle.std.specs.Prelude.{◌≡◌, ◌≢◌, ◌⊎◌, ℕ, Bool, true, false, List, length, Result, Ok, Err}
 use Rattle.pir_ports.specs.World.{World}
 use Rattle.pir_ports.specs.Moves.{Hands, gave}
 use Rattle.pir_ports.specs.Whole.{Ends, FailsShort, FailsWithin}
@@ -7,9 +7,10 @@ use Rattle.wire_frames.specs.declared.header.QueryHeader.{QueryHeader}
 use Rattle.wire_frames.specs.Query.{IsQueryHeader}
 use Rattle.block_matrix.specs.Database.{Database}
 use Rattle.serve_core.specs.Service.{Service}
-use Rattle.serve_core.specs.Reply.{IsShaped, answer_frame}
+use Rattle.wire_frames.specs.Header.{answer_to}
+use Rattle.serve_core.specs.Reply.{IsShaped, answer_frame, payload_size, sets_unused}
 use Rattle.serve_core.specs.declared.met.Met.{Met}
-use Rattle.serve_core.specs.declared.met.Met.TheVariants.{Served, Gone, GuestFault}
+use Rattle.serve_core.specs.declared.met.Met.TheVariants.{Served, Refused, Gone, GuestFault}
 use Rattle.serve_core.specs.declared.header.Refusal.{Refusal}
 use Rattle.serve_core.specs.declared.header.Refusal.TheVariants.{Malformed, OtherScheme, OtherShape}
 
@@ -35,28 +36,39 @@ Judges service header (Err OtherShape) = (query : QueryHeader) × IsOfScheme ser
 abbrev pub Gives : Met → List ℕ → Met → World → World → Type 0
 Gives met frame result old new = ((result ≡ met) × (new.at 6 ≡ gave frame (old.at 6))) ⊎ ((result ≡ GuestFault) × FailsWithin 6 frame old new)
 
--- the payload of a query was taken whole
-pub record Takes (database : Database) (query : List ℕ) (old new : World) : Type 0 where
+-- the payload of a query was taken whole, and it sets an unused bit or none, as this says
+pub record TakesPayload (unused : Bool) (scheme : ℕ) (database : Database) (query : List ℕ) (old new : World) : Type 0 where
   pub before : List ℕ
-  pub size : length query ≡ length database.rows
+  pub size : length query ≡ payload_size scheme database
   pub hands : Hands 6 (length before) before query old new
   pub full : length before ≡ length query
+  pub unused_is : sets_unused scheme database query ≡ unused
 
 -- the payload of a query was taken, and its answer given
-pub record Finishes (database : Database) (header : List ℕ) (met : Met) (old new : World) : Type 0 where
+pub record Finishes (scheme : ℕ) (database : Database) (header : List ℕ) (met : Met) (old new : World) : Type 0 where
   pub query : List ℕ
   pub mid : World
-  pub takes : Takes database query old mid
-  pub gives : Gives Served (answer_frame database header query) met mid new
+  pub takes : TakesPayload false scheme database query old mid
+  pub gives : Gives Served (answer_frame scheme database header query) met mid new
+
+-- the payload of a query was taken, and refused
+pub record Declines (scheme : ℕ) (database : Database) (header : List ℕ) (met : Met) (old new : World) : Type 0 where
+  pub query : List ℕ
+  pub mid : World
+  pub takes : TakesPayload true scheme database query old mid
+  pub gives : Gives (Refused 1) (answer_to header 1) met mid new
 
 -- the guest ended before its payload was whole
-pub record Stops (database : Database) (old new : World) : Type 0 where
+pub record Stops (scheme : ℕ) (database : Database) (old new : World) : Type 0 where
   pub n : ℕ
   pub before : List ℕ
   pub after : List ℕ
-  pub size : length before ≡ length database.rows
+  pub size : length before ≡ payload_size scheme database
   pub ends : Ends 6 n before after old new
 
 -- what is done once the header suits
-abbrev pub Answers : Database → List ℕ → Met → World → World → Type 0
-Answers database header met old new = Finishes database header met old new ⊎ ((met ≡ Gone) × Stops database old new) ⊎ ((met ≡ GuestFault) × FailsShort 6 (length database.rows) old new)
+abbrev pub Answers : ℕ → Database → List ℕ → Met → World → World → Type 0
+Answers scheme database header met old new = Finishes scheme database header met old new
+    ⊎ Declines scheme database header met old new
+    ⊎ ((met ≡ Gone) × Stops scheme database old new)
+    ⊎ ((met ≡ GuestFault) × FailsShort 6 (payload_size scheme database) old new)

@@ -1,11 +1,15 @@
 //! The answer to a query whose header suits.
 ghost use Rattle.std.specs.Prelude.{◌≡◌, ◌≤◌, ◌<◌, ◌+◌, ◌*◌, length, vec_len, IfOk};
 ghost use Rattle.pir_ports.specs.Moves.{Touches};
-ghost use Rattle.serve_core.specs.Reply.{answer_frame};
-ghost use Rattle.serve_core.specs.Stages.{Answers, Gives};
+ghost use Rattle.wire_frames.specs.Header.{answer_to};
+ghost use Rattle.serve_core.specs.Reply.{answer, answer_frame, payload_size, sets_unused};
+ghost use Rattle.serve_core.specs.Stages.{Answers, Gives, status_of};
+ghost use Rattle.serve_core.specs.declared.met.Met.TheVariants.{Refused};
 
+use crate::header::Refusal;
 use crate::met::Met;
 use block_matrix::Matrix;
+use chor_xor::{answer_into, has_unused_bits};
 use pir_ports::{Failed, Filled, Port, Ports, read_exactly, write_all};
 use server_product::{Gate, product_into};
 use std::alloc::{AllocError, Global};
@@ -14,6 +18,23 @@ use wire_frames::write_answer_header;
 
 /// How many bytes stand before the payload of a query and of an answer.
 pub(crate) const HEADER_LEN: usize = 24;
+
+/// The number of the XOR scheme; that of Shamir's sharing is 1.
+const XOR: u8 = 2;
+
+/// How many bytes the payload of a query has.
+#[tactic(auto, unfolding(crate::specs::Reply::payload_size))]
+pub(crate) fn query_len(matrix: &Matrix, scheme: u8) -> usize
+    ensures is { result ≡ payload_size scheme matrix.now }
+    ensures some { 1 ≤ result }
+{
+    let rows = matrix.rows() as usize;
+    if scheme == XOR {
+        rows.div_ceil(8)
+    } else {
+        rows
+    }
+}
 
 /// Room for the payload of a query, for the sums of each worker, and for the frame of an answer.
 #[derive(Drop)]
@@ -24,21 +45,21 @@ pub(crate) struct Room {
 }
 
 impl Room {
-    /// Room for a database of so many rows of so many bytes, and so many workers.
+    /// Room for queries of so many bytes, a database of rows of so many bytes, and so many workers.
     pub(crate) fn new(
         alloc: Global,
-        rows: usize,
+        query_len: usize,
         width: usize,
         workers: usize,
     ) -> Result<Room, AllocError>
         requires width { width ≤ 65536 }
         requires workers { workers ≤ 16 }
-        ensures query { IfOk result (λ room. vec_len room.query ≡ rows) }
+        ensures query { IfOk result (λ room. vec_len room.query ≡ query_len) }
         ensures scratch { IfOk result (λ room. vec_len room.scratch ≡ workers * width) }
         ensures frame { IfOk result (λ room. vec_len room.frame ≡ 24 + width) }
     {
         Ok(Room {
-            query: vec![in alloc; 0; rows]?,
+            query: vec![in alloc; 0; query_len]?,
             scratch: vec![in alloc; 0; workers * width]?,
             frame: vec![in alloc; 0; HEADER_LEN + width]?,
         })
@@ -57,10 +78,58 @@ pub(crate) fn give<P: Ports>(ports: &mut P, frame: &[u8], met: Met) -> Met
     }
 }
 
+/// Gives the guest the frame of a refusal: the header of its status, and nothing behind it.
+pub(crate) fn refuse<P: Ports>(ports: &mut P, header: &[u8; 24], refusal: Refusal) -> Met
+    ensures gives { Gives (Refused (status_of refusal)) (answer_to header.now (status_of refusal)) result (P.world ports.old) (P.world ports.new) }
+    ensures others { Touches 6 (P.world ports.old) (P.world ports.new) }
+{
+    let status = refusal.status();
+    let mut frame = [0; HEADER_LEN];
+    write_answer_header(header, status, &mut frame);
+    give(ports, &frame, Met::Refused(status))
+}
+
+/// Whether the payload of a query sets a bit past those of the rows.
+#[tactic(auto, unfolding(crate::specs::Reply::payload_size, crate::specs::Reply::sets_unused))]
+fn is_overfull(matrix: &Matrix, scheme: u8, query: &[u8]) -> bool
+    requires { length query.now ≡ payload_size scheme matrix.now }
+    ensures { result ≡ sets_unused scheme matrix.now query.now }
+{
+    scheme == XOR && has_unused_bits(query, matrix.rows())
+}
+
+/// Writes the answer to the payload of a query. The workers sum the rows of Shamir's scheme alone.
+#[tactic(auto, unfolding(crate::specs::Reply::payload_size, crate::specs::Reply::answer))]
+fn write_payload<R: Threads + Sync, G: Gate + Sync>(
+    rt: &R,
+    matrix: &Matrix,
+    scheme: u8,
+    workers: u8,
+    query: &[u8],
+    scratch: &mut [u8],
+    gate: &G,
+    out: &mut [u8],
+)
+    requires some { 1 ≤ workers }
+    requires few { workers ≤ 16 }
+    requires query { length query.now ≡ payload_size scheme matrix.now }
+    requires scratch { length scratch.old ≡ workers * matrix.now.width }
+    requires room { length out.old ≡ matrix.now.width }
+    ensures answer { out.new ≡ answer scheme matrix.now query.now }
+    ensures scratch { length scratch.new ≡ length scratch.old }
+{
+    if scheme == XOR {
+        answer_into(matrix, query, out);
+    } else {
+        product_into(rt, matrix, query, workers, scratch, gate, out);
+    }
+}
+
 /// Writes the frame of the answer to a query.
 fn write_frame<R: Threads + Sync, G: Gate + Sync>(
     rt: &R,
     matrix: &Matrix,
+    scheme: u8,
     workers: u8,
     header: &[u8; 24],
     query: &[u8],
@@ -70,23 +139,24 @@ fn write_frame<R: Threads + Sync, G: Gate + Sync>(
 )
     requires some { 1 ≤ workers }
     requires few { workers ≤ 16 }
-    requires query { length query.now ≡ length matrix.now.rows }
+    requires query { length query.now ≡ payload_size scheme matrix.now }
     requires scratch { length scratch.old ≡ workers * matrix.now.width }
     requires frame { length frame.old ≡ 24 + matrix.now.width }
-    ensures frame { frame.new ≡ answer_frame matrix.now header.now query.now }
+    ensures frame { frame.new ≡ answer_frame scheme matrix.now header.now query.now }
     ensures scratch { length scratch.new ≡ length scratch.old }
 {
     let mut head = [0; HEADER_LEN];
     write_answer_header(header, 0, &mut head);
-    let (front, product) = frame.split_at_mut(HEADER_LEN);
+    let (front, payload) = frame.split_at_mut(HEADER_LEN);
     front.copy_from_slice(&head);
-    product_into(rt, matrix, query, workers, scratch, gate, product);
+    write_payload(rt, matrix, scheme, workers, query, scratch, gate, payload);
 }
 
-/// Takes the payload of a query with this header, which suits, and gives the guest the answer.
+/// Takes the payload of a query with this header, which suits, and gives the guest the answer, or refuses the payload.
 pub(crate) fn answer_query<R: Threads + Sync, G: Gate + Sync, P: Ports>(
     rt: &R,
     matrix: &Matrix,
+    scheme: u8,
     workers: u8,
     header: &[u8; 24],
     room: &mut Room,
@@ -95,26 +165,30 @@ pub(crate) fn answer_query<R: Threads + Sync, G: Gate + Sync, P: Ports>(
 ) -> Met
     requires some { 1 ≤ workers }
     requires few { workers ≤ 16 }
-    requires query { vec_len room.old.query ≡ length matrix.now.rows }
+    requires query { vec_len room.old.query ≡ payload_size scheme matrix.now }
     requires scratch { vec_len room.old.scratch ≡ workers * matrix.now.width }
     requires frame { vec_len room.old.frame ≡ 24 + matrix.now.width }
     ensures query { vec_len room.new.query ≡ vec_len room.old.query }
     ensures scratch { vec_len room.new.scratch ≡ vec_len room.old.scratch }
     ensures frame { vec_len room.new.frame ≡ vec_len room.old.frame }
-    ensures answers { Answers matrix.now header.now result (P.world ports.old) (P.world ports.new) }
+    ensures answers { Answers scheme matrix.now header.now result (P.world ports.old) (P.world ports.new) }
     ensures others { Touches 6 (P.world ports.old) (P.world ports.new) }
 {
     // A query has a byte at least, since a database has a row.
-    let some = matrix.rows() >= 1;
+    let some = query_len(matrix, scheme) >= 1;
     prove!(some);
     match read_exactly(ports, Port::Guest, &mut room.query) {
         Filled::Full => {}
         Filled::Ended(_) => return Met::Gone,
         Filled::Failed => return Met::GuestFault,
     }
+    if is_overfull(matrix, scheme, &room.query) {
+        return refuse(ports, header, Refusal::Malformed);
+    }
     write_frame(
         rt,
         matrix,
+        scheme,
         workers,
         header,
         &room.query,

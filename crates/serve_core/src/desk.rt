@@ -1,10 +1,10 @@
 //! The desk at which guests are served: the database, and room for a query and its answer.
-ghost use Rattle.std.specs.Prelude.{◌≡◌, ◌≤◌, ◌+◌, ◌*◌, length, IfOk, vec_len};
+ghost use Rattle.std.specs.Prelude.{◌≡◌, ◌⊎◌, ◌≤◌, ◌+◌, ◌*◌, length, IfOk, vec_len};
 ghost use Rattle.pir_ports.specs.Moves.{Touches};
 ghost use Rattle.serve_core.specs.Service.{Service};
 ghost use Rattle.serve_core.specs.Stages.{Answers};
 
-use crate::answer::{HEADER_LEN, Room, answer_query};
+use crate::answer::{Room, answer_query, query_len};
 use crate::met::Met;
 use block_matrix::Matrix;
 use pir_ports::Ports;
@@ -34,6 +34,7 @@ pub struct Desk {
 impl Model for Desk {
     ghost use Rattle.std.specs.Prelude.{◌≡◌, ◌+◌, ◌*◌, ◌≤◌, vec_len, length};
     ghost use Rattle.serve_core.specs.Service.{Service};
+    ghost use Rattle.serve_core.specs.Reply.{payload_size};
 
     ghost Value = { Service };
 
@@ -43,29 +44,30 @@ impl Model for Desk {
       workers = d.workers;
     } };
 
-    ghost invariant = { λ d. (vec_len d.room.query ≡ length d.matrix.rows)
+    ghost invariant = { λ d. (vec_len d.room.query ≡ payload_size d.scheme d.matrix)
         × (vec_len d.room.scratch ≡ d.workers * d.matrix.width)
         × (vec_len d.room.frame ≡ 24 + d.matrix.width)
         × (1 ≤ d.workers) × (d.workers ≤ 16) };
 }
 
 impl Desk {
-    /// Opens a desk for a database and a scheme, 1 for Shamir's sharing, with from 1 to 16 workers to sum the rows. It
-    /// takes all the memory that serving takes: a byte for each row, a row for each worker and one more, and 24 bytes. The
-    /// database is dropped where that isn't found.
+    /// Opens a desk for a database and a scheme, 1 for Shamir's sharing and 2 for the XOR scheme, with from 1 to 16 workers
+    /// to sum the rows. It takes all the memory that serving takes: the payload of a query, which has a byte for each row
+    /// or, in the XOR scheme, for each eight rows; a row for each worker and one more, and 24 bytes. The database is
+    /// dropped where that isn't found.
     ///
     /// # Errors
     ///
     /// `AllocError` for want of memory.
     pub fn open(alloc: Global, matrix: Matrix, scheme: u8, workers: u8) -> Result<Desk, AllocError>
-        requires scheme { scheme ≡ 1 }
+        requires scheme { (scheme ≡ 1) ⊎ (scheme ≡ 2) }
         requires some { 1 ≤ workers }
         requires few { workers ≤ 16 }
         ensures { IfOk result (λ d. d ≡ record { database = matrix; scheme = scheme; workers = workers }) }
     {
-        let rows = matrix.rows() as usize;
+        let query_len = query_len(&matrix, scheme);
         let width = matrix.width() as usize;
-        let room = Room::new(alloc, rows, width, usize::from(workers))?;
+        let room = Room::new(alloc, query_len, width, usize::from(workers))?;
         Ok(Desk {
             matrix,
             scheme,
@@ -103,13 +105,14 @@ impl Desk {
         ports: &mut P,
         gate: &G,
     ) -> Met
-        ensures answers { Answers self.old.database header.now result (P.world ports.old) (P.world ports.new) }
+        ensures answers { Answers self.old.scheme self.old.database header.now result (P.world ports.old) (P.world ports.new) }
         ensures others { Touches 6 (P.world ports.old) (P.world ports.new) }
         ensures kept { self.new ≡ self.old }
     {
         answer_query(
             rt,
             &self.matrix,
+            self.scheme,
             self.workers,
             header,
             &mut self.room,

@@ -8,7 +8,7 @@ use wire_frames::read_query_header;
 /// Why a query is refused.
 #[derive(Clone, Copy, Debug, PartialEq, Eq)]
 pub(crate) enum Refusal {
-    /// The 24 bytes are no header of a query.
+    /// The 24 bytes are no header of a query, or its bitmap sets a bit past those of the rows.
     Malformed,
     /// The query is for a database of another shape.
     OtherShape,

@@ -1,37 +1,25 @@
 //! Serves the guest that is in.
 ghost use Rattle.std.specs.Prelude.{◌≡◌};
 ghost use Rattle.pir_ports.specs.Moves.{Touches};
-ghost use Rattle.wire_frames.specs.Header.{answer_to};
-ghost use Rattle.serve_core.specs.Stages.{Gives, status_of};
-ghost use Rattle.serve_core.specs.declared.met.Met.TheVariants.{Refused};
 ghost use Rattle.serve_core.specs.Attended.{Attends};
 
-use crate::answer::{HEADER_LEN, give};
+use crate::answer::{HEADER_LEN, refuse};
 use crate::desk::Desk;
-use crate::header::{Refusal, judge_header};
+use crate::header::judge_header;
 use crate::met::Met;
 use pir_ports::{Filled, Port, Ports, read_exactly};
 use server_product::Gate;
 use std::thread::Threads;
-use wire_frames::write_answer_header;
-
-/// Gives the guest the frame of a refusal: the header of its status, and nothing behind it.
-fn refuse<P: Ports>(ports: &mut P, header: &[u8; 24], refusal: Refusal) -> Met
-    ensures gives { Gives (Refused (status_of refusal)) (answer_to header.now (status_of refusal)) result (P.world ports.old) (P.world ports.new) }
-    ensures others { Touches 6 (P.world ports.old) (P.world ports.new) }
-{
-    let status = refusal.status();
-    let mut frame = [0; HEADER_LEN];
-    write_answer_header(header, status, &mut frame);
-    give(ports, &frame, Met::Refused(status))
-}
 
 /// Serves the guest that is in, and says how it was met.
 ///
 /// 24 bytes are taken. They are refused where they are no header of a query (status 1), one of another scheme (3), or one
-/// for a database of another shape (2), and nothing more is taken then. Else the payload is taken, a byte for each row,
-/// and the answer is given, in one piece as far as the guest takes it: the header of status 0, and the product of the
-/// payload and the database, which the desk's workers sum. Each of them passes `gate` once.
+/// for a database of another shape (2), and nothing more is taken then. Else the payload is taken, and the answer is given,
+/// in one piece as far as the guest takes it: the header of status 0, and the answer to the payload.
+///
+/// In Shamir's scheme the payload has a byte for each row, and the answer is the product of the payload and the database,
+/// which the desk's workers sum. Each of them passes `gate` once. In the XOR scheme the payload is a bitmap of a bit for
+/// each row, and the answer the XOR of the rows whose bit is set. It is refused (1) where it sets a bit past those.
 ///
 /// A guest that ends before that is gone, and is given nothing. Where a call on the guest fails, it was given a front of
 /// the reply. The desk is the same after every guest. No memory is taken.

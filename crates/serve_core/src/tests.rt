@@ -1,4 +1,4 @@
-ghost use Rattle.std.specs.Prelude.{◌≤◌};
+ghost use Rattle.std.specs.Prelude.{◌≡◌, ◌⊎◌, ◌≤◌};
 
 use crate::{Desk, Met, serve_one};
 use block_matrix::Matrix;
@@ -13,13 +13,14 @@ const QUERY: &[u8] = b"PIRQ\x01\x01\x01\0\0\0\0\0\0\0\0\x07\0\0\0\x02\0\0\0\x02\
 const ANSWER: &[u8] = b"PIRA\x01\x01\x01\0\0\0\0\0\0\0\0\x07\0\0\0\x02\0\0\0\x02\xcf\xd2";
 
 /// A desk for the database of the rows `41 42` and `43 44`.
-fn desk_of(alloc: Global, workers: u8) -> Result<Desk, Fail>
+fn desk_of(alloc: Global, scheme: u8, workers: u8) -> Result<Desk, Fail>
+    requires scheme { (scheme ≡ 1) ⊎ (scheme ≡ 2) }
     requires some { 1 ≤ workers }
     requires few { workers ≤ 16 }
 {
     let bytes = b"\x41\x42\x43\x44".to_vec(alloc)?;
     match Matrix::from_bytes(alloc, bytes, 2) {
-        Ok(matrix) => Ok(Desk::open(alloc, matrix, 1, workers)?),
+        Ok(matrix) => Ok(Desk::open(alloc, matrix, scheme, workers)?),
         Err(_) => Err(Fail::new("no matrix")),
     }
 }
@@ -41,7 +42,7 @@ fn left_of_guest(ports: &mut MemPorts) -> usize {
 fn guests_get_their_replies(rt: HostRuntime) -> Result<(), Fail> {
     let alloc = rt.alloc();
     for workers in 1..=2 {
-        let mut desk = desk_of(alloc, workers)?;
+        let mut desk = desk_of(alloc, 1, workers)?;
         for (guest, room, met, given, left) in [
             (QUERY, 99, Met::Served, ANSWER, 0),
             // Another number of rows.
@@ -96,11 +97,38 @@ fn guests_get_their_replies(rt: HostRuntime) -> Result<(), Fail> {
     Ok(())
 }
 
+// The payload sets an unused bit, or none.
+#[test]
+fn guests_of_the_xor_scheme_get_their_replies(rt: HostRuntime) -> Result<(), Fail> {
+    let alloc = rt.alloc();
+    let mut desk = desk_of(alloc, 2, 1)?;
+    for (guest, met, given) in [
+        (
+            b"PIRQ\x01\x02\x01\0\0\0\0\0\0\0\0\x07\0\0\0\x02\0\0\0\x02\x81".as_slice(),
+            Met::Refused(1),
+            b"PIRA\x01\x02\x01\x01\0\0\0\0\0\0\0\x07\0\0\0\x02\0\0\0\x02".as_slice(),
+        ),
+        (
+            b"PIRQ\x01\x02\x01\0\0\0\0\0\0\0\0\x07\0\0\0\x02\0\0\0\x02\xc0".as_slice(),
+            Met::Served,
+            b"PIRA\x01\x02\x01\0\0\0\0\0\0\0\0\x07\0\0\0\x02\0\0\0\x02\x02\x06".as_slice(),
+        ),
+    ] {
+        let mut ports = MemPorts::new(alloc, 9, &[], 0, 0)?;
+        ports.guest(alloc, guest, 99)?;
+        let got = serve_next(&rt, &mut desk, &mut ports);
+        assert_eq!(rt; got, Some(met), "{guest:?}");
+        let seen = ports.seen(Port::Guest);
+        assert_eq!(rt; seen, given, "{guest:?}");
+    }
+    Ok(())
+}
+
 // Call 1 lets the first guest in, 2 takes its header, 3 its payload, and 4 gives it the answer. No call has the number 0.
 #[test]
 fn one_guest_fails_and_the_next_is_served(rt: HostRuntime) -> Result<(), Fail> {
     let alloc = rt.alloc();
-    let mut desk = desk_of(alloc, 2)?;
+    let mut desk = desk_of(alloc, 1, 2)?;
     for (fail, room, given) in [
         (2, 99, b"".as_slice()),
         (3, 99, b"".as_slice()),

@@ -73,6 +73,23 @@ fn each_guest_gets_its_reply(rt: HostRuntime) -> Result<(), Fail> {
     Ok(())
 }
 
+// The bitmap chooses both rows.
+#[test]
+fn a_guest_of_the_xor_scheme(rt: HostRuntime) -> Result<(), Fail> {
+    let alloc = rt.alloc();
+    let words = words_in(
+        alloc,
+        "serve --database D --width 2 --conns 1 --listen L --scheme xor",
+    )?;
+    let mut ports = ports_with(alloc, 1000, &[], b"ABCD", 6)?;
+    let query = b"PIRQ\x01\x02\x01\0\0\0\0\0\0\0\0\x07\0\0\0\x02\0\0\0\x02\xc0";
+    ports.guest(alloc, query, 100)?;
+    assert!(rt; run_in_memory(&rt, alloc, &words, &mut ports) == Status::One);
+    let frame = b"PIRA\x01\x02\x01\0\0\0\0\0\0\0\0\x07\0\0\0\x02\0\0\0\x02\x02\x06";
+    assert!(rt; was_given(&ports, 0, frame));
+    Ok(())
+}
+
 #[test]
 fn a_guest_that_takes_no_more(rt: HostRuntime) -> Result<(), Fail> {
     let alloc = rt.alloc();
