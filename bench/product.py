@@ -1,48 +1,53 @@
-"""Runs our product and its peers in turn, keeps the best time of each, checks that their results agree, and prints the
-ratios to ISA-L and to the machine's limit of reading, with the same number of threads.
-usage: product.py ROUNDS FOLDER ROWSxWIDTH .., where FOLDER has the programs ours, ours-avx2 and peers"""
+"""Runs our program and its peers in turn, keeps the best time of each, checks that their results agree, and prints the
+ratios to ISA-L, for a product, and to the machine's limit of reading, with the same number of threads.
+usage: product.py product|answer ROUNDS FOLDER ROWSxWIDTH .., where FOLDER has the programs ours, ours-avx2 and peers"""
 import subprocess
 import sys
 
-WORKERS = ["1", "2", "4"]
+WORKERS = {"product": ["1", "2", "4"], "answer": ["1"]}
+TITLES = {
+    "product": "the best rate, its ratio to ISA-L's gf_vect_mad (polynomial 0x11D), and its ratio to reading in four streams",
+    "answer": "the best rate over the rows whose bit is set, and its ratio to reading as many bytes in four streams",
+}
 
 
 def lines_of(folder, program, words):
-    """Yields (name, workers, nanoseconds, checksum or None) for each line of a program."""
+    """Yields (name, bytes, workers, nanoseconds, checksum or None) for each line of a program."""
     text = subprocess.run([f"{folder}/{program}", *words], check=True, capture_output=True, text=True).stdout
     for line in text.splitlines():
-        words = line.split()
+        name, rows, width, workers, time, checksum = line.split()
         if program != "peers":
-            words.insert(0, program)
-        name, _rows, _width, workers, time, checksum = words
-        yield name, workers, int(time), None if checksum == "-" else checksum
+            name = program
+        yield name, int(rows) * int(width), workers, int(time), None if checksum == "-" else checksum
 
 
-def measured(folder, rounds, shape):
-    """The best time of each name at each number of workers, and the set of checksums."""
+def measured(what, folder, rounds, shape):
+    """The best time of each name at each number of workers, how many bytes are read, and the set of checksums."""
     rows, width = shape.split("x")
     calls = str(min(2000, max(3, (1 << 31) // (int(rows) * int(width)))))
-    times, checksums = {}, set()
+    times, checksums, read = {}, set(), 0
     for _ in range(rounds):
         for program in ["ours", "ours-avx2", "peers"]:
-            for name, workers, time, checksum in lines_of(folder, program, [rows, width, calls, *WORKERS]):
+            for name, size, workers, time, checksum in lines_of(folder, program, [what, rows, width, calls, *WORKERS[what]]):
                 best = times.setdefault(name, {})
                 best[workers] = min(time, best.get(workers, time))
+                if name == "reading":
+                    read = size
                 if checksum:
                     checksums.add(checksum)
-    return times, checksums
+    return times, read, checksums
 
 
-def report(shape, times, checksums):
+def report(what, shape, times, read, checksums):
     """Prints a line for each name, and says whether the results agree."""
-    rows, width = map(int, shape.split("x"))
+    rows, width = shape.split("x")
     agree = len(checksums) == 1
-    print(f"{rows} x {width}: the results in our field {'agree' if agree else 'DIFFER'}")
-    print(f"  {'':<12}" + "".join(f"{f'{w} thread' + 's' * (w != '1'):<36}" for w in WORKERS))
+    print(f"{rows} x {width}: the checksums {'agree' if agree else 'DIFFER'}")
+    print(f"  {'':<12}" + "".join(f"{f'{w} thread' + 's' * (w != '1'):<36}" for w in WORKERS[what]).rstrip())
     for name, best in times.items():
         line = f"  {name:<12}"
-        for workers in WORKERS:
-            rate = f"{rows * width / best[workers]:.2f} GB/s"
+        for workers in WORKERS[what]:
+            rate = f"{read / best[workers]:.2f} GB/s"
             if "isal" in times:
                 rate += f", {times['isal'][workers] / best[workers]:.2f} of ISA-L"
             rate += f", {times['reading'][workers] / best[workers]:.2f}"
@@ -52,9 +57,9 @@ def report(shape, times, checksums):
 
 
 def main():
-    rounds, folder, *shapes = sys.argv[1:]
-    print("the best rate, its ratio to ISA-L's gf_vect_mad (polynomial 0x11D), and its ratio to reading in four streams")
-    agree = [report(shape, *measured(folder, int(rounds), shape)) for shape in shapes]
+    what, rounds, folder, *shapes = sys.argv[1:]
+    print(TITLES[what])
+    agree = [report(what, shape, *measured(what, folder, int(rounds), shape)) for shape in shapes]
     sys.exit(0 if all(agree) else 1)
 
 

@@ -1,7 +1,8 @@
-// Peers of the server's product over GF(256): for each number of workers a line for each peer, with its name, the shape,
-// the number of workers, the best time of so many calls in nanoseconds, and the checksum of the result if its field is
-// ours. bench/product.sh builds it, with HAVE_ISAL and HAVE_GF_COMPLETE where those libraries are installed.
-// usage: product_peers ROWS WIDTH CALLS WORKERS..
+// Peers of the server's product over GF(256), and of its answer in the XOR scheme: for each number of workers a line for
+// each peer, with its name, how many rows it reads and their width, the number of workers, the best time of so many calls in
+// nanoseconds, and the checksum of the result if its field is ours. bench/beside_peers.sh builds it, with HAVE_ISAL and
+// HAVE_GF_COMPLETE where those libraries are installed.
+// usage: product_peers product|answer ROWS WIDTH CALLS WORKERS..
 #include <algorithm>
 #include <chrono>
 #include <cinttypes>
@@ -22,12 +23,13 @@ extern "C" {
 
 using Byte = uint8_t;
 
+// The query has a byte for each row; for an answer it is a bitmap, with a bit for each.
 struct Case {
   size_t rows, width;
   const Byte *matrix, *query;
 };
 
-// What a worker does for the rows from `from` up to `to`: it adds their products to `sums`.
+// What a worker does for the rows from `from` up to `to`: it adds their products, or those whose bit is set, to `sums`.
 using Kernel = void (*)(const Case &, size_t from, size_t to, Byte *sums);
 
 // ---- the classic loop: one look-up in a table of 256 x 256 products a byte
@@ -73,6 +75,19 @@ static void by_gf_complete(const Case &c, size_t from, size_t to, Byte *sums) {
   }
 }
 #endif
+
+// ---- the plain loop of the XOR scheme: the rows whose bit is set, one after the other
+
+static bool is_set(const Byte *bitmap, size_t row) { return bitmap[row / 8] >> (7 - row % 8) & 1; }
+
+static void by_rows(const Case &c, size_t from, size_t to, Byte *__restrict sums) {
+  size_t width = c.width;
+  for (size_t j = from; j < to; j++) {
+    if (!is_set(c.query, j)) continue;
+    const Byte *row = c.matrix + j * width;
+    for (size_t i = 0; i < width; i++) sums[i] ^= row[i];
+  }
+}
 
 // ---- the limit of the machine: the same bytes are only read, in four streams
 
@@ -152,20 +167,45 @@ static void fill(uint64_t &state, Byte *bytes, size_t count) {
   }
 }
 
+// The peers of the product, on so many threads.
+static void measure_product(const Case &c, size_t workers, long calls) {
+  measure(c, "reading", by_reading, workers, calls, false);
+#ifdef HAVE_ISAL
+  measure(c, "isal", by_isal, workers, calls, false);
+#endif
+#ifdef HAVE_GF_COMPLETE
+  // A region must begin as its sums do.
+  if (c.width % 16 == 0) measure(c, "gf-complete", by_gf_complete, workers, calls, true);
+#endif
+  // The table is slow: a tenth of the calls tells enough.
+  measure(c, "table", by_table, workers, std::max(calls / 10, 2L), true);
+}
+
+// The peers of the answer, on so many threads. As many rows are read as have their bit set.
+static void measure_answer(const Case &c, size_t workers, long calls) {
+  Case read = c;
+  read.rows = 0;
+  for (size_t j = 0; j < c.rows; j++) read.rows += is_set(c.query, j);
+  measure(read, "reading", by_reading, workers, calls, false);
+  measure(c, "rows", by_rows, workers, calls, true);
+}
+
 int main(int argc, char **argv) {
-  if (argc < 5) {
-    fprintf(stderr, "usage: product_peers ROWS WIDTH CALLS WORKERS..\n");
+  bool answer = argc > 1 && !strcmp(argv[1], "answer");
+  if (argc < 6 || (!answer && strcmp(argv[1], "product"))) {
+    fprintf(stderr, "usage: product_peers product|answer ROWS WIDTH CALLS WORKERS..\n");
     return 2;
   }
-  size_t rows = strtoul(argv[1], nullptr, 10), width = strtoul(argv[2], nullptr, 10);
-  long calls = strtol(argv[3], nullptr, 10);
+  size_t rows = strtoul(argv[2], nullptr, 10), width = strtoul(argv[3], nullptr, 10);
+  long calls = strtol(argv[4], nullptr, 10);
   for (unsigned a = 0; a < 256; a++) {
     for (unsigned b = 0; b < 256; b++) products[a][b] = product(a, b);
   }
-  Byte *matrix = lanes_of(rows * width), *query = lanes_of(rows);
+  size_t query_size = answer ? (rows + 7) / 8 : rows;
+  Byte *matrix = lanes_of(rows * width), *query = lanes_of(query_size);
   uint64_t state = 88172645463325252;
   fill(state, matrix, rows * width);
-  fill(state, query, rows);
+  fill(state, query, query_size);
   Case c = {rows, width, matrix, query};
 #ifdef HAVE_GF_COMPLETE
   if (!gf_init_hard(&field, 8, GF_MULT_DEFAULT, GF_REGION_DEFAULT, GF_DIVIDE_DEFAULT, 0x11B, 0, 0, nullptr, nullptr)) {
@@ -173,17 +213,12 @@ int main(int argc, char **argv) {
     return 1;
   }
 #endif
-  for (int i = 4; i < argc; i++) {
+  for (int i = 5; i < argc; i++) {
     size_t workers = strtoul(argv[i], nullptr, 10);
-    measure(c, "reading", by_reading, workers, calls, false);
-#ifdef HAVE_ISAL
-    measure(c, "isal", by_isal, workers, calls, false);
-#endif
-#ifdef HAVE_GF_COMPLETE
-    // A region must begin as its sums do.
-    if (width % 16 == 0) measure(c, "gf-complete", by_gf_complete, workers, calls, true);
-#endif
-    // The table is slow: a tenth of the calls tells enough.
-    measure(c, "table", by_table, workers, std::max(calls / 10, 2L), true);
+    if (answer) {
+      measure_answer(c, workers, calls);
+    } else {
+      measure_product(c, workers, calls);
+    }
   }
 }

@@ -1,12 +1,19 @@
-//! bench_product ROWS WIDTH CALLS WORKERS..: a product of a query and a matrix of that shape. For each number of workers it
-//! prints the shape, that number, the best time of so many calls in nanoseconds, and a checksum of the product. With no
-//! words it prints the checksums of a few small shapes, without times.
+//! bench_product product ROWS WIDTH CALLS WORKERS..: a product of a query and a matrix of that shape. For each number of
+//! workers it prints a line with the word `product`, the shape, that number, the best time of so many calls in nanoseconds,
+//! and a checksum of the product.
+//!
+//! bench_product answer ROWS WIDTH CALLS ..: one such line, with the word `answer`, of the answer in the XOR scheme to a
+//! bitmap with about half of its bits set. Further words aren't used: an answer has one worker.
+//!
+//! With no words it prints the checksums of both for a few small shapes, without times.
 #![tactic(auto)]
 
 ghost use Rattle.std.specs.Prelude.{◌≡◌, ◌*◌, ◌≤◌, length};
+ghost use Rattle.chor_xor.specs.Bitmap.{size_of};
 
-use anyhow::{Context, Result};
+use anyhow::{Context, Result, bail};
 use block_matrix::Matrix;
+use chor_xor::answer_into;
 use server_product::{OpenGate, product_into};
 use std::alloc::Global;
 use std::env;
@@ -44,8 +51,34 @@ fn checksum(bytes: &[u8]) -> u64 {
     hash
 }
 
+/// Prints what was measured: the word, the shape, the number of workers, the best time if there is one, and the checksum of
+/// the result.
+fn print_line<R: Print>(
+    rt: &R,
+    word: &str,
+    matrix: &Matrix,
+    workers: u8,
+    best: Option<u128>,
+    out: &[u8],
+) -> Result<()> {
+    let (rows, width, sum) = (matrix.rows(), matrix.width(), checksum(out));
+    match best {
+        Some(best) => println!(rt; "{word} {rows} {width} {workers} {best} {sum:016x}")?,
+        None => println!(rt; "{word} {rows} {width} {workers} {sum:016x}")?,
+    }
+    Ok(())
+}
+
+/// Makes a matrix of that shape, and takes the state on.
+fn matrix_of(alloc: Global, state: &mut u64, rows: u32, width: u32) -> Result<Matrix> {
+    let width = width.clamp(1, 1 << 16);
+    let mut bytes = vec![in alloc; 0; rows as usize * width as usize]?;
+    fill(state, &mut bytes);
+    Ok(Matrix::from_bytes(alloc, bytes, width)?)
+}
+
 /// The best time of so many products, in nanoseconds. The last one stays in `out`.
-fn best_time<R: Clock + Threads + Sync>(
+fn best_product<R: Clock + Threads + Sync>(
     rt: &R,
     matrix: &Matrix,
     query: &[u8],
@@ -69,9 +102,29 @@ fn best_time<R: Clock + Threads + Sync>(
     Ok(best)
 }
 
+/// The best time of so many answers, in nanoseconds. The last one stays in `out`.
+fn best_answer<R: Clock>(
+    rt: &R,
+    matrix: &Matrix,
+    bitmap: &[u8],
+    calls: u64,
+    out: &mut [u8],
+) -> Result<u128>
+    requires bitmap { length bitmap.now ≡ size_of (length matrix.now.rows) }
+    requires room { length out.old ≡ matrix.now.width }
+{
+    let mut best = u128::MAX;
+    for _ in 0..calls {
+        let start = Instant::now(rt)?;
+        answer_into(matrix, bitmap, out);
+        best = best.min(start.elapsed(rt)?.as_nanos());
+    }
+    Ok(best)
+}
+
 /// Makes the matrix and the query, and prints a line for each number of workers, with the best time of so many calls if
 /// that is more than one.
-fn measure<R: Clock + Print + Threads + Sync>(
+fn measure_product<R: Clock + Print + Threads + Sync>(
     rt: &R,
     alloc: Global,
     rows: u32,
@@ -79,42 +132,63 @@ fn measure<R: Clock + Print + Threads + Sync>(
     calls: u64,
     workers: &[u8],
 ) -> Result<()> {
-    let width = width.clamp(1, 1 << 16);
     let mut state = SEED;
-    let mut bytes = vec![in alloc; 0; rows as usize * width as usize]?;
-    fill(&mut state, &mut bytes);
-    let matrix = Matrix::from_bytes(alloc, bytes, width)?;
+    let matrix = matrix_of(alloc, &mut state, rows, width)?;
     let mut query = vec![in alloc; 0; matrix.rows() as usize]?;
     fill(&mut state, &mut query);
     let mut out = vec![in alloc; 0; matrix.width() as usize]?;
     for &workers in workers {
         let workers = workers.clamp(1, 16);
         let mut scratch = vec![in alloc; 0; workers as usize * matrix.width() as usize]?;
-        let best = best_time(rt, &matrix, &query, workers, calls, &mut scratch, &mut out)?;
-        let sum = checksum(&out);
-        if calls > 1 {
-            println!(rt; "{rows} {width} {workers} {best} {sum:016x}")?;
-        } else {
-            println!(rt; "{rows} {width} {workers} {sum:016x}")?;
-        }
+        let best = best_product(rt, &matrix, &query, workers, calls, &mut scratch, &mut out)?;
+        let best = (calls > 1).then_some(best);
+        print_line(rt, "product", &matrix, workers, best, &out)?;
     }
     Ok(())
+}
+
+/// Makes the matrix and the bitmap, and prints a line, with the best time of so many calls if that is more than one.
+fn measure_answer<R: Clock + Print>(
+    rt: &R,
+    alloc: Global,
+    rows: u32,
+    width: u32,
+    calls: u64,
+) -> Result<()> {
+    let mut state = SEED;
+    let matrix = matrix_of(alloc, &mut state, rows, width)?;
+    let mut bitmap = vec![in alloc; 0; matrix.rows().div_ceil(8) as usize]?;
+    fill(&mut state, &mut bitmap);
+    let mut out = vec![in alloc; 0; matrix.width() as usize]?;
+    let best = best_answer(rt, &matrix, &bitmap, calls, &mut out)?;
+    let best = (calls > 1).then_some(best);
+    print_line(rt, "answer", &matrix, 1, best, &out)
 }
 
 fn main(rt: HostRuntime) -> Result<()> {
     let mut words = env::args(&rt)?.skip(1);
     let Some(word) = words.next() else {
         for (rows, width) in [(1, 1), (7, 5), (64, 16), (300, 33), (1000, 256)] {
-            measure(&rt, rt.alloc(), rows, width, 1, &[1, 2, 4])?;
+            measure_product(&rt, rt.alloc(), rows, width, 1, &[1, 2, 4])?;
+            measure_answer(&rt, rt.alloc(), rows, width, 1)?;
         }
         return Ok(());
     };
-    let rows = word.as_str().parse::<u32>()?;
+    let rows = words.next().context("rows")?.as_str().parse::<u32>()?;
     let width = words.next().context("width")?.as_str().parse::<u32>()?;
-    let calls = words.next().context("calls")?.as_str().parse::<u64>()?;
+    let calls = words
+        .next()
+        .context("calls")?
+        .as_str()
+        .parse::<u64>()?
+        .max(2);
     let mut workers = Vec::new(rt.alloc());
     for word in words {
         workers.push(word.as_str().parse::<u8>()?)?;
     }
-    measure(&rt, rt.alloc(), rows, width, calls.max(2), &workers)
+    match word.as_str() {
+        "product" => measure_product(&rt, rt.alloc(), rows, width, calls, &workers),
+        "answer" => measure_answer(&rt, rt.alloc(), rows, width, calls),
+        _ => bail!("neither product nor answer"),
+    }
 }
