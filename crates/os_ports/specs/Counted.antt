@@ -6,9 +6,10 @@ use Rattle.pir_ports.specs.World.{Crowd, World}
 abbrev pub untold_crowd : Crowd
 untold_crowd = record { guests = None; since = None; gone = None }
 
--- no name and no byte is told
+-- no name, no byte and no start is told
 abbrev pub counts_alone : List ℕ → World
 counts_alone counts = record {
   at = λ p. record { opened = None; holds = None; accepted = None; faults = slice_index counts p };
   crowd = untold_crowd;
+  started = None;
 }

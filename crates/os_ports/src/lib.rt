@@ -1,13 +1,14 @@
-//! The outside itself, the trusted edge: files, standard streams, TCP streams and a listener as the
-//! ports of `pir_ports`.
+//! The outside itself, the trusted edge: files, standard streams, TCP streams, a listener and child
+//! programs as the ports of `pir_ports`.
 //!
 //! Promised is that a call that fails raises the count of its own port, that one that succeeds
 //! raises none, and that no count but that of the port named is touched.
 //!
-//! Not promised is anything about bytes: [`OsPorts`] tells its counts alone. What files, servers and
-//! guests hold and take is the system's.
+//! Not promised is anything about bytes: [`OsPorts`] tells its counts alone. What files, servers,
+//! guests and children hold, take and do is the system's.
 #![tactic(auto)]
 
+mod children;
 mod counts;
 mod ports;
 mod streams;

@@ -7,10 +7,11 @@ use pir_ports::{Failed, Port, Ports};
 use std::alloc::AllocError;
 use std::io::{Input, Print};
 use std::net::Net;
-use std::rt::Files;
+use std::process::Processes;
+use std::rt::{Env, Files};
 
-/// Files, standard streams, TCP streams and a listener as ports. Each failed call is counted, also one for want
-/// of memory.
+/// Files, standard streams, TCP streams, a listener and child programs as ports. Each failed call is counted, also one
+/// for want of memory.
 ///
 /// - `Input` is opened as standard input by the name `-`, and else as the file of that name.
 /// - `Output` is standard output.
@@ -22,6 +23,9 @@ use std::rt::Files;
 ///   and each write on the stream may take ten seconds, and fails then.
 /// - `Link(i)` is opened as a TCP stream to the address, a text `host:port`. To open it, and each read
 ///   and each write on it, may take ten seconds, and fails then.
+/// - `Child(i)` is this same program, which `start_child` starts with its words. It succeeds once the child's
+///   standard output begins with the line `ready`, for which it waits. A child that says something else, or ends
+///   before, is killed.
 ///
 /// A port that isn't open, or is opened or used in another way, fails. A second `open` that succeeds
 /// closes what the port had open.
@@ -31,12 +35,12 @@ use std::rt::Files;
 /// ports.open(Port::Link(1), "localhost:7001")?;
 /// ```
 #[derive(Drop)]
-pub struct OsPorts<R: Files + Input + Print + Net + AllocGlobal + Drop> {
+pub struct OsPorts<R: Files + Input + Print + Net + Processes + Env + AllocGlobal + Drop> {
     streams: Streams<R>,
     counts: Counts,
 }
 
-impl<R: Files + Input + Print + Net + AllocGlobal + Drop> OsPorts<R> {
+impl<R: Files + Input + Print + Net + Processes + Env + AllocGlobal + Drop> OsPorts<R> {
     /// Ports over this runtime, none but `Output` open.
     ///
     /// # Errors
@@ -51,9 +55,20 @@ impl<R: Files + Input + Print + Net + AllocGlobal + Drop> OsPorts<R> {
             counts,
         })
     }
+
+    /// Ends all children, and returns once none is left. It is the last call: it closes the links too.
+    ///
+    /// A child is taken to be a server of one guest, whose address is the last of its words. It ends once
+    /// it has met its guest: this program, where it opened a link to that address. To each other child it
+    /// connects here once. A child to which it can't connect is killed.
+    pub fn end_children(&mut self)
+        ensures { self.new.counts ≡ self.old.counts }
+    {
+        self.streams.end_children();
+    }
 }
 
-impl<R: Files + Input + Print + Net + AllocGlobal + Drop> Ports for OsPorts<R> {
+impl<R: Files + Input + Print + Net + Processes + Env + AllocGlobal + Drop> Ports for OsPorts<R> {
     ghost use Rattle.os_ports.specs.Counted.{counts_alone};
 
     ghost world = { λ s. counts_alone s.counts };
@@ -83,6 +98,13 @@ impl<R: Files + Input + Print + Net + AllocGlobal + Drop> Ports for OsPorts<R> {
         match self.streams.meet() {
             Ok(()) => Ok(()),
             Err(_) => Err(self.counts.raise(Port::Door)),
+        }
+    }
+
+    fn start_child(&mut self, i: u8, words: &[String]) -> Result<(), Failed> {
+        match self.streams.start(words) {
+            Ok(()) => Ok(()),
+            Err(_) => Err(self.counts.raise(Port::Child(i))),
         }
     }
 }

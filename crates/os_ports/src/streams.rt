@@ -1,10 +1,12 @@
 // What the ports stand for.
 ghost use Rattle.std.specs.Prelude.{◌≤◌, length, IfOk};
 
+use crate::children::Children;
 use pir_ports::Port;
 use std::io::{ErrorKind, Input, Print, Read, Write};
 use std::net::{Net, OpenListener, OpenStream, TcpListener, TcpStream, ToSocketAddrs};
-use std::rt::Files;
+use std::process::Processes;
+use std::rt::{Env, Files};
 use std::time::Duration;
 use std::{fs, io};
 
@@ -27,9 +29,9 @@ struct Link<R: Net> {
     stream: R::Stream,
 }
 
-/// The open files and streams.
+/// The open files and streams, and the children.
 #[derive(Drop)]
-pub struct Streams<R: Files + Input + Print + Net + AllocGlobal + Drop> {
+pub struct Streams<R: Files + Input + Print + Net + Processes + Env + AllocGlobal + Drop> {
     rt: R,
     input: Source<R>,
     database: Option<R::File>,
@@ -38,10 +40,24 @@ pub struct Streams<R: Files + Input + Print + Net + AllocGlobal + Drop> {
     door: Option<R::Listener>,
     guest: Option<R::Stream>,
     links: Vec<Link<R>>,
+    children: Children<R>,
 }
 
 fn closed() -> io::Error {
     io::Error::from(ErrorKind::NotConnected)
+}
+
+/// Connects to the address, at the first of its places that answers.
+pub fn reach<R: Net>(rt: &R, address: &str) -> io::Result<R::Stream> {
+    let timeout = Duration::from_secs(STREAM_SECONDS);
+    let mut fault = io::Error::from(ErrorKind::NotFound);
+    for place in address.to_socket_addrs(rt)? {
+        match TcpStream::connect_timeout(rt, &place, timeout) {
+            Ok(stream) => return Ok(stream),
+            Err(error) => fault = error,
+        }
+    }
+    Err(fault)
 }
 
 // Lets each read and each write on the stream wait no longer than it may.
@@ -71,7 +87,7 @@ fn write_to<S: Write>(sink: Option<&mut S>, piece: &[u8]) -> io::Result<usize>
     }
 }
 
-impl<R: Files + Input + Print + Net + AllocGlobal + Drop> Streams<R> {
+impl<R: Files + Input + Print + Net + Processes + Env + AllocGlobal + Drop> Streams<R> {
     /// Nothing but standard output is open.
     pub fn new(rt: R) -> Self {
         let alloc = rt.alloc();
@@ -84,6 +100,7 @@ impl<R: Files + Input + Print + Net + AllocGlobal + Drop> Streams<R> {
             door: None,
             guest: None,
             links: Vec::new(alloc),
+            children: Children::new(alloc),
         }
     }
 
@@ -92,7 +109,7 @@ impl<R: Files + Input + Print + Net + AllocGlobal + Drop> Streams<R> {
         match p {
             Port::Input if name == "-" => self.input = Source::Standard(self.rt.reader()),
             Port::Input => self.input = Source::File(fs::open(&self.rt, name)?),
-            Port::Output | Port::Guest => return Err(closed()),
+            Port::Output | Port::Guest | Port::Child(_) => return Err(closed()),
             Port::Database => self.database = Some(fs::open(&self.rt, name)?),
             Port::Coins => self.coins = Some(fs::open(&self.rt, name)?),
             Port::Record => self.record = Some(fs::create(&self.rt, name)?),
@@ -102,27 +119,16 @@ impl<R: Files + Input + Print + Net + AllocGlobal + Drop> Streams<R> {
         Ok(())
     }
 
-    // Connects to the server, at the first of its addresses that answers.
+    // Opens the link to the server.
     fn connect(&mut self, server: u8, address: &str) -> io::Result<()> {
-        let stream = self.reach(address)?;
+        let stream = reach(&self.rt, address)?;
+        self.children.note_link(address);
         limit_waits(&stream)?;
         match self.link(server) {
             Some(link) => *link = stream,
             None => self.links.push(Link { server, stream })?,
         }
         Ok(())
-    }
-
-    fn reach(&self, address: &str) -> io::Result<R::Stream> {
-        let timeout = Duration::from_secs(STREAM_SECONDS);
-        let mut fault = io::Error::from(ErrorKind::NotFound);
-        for place in address.to_socket_addrs(&self.rt)? {
-            match TcpStream::connect_timeout(&self.rt, &place, timeout) {
-                Ok(stream) => return Ok(stream),
-                Err(error) => fault = error,
-            }
-        }
-        Err(fault)
     }
 
     /// Closes the stream to the guest before, waits for the next guest, and opens the stream to it.
@@ -137,6 +143,17 @@ impl<R: Files + Input + Print + Net + AllocGlobal + Drop> Streams<R> {
             }
             None => Err(closed()),
         }
+    }
+
+    /// Starts a child with these words, and waits until it says that it is ready.
+    pub fn start(&mut self, words: &[String]) -> io::Result<()> {
+        self.children.start(&self.rt, words)
+    }
+
+    /// Closes all links, and ends all children.
+    pub fn end_children(&mut self) {
+        self.links.clear();
+        self.children.end(&self.rt);
     }
 
     // The stream to the server.
@@ -171,7 +188,7 @@ impl<R: Files + Input + Print + Net + AllocGlobal + Drop> Streams<R> {
             Port::Coins => read_from(self.coins.as_mut(), into),
             Port::Guest => read_from(self.guest.as_mut(), into),
             Port::Link(i) => read_from(self.link(i), into),
-            Port::Output | Port::Record | Port::Door => Err(closed()),
+            Port::Output | Port::Record | Port::Door | Port::Child(_) => Err(closed()),
         }
     }
 
@@ -196,7 +213,9 @@ impl<R: Files + Input + Print + Net + AllocGlobal + Drop> Streams<R> {
             Port::Record => write_to(self.record.as_mut(), piece),
             Port::Guest => write_to(self.guest.as_mut(), piece),
             Port::Link(i) => write_to(self.link(i), piece),
-            Port::Input | Port::Database | Port::Coins | Port::Door => Err(closed()),
+            Port::Input | Port::Database | Port::Coins | Port::Door | Port::Child(_) => {
+                Err(closed())
+            }
         }
     }
 }

@@ -4,7 +4,7 @@ use Rattle.std.specs.Prelude.{Bool, true, false, cond, eqb}
 use Rattle.std.proofs.lemmas.Bool.Decides.{nat_tests}
 use Rattle.pir_ports.specs.World.{Crowd}
 use Rattle.pir_ports.specs.MemoryCell.{MemoryCell, empty_cell}
-use Rattle.pir_ports.specs.NameLog.{names_of}
+use Rattle.pir_ports.specs.NameLog.{NameLog, names_of, with_name}
 use Rattle.pir_ports.specs.Memory.{told, world_from}
 use Rattle.pir_ports.specs.Moves.{Touches, named}
 
@@ -26,14 +26,15 @@ names_of-push_other : (p q : ℕ) (names : List (ℕ × List ℕ)) (name : List 
 names_of-push_other p q [] name ne = grind (arith, nat_tests)
 names_of-push_other p q (n ∷ names) name ne = λ i. cond (eqb n.0 q) (n.1 ∷ names_of-push_other p q names name ne i) (names_of-push_other p q names name ne i)
 
-module _ (cells : List MemoryCell) (names : List (ℕ × List ℕ)) (crowd : Crowd) (p : ℕ) (name : List ℕ) where
+module _ (cells : List MemoryCell) (log : NameLog) (crowd : Crowd) (p : ℕ) (name : List ℕ) where
   -- an opening is told of its port
-  pub told_name : (world_from cells (names ++ (p, name) ∷ []) crowd).at p ≡ named name ((world_from cells names crowd).at p)
-  told_name = ap (λ (ns : List (List ℕ)). told ns (get_or cells p empty_cell)) (names_of-push_same p names name)
+  pub told_name : (world_from cells (with_name p name log) crowd).at p ≡ named name ((world_from cells log crowd).at p)
+  told_name = ap (λ (ns : List (List ℕ)). told ns (get_or cells p empty_cell)) (names_of-push_same p log.names name)
 
   -- an opening touches its own port alone
-  pub touches_name : Touches p (world_from cells names crowd) (world_from cells (names ++ (p, name) ∷ []) crowd)
+  pub touches_name : Touches p (world_from cells log crowd) (world_from cells (with_name p name log) crowd)
   touches_name = record {
-    others = λ q lq ne. ap (λ (ns : List (List ℕ)). told ns (get_or cells q empty_cell)) (names_of-push_other p q names name ne);
+    others = λ q lq ne. ap (λ (ns : List (List ℕ)). told ns (get_or cells q empty_cell)) (names_of-push_other p q log.names name ne);
     crowd = refl;
+    started = refl;
   }

@@ -70,6 +70,7 @@ meets_next m some ports =
       opened = refl;
       faults = ap (λ (c : MemoryCell). c.faults) here;
       others = λ q l ne. ap (told (names_of q m.log.names)) (get_or-set_other m.cells 6 q guest empty_cell ne);
+      started = refl;
     }
 
 -- a guest that came in and left was given what lies one place behind its own

@@ -7,7 +7,7 @@ use Rattle.pir_ports.specs.Each.{Each, TouchesRange}
 
 -- before the first port nothing is touched
 pub range_none : (base : ℕ) (w : World) → TouchesRange base 0 w w
-range_none base w = record { others = λ q l out. refl; crowd = refl }
+range_none base w = record { others = λ q l out. refl; crowd = refl; started = refl }
 
 -- one port more
 pub range_more : (base n : ℕ) (w v u : World) → TouchesRange base n w v → Touches (base + n) v u
@@ -15,6 +15,7 @@ pub range_more : (base n : ℕ) (w v u : World) → TouchesRange base n w v → 
 range_more base n w v u a b = record {
   others = λ q l out. b.others q l (λ e. out (omega (arith, e)) (omega (arith, e))) ∙ a.others q l (λ lo hi. out lo (omega arith));
   crowd = b.crowd ∙ a.crowd;
+  started = b.started ∙ a.started;
 }
 
 -- before the first port there is nothing to say

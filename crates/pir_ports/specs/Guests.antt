@@ -4,7 +4,7 @@ use Rattle.std.specs.Option.{option_map}
 use Rattle.pir_ports.specs.World.{World, answered}
 
 -- the first of the guests still to come is in: Guest hands out what it has, was given nothing, and its count
--- goes on. The one before has left, and what it was given is kept
+-- goes on. The one before has left, and what it was given is kept. No child is started
 pub record Meets (old new : World) : Type 0 where
   pub first : IfSome old.crowd.guests (λ gs. (0 < length gs) × ((new.at 6).holds ≡ Some (get_or gs 0 [])))
   pub guests : new.crowd.guests ≡ option_map (drop 1) old.crowd.guests
@@ -14,3 +14,4 @@ pub record Meets (old new : World) : Type 0 where
   pub opened : (new.at 6).opened ≡ (old.at 6).opened
   pub faults : (new.at 6).faults ≡ (old.at 6).faults
   pub others : (q : ℕ) → q < 1024 → q ≢ 6 → new.at q ≡ old.at q
+  pub started : new.started ≡ old.started

@@ -1,14 +1,14 @@
 -- Ports in memory.
-use Rattle.std.specs.Prelude.{ℕ, ◌+◌, ◌-◌, ◌^◌, min, Contains, List, [], ◌∷◌, get_or, set, replicate, map, drop, Some, ◌++◌}
-use Rattle.std.specs.Option.{option_map}
+use Rattle.std.specs.Prelude.{ℕ, ◌+◌, ◌-◌, ◌^◌, min, Contains, List, [], ◌∷◌, get_or, set, replicate, map, drop, Option, Some, ◌++◌, slice_get}
+use Rattle.std.specs.Option.{option_map, option_and_then}
 use Rattle.pir_ports.specs.declared.port.TheConstants.{PORT_COUNT}
 use Rattle.pir_ports.specs.World.{Cell, Crowd, World, everyone}
 use Rattle.pir_ports.specs.MemoryCell.{MemoryCell, empty_cell, came_in}
-use Rattle.pir_ports.specs.NameLog.{NameLog, no_names, names_of, with_name}
+use Rattle.pir_ports.specs.NameLog.{NameLog, no_names, names_of, with_name, with_start}
 
 -- the most bytes that a call moves, the numbers of the calls that fail, the count of calls so far,
 -- the ports by their numbers, the guests still to come, what those that left were given, the count of Guest as
--- each so far came in, and the names that the ports were opened with
+-- each so far came in, and the names that the ports were opened with, beside the words that children were started with
 pub record Memory : Type 0 where
   pub cut : ℕ
   pub fail : List ℕ
@@ -32,11 +32,12 @@ told names c = record {
   faults = c.faults;
 }
 
--- what is told of ports that are these cells and were opened with these names, beside these guests
-abbrev pub world_from : List MemoryCell → List (ℕ × List ℕ) → Crowd → World
-world_from cells names crowd = record {
-  at = λ p. told (names_of p names) (get_or cells p empty_cell);
+-- what is told of ports that are these cells, beside these guests and this log of names and starts
+abbrev pub world_from : List MemoryCell → NameLog → Crowd → World
+world_from cells log crowd = record {
+  at = λ p. told (names_of p log.names) (get_or cells p empty_cell);
   crowd = crowd;
+  started = Some log.starts;
 }
 
 -- what is still to come from a port
@@ -49,7 +50,7 @@ crowd_of m = record { guests = Some (map held_by m.waiting); since = Some m.sinc
 
 -- what ports in memory tell
 abbrev pub world_of : Memory → World
-world_of m = world_from m.cells m.log.names (crowd_of m)
+world_of m = world_from m.cells m.log (crowd_of m)
 
 -- what is told of the port after bytes were put behind those still to come
 abbrev pub filled : List ℕ → Cell → Cell
@@ -59,7 +60,7 @@ filled bytes c = record c { holds = option_map (λ h. h ++ bytes) c.holds }
 abbrev pub joined_by : List ℕ → Crowd → Crowd
 joined_by bytes c = record c { guests = option_map (λ gs. gs ++ bytes ∷ []) c.guests }
 
--- ports that hold nothing and have no room, with no guests, before any call, with room for so many names with so
+-- ports that hold nothing and have no room, with no guests, before any call, with room for so many words with so
 -- many bytes in all
 abbrev pub fresh : ℕ → List ℕ → ℕ → ℕ → Memory
 fresh cut fail names bytes = record {
@@ -80,6 +81,14 @@ changed p f m = record m { cells = set m.cells p (f (cell_at m p)) }
 -- the memory with one name more
 abbrev pub opened : ℕ → List ℕ → Memory → Memory
 opened p name m = record m { log = with_name p name m.log }
+
+-- the memory with one child more that was started
+abbrev pub begun : List (List ℕ) → Memory → Memory
+begun words m = record m { log = with_start words m.log }
+
+-- word j of list i
+abbrev pub word_at : List (List (List ℕ)) → ℕ → ℕ → Option (List ℕ)
+word_at starts i j = option_and_then (λ words. slice_get words j) (slice_get starts i)
 
 -- the memory with one guest more to come, who has these bytes and room for n
 abbrev pub invited : List ℕ → ℕ → Memory → Memory

@@ -1,13 +1,14 @@
 // Ports in memory.
-ghost use Rattle.std.specs.Prelude.{◌≡◌, ◌≢◌, ◌<◌, ◌≤◌, ◌-◌, ◌^◌, ◌↔◌, ℕ, [], Some, length, take, slice_get, Contains, IfOk, IfSome, OnOk, OnErr, IsErr, IsTrue, ◌⊎◌};
+ghost use Rattle.std.specs.Prelude.{◌≡◌, ◌≢◌, ◌<◌, ◌≤◌, ◌+◌, ◌-◌, ◌^◌, ◌↔◌, ℕ, [], Some, length, map, string_bytes, take, slice_get, Contains, IfOk, IfSome, OnOk, OnErr, IsErr, IsTrue, ◌⊎◌};
 ghost use Rattle.std.specs.Option.{option_copied};
 ghost use Rattle.pir_ports.specs.World.{answered};
 ghost use Rattle.pir_ports.specs.Number.{number};
 ghost use Rattle.pir_ports.specs.Moves.{Touches, Hands, Fails, gave, named};
 ghost use Rattle.pir_ports.specs.Guests.{Meets};
+ghost use Rattle.pir_ports.specs.Children.{Starts};
 ghost use Rattle.pir_ports.specs.MemoryCell.{empty_cell, put, with_room, hand, accept, fault, moved};
-ghost use Rattle.pir_ports.specs.NameLog.{CanKeep};
-ghost use Rattle.pir_ports.specs.Memory.{Memory, world_of, cell_at, told, filled, joined_by, fresh, changed, opened, invited, met, next_call, called, IsDue};
+ghost use Rattle.pir_ports.specs.NameLog.{CanKeep, CanKeepStart};
+ghost use Rattle.pir_ports.specs.Memory.{Memory, world_of, cell_at, told, filled, joined_by, fresh, changed, opened, begun, word_at, invited, met, next_call, called, IsDue};
 
 use crate::cell::MemCell;
 use crate::names::Names;
@@ -18,13 +19,13 @@ use std::marker::Model;
 /// Ports in memory, which tell everything and fail only where they are asked to.
 ///
 /// A call of [`Ports`] moves as many bytes as it can, but at most `cut`. It fails exactly if its
-/// number stands in `fail`, if it is an `open` whose name there is no room to keep, if it is a
-/// `give` on a port with no room left, or if it is a `next_guest` and no guest is left. Before the
+/// number stands in `fail`, if it is an `open` or a `start_child` whose words there is no room to
+/// keep, if it is a `give` on a port with no room left, or if it is a `next_guest` and no guest is left. Before the
 /// first guest `Guest` holds nothing and has no room. Numbers count the calls over all ports from 1, and stop at
 /// `2^64 - 1`. No call of [`Ports`] takes memory.
 ///
 /// ```
-/// // Takes of 3 bytes at most; the second call fails; room for one name of 8 bytes.
+/// // Takes of 3 bytes at most; the second call fails; room for one word of 8 bytes.
 /// let mut ports = MemPorts::new(alloc, 3, &[2], 1, 8)?;
 /// ports.put(alloc, Port::Input, b"abcd")?;
 /// assert_eq!(ports.open(Port::Input, "letters"), Ok(()));
@@ -67,8 +68,9 @@ fn is_due(calls: &mut u64, fail: &[u64]) -> bool
 }
 
 impl MemPorts {
-    /// Ports that hold nothing and have no room, with no guests, and with room for `names` names of `open` that have
-    /// `bytes` bytes in all. `cut` and `fail` stand above.
+    /// Ports that hold nothing and have no room, with no guests, and with room for `names` words of `open` and
+    /// `start_child` that have `bytes` bytes in all. An `open` has one word, its name, and a `start_child`
+    /// counts one word more than it has. `cut` and `fail` stand above.
     ///
     /// # Errors
     ///
@@ -104,13 +106,13 @@ impl MemPorts {
     }
 
     /// Puts bytes behind those that the port has still to hand out. They lie in memory of the
-    /// allocator that `new` was given. Guests bring their bytes: see `guest`.
+    /// allocator that `new` was given. Bytes that are put to `Guest` are lost once the next guest comes in;
+    /// guests bring their own: see `guest`.
     ///
     /// # Errors
     ///
     /// `AllocError` if memory is short; nothing is changed then.
     pub fn put(&mut self, _alloc: Global, p: Port, bytes: &[u8]) -> Result<(), AllocError>
-        requires guests { number p ≢ 6 }
         ensures ok { OnOk result (self.new ≡ changed (number p) (put bytes.now) self.old) }
         ensures told { OnOk result ((world_of self.new).at (number p)
             ≡ filled bytes.now ((world_of self.old).at (number p))) }
@@ -148,6 +150,7 @@ impl MemPorts {
         ensures told { OnOk result ((world_of self.new).crowd
             ≡ joined_by bytes.now (world_of self.old).crowd) }
         ensures ports { (p : ℕ) → (world_of self.new).at p ≡ (world_of self.old).at p }
+        ensures started { (world_of self.new).started ≡ (world_of self.old).started }
         ensures err { OnErr result (self.new ≡ self.old) }
     {
         let mut cell = MemCell::new(alloc);
@@ -188,6 +191,15 @@ impl MemPorts {
             (λ names. option_copied result ≡ slice_get names i) }
     {
         self.names.name(p.number(), i)
+    }
+
+    /// Word `j` of the words with which child `i` was started, in the order of the starts that
+    /// succeeded; both count from 0. `None` exactly where there is no such start or word.
+    pub fn started_word(&self, i: usize, j: usize) -> Option<&[u8]>
+        ensures { IfSome (world_of self.now).started
+            (λ starts. option_copied result ≡ word_at starts i j) }
+    {
+        self.names.started(i, j)
     }
 }
 
@@ -282,6 +294,27 @@ impl Ports for MemPorts {
         }
         present.let_in(&mut self.guests[self.met]);
         self.met += 1;
+        Ok(())
+    }
+
+    fn start_child(&mut self, i: u8, words: &[String]) -> Result<(), Failed>
+        ensures ok { OnOk result
+            (Starts (map string_bytes words.now) (world_of self.old) (world_of self.new)) }
+        ensures failed { OnErr result (Fails (512 + i) (world_of self.old) (world_of self.new)) }
+        ensures others { OnErr result (Touches (512 + i) (world_of self.old) (world_of self.new)) }
+
+        // It fails exactly where it is due to fail or there is no room for the words.
+        ensures exactly { IsErr result
+            ↔ (IsDue self.old ⊎ ¬ CanKeepStart (map string_bytes words.now) self.old.log) }
+        ensures kept { OnOk result (CanKeepStart (map string_bytes words.now) self.old.log) }
+        ensures starts { OnOk result (self.new ≡ begun (map string_bytes words.now) (called self.old)) }
+        ensures counts { OnErr result (self.new ≡ changed (512 + i) fault (called self.old)) }
+    {
+        if is_due(&mut self.calls, &self.fail) || !self.names.can_keep_start(words) {
+            let child = &mut self.cells[Port::Child(i).number()];
+            return Err(child.fault());
+        }
+        self.names.push_start(words);
         Ok(())
     }
 }

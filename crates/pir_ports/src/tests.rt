@@ -1,4 +1,5 @@
 use crate::{Failed, Filled, MemPorts, Port, Ports, read_exactly, write_all};
+use std::alloc::{AllocError, Global};
 use std::test::Fail;
 
 #[test]
@@ -84,6 +85,49 @@ fn names_are_kept_in_order(rt: HostRuntime) -> Result<(), Fail> {
     Ok(())
 }
 
+// The words one by one.
+fn words_of(alloc: Global, texts: &[&str]) -> Result<Vec<String>, AllocError> {
+    let mut words = Vec::new(alloc);
+    for text in texts {
+        words.push(String::from_str(alloc, *text)?)?;
+    }
+    Ok(words)
+}
+
+#[test]
+fn words_of_starts_are_kept_in_order(rt: HostRuntime) -> Result<(), Fail> {
+    let alloc = rt.alloc();
+    let mut ports = MemPorts::new(alloc, 1, &[2], 8, 30)?;
+    assert_eq!(rt; ports.open(Port::Link(1), "a"), Ok(()));
+    for (child, texts, started) in [
+        (1, ["failing", "by", "number"].as_slice(), Err(Failed)),
+        (2, ["serve", "--listen", "here"].as_slice(), Ok(())),
+        // Room for three words is left, and a start counts one word more than it has.
+        (3, ["one", "two", "three"].as_slice(), Err(Failed)),
+        // Room for twelve bytes is left.
+        (4, ["thirteen byte"].as_slice(), Err(Failed)),
+        (255, ["five", "six"].as_slice(), Ok(())),
+        (5, [].as_slice(), Err(Failed)),
+    ] {
+        let words = words_of(alloc, texts)?;
+        assert_eq!(rt; ports.start_child(child, &words), started, "child {child}");
+    }
+    for (i, j, word) in [
+        (0, 0, Some(b"serve".as_slice())),
+        (0, 1, Some(b"--listen".as_slice())),
+        (0, 2, Some(b"here".as_slice())),
+        (0, 3, None),
+        (1, 0, Some(b"five".as_slice())),
+        (1, 1, Some(b"six".as_slice())),
+        (1, 2, None),
+        (2, 0, None),
+    ] {
+        assert_eq!(rt; ports.started_word(i, j), word, "start {i} word {j}");
+    }
+    assert_eq!(rt; ports.opened_as(Port::Link(1), 0), Some(b"a".as_slice()));
+    Ok(())
+}
+
 // Lets the next guest in, reads the whole of its bytes, and answers it with six.
 fn serve(ports: &mut MemPorts) -> (Result<(), Failed>, Filled, [u8; 4], Result<(), Failed>) {
     let met = ports.next_guest();
@@ -100,6 +144,9 @@ fn guests_come_in_one_after_another(rt: HostRuntime) -> Result<(), Fail> {
     let mut byte = [0; 1];
     assert_eq!(rt; ports.take(Port::Guest, &mut byte), Ok(0));
     assert_eq!(rt; ports.give(Port::Guest, b"a"), Err(Failed));
+    ports.put(alloc, Port::Guest, b"b")?;
+    assert_eq!(rt; ports.take(Port::Guest, &mut byte), Ok(1));
+    assert_eq!(rt; byte, *b"b");
     ports.guest(alloc, b"first", 6)?;
     ports.guest(alloc, b"two", 3)?;
     for (met, filled, text, given) in [
@@ -134,6 +181,8 @@ fn ports_have_their_numbers(rt: HostRuntime) -> Result<(), Fail> {
         (Port::Guest, 6),
         (Port::Link(0), 256),
         (Port::Link(255), 511),
+        (Port::Child(0), 512),
+        (Port::Child(255), 767),
     ] {
         assert_eq!(rt; port.number(), number, "{port:?}");
     }
