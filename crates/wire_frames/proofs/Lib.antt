@@ -12,6 +12,7 @@ pub mod Parsing
 mod QueryLayout
 mod RecordLayout
 mod RecordsReaderLemmas
+pub mod Servers
 mod ShapeFields
 mod Spellings
 mod SessionReaderLemmas

@@ -1,9 +1,10 @@
 -- Fields by their bytes.
-use Rattle.std.proofs.Common.{◌≡◌, ℕ, ◌^◌, ◌<◌, ◌≤◌, List, [], ◌∷◌, ◌++◌, refl, sym, ap, ap₂, ◌∙◌, arith}
+use Rattle.std.proofs.Common.{◌≡◌, ℕ, ◌^◌, ◌<◌, ◌≤◌, List, [], ◌∷◌, ◌++◌, take, drop, refl, sym, subst, ap, ap₂, ◌∙◌, arith}
 use Rattle.std.specs.Int.{bytes_high_first}
 use Rattle.std.proofs.Math.Nat.{mod-eq_of_lt}
 use Rattle.wire_frames.specs.declared.field.Number.{Number}
 use Rattle.wire_frames.specs.Field.{IsField, IsNumber}
+use Rattle.wire_frames.specs.Form.{StopsWithin}
 
 -- a field of one value
 abbrev pub only : ℕ → ℕ → Number
@@ -12,6 +13,13 @@ only width value = record { width = width; least = value; most = value }
 -- a field of at most 8 bytes that has some number, and none that is longer
 pub is_field : (width least most : ℕ) → width ≤ 8 → least ≤ most → most < 256 ^ width → IsField (record { width = width; least = least; most = most })
 is_field width least most narrow some fits = record { narrow = narrow; some = some; fits = fits }
+
+-- a field that is another, and a number of it, or how far it is right
+pub number_as : {f g : Number} {v : ℕ} (at : ℕ) (bytes : List ℕ) → f ≡ g → IsNumber f (take f.width (drop at bytes)) v → IsNumber g (take g.width (drop at bytes)) v
+number_as {f} {g} {v} at bytes same h = subst (λ (m : Number). IsNumber m (take m.width (drop at bytes)) v) same h
+
+pub stop_as : {f g : Number} {at place : ℕ} {bytes : List ℕ} → f ≡ g → StopsWithin (IsNumber f) at f.width bytes place → StopsWithin (IsNumber g) at g.width bytes place
+stop_as {f} {g} {at} {place} {bytes} same h = subst (λ (m : Number). StopsWithin (IsNumber m) at m.width bytes place) same h
 
 -- one byte spells itself
 one_byte : (v : ℕ) → v < 256 → v ∷ [] ≡ bytes_high_first 1 v

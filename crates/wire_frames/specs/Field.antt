@@ -1,7 +1,7 @@
 -- A field of a frame: a number of so many bytes, highest first, in a range.
-use Rattle.std.specs.Prelude.{◌≡◌, ℕ, ◌^◌, ◌/◌, ◌<◌, ◌≤◌, List, min}
+use Rattle.std.specs.Prelude.{◌≡◌, ℕ, ◌^◌, ◌/◌, ◌<◌, ◌≤◌, ◌==◌, if◌then◌else◌, List, min}
 use Rattle.std.specs.Int.{bytes_high_first}
-use Rattle.wire_frames.specs.declared.TheConstants.{MOST_WIDTH, MOST_CELLS}
+use Rattle.wire_frames.specs.declared.TheConstants.{MOST_SERVERS, MOST_WIDTH, MOST_CELLS}
 use Rattle.wire_frames.specs.declared.field.Number.{Number}
 
 -- a range of numbers that has some, and none of more bytes than the field has
@@ -19,3 +19,11 @@ pub record IsNumber (field : Number) (bytes : List ℕ) (value : ℕ) : Type 0 w
 -- the width of so many rows
 abbrev pub width_field : ℕ → Number
 width_field rows = record { width = 4; least = 1; most = min MOST_WIDTH (MOST_CELLS / rows) }
+
+-- the most servers there may be, where there are at least so many: in the XOR scheme no more
+abbrev pub most_servers : ℕ → ℕ → ℕ
+most_servers scheme least = if scheme == 2 then least else MOST_SERVERS
+
+-- such a number of servers
+abbrev pub servers_field : ℕ → ℕ → Number
+servers_field scheme least = record { width = 1; least = least; most = most_servers scheme least }

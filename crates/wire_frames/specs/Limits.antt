@@ -1,5 +1,5 @@
 -- The ranges of the numbers in frames and session files. They are widened here, and nowhere else.
-use Rattle.std.specs.Prelude.{ℕ, ◌*◌, ◌^◌, ◌<◌, ◌≤◌, ◌≡◌}
+use Rattle.std.specs.Prelude.{ℕ, ◌+◌, ◌*◌, ◌^◌, ◌<◌, ◌≤◌, ◌≡◌, ◌⊎◌}
 use Rattle.wire_frames.specs.declared.TheConstants.{MOST_DEGREE, MOST_SERVERS, MOST_ROWS, MOST_WIDTH, MOST_CELLS}
 use Rattle.wire_frames.specs.declared.header.QueryHeader.{QueryHeader}
 use Rattle.wire_frames.specs.declared.session.SessionParams.{SessionParams}
@@ -12,15 +12,18 @@ pub record IsShape (r s : ℕ) : Type 0 where
   pub few_bytes : s ≤ MOST_WIDTH
   pub few_cells : r * s ≤ MOST_CELLS
 
--- the numbers that a session may have: scheme 1 with 1 <= t < h <= n
+-- the numbers that a session may have: scheme 1 or 2, with 1 <= t < h <= n; in scheme 2, the XOR scheme, all servers have to
+-- answer, and all of them but one learn nothing
 pub record IsInRange (p : SessionParams) : Type 0 where
-  pub scheme : p.scheme ≡ 1
+  pub scheme : (p.scheme ≡ 1) ⊎ (p.scheme ≡ 2)
   pub private : 1 ≤ p.t
   pub few_private : p.t ≤ MOST_DEGREE
   pub agreement : p.t < p.h
   pub few_agree : p.h ≤ MOST_SERVERS
   pub servers : p.h ≤ p.n
   pub few_servers : p.n ≤ MOST_SERVERS
+  pub all_agree : p.scheme ≡ 2 → p.h ≡ p.t + 1
+  pub all_answer : p.scheme ≡ 2 → p.n ≡ p.h
   pub session : p.session < 2 ^ 64
   pub shape : IsShape p.r p.s
 

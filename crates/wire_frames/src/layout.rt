@@ -6,10 +6,10 @@
 //! |---|---|---|
 //! | 0..3 | `PIRS` | fixed |
 //! | 4 | version | 1 |
-//! | 5 | scheme | 1 |
+//! | 5 | scheme | 1 or 2 |
 //! | 6 | t | from 1 to `MOST_DEGREE` |
-//! | 7 | h | from t + 1 to `MOST_SERVERS` |
-//! | 8 | n | from h to `MOST_SERVERS` |
+//! | 7 | h | from t + 1 to `MOST_SERVERS`; in scheme 2 t + 1 |
+//! | 8 | n | from h to `MOST_SERVERS`; in scheme 2 h |
 //! | 9..11 | zero | 0 |
 //! | 12..19 | session | any |
 //! | 20..23 | r | from 1 to `MOST_ROWS` |
@@ -21,7 +21,7 @@
 //! | 1 | present | 0 or 1 |
 //! | 2..5 | length | at most 24 + s, and 0 where present is 0 |
 ghost use Rattle.std.specs.Prelude.{◌≡◌, ◌≤◌, ◌<◌, ◌^◌, length};
-ghost use Rattle.wire_frames.specs.Field.{width_field};
+ghost use Rattle.wire_frames.specs.Field.{servers_field, width_field};
 ghost use Rattle.wire_frames.specs.Form.{Reads};
 ghost use Rattle.wire_frames.specs.Layout.{IsHeader, IsRecordHeader};
 
@@ -51,11 +51,14 @@ pub(crate) const VERSION_FIELD: Number = Number {
     most: VERSION as u64,
 };
 
-const SCHEME: Number = Number {
+/// The number of a scheme: 1 for Shamir's sharing, or that of the XOR scheme.
+pub(crate) const SCHEME: Number = Number {
     width: 1,
     least: 1,
-    most: 1,
+    most: XOR,
 };
+
+const XOR: u64 = 2;
 
 const DEGREE: Number = Number {
     width: 1,
@@ -63,7 +66,6 @@ const DEGREE: Number = Number {
     most: MOST_DEGREE as u64,
 };
 
-// From 1, or from the number of servers that have to agree or be there.
 const SERVERS: Number = Number {
     width: 1,
     least: 1,
@@ -122,6 +124,19 @@ pub(crate) fn width_field(rows: u64) -> Number
     Number { most, ..WIDTH }
 }
 
+/// A number of servers from the least on, and in the XOR scheme no more: there all servers have to answer, and all of them
+/// but one learn nothing.
+fn servers_field(scheme: u64, least: u64) -> Number
+    ensures { result ≡ servers_field scheme least }
+{
+    let most = if scheme == XOR { least } else { SERVERS.most };
+    Number {
+        least,
+        most,
+        ..SERVERS
+    }
+}
+
 /// The numbers that the header of a session spells, or the place up to which the bytes begin one.
 pub(crate) fn read_header(bytes: &[u8]) -> Result<SessionParams, usize>
     requires { length bytes.now ≤ HEADER_LEN }
@@ -131,10 +146,8 @@ pub(crate) fn read_header(bytes: &[u8]) -> Result<SessionParams, usize>
     number_at(bytes, 4, VERSION_FIELD)?;
     let scheme = number_at(bytes, 5, SCHEME)?;
     let t = number_at(bytes, 6, DEGREE)?;
-    let least = t + 1;
-    let h = number_at(bytes, 7, Number { least, ..SERVERS })?;
-    let least = h;
-    let n = number_at(bytes, 8, Number { least, ..SERVERS })?;
+    let h = number_at(bytes, 7, servers_field(scheme, t + 1))?;
+    let n = number_at(bytes, 8, servers_field(scheme, h))?;
     number_at(bytes, 9, ZERO)?;
     let session = number_at(bytes, 12, SESSION)?;
     let r = number_at(bytes, 20, ROWS)?;

@@ -16,7 +16,7 @@ ghost use Rattle.wire_frames.specs.Query.{first_place, ReadsField, ReadsQuery};
 
 use crate::field::{Number, number_at};
 use crate::header::{QUERY_MAGIC, QueryHeader};
-use crate::layout::{ROWS, VERSION_FIELD, width_field};
+use crate::layout::{ROWS, SCHEME, VERSION_FIELD, width_field};
 use byteorder::{BigEndian, ByteOrder};
 use thiserror::Error;
 
@@ -70,12 +70,6 @@ const MAGIC: Number = Number {
     width: 4,
     least: QUERY_MAGIC as u64,
     most: QUERY_MAGIC as u64,
-};
-
-const SCHEME: Number = Number {
-    width: 1,
-    least: 1,
-    most: 2,
 };
 
 const INDEX: Number = Number {

@@ -13,9 +13,9 @@ use std::marker::Model;
 pub struct SessionParams {
     /// 1 for Shamir's sharing, 2 for the XOR scheme.
     pub scheme: u8,
-    /// The degree of the queries' polynomials: so many servers together learn nothing.
+    /// How many servers together learn nothing: the degree of the queries' polynomials, and in the XOR scheme all but one.
     pub t: u8,
-    /// How many answers have to agree.
+    /// How many answers have to agree: in the XOR scheme all.
     pub h: u8,
     /// The number of servers.
     pub n: u8,
@@ -128,14 +128,14 @@ impl Session {
         self.params.scheme
     }
 
-    /// The degree of the queries' polynomials: so many servers together learn nothing.
+    /// How many servers together learn nothing: the degree of the queries' polynomials, and in the XOR scheme all but one.
     pub fn t(&self) -> u8
         ensures { result ≡ self.now.params.t }
     {
         self.params.t
     }
 
-    /// How many answers have to agree.
+    /// How many answers have to agree: in the XOR scheme all.
     pub fn h(&self) -> u8
         ensures { result ≡ self.now.params.h }
     {

@@ -44,6 +44,9 @@ fn a_wrong_byte_is_found_at_its_place(rt: HostRuntime) {
         (23, 0x00, 23),
         (33, 0x1b, 33),
         (29, 0x00, 33),
+        (5, 0x00, 5),
+        (5, 0x03, 5),
+        (5, 0x02, 8),
     ] {
         let mut bytes = SESSION;
         bytes[at] = byte;
@@ -52,6 +55,41 @@ fn a_wrong_byte_is_found_at_its_place(rt: HostRuntime) {
                 place(rt.alloc(), &bytes, piece),
                 Some(wrong),
                 "byte {at}, pieces of {piece}"
+            );
+        }
+    }
+}
+
+#[test]
+fn the_numbers_of_a_scheme_are_in_its_ranges(rt: HostRuntime) {
+    // A header that is right is no session yet: it is refused at its length.
+    for (numbers, wrong) in [
+        ([0, 1, 2, 2], 5),
+        ([3, 1, 2, 2], 5),
+        ([1, 1, 2, 2], 28),
+        ([1, 1, 8, 8], 28),
+        ([1, 2, 2, 3], 7),
+        ([1, 1, 2, 9], 8),
+        ([2, 0, 1, 1], 6),
+        ([2, 8, 9, 9], 6),
+        ([2, 1, 2, 2], 28),
+        ([2, 7, 8, 8], 28),
+        ([2, 1, 1, 2], 7),
+        ([2, 1, 3, 3], 7),
+        ([2, 2, 2, 2], 7),
+        ([2, 2, 4, 4], 7),
+        ([2, 1, 2, 1], 8),
+        ([2, 1, 2, 3], 8),
+        ([2, 2, 3, 8], 8),
+    ] {
+        let mut header = [0; 28];
+        header.copy_from_slice(&SESSION[..28]);
+        header[5..9].copy_from_slice(&numbers);
+        for piece in PIECES {
+            assert_eq!(rt;
+                place(rt.alloc(), &header, piece),
+                Some(wrong),
+                "{numbers:?}, pieces of {piece}"
             );
         }
     }

@@ -12,7 +12,7 @@ use Rattle.wire_frames.proofs.Filing.{records_more, records_pieces}
 use Rattle.wire_frames.proofs.write.write_records.Goals as goal
 
 pub loop-i-init : goal.loop-i-init
-loop-i-init g c = record { so_far = sym (gave_none _); others = record { others = λ q lt ne. refl; crowd = refl } }
+loop-i-init g c = record { so_far = sym (gave_none _); others = record { others = λ q lt ne. refl; crowd = refl; started = refl } }
 
 -- what is to be written of a record fits
 fits_below : (most : ℕ) (x : Option (List ℕ)) → Fits most x → most < 4294967296 → IfSome x (λ b. length b < 4294967296)

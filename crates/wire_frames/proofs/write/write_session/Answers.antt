@@ -1,4 +1,4 @@
-use Rattle.std.proofs.Common.{◌≡◌, ◌∙◌, List, ℕ, ap, subst, refl}
+use Rattle.std.proofs.Common.{◌∙◌, List, ℕ, ap, subst, refl}
 use Rattle.std.proofs.lemmas.Result.{err_from_is_err_and}
 use Rattle.pir_ports.specs.Moves.{gave}
 use Rattle.pir_ports.specs.Whole.{FailsWithin}
