@@ -1,11 +1,10 @@
 -- The rows of the workers.
-use Rattle.std.proofs.Common.{◌≡◌, ℕ, ◌+◌, ◌*◌, ◌/◌, ◌%◌, ◌≤◌, ◌<◌, List, length, slice_index, take, drop, ap, ◌∙◌, arith}
-use Rattle.std.proofs.lemmas.List.{get_or-take, get_or-drop}
-use Rattle.std.proofs.lemmas.Nat.{div-add-mod', same_from_place}
+use Rattle.std.proofs.Common.{◌≡◌, ℕ, zero, suc, ◌+◌, ◌*◌, ◌/◌, ◌≤◌, ◌<◌, List, ◌++◌, length, slice_index, take, drop, ap, ◌∙◌, arith}
+use Rattle.std.proofs.lemmas.List.{get_or-take, get_or-drop, get_or_append_left, get_or-append-add}
 use Rattle.std.proofs.Math.Nat.{div-le_of_le-mul, mul-div_cancel, mul-le-mul_right, zero-div, zero-mul}
 use Rattle.gf256.specs.Field.{◌⊕◌}
 use Rattle.server_product.specs.Runs.{run_sum}
-use Rattle.server_product.specs.Parts.{first_row, part}
+use Rattle.server_product.specs.Parts.{first_row, part, HasParts}
 use Rattle.server_product.proofs.RunSums.{run-join}
 
 -- the first worker begins with the first row
@@ -37,17 +36,15 @@ next-part q rows workers worker c =
 pub at-range : (xs : List ℕ) (a n k : ℕ) → k < n → slice_index (take n (drop a xs)) k ≡ slice_index xs (a + k)
 at-range xs a n k lt = get_or-take n (drop a xs) k 0 lt ∙ get_or-drop a xs k 0
 
--- the piece of a place is its worker's
-pub same-chunk : (width start offset worker c : ℕ) → start % width ≡ 0 → start + offset ≡ worker * width + c → offset < width → c < width
-    → (start / width ≡ worker) × (offset ≡ c)
-same-chunk width start offset worker c multiple place lt ltc =
-    let whole : start / width * width + start % width ≡ start = div-add-mod' start width in
-    let e : start / width * width + offset ≡ worker * width + c = omega (arith, whole, multiple, place) in
-    same_from_place (start / width) offset worker c width lt ltc e
-
--- the worker of a piece is one of them
-pub worker-below : (width start workers : ℕ) → 0 < width → start % width ≡ 0 → start + width ≤ workers * width → start / width < workers
-worker-below width start workers pos multiple le =
-    let whole : start / width * width + start % width ≡ start = div-add-mod' start width in
-    let e : start / width * width + width ≤ workers * width = omega (arith, whole, multiple, le) in
-    grind (arith, e)
+-- the parts of a worker and of those after it
+pub joined : (own others q : List ℕ) (rows : List (List ℕ)) (width workers first : ℕ) → length own ≡ width
+    → ((c : ℕ) → slice_index own c ≡ part q rows workers first c) → HasParts others width q rows workers (first + 1)
+    → HasParts (own ++ others) width q rows workers first
+joined own others q rows width workers first size is next zero c lt ltc =
+    let here : 0 * width + c ≡ c = omega arith in
+    let same : first ≡ first + 0 = omega arith in
+    ap (slice_index (own ++ others)) here ∙ get_or_append_left own others 0 c (omega (arith, size, ltc)) ∙ is c ∙ ap (λ w. part q rows workers w c) same
+joined own others q rows width workers first size is next (suc i) c lt ltc =
+    let there : suc i * width + c ≡ length own + (i * width + c) = grind (arith, size) in
+    let same : first + 1 + i ≡ first + suc i = omega arith in
+    ap (slice_index (own ++ others)) there ∙ get_or-append-add own others (i * width + c) 0 ∙ next i c (omega (arith, lt)) ltc ∙ ap (λ w. part q rows workers w c) same

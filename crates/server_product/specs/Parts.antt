@@ -1,5 +1,5 @@
 -- Which rows each worker adds up.
-use Rattle.std.specs.Prelude.{ℕ, ◌+◌, ◌*◌, ◌/◌, List, length}
+use Rattle.std.specs.Prelude.{◌≡◌, ℕ, ◌+◌, ◌*◌, ◌/◌, ◌<◌, List, length, slice_index}
 use Rattle.server_product.specs.Runs.{run_sum}
 
 -- the first row of a worker, which is where the worker before it ends
@@ -10,3 +10,8 @@ first_row rows workers worker = worker * rows / workers
 abbrev pub part : List ℕ → List (List ℕ) → ℕ → ℕ → ℕ → ℕ
 part query rows workers worker c =
     run_sum query rows c (first_row (length rows) workers worker) (first_row (length rows) workers (worker + 1))
+
+-- scratch has, one after the other, what the workers from `first` on add up
+abbrev pub HasParts : List ℕ → ℕ → List ℕ → List (List ℕ) → ℕ → ℕ → Type 0
+HasParts scratch width query rows workers first =
+    (i c : ℕ) → first + i < workers → c < width → slice_index scratch (i * width + c) ≡ part query rows workers (first + i) c

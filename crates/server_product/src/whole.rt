@@ -1,15 +1,15 @@
 //! The product in parts, each on a thread of its own.
 
-ghost use Rattle.std.specs.Prelude.{◌≡◌, ℕ, ◌≤◌, ◌<◌, ◌+◌, ◌-◌, ◌*◌, ◌/◌, ◌%◌, ◌^◌, length, slice_index};
+ghost use Rattle.std.specs.Prelude.{◌≡◌, ℕ, ◌≤◌, ◌<◌, ◌+◌, ◌-◌, ◌*◌, ◌^◌, length, slice_index};
 ghost use Rattle.gf256.specs.Field.{◌⊕◌};
 ghost use Rattle.gf256.specs.Product.{product};
-ghost use Rattle.server_product.specs.Parts.{part};
+ghost use Rattle.std.specs.Thread.{IsSync};
+ghost use Rattle.server_product.specs.Parts.{part, HasParts};
 
 use crate::gate::Gate;
 use crate::runs::{clear, sum_rows};
 use block_matrix::Matrix;
-use std::thread;
-use std::thread::Threads;
+use std::thread::{Threads, join_mut};
 
 /// Makes `out` the product of the query `q`, a byte for each row, and the matrix: a byte for each column. The query `01 02`
 /// and the rows `05 00` and `00 03` have the product `05 06`.
@@ -54,7 +54,7 @@ fn add_part(acc: &mut [u8], sums: &[u8])
     }
 }
 
-/// The sums of each worker, each on a thread of its own.
+/// The sums of each worker.
 fn sum_parts<R: Threads + Sync, G: Gate + Sync>(
     rt: &R,
     matrix: &Matrix,
@@ -63,7 +63,8 @@ fn sum_parts<R: Threads + Sync, G: Gate + Sync>(
     scratch: &mut [u8],
     gate: &G,
 )
-    requires some { (1 ≤ matrix.now.width) × (length matrix.now.rows ≤ 2 ^ 20) }
+    requires rows { length matrix.now.rows ≤ 2 ^ 20 }
+    requires some { 1 ≤ workers }
     requires few { workers ≤ 16 }
     requires query { length q.now ≡ length matrix.now.rows }
     requires scratch { length scratch.old ≡ workers * matrix.now.width }
@@ -71,36 +72,88 @@ fn sum_parts<R: Threads + Sync, G: Gate + Sync>(
         → slice_index scratch.new (worker * matrix.now.width + k)
         ≡ part q.now matrix.now.rows workers worker k }
 {
-    let each = |start: usize, sums: &mut [u8]|
-        requires { (workers ≤ 16) × (start % matrix.now.width ≡ 0)
-            × (start + length sums.old ≤ workers * matrix.now.width)
-            × (length q.now ≡ length matrix.now.rows) × (length sums.old ≡ matrix.now.width)
-            × (1 ≤ matrix.now.width) × (length matrix.now.rows ≤ 2 ^ 20) }
-        ensures { (k : ℕ) → k < matrix.entry.now.width → slice_index sums.new k
-            ≡ part q.entry.now matrix.entry.now.rows workers (start / matrix.entry.now.width) k }
-    { sum_part(matrix, q, workers, start, gate, sums) };
-    thread::for_each_chunk_mut(rt, scratch, matrix.width() as usize, &each);
+    sum_from(rt, matrix, q, workers, 0, gate, scratch);
 }
 
-/// What the worker does whose sums begin at `start` in the scratch.
+/// The sums of the workers from `first` on, each on a thread of its own, but the last on this one. This thread starts all
+/// others, so that none of them has to wait until another is running.
+#[cycle(starts)]
+fn sum_from<R: Threads + Sync, G: Gate + Sync>(
+    rt: &R,
+    matrix: &Matrix,
+    q: &[u8],
+    workers: u32,
+    first: u32,
+    gate: &G,
+    scratch: &mut [u8],
+)
+    requires rows { length matrix.now.rows ≤ 2 ^ 20 }
+    requires few { workers ≤ 16 }
+    requires first { first < workers }
+    requires query { length q.now ≡ length matrix.now.rows }
+    requires scratch { length scratch.old ≡ (workers - first) * matrix.now.width }
+    ensures { HasParts scratch.new matrix.now.width q.now matrix.now.rows workers first }
+{
+    if first + 1 == workers {
+        return sum_part(matrix, q, workers, first, gate, scratch);
+    }
+    let (own, others) = scratch.split_at_mut(matrix.width() as usize);
+    sum_both(rt, matrix, q, workers, first, gate, own, others);
+}
+
+/// The sums of the worker `first` on a new thread, and those of the workers after it.
+#[cycle(starts)]
+fn sum_both<R: Threads + Sync, G: Gate + Sync>(
+    rt: &R,
+    matrix: &Matrix,
+    q: &[u8],
+    workers: u32,
+    first: u32,
+    gate: &G,
+    own: &mut [u8],
+    others: &mut [u8],
+)
+    requires rows { length matrix.now.rows ≤ 2 ^ 20 }
+    requires few { workers ≤ 16 }
+    requires more { first + 1 < workers }
+    requires query { length q.now ≡ length matrix.now.rows }
+    requires own { length own.old ≡ matrix.now.width }
+    requires others { length others.old ≡ (workers - (first + 1)) * matrix.now.width }
+    ensures own { (k : ℕ) → slice_index own.new k ≡ part q.now matrix.now.rows workers first k }
+    ensures others { HasParts others.new matrix.now.width q.now matrix.now.rows workers (first + 1) }
+{
+    let mut front = ||
+        requires { IsSync G.row × (length matrix.now.rows ≤ 2 ^ 20) × (workers ≤ 16) × (first < workers)
+            × (length q.now ≡ length matrix.now.rows) × (length own.now ≡ matrix.now.width) }
+        ensures { (k : ℕ) → slice_index own.exit.now k
+            ≡ part q.entry.now matrix.entry.now.rows workers first k }
+    { sum_part(matrix, q, workers, first, gate, own) };
+    let mut back = ||
+        requires { IsSync R.row × IsSync G.row × (length matrix.now.rows ≤ 2 ^ 20) × (workers ≤ 16)
+            × (first + 1 < workers) × (length q.now ≡ length matrix.now.rows)
+            × (length others.now ≡ (workers - (first + 1)) * matrix.now.width) }
+        ensures { HasParts others.exit.now matrix.entry.now.width q.entry.now matrix.entry.now.rows
+            workers (first + 1) }
+    { sum_from(rt, matrix, q, workers, first + 1, gate, others) };
+    join_mut(rt, &mut front, &mut back);
+}
+
+/// What a worker does.
 fn sum_part<G: Gate>(
     matrix: &Matrix,
     q: &[u8],
     workers: u32,
-    start: usize,
+    worker: u32,
     gate: &G,
     sums: &mut [u8],
 )
-    requires some { (1 ≤ matrix.now.width) × (length matrix.now.rows ≤ 2 ^ 20) }
+    requires rows { length matrix.now.rows ≤ 2 ^ 20 }
     requires few { workers ≤ 16 }
-    requires multiple { start % matrix.now.width ≡ 0 }
-    requires within { start + length sums.old ≤ workers * matrix.now.width }
+    requires within { worker < workers }
     requires query { length q.now ≡ length matrix.now.rows }
     requires room { length sums.old ≡ matrix.now.width }
-    ensures { (k : ℕ) → slice_index sums.new k
-        ≡ part q.now matrix.now.rows workers (start / matrix.now.width) k }
+    ensures { (k : ℕ) → slice_index sums.new k ≡ part q.now matrix.now.rows workers worker k }
 {
-    let worker = (start / matrix.width() as usize) as u32;
     gate.pass(worker as u8);
     let from = worker * matrix.rows() / workers;
     let to = (worker + 1) * matrix.rows() / workers;

@@ -1,4 +1,4 @@
-use Rattle.std.proofs.Common.{◌∙◌, ◌+◌, ◌-◌, ◌*◌, ◌/◌, sym, ap, ap₂, arith, slice_index}
+use Rattle.std.proofs.Common.{◌∙◌, ◌+◌, ◌*◌, sym, ap, ap₂, arith, slice_index}
 use Rattle.gf256.specs.Field.{◌⊕◌, ◌⊗◌}
 use Rattle.gf256.proofs.Xor.{zero_add}
 use Rattle.server_product.specs.Runs.{run_sum, term}
@@ -7,7 +7,7 @@ use Rattle.server_product.proofs.runs.sum_rows.Goals as goal
 
 pub loop-j-init : goal.loop-j-init
 loop-j-init c = λ k.
-    c.add_quarters.ensures k ∙ ap (λ s. s ⊕ run_sum c.args.q.now c.args.matrix.now.rows k c.args.from (c.args.from + 4 * ((c.args.to - c.args.from) / 4))) (c.clear.ensures k)
+    c.add_quarters.ensures k ∙ ap (λ s. s ⊕ run_sum c.args.q.now c.args.matrix.now.rows k c.args.from (c.args.from + 4 * c.quarter_of-quarter.result)) (c.clear.ensures k)
     ∙ zero_add _
 
 pub loop-j-preserved : goal.loop-j-preserved
