@@ -27,20 +27,30 @@ answers_of-push width (first ∷ indices) bytes index payload whole size =
     (ap (answers_of width (indices ++ index ∷ [])) (drop-append-le width bytes payload enough)
     ∙ answers_of-push width indices (drop width bytes) index payload (omega (arith, n, whole)) size)
 
-size_if_some : (x : Option (List ℕ)) (payload : List ℕ) (q : QueryHeader) → option_and_then (λ bytes. usable bytes q) x ≡ Some payload → length payload ≡ q.s
+-- a payload that is usable has a byte for each column
+pub size_if_some : (x : Option (List ℕ)) (payload : List ℕ) (q : QueryHeader) → option_and_then (λ bytes. usable bytes q) x ≡ Some payload → length payload ≡ q.s
 size_if_some None payload q e = absurd (cc)
 size_if_some (Some bytes) payload q e = usable_size bytes payload q e
 
 -- the usable answers from the next server on
-pub rest_of : Transcript → ℕ → List Answer
+unfoldable pub rest_of : Transcript → ℕ → List Answer
 rest_of session next = answers_from next session.params (drop (next - 1) session.records)
 
-rest_of-step : (session : Transcript) (next : ℕ) → 1 ≤ next → next ≤ length session.records → rest_of session next ≡ with_answer next (payload_of session next) (rest_of session (next + 1))
+-- the answer of the next in front of those of the servers behind it
+pub rest_of-step : (session : Transcript) (next : ℕ) → 1 ≤ next → next ≤ length session.records → rest_of session next ≡ with_answer next (payload_of session next) (rest_of session (next + 1))
 unfolding rest_of
 rest_of-step session next low high =
     let one : suc (next - 1) ≡ next + 1 - 1 = omega arith in
     ap (answers_from next session.params) (drop-cons session.records (next - 1) None (omega (arith, low, high)) ∙ ap (λ k. get_or session.records (next - 1) None ∷ drop k session.records) one)
     ∙ answers_from-cons next session.params (get_or session.records (next - 1) None) (drop (next + 1 - 1) session.records)
+
+-- none are left behind the last server
+pub rest_of-none : (session : Transcript) → length session.records ≡ session.params.n → rest_of session (session.params.n + 1) ≡ []
+unfolding rest_of
+rest_of-none session all =
+    let n = session.params.n in
+    let none : drop (n + 1 - 1) session.records ≡ [] = drop_all (n + 1 - 1) session.records (omega (arith, all)) in
+    ap (answers_from (n + 1) session.params) none
 
 -- a number above those of an ascending list
 pub IsStrictlyIncreasing-push : (xs : List ℕ) (y : ℕ) → IsStrictlyIncreasing xs → All (λ x. x < y) xs → IsStrictlyIncreasing (xs ++ y ∷ [])
@@ -116,12 +126,9 @@ collected_present session indices payloads next payload low high present so_far 
 -- when all servers are passed, the usable answers are collected
 pub collected_all : (session : Transcript) (indices payloads : List ℕ) → length session.records ≡ session.params.n
     → HasCollected session indices payloads (session.params.n + 1) → IsCollected session indices payloads
-unfolding rest_of
 collected_all session indices payloads all done =
-    let n = session.params.n in
-    let none : drop (n + 1 - 1) session.records ≡ [] = drop_all (n + 1 - 1) session.records (omega (arith, all)) in
     record {
-      answers_are = sym (append-nil (answers_of session.params.s indices payloads)) ∙ ap (λ rest. answers_of session.params.s indices payloads ++ answers_from (n + 1) session.params rest) (sym none) ∙ done.answers_are;
+      answers_are = sym (append-nil (answers_of session.params.s indices payloads)) ∙ ap (λ rest. answers_of session.params.s indices payloads ++ rest) (sym (rest_of-none session all)) ∙ done.answers_are;
       ascending = done.ascending;
       nonzero = done.nonzero;
       few = let l = done.few in omega (arith, l);

@@ -8,6 +8,7 @@ pub mod Marks
 pub mod Places
 pub mod TextLines
 mod Collected
+mod Combined
 mod Tried
 pub mod Numbered
 pub mod Weight

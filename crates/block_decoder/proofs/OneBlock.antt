@@ -12,10 +12,12 @@ use Rattle.std.proofs.lemmas.List.Elements.{All-take, Contains-get_or}
 use Rattle.std.proofs.lemmas.List.Kept.{AllPairs-from_increasing}
 use Rattle.std.proofs.lemmas.Map.Keys.{Less-from_sorted}
 use Rattle.gf256.specs.Polynomial.{IsPolynomial}
-use Rattle.wire_frames.specs.Answer.{Answer}
+use Rattle.wire_frames.specs.Answer.{Answer, answers}
+use Rattle.wire_frames.specs.Limits.{IsInRange}
+use Rattle.wire_frames.specs.Session.{Transcript}
 use Rattle.block_decoder.specs.Agreed.{answer_at, Holds, constants_of, Agreed, Lists, holds_first}
 use Rattle.block_decoder.specs.Lagrange.{HasColumns, AreChosen}
-use Rattle.block_decoder.specs.Verdict.{IsDecided, ListsAtMostOne}
+use Rattle.block_decoder.specs.Verdict.{IsDecided, IsCombined, IsVerdict, ListsAtMostOne}
 use Rattle.block_decoder.specs.declared.verdict.Verdict.{Verdict}
 use Rattle.block_decoder.specs.declared.verdict.Verdict.TheVariants.{Listed, TooFew, TooWeak}
 use Rattle.block_decoder.proofs.Agreement.{filled-at, heavy_from_agreed, holds_first-Decides}
@@ -100,3 +102,20 @@ close_is_listed answers width t h (TooWeak k degree agree) columns enough close 
     let strong = close_is_strong (length answers) t h enough close in
     absurd (omega (arith, weak, strong))
 close_is_listed answers width t h (Listed blocks) columns enough close is = listed_alone answers width t h blocks columns close is.2
+
+-- where n <= k the verdict of the XOR scheme lists one block
+pub combined_is_listed : (answers : List Answer) (width n h : ℕ) (verdict : Verdict) → n ≤ length answers → IsCombined answers width n h verdict → ListsAtMostOne verdict
+combined_is_listed answers width n h (TooFew k agree) all is = let few = is.2 in absurd (omega (arith, few, all))
+combined_is_listed answers width n h (TooWeak k degree agree) all is = absurd is
+combined_is_listed answers width n h (Listed blocks) all is = let one = ap length is.1 in omega (arith, one)
+
+-- where h <= k and 2 h > k + t the verdict on a session lists one block, or none, in either scheme
+pub close_verdict_is_listed : (session : Transcript) (verdict : Verdict) → IsInRange session.params → HasColumns session.params.s (answers session)
+    → session.params.h ≤ length (answers session) → length (answers session) + session.params.t < 2 * session.params.h
+    → IsVerdict session verdict → ListsAtMostOne verdict
+close_verdict_is_listed session verdict range columns enough close is =
+    let p = session.params in
+    elim range.scheme [
+      | inl shamir ↦ close_is_listed (answers session) p.s p.t p.h verdict columns enough close (is.shamir shamir)
+      | inr xor ↦ let all = range.all_answer xor in combined_is_listed (answers session) p.s p.n p.h verdict (omega (arith, all, enough)) (is.xor xor)
+    ]

@@ -1,7 +1,8 @@
 -- The verdict on the answers of a session.
-use Rattle.std.specs.Prelude.{◌≡◌, ℕ, ◌*◌, ◌<◌, ◌≤◌, List, length}
+use Rattle.std.specs.Prelude.{◌≡◌, ℕ, ◌*◌, ◌<◌, ◌≤◌, List, [], ◌∷◌, length, map}
 use Rattle.wire_frames.specs.Answer.{Answer, answers}
 use Rattle.wire_frames.specs.Session.{Transcript}
+use Rattle.chor_xor.specs.Chosen.{combined}
 use Rattle.block_decoder.specs.Agreed.{Lists}
 use Rattle.block_decoder.specs.declared.verdict.Verdict.{Verdict}
 use Rattle.block_decoder.specs.declared.verdict.Verdict.TheVariants.{Listed, TooFew, TooWeak}
@@ -12,9 +13,16 @@ IsDecided all width t h (TooFew k agree) = (k ≡ length all) × (agree ≡ h) �
 IsDecided all width t h (TooWeak k degree agree) = (k ≡ length all) × (degree ≡ t) × (agree ≡ h) × (h ≤ length all) × (h * h ≤ length all * t)
 IsDecided all width t h (Listed blocks) = (h ≤ length all) × (length all * t < h * h) × Lists blocks all width t h
 
--- the verdict on a session, by its usable answers
-abbrev pub IsVerdict : Transcript → Verdict → Type 0
-IsVerdict session verdict = IsDecided (answers session) session.params.s session.params.t session.params.h verdict
+-- the answers of fewer than n servers; else the sum of all is the one block (Chor, Goldreich, Kushilevitz and Sudan 1995)
+abbrev pub IsCombined : List Answer → ℕ → ℕ → ℕ → Verdict → Type 0
+IsCombined all width n h (TooFew k agree) = (k ≡ length all) × (agree ≡ h) × (length all < n)
+IsCombined all width n h (TooWeak k degree agree) = ⊥
+IsCombined all width n h (Listed blocks) = (n ≤ length all) × (blocks ≡ combined width (map (λ a. a.payload) all) ∷ [])
+
+-- the verdict on a session, by its usable answers: in Shamir's scheme, and in the XOR scheme
+pub record IsVerdict (session : Transcript) (verdict : Verdict) : Type 0 where
+  pub shamir : session.params.scheme ≡ 1 → IsDecided (answers session) session.params.s session.params.t session.params.h verdict
+  pub xor : session.params.scheme ≡ 2 → IsCombined (answers session) session.params.s session.params.n session.params.h verdict
 
 -- the verdict lists one block, or none
 abbrev pub ListsAtMostOne : Verdict → Type 0

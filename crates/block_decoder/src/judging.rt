@@ -1,26 +1,35 @@
 //! The verdict on a session.
 
 ghost use Rattle.std.specs.Prelude.{◌≡◌, ◌+◌, ◌*◌, ◌≤◌, length, IfOk};
-ghost use Rattle.std.specs.Option.{option_copied};
 ghost use Rattle.wire_frames.specs.Answer.{answers};
 ghost use Rattle.block_decoder.specs.Choices.{binomial};
 ghost use Rattle.block_decoder.specs.Verdict.{IsVerdict};
-ghost use Rattle.block_decoder.specs.Usable.{IsCollected, payload_of};
+ghost use Rattle.block_decoder.specs.Usable.{IsCollected};
 
+use crate::combining::combine_all;
 use crate::decoder::decide;
+use crate::usable::usable_payload;
 use crate::verdict::Verdict;
 use std::alloc::{AllocError, Global};
 use std::sync::ledger::Ledger;
 use uni_poly::steps::Steps;
-use wire_frames::{QueryHeader, Session, usable_answer};
+use wire_frames::Session;
 
-/// What the usable answers of a session say of the block that was asked for, as [`decide`] has it for the
-/// session's numbers. All `n` records were pushed; a record that is absent, or no usable answer to the query of
-/// its own server, counts for nothing. `cols` counts as it does there.
+/// The number of the XOR scheme; that of Shamir's sharing is 1.
+const XOR: u8 = 2;
+
+/// What the usable answers of a session say of the block that was asked for. All `n` records were pushed; a record that
+/// is absent, or no usable answer to the query of its own server, counts for nothing.
+///
+/// In Shamir's scheme it is what [`decide`] has for the session's numbers, and `cols` counts as it does there. In the XOR
+/// scheme (Chor, Goldreich, Kushilevitz and Sudan 1995), where all `n` have to answer, the verdict is `TooFew` where one
+/// answer or more is missing, else `Listed` with the XOR of all payloads as its one block: the payloads `4142` and `0206`
+/// give `4344`. No step is taken there, and a wrong answer isn't noticed.
 ///
 /// # Errors
 ///
-/// `AllocError` where there is no memory for a copy of `n` payloads, for the decoder or for a block.
+/// `AllocError` where there is no memory for a copy of `n` payloads, for the decoder or for a block; in the XOR scheme for
+/// the block.
 pub fn judge<C: Ledger>(
     alloc: Global,
     session: &Session,
@@ -28,9 +37,13 @@ pub fn judge<C: Ledger>(
 ) -> Result<Verdict, AllocError>
     requires all { length session.now.records ≡ session.now.params.n }
     ensures verdict { IfOk result (IsVerdict session.now) }
+    ensures xor { session.now.params.scheme ≡ 2 → cols.new ≡ cols.old }
     ensures cols { cols.new ≤ cols.old + session.now.params.s * binomial (length (answers session.now)) (session.now.params.t + 1) }
 {
     let params = session.params();
+    if params.scheme == XOR {
+        return combine_all(alloc, session);
+    }
     let usable = collect_usable(alloc, session)?;
     decide(
         alloc,
@@ -66,22 +79,4 @@ fn collect_usable(alloc: Global, session: &Session) -> Result<UsableAnswers, All
         }
     }
     Ok(UsableAnswers { indices, payloads })
-}
-
-// The payload of the answer of this server, where it is usable.
-fn usable_payload(session: &Session, index: u8) -> Option<&[u8]>
-    requires first { 1 ≤ index }
-    requires last { index ≤ length session.now.records }
-    ensures { option_copied result ≡ payload_of session.now index }
-{
-    let bytes = session.record_at(u32::from(index))?;
-    let params = session.params();
-    let asked = QueryHeader {
-        scheme: params.scheme,
-        index,
-        session: params.session,
-        r: params.r,
-        s: params.s,
-    };
-    usable_answer(bytes, &asked)
 }

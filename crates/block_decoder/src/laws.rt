@@ -45,7 +45,7 @@ pub fn close_agreement_is_listed(
 {}
 
 /// Where `h <= k` and `2h > k + t`, the verdict on a session with k usable answers lists one block, or none, whatever
-/// the servers did.
+/// the servers did, in either scheme. In the XOR scheme, where `t + 1 = h = n`, the second follows from the first.
 pub fn close_session_is_listed(session: &Session, verdict: &Verdict)
     requires enough { session.now.params.h ≤ length (answers session.now) }
     requires close { length (answers session.now) + session.now.params.t < 2 * session.now.params.h }

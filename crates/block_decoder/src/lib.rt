@@ -5,11 +5,15 @@
 //! most 8 answers, and whatever the servers do; the columns that are interpolated are counted, and bounded. It isn't
 //! said which of several blocks is the one that was stored: servers enough that lie alike agree on a block of their
 //! own. [`laws`] has that there is one at most where `2h > k + t`, for k answers of which h agree with degree t.
+//!
+//! In the XOR scheme (Chor, Goldreich, Kushilevitz and Sudan 1995) the verdict on a session, [`judge`], lists the sum of
+//! all servers' payloads, or says that one is missing. A wrong answer isn't noticed there.
 #![tactic(auto)]
 
 mod answers;
 mod candidate;
 mod choices;
+mod combining;
 mod decoder;
 mod judging;
 mod lagrange;
@@ -18,6 +22,7 @@ mod listing;
 mod plain;
 #[cfg(test)]
 mod tests;
+mod usable;
 mod verdict;
 #[cfg(test)]
 mod worked_rows;

@@ -1,6 +1,6 @@
 //! Blocks in ascending order, each once.
 
-ghost use Rattle.std.specs.Prelude.{◌≡◌, ◌==◌, ◌↔◌, ◌⊎◌, ℕ, List, [], length, map, Contains, OnOk, OnErr, slice_get, option_map};
+ghost use Rattle.std.specs.Prelude.{◌≡◌, ◌==◌, ◌↔◌, ◌⊎◌, ℕ, List, [], ◌∷◌, length, map, Contains, IfOk, OnOk, OnErr, slice_get, option_map};
 ghost use Rattle.std.specs.Cmp.Lexicographic.{slice_cmp};
 ghost use Rattle.std.specs.List.Sorted.{IsStrictlySortedBy, IsSearchInRange, IsBinarySearchResult};
 ghost use Rattle.std.specs.Ordering.{nat_cmp};
@@ -36,6 +36,18 @@ impl Listing {
         Listing {
             blocks: Vec::new(alloc),
         }
+    }
+
+    /// One block, which is not copied. Memory is taken for the list.
+    ///
+    /// # Errors
+    ///
+    /// `AllocError` where there is none.
+    pub(crate) fn of_one(alloc: Global, block: Vec<u8>) -> Result<Listing, AllocError>
+        ensures { IfOk result (λ l. l ≡ block.items ∷ []) }
+    {
+        let blocks = vec![in alloc; block]?;
+        Ok(Listing { blocks })
     }
 
     /// Puts the block in its place, where it is not there yet; only then memory is taken, for a copy of it.

@@ -5,9 +5,9 @@ use crate::Listing;
 /// The verdict on the usable answers of a session.
 #[derive(Drop)]
 pub enum Verdict {
-    /// The blocks on which enough answers agree.
+    /// The blocks on which enough answers agree; in the XOR scheme the sum of all answers.
     Listed(Listing),
-    /// Only `k` answers are usable, fewer than the `h` that have to agree.
+    /// Only `k` answers are usable, fewer than the `h` that have to agree, which in the XOR scheme are all.
     TooFew { k: u32, h: u32 },
     /// With `k` answers and degree `t`, an agreement of `h` is too weak to bound the blocks: `h * h <= k * t`.
     TooWeak { k: u32, t: u32, h: u32 },

@@ -1,5 +1,5 @@
 -- Asking one server after the other.
-use Rattle.std.proofs.Common.{◌≡◌, ◌∙◌, ◌⊎◌, inl, inr, ℕ, ◌+◌, ◌<◌, ◌≤◌, List, [], ◌∷◌, ◌++◌, length, take, drop, slice_index_or, sym, ap, ap₂, subst, arith}
+use Rattle.std.proofs.Common.{◌≡◌, ◌∙◌, inl, inr, ℕ, ◌+◌, ◌<◌, ◌≤◌, List, [], ◌∷◌, ◌++◌, length, take, drop, slice_index_or, sym, ap, ap₂, subst, arith}
 use Rattle.std.specs.Prelude.{Option, None}
 use Rattle.std.proofs.lemmas.List.{take_all, get_or_append_left, get_or_push}
 use Rattle.pir_ports.specs.World.{Cell, World}
@@ -10,9 +10,8 @@ use Rattle.pir_ports.proofs.Ranges.{each_as, each_more, each_before, range_still
 use Rattle.wire_frames.specs.Session.{Transcript}
 use Rattle.fetch_client.specs.declared.plan.FetchPlan.{FetchPlan}
 use Rattle.wire_frames.specs.Header.{query_header}
-use Rattle.shamir_share.specs.Query.{query}
 use Rattle.fetch_client.specs.Plan.{IsPlan, params_of, need}
-use Rattle.fetch_client.specs.Sent.{sent, header_to, session_number}
+use Rattle.fetch_client.specs.Sent.{sent, header_to, payload_to, session_number}
 use Rattle.fetch_client.specs.Tossed.{Tossed}
 use Rattle.fetch_client.specs.Asked.{Asked, Breaks}
 use Rattle.fetch_client.specs.Fetched.{AsksNext, AskedEach, AsksWith}
@@ -44,9 +43,10 @@ asked_more p addresses coins n before after w v u fits many each range next touc
     each_more (R after) 257 n w v u fits kept range touch
     (subst (λ (o : Option (List ℕ)). Asked (slice_index_or addresses n []) (sent p coins (n + 1)) (24 + p.s) o (v.at (257 + n)) (u.at (257 + n))) (sym there) last)
 
--- a header and a query are a frame
-pub sent_is : (p : FetchPlan) (coins : List ℕ) (i : ℕ) (header payload : List ℕ) → header ≡ query_header (header_to p coins i) → payload ≡ query (drop 8 coins) p.t p.r p.block i → header ++ payload ≡ sent p coins i
-unfolding sent
+-- a header and a payload are a frame; a payload doesn't depend on the session's number
+pub sent_is : (p : FetchPlan) (coins : List ℕ) (i : ℕ) (header payload : List ℕ) → header ≡ query_header (header_to p coins i)
+    → payload ≡ payload_to (params_of p 0) (drop 8 coins) p.block i → header ++ payload ≡ sent p coins i
+unfolding sent payload_to
 sent_is p coins i header payload a b = ap₂ (λ (x y : List ℕ). x ++ y) a b
 
 -- the coins were taken, and then every server was asked

@@ -1,5 +1,5 @@
--- The block that enough honest servers hold is agreed on, and so listed.
-use Rattle.std.proofs.Common.{◌≡◌, ℕ, zero, suc, ◌+◌, ◌*◌, ◌<◌, ◌≤◌, Bool, List, [], ◌∷◌, length, map, get_or, Contains, bytes_eq, sym, ap, ◌∙◌, arith}
+-- In Shamir's sharing the block that enough honest servers hold is agreed on, and so listed.
+use Rattle.std.proofs.Common.{◌≡◌, ℕ, zero, suc, ◌+◌, ◌*◌, ◌<◌, ◌≤◌, Bool, List, [], ◌∷◌, length, map, get_or, Contains, count_by, bytes_eq, sym, ap, subst, ◌∙◌, arith}
 use Rattle.std.specs.List.{range_with_len}
 use Rattle.std.proofs.lemmas.List.{ext_get_or, length-map, get_or-map}
 use Rattle.std.proofs.lemmas.List.Elements.{All-map}
@@ -8,7 +8,8 @@ use Rattle.std.proofs.lemmas.List.Sums.{count_by-le-length}
 use Rattle.std.proofs.lemmas.Slice.Eq.{bytes_eq-Decides}
 use Rattle.gf256.specs.Polynomial.{coef, IsPolynomial}
 use Rattle.shamir_share.specs.Query.{query}
-use Rattle.wire_frames.specs.Answer.{Answer}
+use Rattle.wire_frames.specs.Answer.{Answer, answers}
+use Rattle.wire_frames.specs.Session.{Transcript}
 use Rattle.block_decoder.specs.Agreed.{Agreed, answer_at, constants_of}
 use Rattle.block_decoder.specs.Lagrange.{HasColumns}
 use Rattle.block_decoder.specs.Verdict.{IsDecided, ListsAtMostOne}
@@ -17,8 +18,27 @@ use Rattle.block_decoder.specs.declared.verdict.Verdict.TheVariants.{Listed, Too
 use Rattle.block_decoder.proofs.OneBlock.{close_is_listed}
 use Rattle.block_decoder.proofs.Places.{places_of, ascending-places_of, within-places_of, pass-places_of, length-places_of}
 use Rattle.gf256.specs.Product.{IsMatrix, product}
-use Rattle.fetch_client.specs.Honest.{Honest, block_of}
+use Rattle.fetch_client.specs.Honest.{IsHonest, answer_by, block_of}
+use Rattle.fetch_client.specs.Sent.{payload_to}
+use Rattle.fetch_client.proofs.Schemes.{answer_of_shamir, payload_of_shamir}
 use Rattle.fetch_client.proofs.HonestColumns.{column_polynomial, degree-column_polynomial, reply_is, constant-column_polynomial}
+
+-- at least h of the answers are the products of the matrix and the queries for the block
+pub record AreProducts (answers : List Answer) (matrix : List (List ℕ)) (coins : List ℕ) (t r s block h : ℕ) : Type 0 where
+  pub matrix_is : IsMatrix matrix r s
+  pub enough : h ≤ count_by (λ a. bytes_eq a.payload (product matrix s (query coins t r block a.index))) answers
+
+-- honest servers answer so
+pub products_from_honest : (session : Transcript) (matrix : List (List ℕ)) (coins : List ℕ) (block : ℕ) → session.params.scheme ≡ 1 → IsHonest session matrix coins block
+    → AreProducts (answers session) matrix coins session.params.t session.params.r session.params.s block session.params.h
+products_from_honest session matrix coins block one honest =
+    let p = session.params in
+    let same : ◌≡◌ {A = ℕ → List ℕ} (answer_by p matrix coins block) (λ a. product matrix p.s (query coins p.t p.r block a)) =
+    λ i a. (answer_of_shamir p one matrix (payload_to p coins block a) ∙ ap (product matrix p.s) (payload_of_shamir p one coins block a)) i in
+    record {
+      matrix_is = honest.matrix_is;
+      enough = subst (λ (f : ℕ → List ℕ). p.h ≤ count_by (λ (a : Answer). bytes_eq a.payload (f a.index)) (answers session)) same honest.enough;
+    }
 
 -- the constants of the columns' polynomials are the block
 constants_are : (matrix : List (List ℕ)) (coins : List ℕ) (t r s block : ℕ) (is : IsMatrix matrix r s) (size : length coins ≡ r * t) → block < r
@@ -36,7 +56,7 @@ constants_are matrix coins t r s block is size within =
 
 -- the block that h honest servers hold is agreed on
 pub honest_is_agreed : (answers : List Answer) (matrix : List (List ℕ)) (coins : List ℕ) (t r s block h : ℕ) → length coins ≡ r * t → block < r
-    → Honest answers matrix coins t r s block h → Agreed answers s t h (block_of matrix block)
+    → AreProducts answers matrix coins t r s block h → Agreed answers s t h (block_of matrix block)
 honest_is_agreed answers matrix coins t r s block h size within honest =
     let none : Answer = record { index = 0; payload = [] } in
     let test : Answer → Bool = λ a. bytes_eq a.payload (product matrix s (query coins t r block a.index)) in
@@ -61,7 +81,7 @@ honest_is_agreed answers matrix coins t r s block h size within honest =
 
 -- so it is listed, where blocks are
 pub honest_is_listed : (answers : List Answer) (matrix : List (List ℕ)) (coins : List ℕ) (t r s block h : ℕ) (blocks : List (List ℕ)) → length coins ≡ r * t → block < r
-    → Honest answers matrix coins t r s block h → IsDecided answers s t h (Listed blocks) → Contains blocks (block_of matrix block)
+    → AreProducts answers matrix coins t r s block h → IsDecided answers s t h (Listed blocks) → Contains blocks (block_of matrix block)
 honest_is_listed answers matrix coins t r s block h blocks size within honest is =
     (is.2.exact (block_of matrix block)).1 (honest_is_agreed answers matrix coins t r s block h size within honest)
 
@@ -74,7 +94,7 @@ only_member (y ∷ z ∷ xs) x few c = absurd (omega arith)
 
 -- and alone where 2 h > k + t
 pub honest_is_alone : (answers : List Answer) (matrix : List (List ℕ)) (coins : List ℕ) (t r s block h : ℕ) (verdict : Verdict) → HasColumns s answers → length coins ≡ r * t → block < r
-    → Honest answers matrix coins t r s block h → length answers + t < 2 * h → IsDecided answers s t h verdict → verdict ≡ Listed (block_of matrix block ∷ [])
+    → AreProducts answers matrix coins t r s block h → length answers + t < 2 * h → IsDecided answers s t h verdict → verdict ≡ Listed (block_of matrix block ∷ [])
 honest_is_alone answers matrix coins t r s block h verdict columns size within honest close is =
     let e = honest.enough in
     let few = count_by-le-length (λ (a : Answer). bytes_eq a.payload (product matrix s (query coins t r block a.index))) answers in

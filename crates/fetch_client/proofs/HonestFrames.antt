@@ -1,28 +1,23 @@
 -- The frames of honest servers are usable, and so their payloads are honest answers.
 use Rattle.std.proofs.Common.{◌≡◌, ℕ, suc, ◌+◌, ◌-◌, ◌≤◌, ◌<◌, Bool, true, false, cond, Option, None, Some, option_and_then, List, [], ◌∷◌, length, get_or, count_by, bytes_eq, refl, ap, ◌∙◌, arith}
 use Rattle.std.specs.List.{range_with_len}
-use Rattle.std.proofs.lemmas.List.FromFn.{length-map-range_with_len}
 use Rattle.std.proofs.lemmas.List.Sums.{sum_by-cons}
 use Rattle.std.proofs.lemmas.Slice.Eq.{bytes_eq-Decides}
-use Rattle.gf256.specs.Product.{product_at, product}
-use Rattle.shamir_share.specs.Query.{query}
 use Rattle.wire_frames.specs.declared.session.SessionParams.{SessionParams}
 use Rattle.wire_frames.specs.Answer.{Answer, answers_from, asked, usable, with_answer}
 use Rattle.wire_frames.specs.Session.{Transcript}
 use Rattle.block_decoder.proofs.UsableAnswers.{usable_frame, answers_from-cons}
-use Rattle.fetch_client.specs.Honest.{IsHonest, HonestRecords, honest_frame, is_frame}
+use Rattle.fetch_client.specs.Sent.{payload_to}
+use Rattle.fetch_client.specs.Honest.{IsHonest, HonestRecords, answer_by, honest_frame, is_frame}
+use Rattle.fetch_client.proofs.Schemes.{length-honest_answer}
 
 -- one if the test passed
 abbrev one_if : Bool → ℕ
 one_if b = cond b 1 0
 
-pub length-product : (matrix : List (List ℕ)) (width : ℕ) (query : List ℕ) → length (product matrix width query) ≡ width
-unfolding product
-length-product matrix width query = length-map-range_with_len (product_at query matrix) 0 width
-
 module _ (p : SessionParams) (matrix : List (List ℕ)) (coins : List ℕ) (block : ℕ) where
   abbrev reply : ℕ → List ℕ
-  reply i = product matrix p.s (query coins p.t p.r block i)
+  reply i = answer_by p matrix coins block i
 
   abbrev frame : ℕ → List ℕ
   frame i = honest_frame p matrix coins block i
@@ -35,7 +30,7 @@ module _ (p : SessionParams) (matrix : List (List ℕ)) (coins : List ℕ) (bloc
 
   usable_honest : (i : ℕ) → usable (frame i) (asked p i) ≡ Some (reply i)
   unfolding honest_frame
-  usable_honest i = usable_frame (reply i) (asked p i) (length-product matrix p.s (query coins p.t p.r block i))
+  usable_honest i = usable_frame (reply i) (asked p i) (length-honest_answer p matrix (payload_to p coins block i))
 
   -- one more server in front takes none away
   no_fewer : (i : ℕ) (o : Option (List ℕ)) (rest : List Answer) → count_by is_honest rest ≤ count_by is_honest (with_answer i o rest)

@@ -64,7 +64,8 @@ Fetches p addresses (Err CoinsFault) old new = FailsAfter 3 old new × Touches 3
 Fetches p addresses (Err (CoinsEnded taken)) old new = RunsOut (need p) taken (old.at 3) (new.at 3) × Touches 3 old new
 Fetches p addresses (Err Memory) old new = (new ≡ old) ⊎ AsksSome p addresses old new
 
--- no port but Coins and the first n links is touched, and no guest comes or goes
+-- no port but Coins and the first n links is touched, no guest comes or goes, and no child is started
 pub record TouchesLinks (n : ℕ) (old new : World) : Type 0 where
   pub others : (q : ℕ) → q < 1024 → q ≢ 3 → (257 ≤ q → q < 257 + n → ⊥) → new.at q ≡ old.at q
   pub crowd : new.crowd ≡ old.crowd
+  pub started : new.started ≡ old.started

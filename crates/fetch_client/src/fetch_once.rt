@@ -5,13 +5,13 @@ ghost use Rattle.wire_frames.specs.Answer.{answers};
 ghost use Rattle.block_decoder.specs.Choices.{binomial};
 ghost use Rattle.fetch_client.specs.Plan.{IsPlan, params_of, need};
 ghost use Rattle.block_decoder.specs.Verdict.{IsVerdict};
-ghost use Rattle.fetch_client.specs.Sent.{session_number};
+ghost use Rattle.fetch_client.specs.Sent.{payload_size, session_number};
 ghost use Rattle.fetch_client.specs.Honest.{FindsHonestBlock};
 ghost use Rattle.fetch_client.specs.Fetched.{AsksServers, Fetches, TouchesLinks};
 
 use crate::coins::{session_number_of, take_coins};
 use crate::laws::honest_block_is_found;
-use crate::links::ask_all;
+use crate::links::{HEADER_LEN, ask_all};
 use crate::plan::{FetchFault, FetchPlan};
 use block_decoder::{Verdict, judge};
 use pir_ports::Ports;
@@ -34,15 +34,14 @@ fn room_for(alloc: Global, plan: &FetchPlan) -> Result<Room, AllocError>
     requires { IsPlan plan.now }
     ensures session { IfOk result (λ room. room.session ≡ record { params = params_of plan.now 0; records = [] }) }
     ensures coins { IfOk result (λ room. vec_len room.coins ≡ need plan.now) }
-    ensures frame { IfOk result (λ room. vec_len room.frame ≡ 24 + plan.now.r) }
+    ensures frame { IfOk result (λ room. vec_len room.frame ≡ 24 + payload_size (params_of plan.now 0)) }
     ensures answer { IfOk result (λ room. vec_len room.answer ≡ 24 + plan.now.s) }
 {
-    let rows = plan.r as usize;
     Ok(Room {
         session: Session::new(alloc, plan.params())?,
-        coins: vec![in alloc; 0; 8 + rows * usize::from(plan.t)]?,
-        frame: vec![in alloc; 0; 24 + rows]?,
-        answer: vec![in alloc; 0; 24 + plan.s as usize]?,
+        coins: vec![in alloc; 0; plan.coins_len()]?,
+        frame: vec![in alloc; 0; HEADER_LEN + plan.payload_len()]?,
+        answer: vec![in alloc; 0; HEADER_LEN + plan.s as usize]?,
     })
 }
 
@@ -63,7 +62,7 @@ fn ask_servers<P: Ports>(
     requires plan { IsPlan plan.now }
     requires addresses { length addresses.now ≡ plan.now.n }
     requires coins { length coins.old ≡ need plan.now }
-    requires frame { length frame.old ≡ 24 + plan.now.r }
+    requires frame { length frame.old ≡ 24 + payload_size (params_of plan.now 0) }
     requires answer { length answer.old ≡ 24 + plan.now.s }
     requires session { session.old ≡ record { params = params_of plan.now 0; records = [] } }
     ensures asked { AsksServers plan.now (map string_bytes addresses.now) result coins.new session.new (P.world ports.old) (P.world ports.new) }
@@ -94,6 +93,7 @@ fn conclude<C: Ledger>(
     ensures judged { IfOk result (IsVerdict session.now) }
     ensures found { IfOk result (FindsHonestBlock session.now (drop 8 coins.now) plan.now.block) }
     ensures cols { cols.new ≤ cols.old + plan.now.s * binomial (length (answers session.now)) (plan.now.t + 1) }
+    ensures xor { plan.now.scheme ≡ 2 → cols.new ≡ cols.old }
 {
     let verdict = judge(alloc, session, cols)?;
     honest_block_is_found(session, &coins[8..], plan.block, &verdict);
@@ -101,11 +101,14 @@ fn conclude<C: Ledger>(
 }
 
 /// Fetches one block: takes the coins, asks every server, and judges what they answered. Coins is open already; there is
-/// one address for each server, in the order of their indices. `cols` counts the columns that are interpolated.
+/// one address for each server, in the order of their indices. `cols` counts the columns that are interpolated; the XOR
+/// scheme takes no such step.
 ///
-/// All memory but that for judging is taken first. Then the coins are taken, `8 + r * t` bytes: the number of the session,
-/// and `t` for each row. Then each server in turn is sent its query, and up to `24 + s` bytes of its answer are taken. A
-/// server whose link fails has no record; none is left out, and no byte that is sent depends on an answer.
+/// All memory but that for judging is taken first. Then the coins are taken: 8 bytes for the number of the session, and for
+/// the queries `r * t`, which is `t` for each row, or in the XOR scheme `(n - 1) * ceil(r / 8)`, a bitmap for each server but
+/// the last. Then each server in turn is sent its query, whose payload has r bytes or, in the XOR scheme, `ceil(r / 8)`; and
+/// up to `24 + s` bytes of its answer are taken. A server whose link fails has no record; none is left out, and no byte that
+/// is sent depends on an answer.
 ///
 /// # Errors
 ///
@@ -123,6 +126,7 @@ pub fn fetch<C: Ledger, P: Ports>(
     ensures fetched { Fetches plan.now (map string_bytes addresses.now) result (P.world ports.old) (P.world ports.new) }
     ensures others { TouchesLinks plan.now.n (P.world ports.old) (P.world ports.new) }
     ensures cols { IfOk result (λ both. cols.new ≤ cols.old + plan.now.s * binomial (length (answers both.0)) (plan.now.t + 1)) }
+    ensures xor { plan.now.scheme ≡ 2 → cols.new ≡ cols.old }
 {
     let Ok(mut room) = room_for(alloc, plan) else {
         return Err(FetchFault::Memory);

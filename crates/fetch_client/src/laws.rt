@@ -1,18 +1,23 @@
 //! The law of the honest servers, as a call whose contract is the law. A call changes nothing.
 
-ghost use Rattle.std.specs.Prelude.{ℕ, List, ◌≡◌, ◌*◌, ◌<◌, length};
+ghost use Rattle.std.specs.Prelude.{ℕ, List, ◌≡◌, ◌<◌, length};
 ghost use Rattle.block_decoder.specs.Verdict.{IsVerdict};
 ghost use Rattle.fetch_client.specs.Honest.{FindsHonestBlock, HonestRecords, IsHonest};
+ghost use Rattle.fetch_client.specs.Plan.{query_coins};
 
 use block_decoder::Verdict;
 use wire_frames::Session;
 
 /// Where `h` or more of the usable answers of a session are those of honest servers that hold one matrix, a verdict that
 /// lists blocks lists the row of the matrix that was asked for, and where `2h > k + t`, for k usable answers, the verdict
-/// lists it alone (Goldberg 2007). The same where `h` or more of the records are the frames of such servers. The queries are those of the `r * t` coins, for the row `block`. Whatever the servers did,
-/// where `h <= k` and `2h > k + t` the verdict lists one block, or none.
+/// lists it alone (Goldberg 2007). The same where `h` or more of the records are the frames of such servers. Whatever the
+/// servers did, where `h <= k` and `2h > k + t` the verdict lists one block, or none. In the XOR scheme, where `h` is `n`,
+/// the verdict lists the row alone where all `n` servers are honest (Chor, Goldreich, Kushilevitz and Sudan 1995).
+///
+/// The queries are those of these coins for the row `block`: there are `r * t` coins, or in the XOR scheme
+/// `(n - 1) * ceil(r / 8)`.
 pub fn honest_block_is_found(session: &Session, coins: &[u8], block: u32, verdict: &Verdict)
-    requires coins { length coins.now ≡ session.now.params.r * session.now.params.t }
+    requires coins { length coins.now ≡ query_coins session.now.params }
     requires block { block < session.now.params.r }
     requires verdict { IsVerdict session.now verdict.now }
     ensures { FindsHonestBlock session.now coins.now block verdict.now }

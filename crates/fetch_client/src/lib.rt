@@ -1,9 +1,13 @@
 //! The client: fetches one block of a database from its servers, without saying to them which.
 //!
+//! It knows two schemes. In Shamir's sharing (Goldberg 2007) the servers are asked for products, and servers that lie or are
+//! silent can be outvoted. In the XOR scheme (Chor, Goldreich, Kushilevitz and Sudan 1995) they are asked for the XOR of some
+//! rows, and all of them have to answer; all but one may put together what they were sent. A lie isn't noticed.
+//!
 //! Promised: what each server is sent is a function of the plan, the coins and the server's index alone, never of an
 //! answer; every server is asked; the session keeps what each one answered, or that a call on its link failed; and the
-//! verdict is that of the session (Goldberg 2007). Where enough servers answer the product of their query and one matrix,
-//! its row is listed, and alone where the agreement is close.
+//! verdict is that of the session. Where enough servers answer honestly from one matrix, its row is listed, and alone where
+//! the agreement is close; in the XOR scheme, where all servers answer honestly, its row is listed alone.
 //!
 //! Not promised: that a server answers at all, that the coins are random (which is what hides the block), or anything of
 //! time.

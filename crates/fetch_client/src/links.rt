@@ -5,19 +5,20 @@ ghost use Rattle.std.specs.Option.{option_map};
 ghost use Rattle.pir_ports.specs.Moves.{Touches};
 ghost use Rattle.pir_ports.specs.Each.{TouchesRange};
 ghost use Rattle.wire_frames.specs.Header.{query_header};
-ghost use Rattle.fetch_client.specs.Plan.{IsPlan, params_of, need};
-ghost use Rattle.fetch_client.specs.Sent.{header_to, sent, session_number};
+ghost use Rattle.fetch_client.specs.Plan.{IsPlan, params_of, query_coins, need};
+ghost use Rattle.fetch_client.specs.Sent.{header_to, payload_size, payload_to, sent, session_number};
 ghost use Rattle.fetch_client.specs.Asked.{Asked};
 ghost use Rattle.fetch_client.specs.Fetched.{AsksNext, AskedEach};
 
 use crate::coins::session_number_of;
-use crate::plan::FetchPlan;
+use crate::plan::{FetchPlan, XOR};
+use chor_xor::bitmap_into;
 use pir_ports::{Filled, Port, Ports, read_exactly, write_all};
 use shamir_share::query_into;
 use wire_frames::{QueryHeader, Session, write_query_header};
 
-// How many bytes stand before the payload of a query.
-const HEADER_LEN: usize = 24;
+// How many bytes stand before the payload of a query and of an answer.
+pub(crate) const HEADER_LEN: usize = 24;
 
 /// Writes the header of the query to server `index`.
 fn write_header(plan: &FetchPlan, coins: &[u8], index: u8, out: &mut [u8])
@@ -39,24 +40,36 @@ fn write_header(plan: &FetchPlan, coins: &[u8], index: u8, out: &mut [u8])
     out.copy_from_slice(&bytes);
 }
 
+/// Writes the payload of the query to server `index`.
+#[tactic(auto, unfolding(crate::specs::Plan::query_coins, crate::specs::Sent::payload_size, crate::specs::Sent::payload_to))]
+fn write_payload(plan: &FetchPlan, coins: &[u8], index: u8, out: &mut [u8])
+    requires plan { IsPlan plan.now }
+    requires coins { length coins.now ≡ query_coins (params_of plan.now 0) }
+    requires first { 1 ≤ index }
+    requires last { index ≤ plan.now.n }
+    requires room { length out.old ≡ payload_size (params_of plan.now 0) }
+    ensures { out.new ≡ payload_to (params_of plan.now 0) coins.now plan.now.block index }
+{
+    let FetchPlan { t, n, r, block, .. } = *plan;
+    if plan.scheme == XOR {
+        bitmap_into(coins, u32::from(n), r, block, index, out);
+    } else {
+        query_into(coins, u32::from(t), r, block, index, out);
+    }
+}
+
 /// Writes the frame that server `index` is sent.
 fn write_frame(plan: &FetchPlan, coins: &[u8], index: u8, frame: &mut [u8])
     requires plan { IsPlan plan.now }
     requires coins { length coins.now ≡ need plan.now }
-    requires index { 1 ≤ index }
-    requires room { length frame.old ≡ 24 + plan.now.r }
+    requires first { 1 ≤ index }
+    requires last { index ≤ plan.now.n }
+    requires room { length frame.old ≡ 24 + payload_size (params_of plan.now 0) }
     ensures { frame.new ≡ sent plan.now coins.now index }
 {
-    let (header, query) = frame.split_at_mut(HEADER_LEN);
+    let (header, payload) = frame.split_at_mut(HEADER_LEN);
     write_header(plan, coins, index, header);
-    query_into(
-        &coins[8..],
-        u32::from(plan.t),
-        plan.r,
-        plan.block,
-        index,
-        query,
-    );
+    write_payload(plan, &coins[8..], index, payload);
 }
 
 /// Asks one server: opens its link, sends it the frame, and fills `answer` with what comes, up to its end. It says how many
@@ -100,7 +113,7 @@ fn ask_next<P: Ports>(
 )
     requires plan { IsPlan plan.now }
     requires coins { length coins.now ≡ need plan.now }
-    requires frame { length frame.old ≡ 24 + plan.now.r }
+    requires frame { length frame.old ≡ 24 + payload_size (params_of plan.now 0) }
     requires answer { length answer.old ≡ 24 + plan.now.s }
     requires params { session.old.params ≡ params_of plan.now (session_number coins.now) }
     requires few { length session.old.records < plan.now.n }
@@ -129,7 +142,7 @@ pub(crate) fn ask_all<P: Ports>(
     requires plan { IsPlan plan.now }
     requires coins { length coins.now ≡ need plan.now }
     requires addresses { length addresses.now ≡ plan.now.n }
-    requires frame { length frame.old ≡ 24 + plan.now.r }
+    requires frame { length frame.old ≡ 24 + payload_size (params_of plan.now 0) }
     requires answer { length answer.old ≡ 24 + plan.now.s }
     requires params { session.old.params ≡ params_of plan.now (session_number coins.now) }
     requires fresh { session.old.records ≡ [] }

@@ -1,19 +1,24 @@
 //! What is to be fetched, and why it is not.
 
-ghost use Rattle.std.specs.Prelude.{◌≡◌};
-ghost use Rattle.fetch_client.specs.Plan.{IsPlan, params_of};
+ghost use Rattle.std.specs.Prelude.{◌≡◌, ◌≤◌};
+ghost use Rattle.fetch_client.specs.Plan.{IsPlan, need, params_of};
+ghost use Rattle.fetch_client.specs.Sent.{payload_size};
 
 use thiserror::Error;
 use wire_frames::SessionParams;
 
+/// The number of the XOR scheme; that of Shamir's sharing is 1.
+pub(crate) const XOR: u8 = 2;
+
 /// What is to be fetched, and how.
 #[derive(Clone, Copy, Debug, PartialEq, Eq)]
 pub struct FetchPlan {
-    /// 1 for Shamir's sharing.
+    /// 1 for Shamir's sharing (Goldberg 2007), 2 for the XOR scheme (Chor, Goldreich, Kushilevitz and Sudan 1995).
     pub scheme: u8,
-    /// The degree of the queries' polynomials: so many servers together learn nothing of the block.
+    /// So many servers together learn nothing of the block. In Shamir's sharing this is the degree of the queries'
+    /// polynomials; in the XOR scheme it is `n - 1`.
     pub t: u8,
-    /// How many answers have to agree.
+    /// How many answers have to agree: in the XOR scheme all `n`.
     pub h: u8,
     /// The number of servers.
     pub n: u8,
@@ -38,6 +43,35 @@ impl FetchPlan {
             session: 0,
             r: self.r,
             s: self.s,
+        }
+    }
+
+    /// How many coins it needs: 8 for the session's number, and `t` for each row or, in the XOR scheme, a bitmap for each
+    /// server but the last.
+    #[tactic(auto, unfolding(crate::specs::Plan::query_coins))]
+    pub(crate) fn coins_len(&self) -> usize
+        requires { IsPlan self.now }
+        ensures { result ≡ need self.now }
+    {
+        let rows = self.r as usize;
+        if self.scheme == XOR {
+            8 + (usize::from(self.n) - 1) * rows.div_ceil(8)
+        } else {
+            8 + rows * usize::from(self.t)
+        }
+    }
+
+    /// How many bytes the payload of a query has: one for each row or, in the XOR scheme, a bit for each row.
+    #[tactic(auto, unfolding(crate::specs::Sent::payload_size))]
+    pub(crate) fn payload_len(&self) -> usize
+        ensures is { result ≡ payload_size (params_of self.now 0) }
+        ensures few { result ≤ self.now.r }
+    {
+        let rows = self.r as usize;
+        if self.scheme == XOR {
+            rows.div_ceil(8)
+        } else {
+            rows
         }
     }
 }

@@ -1,93 +1,61 @@
 -- The values of a command are in their ranges.
-use Rattle.std.proofs.Common.{◌≡◌, ◌⊎◌, inl, inr, ℕ, ◌==◌, ◌<◌, ◌≤◌, ◌*◌, ◌&&◌, List, length, Some, None, Bool, true, false, codes, unwrap_or, sym, subst, eqb-true}
-use Rattle.std.specs.Prelude.{if◌then◌else◌, nat_le, nat_lt}
+use Rattle.std.proofs.Common.{◌≡◌, ◌⊎◌, inl, inr, ℕ, ◌≤◌, ◌-◌, ◌&&◌, List, length, Some, None, Bool, true, false, codes, refl, lit<, sym, subst, arith}
+use Rattle.std.specs.Prelude.{if◌then◌else◌, is_none, nat_le}
 use Rattle.std.specs.Str.{bytes_eq}
-use Rattle.std.proofs.lemmas.Bool.{and_parts, leb-true, ltb-true}
+use Rattle.std.proofs.lemmas.Bool.{leb-true}
 use Rattle.clap.specs.Words.{Row, Text, all_of, first_of, subcommand_of}
 use Rattle.wire_frames.specs.Limits.{IsShape}
-use Rattle.wire_frames.specs.declared.TheConstants.{MOST_DEGREE, MOST_SERVERS, MOST_ROWS, MOST_WIDTH, MOST_CELLS}
-use Rattle.pir_words.specs.Numbers.{limited, number, number_in}
-use Rattle.pir_words.specs.Ranges.{block_in, scheme_in, scheme_named, sharing_in, sizes_in}
+use Rattle.wire_frames.specs.declared.TheConstants.{MOST_SERVERS, MOST_WIDTH}
+use Rattle.pir_words.specs.Numbers.{limited, number_in}
+use Rattle.pir_words.specs.Ranges.{FitsSession, block_in, scheme_in, servers_in, sharing_in, sizes_in, workers_in}
 use Rattle.pir_words.specs.ReplayForm.{replay_of}
-use Rattle.pir_words.specs.FetchForm.{addresses_in, fetch_of}
-use Rattle.pir_words.specs.ServeForm.{serve_of, workers_in}
+use Rattle.pir_words.specs.FetchForm.{addresses_in, fetch_of, fetch_sharing_in, xor_sharing_in}
+use Rattle.pir_words.specs.ServeForm.{serve_of}
+use Rattle.pir_words.specs.SelfrunForm.{selfrun_of}
+use Rattle.pir_words.specs.DemoForm.{demo_of}
 use Rattle.pir_words.specs.Form.{InRange, are_taken, asked_by, asked_in, asked_of}
 use Rattle.pir_words.specs.Command.{pir}
-use Rattle.pir_words.specs.declared.TheConstants.{MOST_CONNS, MOST_WORKERS}
-use Rattle.pir_words.specs.declared.ranges.Sizes.{Sizes}
+use Rattle.pir_words.specs.declared.TheConstants.{LEAST_PORT, MOST_CONNS, MOST_PORT}
 use Rattle.pir_words.specs.declared.ranges.Sharing.{Sharing}
 use Rattle.pir_words.specs.declared.asked.Asked.{Asked}
 use Rattle.pir_words.specs.declared.asked.Asked.TheVariants.{Replay}
 use Rattle.pir_words.proofs.Chains.{some_is, test_of, value_of}
+use Rattle.pir_words.proofs.ValuesInRange.{block_range, limited_range, number_range, scheme_range, servers_range, shamir_fits, sharing_range, sizes_range, workers_range}
 
--- a number from least to most is one
-limited_range : (id : Text) (least most : ℕ) (m : List Row) (n : ℕ) → limited id least most m ≡ Some n → (least ≤ n) × (n ≤ most)
-unfolding limited
-limited_range id least most m n e =
-    let given = value_of (number_in id m) _ n e in
-    let tested = test_of (nat_le least given.0 && nat_le given.0 most) (Some given.0) n given.2 in
-    let both = and_parts (nat_le least given.0) (nat_le given.0 most) tested.0 in
-    subst (λ k. (least ≤ k) × (k ≤ most)) (some_is given.0 n tested.1) (leb-true least given.0 both.0, leb-true given.0 most both.1)
+-- all of n servers, and all but one
+xor_range : (n : ℕ) (m : List Row) (sharing : Sharing) → xor_sharing_in n m ≡ Some sharing → (2 ≤ n) × (record { degree = n - 1; agree = n } ≡ sharing)
+unfolding xor_sharing_in
+xor_range n m sharing e =
+    let none = test_of (is_none (first_of (codes "degree") m) && is_none (first_of (codes "agree") m)) _ sharing e in
+    let two = test_of (nat_le 2 n) _ sharing none.1 in
+    (leb-true 2 n two.0, some_is _ sharing two.1)
 
--- the sizes are those of a database
-pub sizes_range : (m : List Row) (sizes : Sizes) → sizes_in m ≡ Some sizes → IsShape sizes.rows sizes.width
-unfolding sizes_in
-sizes_range m sizes e =
-    let rows = value_of (limited (codes "rows") 1 MOST_ROWS m) _ sizes e in
-    let width = value_of (limited (codes "width") 1 MOST_WIDTH m) _ sizes rows.2 in
-    let cells = test_of (nat_le (rows.0 * width.0) MOST_CELLS) _ sizes width.2 in
-    let r = limited_range _ _ _ m _ rows.1 in
-    let s = limited_range _ _ _ m _ width.1 in
-    subst (λ (z : Sizes). IsShape z.rows z.width) (some_is _ sizes cells.1) (record {
-      some_rows = r.0;
-      few_rows = r.1;
-      some_bytes = s.0;
-      few_bytes = s.1;
-      few_cells = leb-true _ _ cells.0;
-    })
+-- with which a session of the XOR scheme may be
+xor_fits : (r s n : ℕ) → IsShape r s → 2 ≤ n → n ≤ MOST_SERVERS → FitsSession 2 (n - 1) n n r s
+xor_fits r s n shape two few = record {
+  scheme = inr refl;
+  private = omega (arith, two);
+  few_private = omega (arith, two, few);
+  agreement = omega (arith, two);
+  few_agree = few;
+  servers = omega arith;
+  few_servers = few;
+  all_agree = λ e. omega (arith, two);
+  all_answer = λ e. refl;
+  session = lit< tt;
+  shape = shape;
+}
 
--- the block is one of the rows
-pub block_range : (rows : ℕ) (m : List Row) (block : ℕ) → block_in rows m ≡ Some block → block < rows
-unfolding block_in
-block_range rows m block e =
-    let given = value_of (number_in (codes "block") m) _ block e in
-    let tested = test_of (nat_lt given.0 rows) _ block given.2 in
-    subst (λ b. b < rows) (some_is _ block tested.1) (ltb-true _ _ tested.0)
-
--- the scheme is one of the two
-pub scheme_range : (m : List Row) (scheme : ℕ) → scheme_in m ≡ Some scheme → (scheme ≡ 1) ⊎ (scheme ≡ 2)
-unfolding scheme_in scheme_named
-scheme_range m scheme e =
-    let name = unwrap_or (first_of (codes "scheme") m) (codes "shamir") in
-    by_name (bytes_eq name (codes "shamir")) (bytes_eq name (codes "xor")) e
-  where
-    by_name : (is_shamir is_xor : Bool) → (if is_shamir then Some 1 else (if is_xor then Some 2 else None)) ≡ Some scheme → (scheme ≡ 1) ⊎ (scheme ≡ 2)
-    by_name true is_xor h = inl (sym (some_is 1 scheme h))
-    by_name false true h = inr (sym (some_is 2 scheme h))
-    by_name false false h = cc
-
--- degree t and agreement h of n servers
-pub record IsSharing (t h n : ℕ) : Type 0 where
-  pub private : 1 ≤ t
-  pub few_private : t ≤ MOST_DEGREE
-  pub agreement : t < h
-  pub servers : h ≤ n
-
--- what is read is so
-pub sharing_range : (n : ℕ) (m : List Row) (sharing : Sharing) → sharing_in n m ≡ Some sharing → IsSharing sharing.degree sharing.agree n
-unfolding sharing_in
-sharing_range n m sharing e =
-    let degree = value_of (limited (codes "degree") 1 MOST_DEGREE m) _ sharing e in
-    let agree = value_of (number_in (codes "agree") m) _ sharing degree.2 in
-    let tested = test_of (nat_lt degree.0 agree.0 && nat_le agree.0 n) _ sharing agree.2 in
-    let both = and_parts (nat_lt degree.0 agree.0) (nat_le agree.0 n) tested.0 in
-    let t = limited_range _ _ _ m _ degree.1 in
-    subst (λ (s : Sharing). IsSharing s.degree s.agree n) (some_is _ sharing tested.1) (record {
-      private = t.0;
-      few_private = t.1;
-      agreement = ltb-true _ _ both.0;
-      servers = leb-true _ _ both.1;
-    })
+-- a session may have the sharing of a fetch
+fetch_fits : (scheme n r s : ℕ) (m : List Row) (sharing : Sharing) → (scheme ≡ 1) ⊎ (scheme ≡ 2) → IsShape r s → n ≤ MOST_SERVERS → fetch_sharing_in scheme n m ≡ Some sharing
+    → FitsSession scheme sharing.degree sharing.agree n r s
+unfolding fetch_sharing_in
+fetch_fits scheme n r s m sharing (inl one) shape few e =
+    subst (λ k. fetch_sharing_in k n m ≡ Some sharing → FitsSession k sharing.degree sharing.agree n r s) (sym one)
+    (λ h. shamir_fits r s sharing.degree sharing.agree n shape (sharing_range n m sharing h) few) e
+fetch_fits scheme n r s m sharing (inr two) shape few e =
+    subst (λ k. fetch_sharing_in k n m ≡ Some sharing → FitsSession k sharing.degree sharing.agree n r s) (sym two)
+    (λ h. let all = xor_range n m sharing h in subst (λ (z : Sharing). FitsSession 2 z.degree z.agree n r s) all.1 (xor_fits r s n shape all.0 few)) e
 
 -- there are no more addresses than there may be
 pub addresses_range : (m : List Row) (addresses : List Text) → addresses_in m ≡ Some addresses → length addresses ≤ MOST_SERVERS
@@ -111,29 +79,14 @@ fetch_range m asked e =
     let sizes = value_of (sizes_in m) _ asked e in
     let block = value_of (block_in sizes.0.rows m) _ asked sizes.2 in
     let scheme = value_of (scheme_in m) _ asked block.2 in
-    let shamir = test_of (scheme.0 == 1) _ asked scheme.2 in
-    let addresses = value_of (addresses_in m) _ asked shamir.1 in
-    let sharing = value_of (sharing_in (length addresses.0) m) _ asked addresses.2 in
-    let shares = sharing_range (length addresses.0) m sharing.0 sharing.1 in
+    let addresses = value_of (addresses_in m) _ asked scheme.2 in
+    let n = length addresses.0 in
+    let sharing = value_of (fetch_sharing_in scheme.0 n m) _ asked addresses.2 in
     subst InRange (some_is _ asked sharing.2) (record {
-      shamir = eqb-true scheme.0 1 shamir.0;
-      shape = sizes_range m sizes.0 sizes.1;
+      numbers = fetch_fits scheme.0 n sizes.0.rows sizes.0.width m sharing.0 (scheme_range m scheme.0 scheme.1)
+          (sizes_range m sizes.0 sizes.1) (addresses_range m addresses.0 addresses.1) sharing.1;
       block = block_range sizes.0.rows m block.0 block.1;
-      private = shares.private;
-      few_private = shares.few_private;
-      agreement = shares.agreement;
-      servers = shares.servers;
-      few_servers = addresses_range m addresses.0 addresses.1;
     })
-
--- there are as many workers as there may be
-workers_range : (m : List Row) (workers : ℕ) → workers_in m ≡ Some workers → (1 ≤ workers) × (workers ≤ MOST_WORKERS)
-unfolding workers_in
-workers_range m workers e =
-    let given = value_of (number (unwrap_or (first_of (codes "workers") m) (codes "1"))) _ workers e in
-    let tested = test_of (nat_le 1 given.0 && nat_le given.0 MOST_WORKERS) _ workers given.2 in
-    let both = and_parts (nat_le 1 given.0) (nat_le given.0 MOST_WORKERS) tested.0 in
-    subst (λ n. (1 ≤ n) × (n ≤ MOST_WORKERS)) (some_is given.0 workers tested.1) (leb-true _ _ both.0, leb-true _ _ both.1)
 
 -- the values of `serve`
 serve_range : (m : List Row) (asked : Asked) → serve_of m ≡ Some asked → InRange asked
@@ -158,16 +111,68 @@ serve_range m asked e =
       few_workers = w.1;
     })
 
+-- the values of `selfrun`
+selfrun_range : (m : List Row) (asked : Asked) → selfrun_of m ≡ Some asked → InRange asked
+unfolding selfrun_of
+selfrun_range m asked e =
+    let seed = value_of (number_in (codes "seed") m) _ asked e in
+    let sizes = value_of (sizes_in m) _ asked seed.2 in
+    let servers = value_of (servers_in m) _ asked sizes.2 in
+    let n = servers.0 in
+    let sharing = value_of (sharing_in n m) _ asked servers.2 in
+    let liars = value_of (limited (codes "liars") 0 n m) _ asked sharing.2 in
+    let workers = value_of (workers_in m) _ asked liars.2 in
+    let w = workers_range m workers.0 workers.1 in
+    subst InRange (some_is _ asked workers.2) (record {
+      few_seeds = number_range _ m seed.0 seed.1;
+      numbers = shamir_fits sizes.0.rows sizes.0.width sharing.0.degree sharing.0.agree n
+          (sizes_range m sizes.0 sizes.1) (sharing_range n m sharing.0 sharing.1) (servers_range m n servers.1).1;
+      few_liars = (limited_range _ _ _ m _ liars.1).1;
+      some_workers = w.0;
+      few_workers = w.1;
+    })
+
+-- the values of `demo`
+demo_range : (m : List Row) (asked : Asked) → demo_of m ≡ Some asked → InRange asked
+unfolding demo_of
+demo_range m asked e =
+    let port = value_of (limited (codes "port") LEAST_PORT MOST_PORT m) _ asked e in
+    let database = value_of (first_of (codes "database") m) _ asked port.2 in
+    let sizes = value_of (sizes_in m) _ asked database.2 in
+    let block = value_of (block_in sizes.0.rows m) _ asked sizes.2 in
+    let servers = value_of (servers_in m) _ asked block.2 in
+    let n = servers.0 in
+    let sharing = value_of (sharing_in n m) _ asked servers.2 in
+    let p = limited_range _ _ _ m _ port.1 in
+    subst InRange (some_is _ asked sharing.2) (record {
+      some_port = p.0;
+      few_ports = p.1;
+      fetch = record {
+        numbers = shamir_fits sizes.0.rows sizes.0.width sharing.0.degree sharing.0.agree n
+            (sizes_range m sizes.0 sizes.1) (sharing_range n m sharing.0 sharing.1) (servers_range m n servers.1).1;
+        block = block_range sizes.0.rows m block.0 block.1;
+      };
+    })
+
 -- the values of a command by its name
 named_range : (name : Text) (m : List Row) (asked : Asked) → asked_by name m ≡ Some asked → InRange asked
 unfolding asked_by
-named_range name m asked e = by_name (bytes_eq name (codes "replay")) (bytes_eq name (codes "fetch")) (bytes_eq name (codes "serve")) e
+named_range name m asked e =
+    by_name (bytes_eq name (codes "replay")) (bytes_eq name (codes "fetch")) (bytes_eq name (codes "serve")) (bytes_eq name (codes "selfrun")) (bytes_eq name (codes "demo")) e
   where
-    by_name : (is_replay is_fetch is_serve : Bool) → (if is_replay then replay_of m else (if is_fetch then fetch_of m else (if is_serve then serve_of m else None))) ≡ Some asked → InRange asked
-    by_name true is_fetch is_serve h = replay_range m asked h
-    by_name false true is_serve h = fetch_range m asked h
-    by_name false false true h = serve_range m asked h
-    by_name false false false h = cc
+    by_name : (is_replay is_fetch is_serve is_selfrun is_demo : Bool)
+        → (if is_replay then replay_of m
+        else (if is_fetch then fetch_of m
+        else (if is_serve then serve_of m
+        else (if is_selfrun then selfrun_of m
+        else (if is_demo then demo_of m else None))))) ≡ Some asked
+        → InRange asked
+    by_name true is_fetch is_serve is_selfrun is_demo h = replay_range m asked h
+    by_name false true is_serve is_selfrun is_demo h = fetch_range m asked h
+    by_name false false true is_selfrun is_demo h = serve_range m asked h
+    by_name false false false true is_demo h = selfrun_range m asked h
+    by_name false false false false true h = demo_range m asked h
+    by_name false false false false false h = cc
 
 -- the values of the command that words ask for
 pub asked_range : (words : List Text) (asked : Asked) → asked_of words ≡ Some asked → InRange asked

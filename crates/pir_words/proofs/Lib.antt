@@ -3,3 +3,4 @@ pub mod Digits
 pub mod Entered
 pub mod InRanges
 pub mod Parsing
+pub mod ValuesInRange

@@ -50,6 +50,31 @@ serve_app =
     let scheme = with_option listen (codes "scheme") false in
     with_option scheme (codes "workers") false
 
+-- `selfrun --seed N --rows R --width S --servers N --degree T --agree H --liars V`
+unfoldable pub selfrun_app : App
+selfrun_app =
+    let seed = with_option (new_app (codes "selfrun")) (codes "seed") true in
+    let rows = with_option seed (codes "rows") true in
+    let width = with_option rows (codes "width") true in
+    let servers = with_option width (codes "servers") true in
+    let degree = with_option servers (codes "degree") true in
+    let agree = with_option degree (codes "agree") true in
+    let liars = with_option agree (codes "liars") true in
+    with_option liars (codes "workers") false
+
+-- `demo --port P --database FILE --rows R --width S --block B --servers N --degree T --agree H`
+unfoldable pub demo_app : App
+demo_app =
+    let port = with_option (new_app (codes "demo")) (codes "port") true in
+    let database = with_option port (codes "database") true in
+    let rows = with_option database (codes "rows") true in
+    let width = with_option rows (codes "width") true in
+    let block = with_option width (codes "block") true in
+    let servers = with_option block (codes "servers") true in
+    let degree = with_option servers (codes "degree") true in
+    let agree = with_option degree (codes "agree") true in
+    with_option agree (codes "coins") false
+
 -- `pir` with no command, whose words begin after the program's name
 abbrev pub bare : App
 bare = let a = new_app (codes "pir") in record a { top = record a.top { no_binary_name = true } }
@@ -59,4 +84,6 @@ unfoldable pub pir : App
 pir =
     let replay = with_subcommand bare replay_app.top in
     let fetch = with_subcommand replay fetch_app.top in
-    with_subcommand fetch serve_app.top
+    let serve = with_subcommand fetch serve_app.top in
+    let selfrun = with_subcommand serve selfrun_app.top in
+    with_subcommand selfrun demo_app.top

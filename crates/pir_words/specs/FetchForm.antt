@@ -1,10 +1,9 @@
 -- The form of `fetch`.
-use Rattle.std.specs.Prelude.{ℕ, ◌≡◌, ◌<◌, ◌≤◌, ◌==◌, List, length, Option, Some, codes, nat_le}
+use Rattle.std.specs.Prelude.{ℕ, ◌-◌, ◌<◌, ◌==◌, ◌&&◌, List, length, Option, Some, codes, if◌then◌else◌, is_none, nat_le}
 use Rattle.clap.specs.Words.{Row, Text, all_of, first_of}
-use Rattle.wire_frames.specs.Limits.{IsShape}
-use Rattle.wire_frames.specs.declared.TheConstants.{MOST_DEGREE, MOST_SERVERS}
+use Rattle.wire_frames.specs.declared.TheConstants.{MOST_SERVERS}
 use Rattle.pir_words.specs.Chain.{◌>>=◌, ◌>>◌}
-use Rattle.pir_words.specs.Ranges.{block_in, coins_in, scheme_in, sharing_in, sizes_in}
+use Rattle.pir_words.specs.Ranges.{FitsSession, block_in, coins_in, scheme_in, sharing_in, sizes_in}
 use Rattle.pir_words.specs.declared.ranges.Sizes.{Sizes}
 use Rattle.pir_words.specs.declared.ranges.Sharing.{Sharing}
 use Rattle.pir_words.specs.declared.asked.Asked.{Asked}
@@ -17,24 +16,29 @@ addresses_in m = do
   nat_le (length addresses) MOST_SERVERS
   Some addresses
 
--- `fetch` with its values, each in its range; it is in Shamir's scheme alone
+-- in the XOR scheme neither degree nor agreement is given: of n servers, at least two, all have to answer, and all but one
+-- learn nothing
+unfoldable pub xor_sharing_in : ℕ → List Row → Option Sharing
+xor_sharing_in n m = do
+  is_none (first_of (codes "degree") m) && is_none (first_of (codes "agree") m)
+  nat_le 2 n
+  Some (record { degree = n - 1; agree = n })
+
+-- the degree and the agreement of n servers in a scheme
+unfoldable pub fetch_sharing_in : ℕ → ℕ → List Row → Option Sharing
+fetch_sharing_in scheme n m = if scheme == 1 then sharing_in n m else xor_sharing_in n m
+
+-- `fetch` with its values, each in its range
 unfoldable pub fetch_of : List Row → Option Asked
 fetch_of m = do
   (sizes : Sizes) ← sizes_in m
   block ← block_in sizes.rows m
   scheme ← scheme_in m
-  scheme == 1
   addresses ← addresses_in m
-  (sharing : Sharing) ← sharing_in (length addresses) m
+  (sharing : Sharing) ← fetch_sharing_in scheme (length addresses) m
   Some (Fetch scheme sizes.rows sizes.width block sharing.degree sharing.agree (coins_in m) (first_of (codes "record") m) addresses)
 
--- the ranges of the values of `fetch` with n addresses
+-- the values of `fetch` with n addresses are those of a session, and the block is one of the rows
 pub record IsFetch (scheme r s b t h n : ℕ) : Type 0 where
-  pub shamir : scheme ≡ 1
-  pub shape : IsShape r s
+  pub numbers : FitsSession scheme t h n r s
   pub block : b < r
-  pub private : 1 ≤ t
-  pub few_private : t ≤ MOST_DEGREE
-  pub agreement : t < h
-  pub servers : h ≤ n
-  pub few_servers : n ≤ MOST_SERVERS

@@ -9,8 +9,10 @@ use Rattle.pir_words.specs.Command.{pir}
 use Rattle.pir_words.specs.ReplayForm.{replay_of}
 use Rattle.pir_words.specs.FetchForm.{IsFetch, fetch_of}
 use Rattle.pir_words.specs.ServeForm.{IsServe, serve_of}
+use Rattle.pir_words.specs.SelfrunForm.{IsSelfrun, selfrun_of}
+use Rattle.pir_words.specs.DemoForm.{IsDemo, demo_of}
 use Rattle.pir_words.specs.declared.asked.Asked.{Asked}
-use Rattle.pir_words.specs.declared.asked.Asked.TheVariants.{Replay, Fetch, Serve}
+use Rattle.pir_words.specs.declared.asked.Asked.TheVariants.{Replay, Fetch, Serve, Selfrun, Demo}
 use Rattle.pir_words.specs.declared.asked.WordsFault.{WordsFault}
 use Rattle.pir_words.specs.declared.asked.WordsFault.TheVariants.{Usage, Memory}
 
@@ -24,7 +26,9 @@ unfoldable pub asked_by : Text → List Row → Option Asked
 asked_by name m =
     if bytes_eq name (codes "replay") then replay_of m
     else (if bytes_eq name (codes "fetch") then fetch_of m
-    else (if bytes_eq name (codes "serve") then serve_of m else None))
+    else (if bytes_eq name (codes "serve") then serve_of m
+    else (if bytes_eq name (codes "selfrun") then selfrun_of m
+    else (if bytes_eq name (codes "demo") then demo_of m else None))))
 
 -- the command that a parse entered
 unfoldable pub asked_in : Option (Text × List Row) → Option Asked
@@ -53,3 +57,5 @@ abbrev pub InRange : Asked → Type 0
 InRange (Replay file) = Unit {0}
 InRange (Fetch scheme r s b t h coins keep addresses) = IsFetch scheme r s b t h (length addresses)
 InRange (Serve scheme database s conns listen workers) = IsServe scheme s conns workers
+InRange (Selfrun seed r s n t h v workers) = IsSelfrun seed r s n t h v workers
+InRange (Demo port database r s b n t h coins) = IsDemo port r s b t h n

@@ -5,4 +5,6 @@ pub mod Command
 pub mod ReplayForm
 pub mod FetchForm
 pub mod ServeForm
+pub mod SelfrunForm
+pub mod DemoForm
 pub mod Form

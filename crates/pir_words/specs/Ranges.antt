@@ -2,9 +2,11 @@
 use Rattle.std.specs.Prelude.{ℕ, ◌*◌, ◌&&◌, if◌then◌else◌, List, Option, Some, None, codes, nat_lt, nat_le, unwrap_or}
 use Rattle.std.specs.Str.{bytes_eq}
 use Rattle.clap.specs.Words.{Row, Text, first_of}
-use Rattle.wire_frames.specs.declared.TheConstants.{MOST_DEGREE, MOST_ROWS, MOST_WIDTH, MOST_CELLS}
+use Rattle.wire_frames.specs.Limits.{IsInRange}
+use Rattle.wire_frames.specs.declared.TheConstants.{MOST_DEGREE, MOST_SERVERS, MOST_ROWS, MOST_WIDTH, MOST_CELLS}
 use Rattle.pir_words.specs.Chain.{◌>>=◌, ◌>>◌}
-use Rattle.pir_words.specs.Numbers.{limited, number_in}
+use Rattle.pir_words.specs.Numbers.{limited, number, number_in}
+use Rattle.pir_words.specs.declared.TheConstants.{MOST_WORKERS}
 use Rattle.pir_words.specs.declared.ranges.Sizes.{Sizes}
 use Rattle.pir_words.specs.declared.ranges.Sharing.{Sharing}
 
@@ -31,6 +33,10 @@ scheme_named name = if bytes_eq name (codes "shamir") then Some 1 else (if bytes
 unfoldable pub scheme_in : List Row → Option ℕ
 scheme_in m = scheme_named (unwrap_or (first_of (codes "scheme") m) (codes "shamir"))
 
+-- how many servers there are, at least two
+unfoldable pub servers_in : List Row → Option ℕ
+servers_in m = limited (codes "servers") 2 MOST_SERVERS m
+
 -- the degree t and the agreement h of n servers, 1 <= t < h <= n
 unfoldable pub sharing_in : ℕ → List Row → Option Sharing
 sharing_in n m = do
@@ -38,6 +44,18 @@ sharing_in n m = do
   h ← number_in (codes "agree") m
   nat_lt t h && nat_le h n
   Some (record { degree = t; agree = h })
+
+-- a session may have these numbers, whatever its own is: degree t and agreement h of n servers in a scheme, and r rows of s
+-- bytes
+abbrev pub FitsSession : ℕ → ℕ → ℕ → ℕ → ℕ → ℕ → Type 0
+FitsSession scheme t h n r s = IsInRange (record { scheme = scheme; t = t; h = h; n = n; session = 0; r = r; s = s })
+
+-- the number of workers, one where it isn't given
+unfoldable pub workers_in : List Row → Option ℕ
+workers_in m = do
+  n ← number (unwrap_or (first_of (codes "workers") m) (codes "1"))
+  nat_le 1 n && nat_le n MOST_WORKERS
+  Some n
 
 -- the file that random bytes come from
 unfoldable pub coins_in : List Row → Text

@@ -1,20 +1,13 @@
 -- The form of `serve`.
-use Rattle.std.specs.Prelude.{ℕ, ◌≡◌, ◌⊎◌, ◌≤◌, ◌&&◌, List, Option, Some, codes, nat_le, unwrap_or}
+use Rattle.std.specs.Prelude.{ℕ, ◌≡◌, ◌⊎◌, ◌≤◌, List, Option, Some, codes}
 use Rattle.clap.specs.Words.{Row, first_of}
 use Rattle.wire_frames.specs.declared.TheConstants.{MOST_WIDTH}
-use Rattle.pir_words.specs.Chain.{◌>>=◌, ◌>>◌}
-use Rattle.pir_words.specs.Numbers.{limited, number}
-use Rattle.pir_words.specs.Ranges.{scheme_in}
+use Rattle.pir_words.specs.Chain.{◌>>=◌}
+use Rattle.pir_words.specs.Numbers.{limited}
+use Rattle.pir_words.specs.Ranges.{scheme_in, workers_in}
 use Rattle.pir_words.specs.declared.TheConstants.{MOST_CONNS, MOST_WORKERS}
 use Rattle.pir_words.specs.declared.asked.Asked.{Asked}
 use Rattle.pir_words.specs.declared.asked.Asked.TheVariants.{Serve}
-
--- the number of workers, one where it isn't given
-unfoldable pub workers_in : List Row → Option ℕ
-workers_in m = do
-  n ← number (unwrap_or (first_of (codes "workers") m) (codes "1"))
-  nat_le 1 n && nat_le n MOST_WORKERS
-  Some n
 
 -- `serve` with its values, each in its range
 unfoldable pub serve_of : List Row → Option Asked

@@ -13,7 +13,7 @@ pub enum Asked {
     },
     /// Fetch a block of a database that several servers hold.
     Fetch {
-        /// The scheme's number: 1, Shamir's.
+        /// The scheme's number: 1, Shamir's, or 2, the XOR scheme.
         scheme: u8,
         /// How many rows the database has.
         rows: u32,
@@ -21,9 +21,9 @@ pub enum Asked {
         width: u32,
         /// The row to fetch, counted from 0.
         block: u32,
-        /// The degree t: so many servers together learn nothing.
+        /// The degree t: so many servers together learn nothing; in the XOR scheme all but one.
         degree: u8,
-        /// How many answers have to agree.
+        /// How many answers have to agree; in the XOR scheme all.
         agree: u8,
         /// The file that random bytes come from.
         coins: Text,
@@ -46,6 +46,46 @@ pub enum Asked {
         listen: Text,
         /// How many workers share the work on an answer.
         workers: u8,
+    },
+    /// Fetch a block of a database that a seed gives from servers in memory, in Shamir's scheme.
+    Selfrun {
+        /// The seed of all that is random.
+        seed: u64,
+        /// How many rows the database has.
+        rows: u32,
+        /// How many bytes a row has.
+        width: u32,
+        /// How many servers there are.
+        servers: u8,
+        /// The degree t: so many servers together learn nothing.
+        degree: u8,
+        /// How many answers have to agree.
+        agree: u8,
+        /// How many servers, the last ones, answer random bytes.
+        liars: u8,
+        /// How many workers share the work on an answer.
+        workers: u8,
+    },
+    /// Fetch a block of a database from servers that are started for it, in Shamir's scheme.
+    Demo {
+        /// Server i, counted from 1, listens at the port that is greater by i.
+        port: u16,
+        /// The file of the database.
+        database: Text,
+        /// How many rows the database has.
+        rows: u32,
+        /// How many bytes a row has.
+        width: u32,
+        /// The row to fetch, counted from 0.
+        block: u32,
+        /// How many servers there are.
+        servers: u8,
+        /// The degree t: so many servers together learn nothing.
+        degree: u8,
+        /// How many answers have to agree.
+        agree: u8,
+        /// The file that random bytes come from.
+        coins: Text,
     },
 }
 

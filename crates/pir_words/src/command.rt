@@ -3,7 +3,7 @@
 ghost use Rattle.std.specs.Prelude.{◌≡◌, Bool, false, IfOk};
 ghost use Rattle.clap.specs.Words.{app_of};
 ghost use Rattle.clap.specs.declared.builder.command.Command.TheViews.{out-Command};
-ghost use Rattle.pir_words.specs.Command.{with_option, replay_app, fetch_app, serve_app, pir};
+ghost use Rattle.pir_words.specs.Command.{with_option, replay_app, fetch_app, serve_app, selfrun_app, demo_app, pir};
 
 use clap::{Arg, ArgAction, Command};
 use std::alloc::{AllocError, Global};
@@ -70,15 +70,52 @@ fn serve_command<'a>(alloc: Global) -> Result<Command<'a>, AllocError>
     with_option(alloc, scheme, "workers", false)
 }
 
+/// `selfrun`.
+fn selfrun_command<'a>(alloc: Global) -> Result<Command<'a>, AllocError>
+    ensures app { IfOk result (λ c. app_of c ≡ selfrun_app) }
+    ensures local { IfOk result (λ c. (out-Command c).has_globals ≡ false) }
+{
+    let start = Command::new(alloc, "selfrun");
+    let seed = with_option(alloc, start, "seed", true)?;
+    let rows = with_option(alloc, seed, "rows", true)?;
+    let width = with_option(alloc, rows, "width", true)?;
+    let servers = with_option(alloc, width, "servers", true)?;
+    let degree = with_option(alloc, servers, "degree", true)?;
+    let agree = with_option(alloc, degree, "agree", true)?;
+    let liars = with_option(alloc, agree, "liars", true)?;
+    with_option(alloc, liars, "workers", false)
+}
+
+/// `demo`.
+fn demo_command<'a>(alloc: Global) -> Result<Command<'a>, AllocError>
+    ensures app { IfOk result (λ c. app_of c ≡ demo_app) }
+    ensures local { IfOk result (λ c. (out-Command c).has_globals ≡ false) }
+{
+    let start = Command::new(alloc, "demo");
+    let port = with_option(alloc, start, "port", true)?;
+    let database = with_option(alloc, port, "database", true)?;
+    let rows = with_option(alloc, database, "rows", true)?;
+    let width = with_option(alloc, rows, "width", true)?;
+    let block = with_option(alloc, width, "block", true)?;
+    let servers = with_option(alloc, block, "servers", true)?;
+    let degree = with_option(alloc, servers, "degree", true)?;
+    let agree = with_option(alloc, degree, "agree", true)?;
+    with_option(alloc, agree, "coins", false)
+}
+
 /// `pir` with its commands. The words come without the program's name.
 pub fn pir_command<'a>(alloc: Global) -> Result<Command<'a>, AllocError>
     ensures { IfOk result (λ c. app_of c ≡ pir) }
 {
     let top = Command::new(alloc, "pir").no_binary_name(true);
     let replay = replay_command(alloc)?;
-    let fetch = fetch_command(alloc)?;
-    let serve = serve_command(alloc)?;
     let with_replay = top.subcommand(replay)?;
+    let fetch = fetch_command(alloc)?;
     let with_fetch = with_replay.subcommand(fetch)?;
-    with_fetch.subcommand(serve)
+    let serve = serve_command(alloc)?;
+    let with_serve = with_fetch.subcommand(serve)?;
+    let selfrun = selfrun_command(alloc)?;
+    let with_selfrun = with_serve.subcommand(selfrun)?;
+    let demo = demo_command(alloc)?;
+    with_selfrun.subcommand(demo)
 }

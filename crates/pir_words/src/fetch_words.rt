@@ -3,11 +3,11 @@
 ghost use Rattle.std.specs.Prelude.{◌≡◌, ◌≤◌, IfSome, length, map, option_map};
 ghost use Rattle.wire_frames.specs.declared.TheConstants.{MOST_SERVERS};
 ghost use Rattle.pir_words.specs.Numbers.{given};
-ghost use Rattle.pir_words.specs.FetchForm.{addresses_in, fetch_of};
+ghost use Rattle.pir_words.specs.FetchForm.{addresses_in, fetch_of, fetch_sharing_in, xor_sharing_in};
 ghost use Rattle.pir_words.specs.Form.{Answers};
 
 use crate::asked::{Asked, WordsFault};
-use crate::ranges::{SHAMIR, block_at, coins_at, scheme_at, sharing_at, sizes_at};
+use crate::ranges::{SHAMIR, Sharing, block_at, coins_at, scheme_at, sharing_at, sizes_at};
 use crate::text::Texts;
 use crate::values::{kept, owned, text_at, texts_at};
 use clap::ArgMatches;
@@ -28,6 +28,33 @@ fn addresses_at<'a, 'b>(matches: &'b ArgMatches<'a>) -> Option<&'b [&'a str]>
     }
 }
 
+/// The degree and the agreement of `servers` servers in the XOR scheme, in which neither is given.
+#[tactic(auto, unfolding(crate::specs::FetchForm::xor_sharing_in))]
+fn xor_sharing_at(matches: &ArgMatches, servers: u8) -> Option<Sharing>
+    ensures { result ≡ xor_sharing_in servers (given matches.now) }
+{
+    let given = text_at(matches, "degree").is_some() || text_at(matches, "agree").is_some();
+    if given || servers < 2 {
+        return None;
+    }
+    Some(Sharing {
+        degree: servers - 1,
+        agree: servers,
+    })
+}
+
+/// The degree and the agreement of `servers` servers in a scheme.
+#[tactic(auto, unfolding(crate::specs::FetchForm::fetch_sharing_in))]
+fn fetch_sharing_at(matches: &ArgMatches, scheme: u8, servers: u8) -> Option<Sharing>
+    ensures { result ≡ fetch_sharing_in scheme servers (given matches.now) }
+{
+    if scheme == SHAMIR {
+        sharing_at(matches, servers)
+    } else {
+        xor_sharing_at(matches, servers)
+    }
+}
+
 /// `fetch` with its values, each in its range.
 #[tactic(auto, unfolding(crate::specs::FetchForm::fetch_of))]
 pub fn read_fetch(alloc: Global, matches: &ArgMatches) -> Result<Asked, WordsFault>
@@ -42,13 +69,10 @@ pub fn read_fetch(alloc: Global, matches: &ArgMatches) -> Result<Asked, WordsFau
     let Some(scheme) = scheme_at(matches) else {
         return Err(WordsFault::Usage);
     };
-    if scheme != SHAMIR {
-        return Err(WordsFault::Usage);
-    }
     let Some(addresses) = addresses_at(matches) else {
         return Err(WordsFault::Usage);
     };
-    let Some(sharing) = sharing_at(matches, addresses.len() as u8) else {
+    let Some(sharing) = fetch_sharing_at(matches, scheme, addresses.len() as u8) else {
         return Err(WordsFault::Usage);
     };
     let coins = owned(alloc, coins_at(matches))?;

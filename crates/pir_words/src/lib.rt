@@ -19,9 +19,11 @@ ghost use Rattle.pir_words.specs.Form.{Answers, InRange, are_taken, asked_by, as
 
 mod asked;
 mod command;
+mod demo_words;
 mod fetch_words;
 mod ranges;
 mod replay_words;
+mod selfrun_words;
 mod serve_words;
 #[cfg(test)]
 mod tests;
@@ -32,8 +34,10 @@ pub use asked::{Asked, WordsFault};
 use clap::error::ErrorKind;
 use clap::{ArgMatches, Error};
 use command::pir_command;
+use demo_words::read_demo;
 use fetch_words::read_fetch;
 use replay_words::read_replay;
+use selfrun_words::read_selfrun;
 use serve_words::read_serve;
 use std::alloc::Global;
 pub use text::{Text, Texts};
@@ -43,6 +47,12 @@ pub const MOST_CONNS: u32 = 65535;
 
 /// The greatest number of workers of a server.
 pub const MOST_WORKERS: u8 = 16;
+
+/// The least port of a demonstration, whose servers listen at those that follow it.
+pub const LEAST_PORT: u16 = 1024;
+
+/// The greatest port of a demonstration.
+pub const MOST_PORT: u16 = 65000;
 
 /// What a parse that doesn't end with matches comes to.
 fn fault_by(error: Error) -> WordsFault
@@ -79,6 +89,8 @@ fn read_command(alloc: Global, name: &str, matches: &ArgMatches) -> Result<Asked
         "replay" => read_replay(alloc, matches),
         "fetch" => read_fetch(alloc, matches),
         "serve" => read_serve(alloc, matches),
+        "selfrun" => read_selfrun(matches).ok_or(WordsFault::Usage),
+        "demo" => read_demo(alloc, matches),
         _ => Err(WordsFault::Usage),
     }
 }
@@ -98,18 +110,24 @@ fn read_matches(alloc: Global, matches: &ArgMatches) -> Result<Asked, WordsFault
 /// | Command | Required | May be left out |
 /// |---|---|---|
 /// | `replay` | FILE | |
-/// | `fetch` | `--rows R --width S --block B --degree T --agree H`, one address or more | `--scheme shamir`, `--coins FILE` (`/dev/urandom`), `--record FILE` |
-/// | `serve` | `--database FILE --width S --conns N --listen ADDR` | `--scheme shamir` or `--scheme xor`, `--workers W` (1) |
+/// | `fetch` | `--rows R --width S --block B --degree T --agree H`, two addresses or more | `--scheme shamir`, `--coins FILE` (`/dev/urandom`), `--record FILE` |
+/// | `fetch` | `--scheme xor --rows R --width S --block B`, two addresses or more | `--coins FILE` (`/dev/urandom`), `--record FILE` |
+/// | `serve` | `--database FILE --width S --conns GUESTS --listen ADDR` | `--scheme shamir` or `--scheme xor` (`shamir`), `--workers W` (1) |
+/// | `selfrun` | `--seed SEED --rows R --width S --servers N --degree T --agree H --liars V` | `--workers W` (1) |
+/// | `demo` | `--port P --database FILE --rows R --width S --block B --servers N --degree T --agree H` | `--coins FILE` (`/dev/urandom`) |
 ///
 /// Options come in any order, each once, as `--rows 2` or `--rows=2`, and addresses may stand between them. What follows
 /// the word `--` is no option. A value that begins with `-` is written `--coins=-x`; `-` alone is a value.
 ///
-/// A number is one or more ASCII decimal digits, of a value below `2^64`: `002` is good, and `+2` is not. The numbers R
-/// of rows and S of their bytes are at least 1 and at most [`MOST_ROWS`](wire_frames::MOST_ROWS) and
-/// [`MOST_WIDTH`](wire_frames::MOST_WIDTH), their product is at most [`MOST_CELLS`](wire_frames::MOST_CELLS), and the
-/// block B is below R. Of n addresses, at most [`MOST_SERVERS`](wire_frames::MOST_SERVERS), degree and agreement have
-/// `1 <= T < H <= n`, and T is at most [`MOST_DEGREE`](wire_frames::MOST_DEGREE). The number N of guests is at least 1 and at most
-/// [`MOST_CONNS`], and the number W of workers at most [`MOST_WORKERS`].
+/// A number is one or more ASCII decimal digits, of a value below `2^64`: `002` is good, and `+2` is not. Any such number
+/// is a seed. The numbers R of rows and S of their bytes are at least 1 and at most
+/// [`MOST_ROWS`](wire_frames::MOST_ROWS) and [`MOST_WIDTH`](wire_frames::MOST_WIDTH), their product is at most
+/// [`MOST_CELLS`](wire_frames::MOST_CELLS), and the block B is below R. There are at least 2 servers and at most
+/// [`MOST_SERVERS`](wire_frames::MOST_SERVERS), as many as `--servers` says or addresses stand. Degree and agreement of N
+/// servers have `1 <= T < H <= N`, and T is at most [`MOST_DEGREE`](wire_frames::MOST_DEGREE). In the XOR scheme neither
+/// may stand: the degree is N - 1 and the agreement N. At most all servers are liars. The number of guests is at least 1 and
+/// at most [`MOST_CONNS`], the number W of workers at least 1 and at most [`MOST_WORKERS`], and the port P at least
+/// [`LEAST_PORT`] and at most [`MOST_PORT`].
 ///
 /// # Errors
 ///

@@ -2,11 +2,12 @@
 
 ghost use Rattle.std.specs.Prelude.{◌≡◌};
 ghost use Rattle.pir_words.specs.Numbers.{given};
-ghost use Rattle.pir_words.specs.Ranges.{block_in, coins_in, scheme_in, scheme_named, sharing_in, sizes_in};
+ghost use Rattle.pir_words.specs.Ranges.{block_in, coins_in, scheme_in, scheme_named, servers_in, sharing_in, sizes_in, workers_in};
 
-use crate::values::{limited_at, number_at, text_at};
+use crate::MOST_WORKERS;
+use crate::values::{limited_at, number_at, number_of, text_at};
 use clap::ArgMatches;
-use wire_frames::{MOST_CELLS, MOST_DEGREE, MOST_ROWS, MOST_WIDTH};
+use wire_frames::{MOST_CELLS, MOST_DEGREE, MOST_ROWS, MOST_SERVERS, MOST_WIDTH};
 
 /// The sizes of a database.
 #[derive(Clone, Copy)]
@@ -75,6 +76,15 @@ pub fn scheme_at(matches: &ArgMatches) -> Option<u8>
     scheme_of(text_at(matches, "scheme").unwrap_or("shamir"))
 }
 
+/// How many servers there are, at least two.
+#[tactic(auto, unfolding(crate::specs::Ranges::servers_in))]
+pub fn servers_at(matches: &ArgMatches) -> Option<u8>
+    ensures { result ≡ servers_in (given matches.now) }
+{
+    let servers = limited_at(matches, "servers", 2, u64::from(MOST_SERVERS))?;
+    Some(servers as u8)
+}
+
 /// The degree and the agreement of `servers` servers.
 #[tactic(auto, unfolding(crate::specs::Ranges::sharing_in))]
 pub fn sharing_at(matches: &ArgMatches, servers: u8) -> Option<Sharing>
@@ -87,6 +97,19 @@ pub fn sharing_at(matches: &ArgMatches, servers: u8) -> Option<Sharing>
             degree: degree as u8,
             agree: agree as u8,
         })
+    } else {
+        None
+    }
+}
+
+/// The number of workers, one where it isn't given.
+#[tactic(auto, unfolding(crate::specs::Ranges::workers_in))]
+pub fn workers_at(matches: &ArgMatches) -> Option<u8>
+    ensures { result ≡ workers_in (given matches.now) }
+{
+    let n = number_of(text_at(matches, "workers").unwrap_or("1"))?;
+    if 1 <= n && n <= u64::from(MOST_WORKERS) {
+        Some(n as u8)
     } else {
         None
     }

@@ -1,30 +1,16 @@
 //! The words of `serve`.
 
-ghost use Rattle.std.specs.Prelude.{◌≡◌};
 ghost use Rattle.pir_words.specs.Numbers.{given};
-ghost use Rattle.pir_words.specs.ServeForm.{serve_of, workers_in};
+ghost use Rattle.pir_words.specs.ServeForm.{serve_of};
 ghost use Rattle.pir_words.specs.Form.{Answers};
 
+use crate::MOST_CONNS;
 use crate::asked::{Asked, WordsFault};
-use crate::ranges::scheme_at;
-use crate::values::{limited_at, number_of, owned, text_at};
-use crate::{MOST_CONNS, MOST_WORKERS};
+use crate::ranges::{scheme_at, workers_at};
+use crate::values::{limited_at, owned, text_at};
 use clap::ArgMatches;
 use std::alloc::Global;
 use wire_frames::MOST_WIDTH;
-
-/// The number of workers, one where it isn't given.
-#[tactic(auto, unfolding(crate::specs::ServeForm::workers_in))]
-fn workers_at(matches: &ArgMatches) -> Option<u8>
-    ensures { result ≡ workers_in (given matches.now) }
-{
-    let n = number_of(text_at(matches, "workers").unwrap_or("1"))?;
-    if 1 <= n && n <= u64::from(MOST_WORKERS) {
-        Some(n as u8)
-    } else {
-        None
-    }
-}
 
 /// `serve` with its values, each in its range.
 #[tactic(auto, unfolding(crate::specs::ServeForm::serve_of))]

@@ -13,7 +13,7 @@ pieces-init g c =
     record {
       within = omega arith;
       so_far = sym (ap (λ l. gave l (world.at 1)) encode_lower-nil ∙ gave_none (world.at 1));
-      others = record { others = λ q lt ne. refl; crowd = refl };
+      others = record { others = λ q lt ne. refl; crowd = refl; started = refl };
     }
 
 pub returns-in_err-write_piece-clause-written : goal.returns-in_err-write_piece-clause-written

@@ -13,5 +13,7 @@ returns c =
     ∙ ap (λ (a : App). record a { top = record a.top { no_binary_name = true } }) c.new.ensures.app in
     let replay_is = c.in_ok-with_replay.ensures.shape c.in_ok-replay.ensures.local ∙ ap₂ with_subcommand top_is (ap above c.in_ok-replay.ensures.app) in
     let fetch_is = c.in_ok-with_fetch.ensures.shape c.in_ok-fetch.ensures.local ∙ ap₂ with_subcommand replay_is (ap above c.in_ok-fetch.ensures.app) in
-    IfOk-weaker c.subcommand-3.result _ _ (λ r h. h.shape c.in_ok-serve.ensures.local
-    ∙ ap₂ with_subcommand fetch_is (ap above c.in_ok-serve.ensures.app)) c.subcommand-3.ensures
+    let serve_is = c.in_ok-with_serve.ensures.shape c.in_ok-serve.ensures.local ∙ ap₂ with_subcommand fetch_is (ap above c.in_ok-serve.ensures.app) in
+    let selfrun_is = c.in_ok-with_selfrun.ensures.shape c.in_ok-selfrun.ensures.local ∙ ap₂ with_subcommand serve_is (ap above c.in_ok-selfrun.ensures.app) in
+    IfOk-weaker c.subcommand-5.result _ _ (λ r h. h.shape c.in_ok-demo.ensures.local
+    ∙ ap₂ with_subcommand selfrun_is (ap above c.in_ok-demo.ensures.app)) c.subcommand-5.ensures

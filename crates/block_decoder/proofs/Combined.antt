@@ -1,0 +1,97 @@
+-- The sum of the usable answers of a session, server by server.
+use Rattle.std.proofs.Common.{◌≡◌, ℕ, suc, ◌+◌, ◌<◌, ◌≤◌, List, [], ◌∷◌, ◌++◌, length, map, get_or, replicate, None, Some, refl, sym, ap, ap₂, ◌∙◌, arith, inl, inr}
+use Rattle.std.proofs.lemmas.Bool.{cases_lt}
+use Rattle.std.proofs.lemmas.List.{append_assoc, append-nil, length-append, map-append, get_or_append_left, get_or_push, get_or-replicate, get_or_past, length-replicate}
+use Rattle.gf256.specs.Field.{◌⊕◌}
+use Rattle.gf256.specs.Sums.{sum_to}
+use Rattle.gf256.proofs.Sums.{sum_to-same}
+use Rattle.chor_xor.specs.Chosen.{combined_at, combined}
+use Rattle.chor_xor.proofs.ChosenSums.{combined-is}
+use Rattle.wire_frames.specs.Answer.{Answer, answers, with_answer}
+use Rattle.wire_frames.specs.Session.{Transcript}
+use Rattle.block_decoder.specs.Usable.{payload_of}
+use Rattle.block_decoder.proofs.Collected.{rest_of, rest_of-step, rest_of-none}
+
+-- the payloads of answers
+abbrev pub payloads_of : List Answer → List (List ℕ)
+payloads_of all = map (λ (a : Answer). a.payload) all
+
+-- one more payload in the sum
+combined_at-push : (payloads : List (List ℕ)) (payload : List ℕ) (c : ℕ) → combined_at (payloads ++ payload ∷ []) c ≡ combined_at payloads c ⊕ get_or payload c 0
+unfolding combined_at sum_to
+combined_at-push payloads payload c =
+    let all = payloads ++ payload ∷ [] in
+    let long : length all ≡ suc (length payloads) = length-append payloads (payload ∷ []) ∙ (omega arith) in
+    ap (sum_to (λ i. get_or (get_or all i []) c 0)) long
+    ∙ ap₂ ◌⊕◌
+    (sum_to-same _ (λ i. get_or (get_or payloads i []) c 0) (length payloads) (λ i l. ap (λ (p : List ℕ). get_or p c 0) (get_or_append_left payloads (payload ∷ []) [] i l)))
+    (ap (λ (p : List ℕ). get_or p c 0) (get_or_push payloads payload [] (length payloads) refl))
+
+-- the answers of the servers before the next are summed
+pub record HasCombined (session : Transcript) (sum : List ℕ) (k next : ℕ) : Type 0 where
+  pub made : List Answer
+  pub answers_are : made ++ rest_of session next ≡ answers session
+  pub count : k ≡ length made
+  pub few : k < next
+  pub size : length sum ≡ session.params.s
+  pub is : (c : ℕ) → get_or sum c 0 ≡ combined_at (payloads_of made) c
+
+-- a list of one number has it everywhere, where it is the default too
+get_or-replicate_default : (n x c : ℕ) → get_or (replicate n x) c x ≡ x
+get_or-replicate_default n x c =
+    elim (cases_lt c n) [
+      | inl low ↦ get_or-replicate n c x x low
+      | inr past ↦ get_or_past (replicate n x) c x (omega (arith, past, length-replicate n x))
+    ]
+
+-- nothing yet
+pub combined_none : (session : Transcript) (sum : List ℕ) → sum ≡ replicate session.params.s 0 → HasCombined session sum 0 1
+unfolding rest_of combined_at sum_to
+combined_none session sum zeros = record {
+  made = [];
+  answers_are = refl;
+  count = refl;
+  few = omega arith;
+  size = ap length zeros ∙ length-replicate session.params.s (let none : ℕ = 0 in none);
+  is = λ c. ap (λ (xs : List ℕ). get_or xs c 0) zeros ∙ get_or-replicate_default session.params.s 0 c;
+}
+
+-- the next server's answer isn't usable
+pub combined_absent : (session : Transcript) (sum : List ℕ) (k next : ℕ) → 1 ≤ next → next ≤ length session.records → payload_of session next ≡ None
+    → HasCombined session sum k next → HasCombined session sum k (next + 1)
+combined_absent session sum k next low high absent so_far = record {
+  made = so_far.made;
+  answers_are = ap (λ rest. so_far.made ++ rest) (sym (rest_of-step session next low high ∙ ap (λ p. with_answer next p (rest_of session (next + 1))) absent)) ∙ so_far.answers_are;
+  count = so_far.count;
+  few = let l = so_far.few in omega (arith, l);
+  size = so_far.size;
+  is = so_far.is;
+}
+
+-- the next server's answer is usable
+pub combined_present : (session : Transcript) (sum new : List ℕ) (k next : ℕ) (payload : List ℕ) → 1 ≤ next → next ≤ length session.records → payload_of session next ≡ Some payload
+    → length new ≡ length sum → ((c : ℕ) → get_or new c 0 ≡ get_or sum c 0 ⊕ get_or payload c 0)
+    → HasCombined session sum k next → HasCombined session new (k + 1) (next + 1)
+combined_present session sum new k next payload low high present size added so_far =
+    let one : Answer = record { index = next; payload = payload } in
+    let longer = length-append so_far.made (one ∷ []) in
+    record {
+      made = so_far.made ++ one ∷ [];
+      answers_are = append_assoc so_far.made (one ∷ []) (rest_of session (next + 1))
+          ∙ ap (λ rest. so_far.made ++ rest) (sym (rest_of-step session next low high ∙ ap (λ p. with_answer next p (rest_of session (next + 1))) present))
+          ∙ so_far.answers_are;
+      count = let n = so_far.count in omega (arith, n, longer);
+      few = let l = so_far.few in omega (arith, l);
+      size = size ∙ so_far.size;
+      is = λ c. added c ∙ ap (λ x. x ⊕ get_or payload c 0) (so_far.is c) ∙ sym (combined_at-push (payloads_of so_far.made) payload c)
+          ∙ sym (ap (λ (ps : List (List ℕ)). combined_at ps c) (map-append (λ (a : Answer). a.payload) so_far.made (one ∷ [])));
+    }
+
+-- when all servers are passed, the answers are counted and summed
+pub combined_all : (session : Transcript) (sum : List ℕ) (k : ℕ) → length session.records ≡ session.params.n → HasCombined session sum k (session.params.n + 1)
+    → (k ≡ length (answers session)) × (sum ≡ combined session.params.s (payloads_of (answers session)))
+combined_all session sum k all done =
+    let whole : done.made ≡ answers session = sym (append-nil done.made) ∙ ap (λ rest. done.made ++ rest) (sym (rest_of-none session all)) ∙ done.answers_are in (
+      done.count ∙ ap length whole,
+      combined-is (payloads_of (answers session)) sum session.params.s done.size (λ c. done.is c ∙ ap (λ (made : List Answer). combined_at (payloads_of made) c) whole),
+    )

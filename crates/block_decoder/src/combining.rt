@@ -1,0 +1,39 @@
+//! The verdict in the XOR scheme.
+
+ghost use Rattle.std.specs.Prelude.{◌≡◌, length, IfOk};
+ghost use Rattle.wire_frames.specs.Answer.{answers};
+ghost use Rattle.block_decoder.specs.Verdict.{IsCombined};
+
+use crate::listing::Listing;
+use crate::usable::usable_payload;
+use crate::verdict::Verdict;
+use chor_xor::combine_into;
+use std::alloc::{AllocError, Global};
+use wire_frames::Session;
+
+#[cfg(test)]
+mod tests;
+
+/// What the usable answers say in the XOR scheme (Chor, Goldreich, Kushilevitz and Sudan 1995): the sum of all payloads
+/// is the block, and without one of them nothing is known of it. Memory is taken for the block and its listing.
+pub(crate) fn combine_all(alloc: Global, session: &Session) -> Result<Verdict, AllocError>
+    requires { length session.now.records ≡ session.now.params.n }
+    ensures { IfOk result (IsCombined (answers session.now) session.now.params.s session.now.params.n session.now.params.h) }
+{
+    let params = session.params();
+    let mut sum = vec![in alloc; 0; params.s as usize]?;
+    let mut k = 0;
+    for index in 1..params.n + 1 {
+        if let Some(payload) = usable_payload(session, index) {
+            combine_into(&mut sum, payload);
+            k += 1;
+        }
+    }
+    if k < params.n {
+        return Ok(Verdict::TooFew {
+            k: u32::from(k),
+            h: u32::from(params.h),
+        });
+    }
+    Ok(Verdict::Listed(Listing::of_one(alloc, sum)?))
+}

@@ -1,0 +1,93 @@
+-- What a verdict says of the block that honest servers hold, in each scheme.
+use Rattle.std.proofs.Common.{◌≡◌, ℕ, ◌+◌, ◌*◌, ◌<◌, ◌≤◌, List, [], ◌∷◌, length, map, All, IfSome, Contains, ap, subst, ◌∙◌, arith}
+use Rattle.std.proofs.lemmas.List.Elements.{Contains-get_or}
+use Rattle.wire_frames.specs.Answer.{Answer, answers}
+use Rattle.wire_frames.specs.Limits.{IsInRange}
+use Rattle.wire_frames.specs.Session.{Transcript}
+use Rattle.chor_xor.specs.Chosen.{combined}
+use Rattle.block_decoder.specs.Verdict.{IsCombined, IsDecided, IsVerdict, ListsAtMostOne}
+use Rattle.block_decoder.specs.Lagrange.{HasColumns}
+use Rattle.block_decoder.specs.declared.verdict.Verdict.{Verdict}
+use Rattle.block_decoder.specs.declared.verdict.Verdict.TheVariants.{Listed, TooFew, TooWeak}
+use Rattle.block_decoder.proofs.OneBlock.{close_verdict_is_listed}
+use Rattle.block_decoder.proofs.UsableAnswers.{columns-answers}
+use Rattle.fetch_client.specs.Plan.{query_coins}
+use Rattle.fetch_client.specs.Honest.{FindsHonestBlock, HonestRecords, IsHonest, block_of}
+use Rattle.fetch_client.proofs.Schemes.{coins_of_shamir}
+use Rattle.fetch_client.proofs.HonestFrames.{honest_from_records}
+use Rattle.fetch_client.proofs.HonestBlock.{products_from_honest, honest_is_listed, honest_is_alone}
+use Rattle.fetch_client.proofs.HonestXor.{all_usable, combined_is_the_block, records_from_all}
+
+-- the verdict on n answers of the XOR scheme is their sum
+combined_alone : (all : List Answer) (width n h : ℕ) (block : List ℕ) (verdict : Verdict) → length all ≡ n → combined width (map (λ a. a.payload) all) ≡ block
+    → IsCombined all width n h verdict → verdict ≡ Listed (block ∷ [])
+combined_alone all width n h block (TooFew k agree) size sum is = let few = is.2 in absurd (omega (arith, few, size))
+combined_alone all width n h block (TooWeak k degree agree) size sum is = absurd is
+combined_alone all width n h block (Listed blocks) size sum is = ap Listed (is.1 ∙ ap (λ b. b ∷ []) sum)
+
+-- a block that is listed alone is in the list
+listed_if_alone : (verdict : Verdict) (block : List ℕ) (blocks : List (List ℕ)) → verdict ≡ Listed (block ∷ []) → verdict ≡ Listed blocks → Contains blocks block
+listed_if_alone verdict block blocks alone is =
+    let same : block ∷ [] ≡ blocks = cc in
+    subst (λ (bs : List (List ℕ)). Contains bs block) same (Contains-get_or (block ∷ []) 0 [] (omega arith))
+
+module _ (session : Transcript) (coins : List ℕ) (block : ℕ) (verdict : Verdict) (range : IsInRange session.params) (few : length session.records ≤ session.params.n)
+    (bytes : All (λ r. IfSome r (All (λ b. b < 256))) session.records) (size : length coins ≡ query_coins session.params) (within : block < session.params.r) (is : IsVerdict session verdict) where
+  by_frames : (matrix : List (List ℕ)) → HonestRecords session matrix coins block → IsHonest session matrix coins block
+  by_frames matrix = honest_from_records session matrix coins block
+
+  columns : HasColumns session.params.s (answers session)
+  columns = let servers = range.few_servers in columns-answers session (omega (arith, few, servers)) bytes
+
+  close : session.params.h ≤ length (answers session) → length (answers session) + session.params.t < 2 * session.params.h → ListsAtMostOne verdict
+  close enough near = close_verdict_is_listed session verdict range columns enough near is
+
+  -- in Shamir's sharing
+  module _ (one : session.params.scheme ≡ 1) where
+    decided : IsDecided (answers session) session.params.s session.params.t session.params.h verdict
+    decided = is.shamir one
+
+    listed : (matrix : List (List ℕ)) → IsHonest session matrix coins block → (blocks : List (List ℕ)) → verdict ≡ Listed blocks → Contains blocks (block_of matrix block)
+    listed matrix honest blocks same =
+        let p = session.params in
+        honest_is_listed (answers session) matrix coins p.t p.r p.s block p.h blocks (size ∙ coins_of_shamir p one) within (products_from_honest session matrix coins block one honest)
+        (subst (λ (v : Verdict). IsDecided (answers session) p.s p.t p.h v) same decided)
+
+    alone : (matrix : List (List ℕ)) → IsHonest session matrix coins block → length (answers session) + session.params.t < 2 * session.params.h → verdict ≡ Listed (block_of matrix block ∷ [])
+    alone matrix honest near =
+        let p = session.params in
+        honest_is_alone (answers session) matrix coins p.t p.r p.s block p.h verdict columns (size ∙ coins_of_shamir p one) within
+        (products_from_honest session matrix coins block one honest) near decided
+
+    pub finds_in_shamir : FindsHonestBlock session coins block verdict
+    finds_in_shamir = record {
+      listed = listed;
+      alone = alone;
+      close = close;
+      listed_by_frames = λ matrix records. listed matrix (by_frames matrix records);
+      alone_by_frames = λ matrix records. alone matrix (by_frames matrix records);
+      xor = λ two. absurd (omega (arith, one, two));
+      xor_by_frames = λ two. absurd (omega (arith, one, two));
+    }
+
+  -- in the XOR scheme
+  module _ (two : session.params.scheme ≡ 2) where
+    alone_of_all : (matrix : List (List ℕ)) → IsHonest session matrix coins block → verdict ≡ Listed (block_of matrix block ∷ [])
+    alone_of_all matrix honest =
+        let p = session.params in
+        combined_alone (answers session) p.s p.n p.h (block_of matrix block) verdict (all_usable session matrix coins block range two few bytes honest)
+        (combined_is_the_block session matrix coins block range two few bytes honest within) (is.xor two)
+
+    listed_of_all : (matrix : List (List ℕ)) → IsHonest session matrix coins block → (blocks : List (List ℕ)) → verdict ≡ Listed blocks → Contains blocks (block_of matrix block)
+    listed_of_all matrix honest blocks same = listed_if_alone verdict (block_of matrix block) blocks (alone_of_all matrix honest) same
+
+    pub finds_in_xor : FindsHonestBlock session coins block verdict
+    finds_in_xor = record {
+      listed = listed_of_all;
+      alone = λ matrix honest near. alone_of_all matrix honest;
+      close = close;
+      listed_by_frames = λ matrix records. listed_of_all matrix (by_frames matrix records);
+      alone_by_frames = λ matrix records near. alone_of_all matrix (by_frames matrix records);
+      xor = λ two. alone_of_all;
+      xor_by_frames = λ two matrix honest. alone_of_all matrix (by_frames matrix (records_from_all session matrix coins block range two few bytes honest));
+    }

@@ -1,0 +1,197 @@
+-- In the XOR scheme the answers of all servers add up to the block.
+use Rattle.std.proofs.Common.{◌≡◌, ℕ, zero, suc, ◌+◌, ◌-◌, ◌<◌, ◌≤◌, Bool, true, cond, Option, None, Some, List, [], ◌∷◌, length, map, get_or, count_by, bytes_eq, All, AllPairs, IfSome, inl, inr, refl, sym, ap, subst, ◌∙◌, arith}
+use Rattle.std.specs.List.{range_with_len}
+use Rattle.std.proofs.lemmas.Bool.{cases_lt, cases_Bool}
+use Rattle.std.proofs.lemmas.List.{ext_get_or, get_or_past, length-map, get_or-map}
+use Rattle.std.proofs.lemmas.List.Elements.{All-nil, All-cons, All-head, All-tail}
+use Rattle.std.proofs.lemmas.List.FromFn.{length-range_with_len, get_or-range_with_len, length-map-range_with_len, get_or-map-range_with_len}
+use Rattle.std.proofs.lemmas.List.Sums.{sum_by-cons, count_by-le-length}
+use Rattle.std.proofs.lemmas.Slice.Eq.{bytes_eq-Decides}
+use Rattle.wire_frames.specs.declared.session.SessionParams.{SessionParams}
+use Rattle.wire_frames.specs.Answer.{Answer, answers}
+use Rattle.wire_frames.specs.Limits.{IsInRange}
+use Rattle.wire_frames.specs.Session.{Transcript}
+use Rattle.block_matrix.specs.Database.{Database}
+use Rattle.chor_xor.specs.Bitmap.{bitmap}
+use Rattle.chor_xor.specs.Chosen.{chosen, combined}
+use Rattle.chor_xor.specs.Chosen.{answers as chosen_answers}
+use Rattle.chor_xor.proofs.ChosenSums.{answers-combined}
+use Rattle.block_decoder.proofs.UsableAnswers.{AreInOrder, answers_in_order}
+use Rattle.fetch_client.specs.Sent.{payload_to}
+use Rattle.fetch_client.specs.Honest.{AllHonest, HonestRecords, IsHonest, answer_by, block_of, honest_frame, is_frame}
+use Rattle.fetch_client.proofs.Schemes.{answer_of_xor, payload_of_xor}
+
+-- ---- counting
+
+-- one if the test passed
+abbrev one_if : Bool → ℕ
+one_if b = cond b 1 0
+
+count-cons : {X : Type 0} (test : X → Bool) (x : X) (xs : List X) → count_by test (x ∷ xs) ≡ one_if (test x) + count_by test xs
+count-cons test x xs = sum_by-cons (λ y. one_if (test y)) x xs
+
+-- where as many pass as there are, all pass
+pub all_pass : {X : Type 0} (test : X → Bool) (xs : List X) → length xs ≤ count_by test xs → All (λ x. test x ≡ true) xs
+all_pass test [] many = All-nil (λ x. test x ≡ true)
+all_pass test (x ∷ xs) many =
+    let more = count-cons test x xs in
+    let few = count_by-le-length test xs in
+    elim (cases_Bool (test x)) [
+      | inl passed ↦
+          let one = ap one_if passed in
+          All-cons (λ x. test x ≡ true) x xs passed (all_pass test xs (omega (arith, many, more, one)))
+      | inr failed ↦ let none = ap one_if failed in absurd (omega (arith, many, more, none, few))
+    ]
+
+-- and where all pass, as many
+pub pass_all : {X : Type 0} (test : X → Bool) (xs : List X) → All (λ x. test x ≡ true) xs → count_by test xs ≡ length xs
+pass_all test [] all = refl
+pass_all test (x ∷ xs) all =
+    let more = count-cons test x xs in
+    let one = ap one_if (All-head (λ x. test x ≡ true) x xs all) in
+    let rest = pass_all test xs (All-tail (λ x. test x ≡ true) x xs all) in
+    omega (arith, more, one, rest)
+
+-- ---- the indices
+
+abbrev no_answer : Answer
+no_answer = record { index = 0; payload = [] }
+
+abbrev index_at : List Answer → ℕ → ℕ
+index_at all k = (get_or all k no_answer).index
+
+-- ascending indices grow by one a place at least
+spaced : (all : List Answer) (k d j : ℕ) → AllPairs (λ a b. a.index < b.index) all → k + d ≡ j → j < length all → index_at all k + d ≤ index_at all j
+spaced all k zero j ascending e l =
+    let same : k ≡ j = omega (arith, e) in
+    let at = ap (index_at all) same in
+    omega (arith, at)
+spaced all k (suc d) j ascending e l =
+    let before = spaced all k d (k + d) ascending refl (omega (arith, e, l)) in
+    let step = ascending (k + d) j no_answer (omega (arith, e)) l in
+    omega (arith, before, step)
+
+-- n ascending indices from 1 to n are all of them
+index_is : (width n : ℕ) (all : List Answer) (k : ℕ) → AreInOrder width 1 (1 + n) all → length all ≡ n → k < n → index_at all k ≡ k + 1
+index_is width n all k order size l =
+    let above = spaced all 0 k k order.ascending (omega arith) (omega (arith, size, l)) in
+    let first = order.from 0 no_answer (omega (arith, size, l)) in
+    let to_last = spaced all k (n - 1 - k) (n - 1) order.ascending (omega (arith, l)) (omega (arith, size, l)) in
+    let last = order.below (n - 1) no_answer (omega (arith, size, l)) in
+    omega (arith, above, first, to_last, last)
+
+-- ---- the answers
+
+module _ (session : Transcript) (matrix : List (List ℕ)) (coins : List ℕ) (block : ℕ) (range : IsInRange session.params) (two : session.params.scheme ≡ 2)
+    (few : length session.records ≤ session.params.n) (bytes : All (λ r. IfSome r (All (λ b. b < 256))) session.records) where
+  abbrev p : SessionParams
+  p = session.params
+
+  abbrev database : Database
+  database = record { rows = matrix; width = p.s }
+
+  abbrev all : List Answer
+  all = answers session
+
+  abbrev test : Answer → Bool
+  test a = bytes_eq a.payload (answer_by p matrix coins block a.index)
+
+  order : AreInOrder p.s 1 (1 + length session.records) all
+  order = answers_in_order session bytes
+
+  -- there are not more answers than records
+  fits : length all ≤ length session.records
+  fits = elim (cases_lt 0 (length all)) [
+    | inl some ↦
+        let whole = spaced all 0 (length all - 1) (length all - 1) order.ascending (omega arith) (omega (arith, some)) in
+        let first = order.from 0 no_answer some in
+        let last = order.below (length all - 1) no_answer (omega (arith, some)) in
+        omega (arith, whole, first, last, some)
+    | inr none ↦ omega (arith, none)
+  ]
+
+  module _ (honest : IsHonest session matrix coins block) where
+    -- so all servers answered, and honestly
+    many : p.n ≤ count_by test all
+    many = let e = honest.enough in let same = range.all_answer two in omega (arith, e, same)
+
+    pub all_usable : length all ≡ p.n
+    all_usable = let m = many in let l = count_by-le-length test all in let f = fits in omega (arith, m, l, f, few)
+
+    in_order : AreInOrder p.s 1 (1 + p.n) all
+    in_order =
+        let f = fits in
+        let u = all_usable in
+        let same : length session.records ≡ p.n = omega (arith, few, f, u) in
+        subst (λ (n : ℕ). AreInOrder p.s 1 (1 + n) all) same order
+
+    -- the payload of server k + 1
+    payload_is : (k : ℕ) → k < p.n → (get_or all k no_answer).payload ≡ chosen database (bitmap coins p.n p.r block (k + 1))
+    payload_is k l =
+        let u = all_usable in
+        let m = many in
+        let a = get_or all k no_answer in
+        let passed = all_pass test all (omega (arith, u, m)) k no_answer (omega (arith, u, l)) in
+        (bytes_eq-Decides a.payload (answer_by p matrix coins block a.index)).0 passed
+        ∙ answer_of_xor p two matrix (payload_to p coins block a.index)
+        ∙ ap (chosen database) (payload_of_xor p two coins block a.index ∙ ap (bitmap coins p.n p.r block) (index_is p.s p.n all k in_order u l))
+
+    -- the payloads are the answers of the servers in their order
+    payloads_are : map (λ a. a.payload) all ≡ chosen_answers database coins p.n block
+    unfolding chosen_answers
+    payloads_are =
+        let u = all_usable in
+        let rows = honest.matrix_is.rows in
+        let each : ℕ → List ℕ = λ i. chosen database (bitmap coins p.n (length matrix) block i) in
+        let size = length-map-range_with_len each 1 p.n in
+        let long = length-map all (λ a. a.payload) in
+        ext_get_or [] (map (λ a. a.payload) all) (map each (range_with_len 1 p.n)) (long ∙ u ∙ sym size) (λ k l.
+        let low : k < p.n = omega (arith, l, long, u) in
+        get_or-map (λ a. a.payload) all k no_answer [] (omega (arith, low, u)) ∙ payload_is k low
+        ∙ ap (λ (r : ℕ). chosen database (bitmap coins p.n r block (k + 1))) (sym rows)
+        ∙ sym (get_or-map-range_with_len each 1 p.n k (k + 1) [] low (omega arith)))
+
+    -- and they add up to the block
+    pub combined_is_the_block : block < p.r → combined p.s (map (λ a. a.payload) all) ≡ block_of matrix block
+    combined_is_the_block l =
+        ap (combined p.s) payloads_are
+        ∙ answers-combined database coins p.n p.r block (let a = range.private in let b = range.agreement in let c = range.servers in omega (arith, a, b, c)) l honest.matrix_is
+
+  -- where each server's record is the frame of an honest one, no record is left out
+  abbrev record_of : ℕ → Option (List ℕ)
+  record_of i = get_or session.records (i - 1) None
+
+  abbrev framed : ℕ → Bool
+  framed i = is_frame (honest_frame p matrix coins block i) (record_of i)
+
+  all_recorded : AllHonest session matrix coins block → length session.records ≡ p.n
+  all_recorded honest =
+      let a = range.private in
+      let b = range.agreement in
+      let c = range.servers in
+      let last : record_of p.n ≡ Some (honest_frame p matrix coins block p.n) = honest.each p.n (omega (arith, a, b, c)) (omega arith) in
+      elim (cases_lt (p.n - 1) (length session.records)) [
+        | inl there ↦ omega (arith, there, few, a, b, c)
+        | inr past ↦
+            let none : record_of p.n ≡ None = get_or_past session.records (p.n - 1) None past in
+            absurd (cc)
+      ]
+
+  -- and enough are such frames
+  pub records_from_all : AllHonest session matrix coins block → HonestRecords session matrix coins block
+  records_from_all honest =
+      let size = all_recorded honest in
+      let servers = range_with_len 1 (length session.records) in
+      let long = length-range_with_len 1 (length session.records) in
+      let each : All (λ i. framed i ≡ true) servers = λ k d l.
+      let at = get_or-range_with_len 1 (length session.records) k d (omega (arith, l, long)) in
+      let i = get_or servers k d in
+      let frame = honest_frame p matrix coins block i in
+      ap (is_frame frame) (honest.each i (omega (arith, at)) (omega (arith, at, l, long, size)))
+      ∙ (bytes_eq-Decides frame frame).1 refl in
+      let counted = pass_all framed servers each in
+      let same = range.all_answer two in
+      record {
+        matrix_is = honest.matrix_is;
+        enough = omega (arith, size, same, counted, long);
+      }

@@ -1,0 +1,131 @@
+-- The values that several commands have are in their ranges.
+use Rattle.std.proofs.Common.{◌≡◌, ◌⊎◌, inl, inr, ℕ, ◌<◌, ◌≤◌, ◌*◌, ◌^◌, ◌&&◌, List, length, Some, None, Bool, true, false, codes, unwrap_or, refl, lit<, sym, subst, arith}
+use Rattle.std.specs.Prelude.{if◌then◌else◌, nat_le, nat_lt}
+use Rattle.std.specs.List.{list_all}
+use Rattle.std.specs.Str.{bytes_eq}
+use Rattle.std.specs.Str.Parse.{digits_value}
+use Rattle.std.proofs.lemmas.Bool.{and_parts, leb-true, ltb-true}
+use Rattle.clap.specs.Words.{Row, Text, first_of}
+use Rattle.wire_frames.specs.Limits.{IsShape}
+use Rattle.wire_frames.specs.declared.TheConstants.{MOST_DEGREE, MOST_SERVERS, MOST_ROWS, MOST_WIDTH, MOST_CELLS}
+use Rattle.pir_words.specs.Numbers.{is_digit, limited, number, number_in}
+use Rattle.pir_words.specs.Ranges.{FitsSession, block_in, scheme_in, scheme_named, servers_in, sharing_in, sizes_in, workers_in}
+use Rattle.pir_words.specs.declared.TheConstants.{MOST_WORKERS}
+use Rattle.pir_words.specs.declared.ranges.Sizes.{Sizes}
+use Rattle.pir_words.specs.declared.ranges.Sharing.{Sharing}
+use Rattle.pir_words.proofs.Chains.{some_is, test_of, value_of}
+
+-- a number is below 2^64
+number_below : (text : Text) (n : ℕ) → number text ≡ Some n → n < 2 ^ 64
+unfolding number
+number_below text n e =
+    let some = test_of (nat_lt 0 (length text)) _ n e in
+    let digits = test_of (list_all is_digit text) _ n some.1 in
+    let below = test_of (nat_lt (digits_value 10 text) (2 ^ 64)) _ n digits.1 in
+    subst (λ k. k < 2 ^ 64) (some_is _ n below.1) (ltb-true _ _ below.0)
+
+-- and so is that of an option
+pub number_range : (id : Text) (m : List Row) (n : ℕ) → number_in id m ≡ Some n → n < 2 ^ 64
+unfolding number_in
+number_range id m n e =
+    let text = value_of (first_of id m) _ n e in
+    number_below text.0 n text.2
+
+-- a number from least to most is one
+pub limited_range : (id : Text) (least most : ℕ) (m : List Row) (n : ℕ) → limited id least most m ≡ Some n → (least ≤ n) × (n ≤ most)
+unfolding limited
+limited_range id least most m n e =
+    let given = value_of (number_in id m) _ n e in
+    let tested = test_of (nat_le least given.0 && nat_le given.0 most) (Some given.0) n given.2 in
+    let both = and_parts (nat_le least given.0) (nat_le given.0 most) tested.0 in
+    subst (λ k. (least ≤ k) × (k ≤ most)) (some_is given.0 n tested.1) (leb-true least given.0 both.0, leb-true given.0 most both.1)
+
+-- the sizes are those of a database
+pub sizes_range : (m : List Row) (sizes : Sizes) → sizes_in m ≡ Some sizes → IsShape sizes.rows sizes.width
+unfolding sizes_in
+sizes_range m sizes e =
+    let rows = value_of (limited (codes "rows") 1 MOST_ROWS m) _ sizes e in
+    let width = value_of (limited (codes "width") 1 MOST_WIDTH m) _ sizes rows.2 in
+    let cells = test_of (nat_le (rows.0 * width.0) MOST_CELLS) _ sizes width.2 in
+    let r = limited_range _ _ _ m _ rows.1 in
+    let s = limited_range _ _ _ m _ width.1 in
+    subst (λ (z : Sizes). IsShape z.rows z.width) (some_is _ sizes cells.1) (record {
+      some_rows = r.0;
+      few_rows = r.1;
+      some_bytes = s.0;
+      few_bytes = s.1;
+      few_cells = leb-true _ _ cells.0;
+    })
+
+-- the block is one of the rows
+pub block_range : (rows : ℕ) (m : List Row) (block : ℕ) → block_in rows m ≡ Some block → block < rows
+unfolding block_in
+block_range rows m block e =
+    let given = value_of (number_in (codes "block") m) _ block e in
+    let tested = test_of (nat_lt given.0 rows) _ block given.2 in
+    subst (λ b. b < rows) (some_is _ block tested.1) (ltb-true _ _ tested.0)
+
+-- the scheme is one of the two
+pub scheme_range : (m : List Row) (scheme : ℕ) → scheme_in m ≡ Some scheme → (scheme ≡ 1) ⊎ (scheme ≡ 2)
+unfolding scheme_in scheme_named
+scheme_range m scheme e =
+    let name = unwrap_or (first_of (codes "scheme") m) (codes "shamir") in
+    by_name (bytes_eq name (codes "shamir")) (bytes_eq name (codes "xor")) e
+  where
+    by_name : (is_shamir is_xor : Bool) → (if is_shamir then Some 1 else (if is_xor then Some 2 else None)) ≡ Some scheme → (scheme ≡ 1) ⊎ (scheme ≡ 2)
+    by_name true is_xor h = inl (sym (some_is 1 scheme h))
+    by_name false true h = inr (sym (some_is 2 scheme h))
+    by_name false false h = cc
+
+-- there are as many servers as there may be
+pub servers_range : (m : List Row) (n : ℕ) → servers_in m ≡ Some n → (2 ≤ n) × (n ≤ MOST_SERVERS)
+unfolding servers_in
+servers_range m n e = limited_range _ _ _ m n e
+
+-- degree t and agreement h of n servers
+pub record IsSharing (t h n : ℕ) : Type 0 where
+  pub private : 1 ≤ t
+  pub few_private : t ≤ MOST_DEGREE
+  pub agreement : t < h
+  pub servers : h ≤ n
+
+-- what is read is so
+pub sharing_range : (n : ℕ) (m : List Row) (sharing : Sharing) → sharing_in n m ≡ Some sharing → IsSharing sharing.degree sharing.agree n
+unfolding sharing_in
+sharing_range n m sharing e =
+    let degree = value_of (limited (codes "degree") 1 MOST_DEGREE m) _ sharing e in
+    let agree = value_of (number_in (codes "agree") m) _ sharing degree.2 in
+    let tested = test_of (nat_lt degree.0 agree.0 && nat_le agree.0 n) _ sharing agree.2 in
+    let both = and_parts (nat_lt degree.0 agree.0) (nat_le agree.0 n) tested.0 in
+    let t = limited_range _ _ _ m _ degree.1 in
+    subst (λ (s : Sharing). IsSharing s.degree s.agree n) (some_is _ sharing tested.1) (record {
+      private = t.0;
+      few_private = t.1;
+      agreement = ltb-true _ _ both.0;
+      servers = leb-true _ _ both.1;
+    })
+
+-- with which a session of Shamir's scheme may be
+pub shamir_fits : (r s t h n : ℕ) → IsShape r s → IsSharing t h n → n ≤ MOST_SERVERS → FitsSession 1 t h n r s
+shamir_fits r s t h n shape shares few = record {
+  scheme = inl refl;
+  private = shares.private;
+  few_private = shares.few_private;
+  agreement = shares.agreement;
+  few_agree = omega (arith, shares.servers, few);
+  servers = shares.servers;
+  few_servers = few;
+  all_agree = λ e. omega (arith, e);
+  all_answer = λ e. omega (arith, e);
+  session = lit< tt;
+  shape = shape;
+}
+
+-- there are as many workers as there may be
+pub workers_range : (m : List Row) (workers : ℕ) → workers_in m ≡ Some workers → (1 ≤ workers) × (workers ≤ MOST_WORKERS)
+unfolding workers_in
+workers_range m workers e =
+    let given = value_of (number (unwrap_or (first_of (codes "workers") m) (codes "1"))) _ workers e in
+    let tested = test_of (nat_le 1 given.0 && nat_le given.0 MOST_WORKERS) _ workers given.2 in
+    let both = and_parts (nat_le 1 given.0) (nat_le given.0 MOST_WORKERS) tested.0 in
+    subst (λ n. (1 ≤ n) × (n ≤ MOST_WORKERS)) (some_is given.0 workers tested.1) (leb-true _ _ both.0, leb-true _ _ both.1)

@@ -1,0 +1,29 @@
+-- The form of `demo`.
+use Rattle.std.specs.Prelude.{ℕ, ◌≤◌, List, Option, Some, codes}
+use Rattle.clap.specs.Words.{Row, first_of}
+use Rattle.pir_words.specs.Chain.{◌>>=◌}
+use Rattle.pir_words.specs.Numbers.{limited}
+use Rattle.pir_words.specs.Ranges.{block_in, coins_in, servers_in, sharing_in, sizes_in}
+use Rattle.pir_words.specs.FetchForm.{IsFetch}
+use Rattle.pir_words.specs.declared.TheConstants.{LEAST_PORT, MOST_PORT}
+use Rattle.pir_words.specs.declared.ranges.Sizes.{Sizes}
+use Rattle.pir_words.specs.declared.ranges.Sharing.{Sharing}
+use Rattle.pir_words.specs.declared.asked.Asked.{Asked}
+use Rattle.pir_words.specs.declared.asked.Asked.TheVariants.{Demo}
+
+-- `demo` with its values, each in its range
+unfoldable pub demo_of : List Row → Option Asked
+demo_of m = do
+  port ← limited (codes "port") LEAST_PORT MOST_PORT m
+  database ← first_of (codes "database") m
+  (sizes : Sizes) ← sizes_in m
+  block ← block_in sizes.rows m
+  servers ← servers_in m
+  (sharing : Sharing) ← sharing_in servers m
+  Some (Demo port database sizes.rows sizes.width block servers sharing.degree sharing.agree (coins_in m))
+
+-- the values of `demo` are those of a fetch from n servers in Shamir's scheme, and a port
+pub record IsDemo (port r s b t h n : ℕ) : Type 0 where
+  pub some_port : LEAST_PORT ≤ port
+  pub few_ports : port ≤ MOST_PORT
+  pub fetch : IsFetch 1 r s b t h n

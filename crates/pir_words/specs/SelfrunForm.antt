@@ -1,0 +1,30 @@
+-- The form of `selfrun`.
+use Rattle.std.specs.Prelude.{ℕ, ◌^◌, ◌<◌, ◌≤◌, List, Option, Some, codes}
+use Rattle.clap.specs.Words.{Row}
+use Rattle.pir_words.specs.Chain.{◌>>=◌}
+use Rattle.pir_words.specs.Numbers.{limited, number_in}
+use Rattle.pir_words.specs.Ranges.{FitsSession, servers_in, sharing_in, sizes_in, workers_in}
+use Rattle.pir_words.specs.declared.TheConstants.{MOST_WORKERS}
+use Rattle.pir_words.specs.declared.ranges.Sizes.{Sizes}
+use Rattle.pir_words.specs.declared.ranges.Sharing.{Sharing}
+use Rattle.pir_words.specs.declared.asked.Asked.{Asked}
+use Rattle.pir_words.specs.declared.asked.Asked.TheVariants.{Selfrun}
+
+-- `selfrun` with its values, each in its range
+unfoldable pub selfrun_of : List Row → Option Asked
+selfrun_of m = do
+  seed ← number_in (codes "seed") m
+  (sizes : Sizes) ← sizes_in m
+  servers ← servers_in m
+  (sharing : Sharing) ← sharing_in servers m
+  liars ← limited (codes "liars") 0 servers m
+  workers ← workers_in m
+  Some (Selfrun seed sizes.rows sizes.width servers sharing.degree sharing.agree liars workers)
+
+-- the values of `selfrun` are those of a session of n servers in Shamir's scheme, of which v lie
+pub record IsSelfrun (seed r s n t h v workers : ℕ) : Type 0 where
+  pub few_seeds : seed < 2 ^ 64
+  pub numbers : FitsSession 1 t h n r s
+  pub few_liars : v ≤ n
+  pub some_workers : 1 ≤ workers
+  pub few_workers : workers ≤ MOST_WORKERS

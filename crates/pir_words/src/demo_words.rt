@@ -1,0 +1,50 @@
+//! The words of `demo`.
+
+ghost use Rattle.pir_words.specs.Numbers.{given};
+ghost use Rattle.pir_words.specs.DemoForm.{demo_of};
+ghost use Rattle.pir_words.specs.Form.{Answers};
+
+use crate::asked::{Asked, WordsFault};
+use crate::ranges::{block_at, coins_at, servers_at, sharing_at, sizes_at};
+use crate::values::{limited_at, owned, text_at};
+use crate::{LEAST_PORT, MOST_PORT};
+use clap::ArgMatches;
+use std::alloc::Global;
+
+/// `demo` with its values, each in its range.
+#[tactic(auto, unfolding(crate::specs::DemoForm::demo_of))]
+pub fn read_demo(alloc: Global, matches: &ArgMatches) -> Result<Asked, WordsFault>
+    ensures { Answers (demo_of (given matches.now)) result }
+{
+    let Some(port) = limited_at(matches, "port", u64::from(LEAST_PORT), u64::from(MOST_PORT)) else {
+        return Err(WordsFault::Usage);
+    };
+    let Some(database) = text_at(matches, "database") else {
+        return Err(WordsFault::Usage);
+    };
+    let Some(sizes) = sizes_at(matches) else {
+        return Err(WordsFault::Usage);
+    };
+    let Some(block) = block_at(matches, sizes.rows) else {
+        return Err(WordsFault::Usage);
+    };
+    let Some(servers) = servers_at(matches) else {
+        return Err(WordsFault::Usage);
+    };
+    let Some(sharing) = sharing_at(matches, servers) else {
+        return Err(WordsFault::Usage);
+    };
+    let database = owned(alloc, database)?;
+    let coins = owned(alloc, coins_at(matches))?;
+    Ok(Asked::Demo {
+        port: port as u16,
+        database,
+        rows: sizes.rows,
+        width: sizes.width,
+        block,
+        servers,
+        degree: sharing.degree,
+        agree: sharing.agree,
+        coins,
+    })
+}
