@@ -7,9 +7,15 @@ mod tests;
 use os_ports::OsPorts;
 use pir_tool::{Status, code, line, run};
 use std::env;
-use std::io::ErrorKind;
-use std::process::ExitCode;
-use std::rt::Env;
+use std::io::{ErrorKind, Input, Print};
+use std::net::Net;
+use std::process::{ExitCode, Processes};
+use std::rt::{Env, Files};
+#[cfg(test)]
+use std::test::Fail;
+use std::thread::Threads;
+#[cfg(test)]
+use tests::words_from;
 
 /// The words after the program's name. Words that are no UTF-8 have no form.
 fn words_of<R: Env + AllocGlobal>(rt: &R) -> Result<Vec<String>, Status> {
@@ -25,9 +31,20 @@ fn words_of<R: Env + AllocGlobal>(rt: &R) -> Result<Vec<String>, Status> {
     Ok(words)
 }
 
+/// Runs the words over the system's ports, and then ends the children that were started.
+fn run_words<R, S>(rt: &R, words: &[String], ports: &mut OsPorts<S>) -> Status
+where
+    R: AllocGlobal + Threads + Sync,
+    S: Files + Input + Print + Net + Processes + Env + AllocGlobal + Drop,
+{
+    let status = run(rt, rt.alloc(), words, ports);
+    ports.end_children();
+    status
+}
+
 fn main(rt: HostRuntime) -> ExitCode {
     let status = match (words_of(&rt), OsPorts::new(&rt)) {
-        (Ok(words), Ok(mut ports)) => run(&rt, rt.alloc(), &words, &mut ports),
+        (Ok(words), Ok(mut ports)) => run_words(&rt, &words, &mut ports),
         (Err(status), _) => status,
         (_, Err(_)) => Status::Memory,
     };
@@ -36,4 +53,17 @@ fn main(rt: HostRuntime) -> ExitCode {
         let _ = eprintln!(rt; "{text}");
     }
     ExitCode::from(code(&status))
+}
+
+// No test of its own, but what a child of a demonstration runs. It is started with the words of `serve`, and tests are
+// started by their full names: so this one stands here.
+#[cfg(test)]
+#[test]
+fn serve(rt: HostRuntime) -> Result<(), Fail> {
+    let words = words_from(&rt, 1)?;
+    if words.len() > 1 {
+        let mut ports = OsPorts::new(&rt)?;
+        assert!(rt; run_words(&rt, &words, &mut ports) == Status::One);
+    }
+    Ok(())
 }

@@ -1,7 +1,9 @@
 //! Fetches over sockets on loopback: from servers that answer, lie, say nothing or hang up, and from three processes
 //! that serve.
 
-use crate::OsPorts;
+ghost use Rattle.std.specs.Prelude.{◌+◌, ◌<◌};
+
+use crate::{OsPorts, run_words};
 use pir_tool::{Status, run};
 use std::alloc::Global;
 use std::io::{self, ErrorKind, Read, Write};
@@ -111,8 +113,8 @@ fn a_fetch_outlives_its_servers(rt: HostRuntime) -> Result<(), Fail> {
     Ok(())
 }
 
-// What this executable is told to run in a process of a server: the one test, by its full name.
-const SERVER_TEST: &str = "tests::serve_if_asked";
+// What this executable is told to run in another process: the one test, by its full name.
+const RUN_TEST: &str = "tests::run_words_if_asked";
 
 // Where the record of the session holds the payload of each server, and what it is.
 const PAYLOADS: [(usize, [u8; 2]); 3] = [
@@ -121,23 +123,22 @@ const PAYLOADS: [(usize, [u8; 2]); 3] = [
     (122, [0xcc, 0xe5]),
 ];
 
-/// The words after the name of the test.
-fn words_after_name<R: Env + AllocGlobal>(rt: &R) -> io::Result<Vec<String>> {
+/// The words of this process from so many on.
+pub fn words_from<R: Env + AllocGlobal>(rt: &R, first: usize) -> io::Result<Vec<String>> {
     let mut words = Vec::new(rt.alloc());
-    for word in env::args(rt)?.skip(2) {
+    for word in env::args(rt)?.skip(first) {
         words.push(word)?;
     }
     Ok(words)
 }
 
-// No test of its own, but what a server's process runs: words after the name of the test are those of `run`.
+// No test of its own, but what another process runs: the words after the name of the test are those of the program.
 #[test]
-fn serve_if_asked(rt: HostRuntime) -> Result<(), Fail> {
-    let words = words_after_name(&rt)?;
+fn run_words_if_asked(rt: HostRuntime) -> Result<(), Fail> {
+    let words = words_from(&rt, 2)?;
     if !words.is_empty() {
         let mut ports = OsPorts::new(&rt)?;
-        let status = run(&rt, rt.alloc(), &words, &mut ports);
-        assert_eq!(rt; status, Status::One);
+        assert!(rt; run_words(&rt, &words, &mut ports) == Status::One);
     }
     Ok(())
 }
@@ -164,7 +165,7 @@ fn start<R: Processes + Env + AllocGlobal>(
     // Not `current_exe`, which is the loader where a loader was told to run this executable.
     let program = env::args(rt)?.next().ok_or(ErrorKind::NotFound)?;
     let mut command = Command::new(rt.alloc(), program.as_str())?;
-    command.arg(SERVER_TEST)?;
+    command.arg(RUN_TEST)?;
     command.arg("serve")?;
     command.arg("--database")?.arg(database)?;
     command.arg("--width")?.arg("2")?;
@@ -250,5 +251,64 @@ fn a_fetch_asks_three_processes(rt: HostRuntime) -> Result<(), Fail> {
     assert!(rt; fetched);
     assert!(rt; ended);
     assert!(rt; holds_payloads(&kept?));
+    Ok(())
+}
+
+/// Whether nobody listens at the three ports after this one.
+fn are_free<R: Net>(rt: &R, port: u16) -> bool
+    requires { port + 3 < 65536 }
+{
+    for i in 1..=3 {
+        if TcpListener::bind(rt, (Ipv4Addr::LOCALHOST, port + i)).is_err() {
+            return false;
+        }
+    }
+    true
+}
+
+/// A port before three at which nobody listens. The system gives none of them out by itself.
+fn port_before_free<R: Net>(rt: &R, id: u32) -> io::Result<u16> {
+    for place in id % 3000..3000 {
+        let port = 20000 + 4 * place as u16;
+        if are_free(rt, port) {
+            return Ok(port);
+        }
+    }
+    Err(io::Error::from(ErrorKind::AddrInUse))
+}
+
+/// What another process of this executable writes, which runs these words and has to end well.
+fn output_of<R: Processes + Env + AllocGlobal>(rt: &R, words: &str) -> io::Result<Vec<u8>> {
+    let program = env::args(rt)?.next().ok_or(ErrorKind::NotFound)?;
+    let mut command = Command::new(rt.alloc(), program.as_str())?;
+    command.arg(RUN_TEST)?;
+    for word in words.split_whitespace() {
+        command.arg(word)?;
+    }
+    let output = command.output(rt)?;
+    if output.status.success() {
+        Ok(output.stdout)
+    } else {
+        Err(io::Error::from(ErrorKind::Other))
+    }
+}
+
+#[test]
+fn a_demonstration_asks_its_children(rt: HostRuntime) -> Result<(), Fail> {
+    let alloc = rt.alloc();
+    let database = temp_path(rt, "demo-database")?;
+    let coins = temp_path(rt, "demo-coins")?;
+    fs::write(&rt, &database, b"ABCD")?;
+    fs::write(&rt, &coins, &COINS)?;
+    let port = port_before_free(&rt, process::id(rt.process()))?;
+    let words = format!(in alloc;
+        "demo --port {port} --database {database} --rows 2 --width 2 --block 1 --servers 3 --degree 1 --agree 2 --coins {coins}"
+    )?;
+    let output = output_of(&rt, &words);
+    for file in [&database, &coins] {
+        let _ = fs::remove_file(&rt, file);
+    }
+    // What tells of the test comes behind it.
+    assert!(rt; output?.starts_with(b"blocks 1\n4344\n"));
     Ok(())
 }

@@ -1,5 +1,5 @@
 -- A fetch from its first port to its last.
-use Rattle.std.proofs.Common.{◌≡◌, ◌≢◌, ◌∙◌, ◌⊎◌, inl, inr, ℕ, ◌+◌, ◌<◌, ◌≤◌, List, [], ◌∷◌, length, take, drop, slice_index_or, refl, lit<, sym, ap, subst, arith}
+use Rattle.std.proofs.Common.{◌≡◌, ◌≢◌, ◌∙◌, inl, inr, ℕ, ◌+◌, ◌<◌, ◌≤◌, List, [], ◌∷◌, length, take, slice_index_or, refl, lit<, sym, ap, subst, arith}
 use Rattle.std.specs.Prelude.{Option, Some, None, IfSome, unwrap_or}
 use Rattle.pir_ports.specs.World.{Cell, World}
 use Rattle.pir_ports.specs.Moves.{Rose, Touches, took, gave, named, counted}
@@ -12,16 +12,13 @@ use Rattle.block_decoder.specs.Text.{text}
 use Rattle.fetch_client.specs.Plan.{need}
 use Rattle.fetch_client.specs.Sent.{sent}
 use Rattle.fetch_client.specs.Asked.{Asked}
-use Rattle.fetch_client.specs.Tossed.{Tossed}
-use Rattle.fetch_client.specs.Fetched.{AsksAll, AsksWith, Concludes, TouchesLinks}
+use Rattle.fetch_client.specs.Fetched.{AsksWith, Concludes, TouchesLinks}
 use Rattle.pir_words.specs.declared.asked.Asked.{Asked as Command}
 use Rattle.pir_tool.specs.Table.{status_of}
-use Rattle.pir_tool.specs.Told.{Told, Unwritten}
 use Rattle.pir_tool.specs.FetchOrder.{FetchOrder}
 use Rattle.pir_tool.specs.Outcome.{order_of}
-use Rattle.pir_tool.specs.FetchOutcome.{InSession, Settled, Recorded, Unrecorded, FetchReported, FetchCutShort, FetchEnds, Reports, TouchesFiles}
+use Rattle.pir_tool.specs.FetchOutcome.{InSession, Settled, Recorded, Unrecorded, FetchReported, FetchEnds, Reports, TouchesFiles}
 use Rattle.pir_tool.specs.declared.status.Status.{Status}
-use Rattle.pir_tool.specs.declared.status.Status.TheVariants.{WriteFault}
 
 -- words ask for one command
 pub one_command : (wanted : Option Command) (asked other : Command) → wanted ≡ Some asked → wanted ≡ Some other → asked ≡ other
@@ -60,7 +57,7 @@ asked_within o coins session w v u z fits is_open touch asks files =
     }
 
 -- a record counts from before, where the port wasn't touched before it
-recorded_before : (keep : Option (List ℕ)) (session : Transcript) (w u z : World) → u.at 4 ≡ w.at 4 → Recorded keep session u z → Recorded keep session w z
+pub recorded_before : (keep : Option (List ℕ)) (session : Transcript) (w u z : World) → u.at 4 ≡ w.at 4 → Recorded keep session u z → Recorded keep session w z
 recorded_before None session w u z still kept = kept ∙ still
 recorded_before (Some name) session w u z still kept = record { file = kept.file; cell = kept.cell ∙ ap (λ (c : Cell). gave (session_bytes session) (named name c)) still }
 

@@ -1,6 +1,6 @@
 -- What a run says of a session that Input holds, and of the coins that Coins holds.
-use Rattle.std.proofs.Common.{◌≡◌, ◌⊎◌, inl, inr, ℕ, ◌<◌, ◌≤◌, List, length, take, refl, subst, ap, sym, ◌∙◌, lit<, arith}
-use Rattle.std.specs.Prelude.{Option, Some, None, IfSome}
+use Rattle.std.proofs.Common.{◌≡◌, ◌⊎◌, inl, inr, ℕ, ◌<◌, ◌≤◌, List, length, take, refl, subst, ap, sym, lit<, arith}
+use Rattle.std.specs.Prelude.{Option, Some, None}
 use Rattle.std.proofs.lemmas.List.{length-take}
 use Rattle.pir_ports.specs.World.{World}
 use Rattle.wire_frames.specs.Session.{Transcript, IsSession}
@@ -10,7 +10,7 @@ use Rattle.replay.specs.Replayed.{Judged, NoSession}
 use Rattle.replay.proofs.Readings.{at_told}
 use Rattle.fetch_client.specs.Plan.{need}
 use Rattle.pir_tool.specs.declared.status.Status.{Status}
-use Rattle.pir_tool.specs.declared.status.Status.TheVariants.{One, Usage, NoBlock, Several, TooFew, TooWeak, ReadFault, WriteFault, BadInput, DoorFault, Memory}
+use Rattle.pir_tool.specs.declared.status.Status.TheVariants.{One, Usage, NoBlock, Several, TooFew, TooWeak, ReadFault, WriteFault, BadInput, DoorFault, ChildFault, Memory}
 use Rattle.pir_tool.specs.declared.status.Bad.TheVariants.{Session, EmptyFile, TooBig, CoinsEnded}
 use Rattle.pir_tool.specs.Told.{NoneRose}
 use Rattle.pir_tool.specs.ReplayOutcome.{ReplayEnds, Reported, Answered}
@@ -42,6 +42,7 @@ answered name WriteFault old new bytes session told whole none said = absurd (no
 answered name (BadInput EmptyFile) old new bytes session told whole none said = absurd said
 answered name (BadInput (TooBig limit)) old new bytes session told whole none said = absurd said
 answered name DoorFault old new bytes session told whole none said = absurd said
+answered name ChildFault old new bytes session told whole none said = absurd said
 answered name (BadInput (Session place)) old new bytes session told whole none said = absurd ((at_told (NoSession place) (old.at 0).holds bytes told said.none).none session whole)
 answered name (BadInput (CoinsEnded taken)) old new bytes session told whole none said = absurd said
 answered name Memory old new bytes session told whole none said = inr refl
@@ -65,6 +66,7 @@ refused name WriteFault old new bytes told nothing none said = absurd (none 1 (l
 refused name (BadInput EmptyFile) old new bytes told nothing none said = absurd said
 refused name (BadInput (TooBig limit)) old new bytes told nothing none said = absurd said
 refused name DoorFault old new bytes told nothing none said = absurd said
+refused name ChildFault old new bytes told nothing none said = absurd said
 refused name (BadInput (Session place)) old new bytes told nothing none said = inl (place, refl, at_told (NoSession place) (old.at 0).holds bytes told said.none)
 refused name (BadInput (CoinsEnded taken)) old new bytes told nothing none said = absurd said
 refused name Memory old new bytes told nothing none said = inr refl
@@ -88,6 +90,7 @@ reported o WriteFault old new held told enough none said = absurd (elim said.cut
 reported o (BadInput EmptyFile) old new held told enough none said = absurd said
 reported o (BadInput (TooBig limit)) old new held told enough none said = absurd said
 reported o DoorFault old new held told enough none said = absurd said
+reported o ChildFault old new held told enough none said = absurd said
 reported o (BadInput (Session place)) old new held told enough none said = absurd said
 reported o (BadInput (CoinsEnded taken)) old new held told enough none said =
     let all = at_told (λ (h : List ℕ). length h ≡ taken) (old.at 3).holds held told said.short.all in
@@ -115,6 +118,7 @@ too_few o WriteFault old new held told few none said = absurd (elim said.cut [ i
 too_few o (BadInput EmptyFile) old new held told few none said = absurd said
 too_few o (BadInput (TooBig limit)) old new held told few none said = absurd said
 too_few o DoorFault old new held told few none said = absurd said
+too_few o ChildFault old new held told few none said = absurd said
 too_few o (BadInput (Session place)) old new held told few none said = absurd said
 too_few o (BadInput (CoinsEnded taken)) old new held told few none said =
     inl (ap (λ (n : ℕ). BadInput (CoinsEnded n)) (sym (at_told (λ (h : List ℕ). length h ≡ taken) (old.at 3).holds held told said.short.all)))

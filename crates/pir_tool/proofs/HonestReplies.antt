@@ -1,26 +1,31 @@
 -- A server's reply to the query of a fetch.
-use Rattle.std.proofs.Common.{◌≡◌, ◌≢◌, false, ◌⊎◌, inl, inr, ℕ, ◌+◌, ◌<◌, ◌≤◌, ◌^◌, List, ◌++◌, length, take, drop, get_or, refl, sym, ◌∙◌, ap, ap₂, subst, arith, length-append, All}
+use Rattle.std.proofs.Common.{◌≡◌, Bool, true, false, ◌&&◌, ◌==◌, inl, inr, ℕ, ◌+◌, ◌<◌, ◌≤◌, ◌^◌, List, ◌++◌, length, take, drop, get_or, refl, sym, ◌∙◌, ap, ap₂, subst, arith, length-append, All}
+use Rattle.std.specs.Prelude.{if◌then◌else◌}
 use Rattle.std.proofs.Math.Seq.{take-append_seam, drop-append_seam}
 use Rattle.std.proofs.lemmas.Bool.{false≢true}
 use Rattle.std.proofs.lemmas.List.{take_all}
-use Rattle.gf256.specs.Product.{IsMatrix, product}
+use Rattle.gf256.specs.Product.{IsMatrix}
 use Rattle.shamir_share.specs.Query.{query}
-use Rattle.shamir_share.proofs.Queries.{length-query}
+use Rattle.chor_xor.specs.Bitmap.{bitmap, has_unused, size_of}
 use Rattle.wire_frames.specs.declared.header.QueryHeader.{QueryHeader}
+use Rattle.wire_frames.specs.declared.session.SessionParams.{SessionParams}
 use Rattle.wire_frames.specs.Header.{query_header, answer_to}
 use Rattle.wire_frames.specs.Limits.{IsQuery}
 use Rattle.wire_frames.specs.Query.{IsQueryHeader}
 use Rattle.wire_frames.proofs.Parsing.{same_digits}
+use Rattle.wire_frames.proofs.Servers.{scheme_in}
 use Rattle.fetch_client.specs.declared.plan.FetchPlan.{FetchPlan}
-use Rattle.fetch_client.specs.Plan.{IsPlan, need}
-use Rattle.fetch_client.specs.Sent.{session_number, header_to, sent}
-use Rattle.fetch_client.specs.Honest.{honest_frame}
+use Rattle.fetch_client.specs.Plan.{IsPlan, params_of, need}
+use Rattle.fetch_client.specs.Sent.{session_number, header_to, payload_to, sent}
+use Rattle.fetch_client.specs.Sent.{payload_size as query_size}
+use Rattle.fetch_client.specs.Honest.{honest_answer, honest_frame}
+use Rattle.fetch_client.proofs.Schemes.{length-payload_to}
 use Rattle.serve_core.specs.Service.{Service}
-use Rattle.serve_core.specs.Reply.{Asks, IsShaped, Suits, RefusedByHeader, Replies, answer_frame, payload, payload_size, sets_unused}
-use Rattle.serve_core.proofs.ShamirScheme.{a_byte_for_each_row, is_the_product, none_unused}
+use Rattle.serve_core.specs.Reply.{Asks, IsShaped, Suits, RefusedByHeader, Replies, answer, answer_frame, payload, payload_size, sets_unused}
 use Rattle.serve_core.specs.declared.met.Met.{Met}
 use Rattle.serve_core.specs.declared.met.Met.TheVariants.{Served, Refused, Gone, GuestFault}
 use Rattle.pir_tool.specs.HonestReply.{service_with, frame_of, RepliesHonestly}
+use Rattle.pir_tool.proofs.UnusedBits.{none_unused}
 
 -- two headers of queries with the same bytes are of one scheme and one shape
 module _ (q p : QueryHeader) (hq : IsQuery q) (hp : IsQuery p) (same : query_header q ≡ query_header p) where
@@ -33,12 +38,15 @@ module _ (q p : QueryHeader) (hq : IsQuery q) (hp : IsQuery p) (same : query_hea
   same_width : q.s ≡ p.s
   same_width = same_digits 4 q.s p.s (omega (arith, hq.shape.few_bytes)) (omega (arith, hp.shape.few_bytes)) (ap (λ (l : List ℕ). take 4 (drop 20 l)) same)
 
-module _ (p : FetchPlan) (one : p.scheme ≡ 1) (coins : List ℕ) (i : ℕ) (is_query : IsQuery (header_to p coins i)) (matrix : List (List ℕ)) (workers : ℕ) (is : IsMatrix matrix p.r p.s) where
+module _ (p : FetchPlan) (within : p.block < p.r) (coins : List ℕ) (i : ℕ) (is_query : IsQuery (header_to p coins i)) (matrix : List (List ℕ)) (workers : ℕ) (is : IsMatrix matrix p.r p.s) where
+  abbrev params : SessionParams
+  params = params_of p (session_number coins)
+
   abbrev header : QueryHeader
   header = header_to p coins i
 
   abbrev asked_for : List ℕ
-  asked_for = query (drop 8 coins) p.t p.r p.block i
+  asked_for = payload_to params (drop 8 coins) p.block i
 
   front : take 24 (sent p coins i) ≡ query_header header
   unfolding sent
@@ -48,9 +56,9 @@ module _ (p : FetchPlan) (one : p.scheme ≡ 1) (coins : List ℕ) (i : ℕ) (is
   unfolding sent
   rest = drop-append_seam (query_header header) asked_for
 
-  size : length (sent p coins i) ≡ 24 + p.r
+  size : length (sent p coins i) ≡ 24 + query_size params
   unfolding sent
-  size = length-append (query_header header) asked_for ∙ ap (λ n. 24 + n) (length-query (drop 8 coins) p.t p.r p.block i)
+  size = length-append (query_header header) asked_for ∙ ap (λ n. 24 + n) (length-payload_to params (drop 8 coins) p.block i)
 
   abbrev service : Service
   service = service_with p matrix workers
@@ -63,23 +71,31 @@ module _ (p : FetchPlan) (one : p.scheme ≡ 1) (coins : List ℕ) (i : ℕ) (is
     shape = record { rows = sym is.rows; width = refl };
   }
 
-  other_scheme : p.scheme ≢ 2
-  other_scheme = λ two. omega (arith, one, two)
-
-  -- its payload has a byte for each row
-  size_is : payload_size service.scheme service.database ≡ p.r
-  size_is = a_byte_for_each_row p.scheme service.database other_scheme ∙ is.rows
-
-  -- and sets no unused bit
-  trim : sets_unused service.scheme service.database (payload service (sent p coins i)) ≡ false
-  trim = none_unused p.scheme service.database other_scheme (payload service (sent p coins i))
+  -- its payload is as long as the server takes it to be
+  size_is : payload_size service.scheme service.database ≡ query_size params
+  unfolding payload_size query_size
+  size_is = ap (λ (r : ℕ). if p.scheme == 2 then size_of r else r) is.rows
 
   query_is : payload service (sent p coins i) ≡ asked_for
-  query_is = ap₂ take size_is rest ∙ take_all p.r asked_for (let n = length-query (drop 8 coins) p.t p.r p.block i in omega (arith, n))
+  query_is = ap₂ take size_is rest ∙ take_all (query_size params) asked_for (let n = length-payload_to params (drop 8 coins) p.block i in omega (arith, n))
+
+  -- and sets no unused bit, of which only bitmaps have some
+  trim : sets_unused service.scheme service.database (payload service (sent p coins i)) ≡ false
+  unfolding sets_unused payload_to
+  trim = ap₂ (λ (r : ℕ) (l : List ℕ). p.scheme == 2 && has_unused r l) is.rows query_is ∙ by_scheme (p.scheme == 2)
+    where
+      by_scheme : (b : Bool) → (b && has_unused p.r (if b then bitmap (drop 8 coins) p.n p.r p.block i else query (drop 8 coins) p.t p.r p.block i)) ≡ false
+      by_scheme true = none_unused (drop 8 coins) p.n p.r p.block i within
+      by_scheme false = refl
+
+  -- the server's answer is the honest one
+  answer_is : answer service.scheme service.database asked_for ≡ honest_answer params matrix asked_for
+  unfolding answer honest_answer
+  answer_is = refl
 
   frame_is : answer_frame service.scheme service.database (take 24 (sent p coins i)) (payload service (sent p coins i)) ≡ frame_of p coins matrix i
   unfolding honest_frame
-  frame_is = ap₂ (answer_frame service.scheme service.database) front query_is ∙ ap (λ (l : List ℕ). answer_to (query_header header) 0 ++ l) (is_the_product p.scheme service.database other_scheme asked_for)
+  frame_is = ap₂ (answer_frame service.scheme service.database) front query_is ∙ ap (λ (l : List ℕ). answer_to (query_header header) 0 ++ l) answer_is
 
   -- another header has the same bytes, but is of another query: there is none
   no_other : (other : QueryHeader) → IsQueryHeader (take 24 (sent p coins i)) other → (other.scheme ≡ p.scheme) × IsShaped service other
@@ -105,8 +121,8 @@ module _ (p : FetchPlan) (one : p.scheme ≡ 1) (coins : List ℕ) (i : ℕ) (is
       (record { whole = record { suits = suits; enough = omega (arith, size, size_is) }; unused_is = trim }, r.1 ∙ sym frame_is)
 
 -- the reply is the frame of an honest server
-pub replies_honestly : (p : FetchPlan) (coins : List ℕ) (i : ℕ) (matrix : List (List ℕ)) (workers : ℕ) → p.scheme ≡ 1 → IsQuery (header_to p coins i) → RepliesHonestly p coins i matrix workers
-replies_honestly p coins i matrix workers one is_query is met frame = (only_reply p one coins i is_query matrix workers is met frame, the_reply p one coins i is_query matrix workers is met frame)
+pub replies_honestly : (p : FetchPlan) (coins : List ℕ) (i : ℕ) (matrix : List (List ℕ)) (workers : ℕ) → p.block < p.r → IsQuery (header_to p coins i) → RepliesHonestly p coins i matrix workers
+replies_honestly p coins i matrix workers within is_query is met frame = (only_reply p within coins i is_query matrix workers is met frame, the_reply p within coins i is_query matrix workers is met frame)
 
 -- the number of a session has eight bytes
 session_below : (coins : List ℕ) → ((k : ℕ) → k < 8 → get_or coins k 0 < 256) → session_number coins < 2 ^ 64
@@ -117,10 +133,10 @@ session_below coins byte =
 -- what a fetch asks is a query
 pub asks_a_query : (p : FetchPlan) (coins : List ℕ) (i : ℕ) → IsPlan p → length coins ≡ need p → All (λ b. b < 256) coins → 1 ≤ i → i < 256 → IsQuery (header_to p coins i)
 asks_a_query p coins i plan size bytes some few =
-    let one = plan.numbers.scheme in
+    let scheme = scheme_in p.scheme plan.numbers.scheme in
     record {
-      some_scheme = omega (arith, one);
-      two_schemes = omega (arith, one);
+      some_scheme = scheme.0;
+      two_schemes = scheme.1;
       some_index = some;
       few_indices = omega (arith, few);
       session = session_below coins (λ k l. bytes k 0 (omega (arith, size, l)));

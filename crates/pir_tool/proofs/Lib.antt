@@ -1,6 +1,13 @@
 pub mod Headline
+mod Children
+mod Demonstrating
 mod Serving
 mod ServeHeadline
+mod UnusedBits
 mod HonestReplies
 mod SameFrames
 pub mod Fetching
+mod StreamBytes
+mod Workloads
+mod AskedRow
+mod SelfrunHeadline

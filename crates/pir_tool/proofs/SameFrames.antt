@@ -1,16 +1,18 @@
--- A coalition is sent the same frames.
-use Rattle.std.proofs.Common.{◌≡◌, ℕ, ◌+◌, ◌*◌, ◌<◌, List, ◌++◌, length, take, drop, get_or, All, refl, sym, ap, ap₂, subst, ◌∙◌, arith, length-append, length-drop}
+-- A coalition is sent the same frames, in each scheme.
+use Rattle.std.proofs.Common.{◌≡◌, ◌≢◌, ℕ, ◌+◌, ◌-◌, ◌*◌, ◌<◌, ◌≤◌, List, ◌++◌, length, take, drop, get_or, All, refl, sym, ap, ap₂, subst, ◌∙◌, arith, length-append, length-drop}
 use Rattle.std.proofs.Math.Seq.{get_or-take, take-append_seam, drop-append_seam}
 use Rattle.std.proofs.lemmas.List.{length-take-le, take-append-drop}
 use Rattle.std.proofs.lemmas.List.Elements.{All-take, All-drop, All-append}
 use Rattle.shamir_share.specs.Query.{query}
+use Rattle.chor_xor.specs.Bitmap.{bitmap, size_of}
 use Rattle.wire_frames.specs.Header.{query_header}
 use Rattle.fetch_client.specs.declared.plan.FetchPlan.{FetchPlan}
-use Rattle.fetch_client.specs.Plan.{need}
-use Rattle.fetch_client.specs.Sent.{session_number, sent}
+use Rattle.fetch_client.specs.Plan.{params_of, query_coins, need}
+use Rattle.fetch_client.specs.Sent.{session_number, payload_to, sent}
+use Rattle.fetch_client.proofs.Schemes.{coins_of_shamir, payload_of_shamir, coins_of_xor, payload_of_xor}
 use Rattle.privacy_law.specs.Bijection.{AreCoins, IsBijection}
-use Rattle.privacy_law.specs.Partner.{partner}
-use Rattle.pir_tool.specs.Privacy.{with_block, partner_coins, IsSentTheSame}
+use Rattle.privacy_law.specs.Partner.{partner, partner_xor}
+use Rattle.pir_tool.specs.Privacy.{with_block, partner_coins, IsSentTheSame, partner_coins_xor, OthersAreSentTheSame}
 
 -- the number of a session is in the first 8 coins
 session_front : (coins : List ℕ) → session_number (take 8 coins) ≡ session_number coins
@@ -66,17 +68,52 @@ module _ (n : ℕ) where
     right = λ coins is. behind_both b.inverse f coins is (b.right (drop 8 coins) (parts coins is).1);
   }
 
--- the frames are the same where the queries are
-pub same_frames : (p : FetchPlan) (coalition : List ℕ) (other : ℕ)
-    → ((coins : List ℕ) → AreCoins (p.r * p.t) coins → All (λ a. query (partner coins p.t coalition p.block other) p.t p.r other a ≡ query coins p.t p.r p.block a) coalition)
-    → IsSentTheSame p coalition other
-unfolding sent partner_coins
-same_frames p coalition other same coins is = λ k d l.
-    let i = get_or coalition k d in
-    let halves = parts (p.r * p.t) coins is in
-    let rest = partner (drop 8 coins) p.t coalition p.block other in
+-- a frame is the same where the payload is
+same_frame : (p : FetchPlan) (other i : ℕ) (coins rest : List ℕ) → AreCoins (need p) coins
+    → payload_to (params_of p 0) rest other i ≡ payload_to (params_of p 0) (drop 8 coins) p.block i → sent (with_block p other) (take 8 coins ++ rest) i ≡ sent p coins i
+unfolding sent payload_to
+same_frame p other i coins rest is same =
+    let front = (parts (query_coins (params_of p 0)) coins is).0 in
     let number : session_number (take 8 coins ++ rest) ≡ session_number coins =
-    sym (session_front (take 8 coins ++ rest)) ∙ ap session_number (front_of (take 8 coins) rest halves.0) ∙ session_front coins in
+    sym (session_front (take 8 coins ++ rest)) ∙ ap session_number (front_of (take 8 coins) rest front) ∙ session_front coins in
     ap₂ (λ (x y : List ℕ). x ++ y)
     (ap (λ (n : ℕ). query_header (record { scheme = p.scheme; index = i; session = n; r = p.r; s = p.s })) number)
-    (ap (λ (l : List ℕ). query l p.t p.r other i) (rest_of (take 8 coins) rest halves.0) ∙ same (drop 8 coins) halves.1 k d l)
+    (ap (λ (l : List ℕ). payload_to (params_of p 0) l other i) (rest_of (take 8 coins) rest front) ∙ same)
+
+-- in Shamir's sharing the frames are the same where the queries are
+module _ (p : FetchPlan) (one : p.scheme ≡ 1) (coalition : List ℕ) (other : ℕ) where
+  pub bijection_in_shamir : IsBijection (p.r * p.t) (λ coins. partner coins p.t coalition p.block other) → IsBijection (need p) (λ coins. partner_coins p coalition other coins)
+  unfolding partner_coins
+  bijection_in_shamir b =
+      let f : List ℕ → List ℕ = λ coins. partner coins p.t coalition p.block other in
+      bijection_behind (query_coins (params_of p 0)) f (subst (λ (n : ℕ). IsBijection n f) (sym (coins_of_shamir (params_of p 0) one)) b)
+
+  pub same_in_shamir : ((coins : List ℕ) → AreCoins (p.r * p.t) coins → All (λ a. query (partner coins p.t coalition p.block other) p.t p.r other a ≡ query coins p.t p.r p.block a) coalition)
+      → IsSentTheSame p coalition other
+  unfolding partner_coins
+  same_in_shamir same coins is = λ k d l.
+      let params = params_of p 0 in
+      let i = get_or coalition k d in
+      let coins_behind = subst (λ (n : ℕ). AreCoins n (drop 8 coins)) (coins_of_shamir params one) (parts (query_coins params) coins is).1 in
+      let rest = partner (drop 8 coins) p.t coalition p.block other in
+      same_frame p other i coins rest is
+      (payload_of_shamir params one rest other i ∙ same (drop 8 coins) coins_behind k d l ∙ sym (payload_of_shamir params one (drop 8 coins) p.block i))
+
+-- in the XOR scheme they are where the bitmaps are
+module _ (p : FetchPlan) (two : p.scheme ≡ 2) (left_out other : ℕ) where
+  pub bijection_in_xor : IsBijection ((p.n - 1) * size_of p.r) (λ coins. partner_xor coins p.n p.r left_out p.block other) → IsBijection (need p) (λ coins. partner_coins_xor p left_out other coins)
+  unfolding partner_coins_xor
+  bijection_in_xor b =
+      let f : List ℕ → List ℕ = λ coins. partner_xor coins p.n p.r left_out p.block other in
+      bijection_behind (query_coins (params_of p 0)) f (subst (λ (n : ℕ). IsBijection n f) (sym (coins_of_xor (params_of p 0) two)) b)
+
+  pub same_in_xor : ((coins : List ℕ) → AreCoins ((p.n - 1) * size_of p.r) coins → (i : ℕ) → 1 ≤ i → i ≤ p.n → i ≢ left_out
+      → bitmap (partner_xor coins p.n p.r left_out p.block other) p.n p.r other i ≡ bitmap coins p.n p.r p.block i)
+      → OthersAreSentTheSame p left_out other
+  unfolding partner_coins_xor
+  same_in_xor same coins is i first last ne =
+      let params = params_of p 0 in
+      let coins_behind = subst (λ (n : ℕ). AreCoins n (drop 8 coins)) (coins_of_xor params two) (parts (query_coins params) coins is).1 in
+      let rest = partner_xor (drop 8 coins) p.n p.r left_out p.block other in
+      same_frame p other i coins rest is
+      (payload_of_xor params two rest other i ∙ same (drop 8 coins) coins_behind i first last ne ∙ sym (payload_of_xor params two (drop 8 coins) p.block i))

@@ -1,5 +1,5 @@
 -- What is promised of `serve` where no call failed but on guests.
-use Rattle.std.proofs.Common.{◌≡◌, ◌⊎◌, inl, inr, ℕ, ◌<◌, ◌≤◌, List, [], length, refl, ap, sym, ◌∙◌, arith, lit<}
+use Rattle.std.proofs.Common.{◌≡◌, ◌⊎◌, inl, inr, ℕ, ◌<◌, ◌≤◌, List, [], length, refl, ap, arith, lit<}
 use Rattle.std.specs.Prelude.{Some}
 use Rattle.pir_ports.specs.World.{World}
 use Rattle.block_matrix.specs.Database.{limit}
@@ -9,7 +9,7 @@ use Rattle.pir_tool.specs.ServeOrder.{ServeOrder}
 use Rattle.pir_tool.specs.ServeSteps.{Loaded}
 use Rattle.pir_tool.specs.ServeOutcome.{ServeEnds, ServedAll}
 use Rattle.pir_tool.specs.declared.status.Status.{Status}
-use Rattle.pir_tool.specs.declared.status.Status.TheVariants.{One, Usage, NoBlock, Several, TooFew, TooWeak, ReadFault, WriteFault, BadInput, DoorFault, Memory}
+use Rattle.pir_tool.specs.declared.status.Status.TheVariants.{One, Usage, NoBlock, Several, TooFew, TooWeak, ReadFault, WriteFault, BadInput, DoorFault, ChildFault, Memory}
 use Rattle.pir_tool.specs.declared.status.Bad.TheVariants.{Session, EmptyFile, TooBig, CoinsEnded}
 
 -- Door's count rose
@@ -37,6 +37,7 @@ module _ (o : ServeOrder) (old new : World) (none : NoneRoseButGuests old new) (
       absurd (omega (arith, more, said.0.limit_is, few))
   served (BadInput (CoinsEnded taken)) some few said = absurd said
   served DoorFault some few said = absurd (door_rose o old new none said)
+  served ChildFault some few said = absurd said
   served Memory some few said = inr refl
 
   -- what was loaded is what Database held
@@ -64,6 +65,7 @@ module _ (o : ServeOrder) (old new : World) (none : NoneRoseButGuests old new) (
       absurd (omega (arith, more, size))
   empty_file (BadInput (CoinsEnded taken)) size said = absurd said
   empty_file DoorFault size said = absurd (door_rose o old new none said)
+  empty_file ChildFault size said = absurd said
   empty_file Memory size said = inr refl
 
   -- and so is one that is too big
@@ -83,4 +85,5 @@ module _ (o : ServeOrder) (old new : World) (none : NoneRoseButGuests old new) (
   too_big (BadInput (TooBig most)) more said = inl (ap (λ (n : ℕ). BadInput (TooBig n)) said.0.limit_is)
   too_big (BadInput (CoinsEnded taken)) more said = absurd said
   too_big DoorFault more said = absurd (door_rose o old new none said)
+  too_big ChildFault more said = absurd said
   too_big Memory more said = inr refl

@@ -1,12 +1,11 @@
 -- The steps of `serve`, put together.
-use Rattle.std.proofs.Common.{◌≡◌, ◌≢◌, ◌⊎◌, inl, inr, ℕ, ◌+◌, ◌-◌, ◌^◌, ◌<◌, ◌≤◌, min, List, length, refl, sym, ◌∙◌, ap, ap₂, subst, arith}
-use Rattle.std.specs.Prelude.{Result, Ok, Err}
+use Rattle.std.proofs.Common.{◌≡◌, ℕ, ◌+◌, ◌-◌, ◌^◌, ◌<◌, ◌≤◌, min, List, sym, ◌∙◌, ap, ap₂, subst, arith}
+use Rattle.std.specs.Prelude.{Ok, Err}
 use Rattle.pir_ports.specs.World.{Cell, World, answers}
 use Rattle.pir_ports.specs.Moves.{Rose, Touches, Fails, named, counted, gave}
 use Rattle.pir_ports.proofs.Carried.{fails_writing_before}
-use Rattle.pir_ports.specs.Whole.{FailsWithin}
 use Rattle.pir_ports.specs.Guests.{Meets}
-use Rattle.pir_ports.specs.Serving.{ServesOne, Served as IsServing}
+use Rattle.pir_ports.specs.Serving.{Served as IsServing}
 use Rattle.pir_ports.proofs.Served.{served_none, served_still, served_more}
 use Rattle.block_matrix.specs.Database.{Database}
 use Rattle.serve_core.specs.Service.{Service}
@@ -74,6 +73,7 @@ guests_more service now n met w v m u same s meets touch attends = served_more (
 pub guests_touch : (w v m u : World) → TouchesGuests w v → Meets v m → Touches 6 m u → TouchesGuests w u
 guests_touch w v m u s meets touch = record {
   others = λ q l ne5 ne6. touch.others q l ne6 ∙ meets.others q l ne6 ∙ s.others q l ne5 ne6;
+  started = touch.started ∙ meets.started ∙ s.started;
 }
 
 -- Door stays
@@ -93,6 +93,7 @@ guests_dry service n served w v u fewer same s fails touch = record {
 pub guests_dry_touch : (w v u : World) → TouchesGuests w v → Touches 5 v u → TouchesGuests w u
 guests_dry_touch w v u s touch = record {
   others = λ q l ne5 ne6. touch.others q l ne5 ∙ s.others q l ne5 ne6;
+  started = touch.started ∙ s.started;
 }
 
 -- a world with the same guests, and the same of the one that is in
@@ -203,4 +204,5 @@ module _ (o : ServeOrder) (service : Service) (w v : World) (opens : OpensDesk o
     pub server_touches : TouchesServer w x
     server_touches = record {
       others = λ q b n1 n2 n5 n6. g.others q b n5 n6 ∙ t.others q b n1 n5 ∙ touch.others q b n2;
+      started = g.started ∙ t.started ∙ touch.started;
     }

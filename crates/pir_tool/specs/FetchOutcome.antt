@@ -16,7 +16,7 @@ use Rattle.pir_ports.specs.declared.port.Failed.{Failed}
 use Rattle.pir_tool.specs.Told.{Told, Unread, Unwritten}
 use Rattle.pir_tool.specs.FetchOrder.{FetchOrder}
 use Rattle.pir_tool.specs.declared.status.Status.{Status}
-use Rattle.pir_tool.specs.declared.status.Status.TheVariants.{Usage, ReadFault, WriteFault, BadInput, DoorFault, Memory}
+use Rattle.pir_tool.specs.declared.status.Status.TheVariants.{Usage, ReadFault, WriteFault, BadInput, DoorFault, ChildFault, Memory}
 use Rattle.pir_tool.specs.declared.status.Bad.TheVariants.{Session, EmptyFile, TooBig, CoinsEnded}
 
 -- Coins was opened by its name and gave these coins, and every server was asked with them, in this session
@@ -95,13 +95,16 @@ FetchEnds o (BadInput EmptyFile) old new = ⊥
 FetchEnds o (BadInput (TooBig limit)) old new = ⊥
 FetchEnds o (BadInput (CoinsEnded taken)) old new = FetchRefused o taken old new
 FetchEnds o DoorFault old new = ⊥
+FetchEnds o ChildFault old new = ⊥
 FetchEnds o Memory old new = FetchUnfinished o old new
 FetchEnds o status old new = FetchReported o status old new
 
--- no port is touched but Output, Coins, Record and the links to so many servers, and no guest comes or goes
+-- no port is touched but Output, Coins, Record and the links to so many servers, no guest comes or goes, and no child is
+-- started
 pub record TouchesFetch (n : ℕ) (old new : World) : Type 0 where
   pub others : (q : ℕ) → q < 1024 → q ≢ 1 → q ≢ 3 → q ≢ 4 → (257 ≤ q → q < 257 + n → ⊥) → new.at q ≡ old.at q
   pub crowd : new.crowd ≡ old.crowd
+  pub started : new.started ≡ old.started
 
 -- what `fetch` did, and that it did no more
 pub record FetchOutcome (o : FetchOrder) (status : Status) (old new : World) : Type 0 where
@@ -113,10 +116,11 @@ abbrev pub Keeps : Option (List ℕ) → Transcript → Result (Unit {0}) Failed
 Keeps keep session (Ok _) old new = Recorded keep session old new
 Keeps keep session (Err _) old new = Unrecorded keep session old new
 
--- no port but Output and Record is touched, and no guest comes or goes
+-- no port but Output and Record is touched, no guest comes or goes, and no child is started
 pub record TouchesFiles (old new : World) : Type 0 where
   pub others : (q : ℕ) → q < 1024 → q ≢ 1 → q ≢ 4 → new.at q ≡ old.at q
   pub crowd : new.crowd ≡ old.crowd
+  pub started : new.started ≡ old.started
 
 -- the session is recorded and its verdict written; or one of them was cut short, and nothing was written after it
 abbrev pub Reports : Option (List ℕ) → Transcript → Verdict → Status → World → World → Type 0

@@ -3,9 +3,15 @@ pub mod Told
 pub mod ReplayOutcome
 pub mod FetchOrder
 pub mod FetchOutcome
+pub mod DemoOrder
+pub mod DemoOutcome
 pub mod ServeOrder
 pub mod ServeSteps
 pub mod ServeOutcome
 pub mod HonestReply
 pub mod Privacy
 pub mod Outcome
+pub mod Stream
+pub mod Workload
+pub mod Drawn
+pub mod SelfrunOutcome

@@ -2,11 +2,13 @@
 use Rattle.std.specs.Prelude.{◌≡◌, ◌⊎◌, ℕ, List, length, Option}
 use Rattle.pir_ports.specs.World.{World}
 use Rattle.pir_words.specs.declared.asked.Asked.{Asked}
-use Rattle.pir_words.specs.declared.asked.Asked.TheVariants.{Replay, Fetch, Serve}
+use Rattle.pir_words.specs.declared.asked.Asked.TheVariants.{Replay, Fetch, Serve, Selfrun, Demo}
 use Rattle.pir_tool.specs.FetchOrder.{FetchOrder}
 use Rattle.pir_tool.specs.ReplayOutcome.{ReplayOutcome}
 use Rattle.pir_tool.specs.FetchOutcome.{FetchOutcome}
 use Rattle.pir_tool.specs.ServeOutcome.{ServeOutcome}
+use Rattle.pir_tool.specs.SelfrunOutcome.{SelfrunOutcome}
+use Rattle.pir_tool.specs.DemoOutcome.{DemoOutcome}
 use Rattle.pir_tool.specs.declared.status.Status.{Status}
 use Rattle.pir_tool.specs.declared.status.Status.TheVariants.{Memory}
 
@@ -24,6 +26,25 @@ abbrev pub Outcome : Asked → Status → World → World → Type 0
 Outcome (Replay file) status old new = ReplayOutcome file status old new
 Outcome (Fetch scheme rows width block degree agree coins keep addresses) status old new = FetchOutcome (order_of scheme rows width block degree agree coins keep addresses) status old new
 Outcome (Serve scheme database width guests listen workers) status old new = ServeOutcome (record { scheme = scheme; database = database; width = width; guests = guests; listen = listen; workers = workers }) status old new
+Outcome (Selfrun seed rows width servers degree agree liars workers) status old new = SelfrunOutcome (record { seed = seed; rows = rows; width = width; servers = servers; degree = degree; agree = agree; liars = liars }) status old new
+Outcome (Demo port database rows width block servers degree agree coins) status old new = DemoOutcome (record { port = port; database = database; rows = rows; width = width; block = block; servers = servers; degree = degree; agree = agree; coins = coins }) status old new
+
+-- which command it is
+abbrev pub IsToFetch : Asked → Type 0
+IsToFetch (Fetch scheme rows width block degree agree coins keep addresses) = Unit {0}
+IsToFetch asked = ⊥
+
+abbrev pub IsToServe : Asked → Type 0
+IsToServe (Serve scheme database width guests listen workers) = Unit {0}
+IsToServe asked = ⊥
+
+abbrev pub IsToSelfrun : Asked → Type 0
+IsToSelfrun (Selfrun seed rows width servers degree agree liars workers) = Unit {0}
+IsToSelfrun asked = ⊥
+
+abbrev pub IsToDemonstrate : Asked → Type 0
+IsToDemonstrate (Demo port database rows width block servers degree agree coins) = Unit {0}
+IsToDemonstrate asked = ⊥
 
 -- memory ran out before the command, which nothing was touched for; or this is what the command did
 abbrev pub Runs : Asked → Status → World → World → Type 0

@@ -11,7 +11,7 @@ use Rattle.replay.specs.Replayed.{Judged, NoSession}
 use Rattle.pir_tool.specs.Table.{status_of}
 use Rattle.pir_tool.specs.Told.{Unread}
 use Rattle.pir_tool.specs.declared.status.Status.{Status}
-use Rattle.pir_tool.specs.declared.status.Status.TheVariants.{Usage, ReadFault, WriteFault, BadInput, DoorFault, Memory}
+use Rattle.pir_tool.specs.declared.status.Status.TheVariants.{Usage, ReadFault, WriteFault, BadInput, DoorFault, ChildFault, Memory}
 use Rattle.pir_tool.specs.declared.status.Bad.TheVariants.{Session, EmptyFile, TooBig, CoinsEnded}
 
 -- Input was opened under this name, and some of its bytes were taken
@@ -60,13 +60,15 @@ ReplayEnds name (BadInput EmptyFile) old new = ⊥
 ReplayEnds name (BadInput (TooBig limit)) old new = ⊥
 ReplayEnds name (BadInput (CoinsEnded taken)) old new = ⊥
 ReplayEnds name DoorFault old new = ⊥
+ReplayEnds name ChildFault old new = ⊥
 ReplayEnds name Memory old new = Unfinished name old new
 ReplayEnds name status old new = Reported name status old new
 
--- no port but Input and Output is touched, and no guest comes or goes
+-- no port but Input and Output is touched, no guest comes or goes, and no child is started
 pub record TouchesStreams (old new : World) : Type 0 where
   pub others : (q : ℕ) → q < 1024 → q ≢ 0 → q ≢ 1 → new.at q ≡ old.at q
   pub crowd : new.crowd ≡ old.crowd
+  pub started : new.started ≡ old.started
 
 -- what `replay FILE` did, and that it did no more
 pub record ReplayOutcome (name : List ℕ) (status : Status) (old new : World) : Type 0 where

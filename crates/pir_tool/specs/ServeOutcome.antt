@@ -65,9 +65,10 @@ ServeEnds o DoorFault old new = CannotListen o old new ⊎ NoFurtherGuest o old 
 ServeEnds o Memory old new = HasBegun o.database old new × Touches 2 old new
 ServeEnds o status old new = ⊥
 
--- no port is touched but Output, Database, Door and Guest
+-- no port is touched but Output, Database, Door and Guest, and no child is started
 pub record TouchesServer (old new : World) : Type 0 where
   pub others : (q : ℕ) → q < 1024 → q ≢ 1 → q ≢ 2 → q ≢ 5 → q ≢ 6 → new.at q ≡ old.at q
+  pub started : new.started ≡ old.started
 
 -- what `serve` did, and that it did no more
 pub record ServeOutcome (o : ServeOrder) (status : Status) (old new : World) : Type 0 where

@@ -1,5 +1,5 @@
 -- The steps of `serve`, and what each does to the outside.
-use Rattle.std.specs.Prelude.{◌≡◌, ◌≢◌, ◌⊎◌, ℕ, ◌+◌, ◌<◌, ◌≤◌, List, [], length, codes, IfSome, Result, Ok, Err}
+use Rattle.std.specs.Prelude.{◌≡◌, ◌≢◌, ℕ, ◌+◌, ◌<◌, List, [], length, codes, IfSome, Result, Ok, Err}
 use Rattle.pir_ports.specs.World.{World}
 use Rattle.pir_ports.specs.Moves.{took, gave, named, counted}
 use Rattle.pir_ports.specs.Whole.{FailsWithin}
@@ -72,10 +72,11 @@ Listens address (Err DoorFault) old new = IsShut old new
 Listens address (Err WriteFault) old new = IsMute address old new
 Listens address (Err status) old new = ⊥
 
--- no port but Output and Door is touched, and nobody came in
+-- no port but Output and Door is touched, nobody came in, and no child was started
 pub record TouchesDoor (old new : World) : Type 0 where
   pub others : (q : ℕ) → q < 1024 → q ≢ 1 → q ≢ 5 → new.at q ≡ old.at q
   pub crowd : new.crowd ≡ old.crowd
+  pub started : new.started ≡ old.started
 
 -- n guests were served
 abbrev pub ServesGuests : Service → ℕ → World → World → Type 0
@@ -93,6 +94,7 @@ pub record RunsDry (service : Service) (n : ℕ) (old new : World) : Type 0 wher
   pub door : new.at 5 ≡ counted (new.at 5).faults (old.at 5)
   pub rose : DidRise 5 old new
 
--- no port but Door and Guest is touched
+-- no port but Door and Guest is touched, and no child is started
 pub record TouchesGuests (old new : World) : Type 0 where
   pub others : (q : ℕ) → q < 1024 → q ≢ 5 → q ≢ 6 → new.at q ≡ old.at q
+  pub started : new.started ≡ old.started

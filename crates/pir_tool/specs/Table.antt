@@ -3,7 +3,7 @@ use Rattle.std.specs.Prelude.{ℕ, List, [], ◌∷◌, codes}
 use Rattle.block_decoder.specs.declared.verdict.Verdict.{Verdict}
 use Rattle.block_decoder.specs.declared.verdict.Verdict.TheVariants.{Listed as IsListed, TooFew as IsTooFew, TooWeak as IsTooWeak}
 use Rattle.pir_tool.specs.declared.status.Status.{Status}
-use Rattle.pir_tool.specs.declared.status.Status.TheVariants.{One, Usage, NoBlock, Several, TooFew, TooWeak, ReadFault, WriteFault, BadInput, DoorFault, Memory}
+use Rattle.pir_tool.specs.declared.status.Status.TheVariants.{One, Usage, NoBlock, Several, TooFew, TooWeak, ReadFault, WriteFault, BadInput, DoorFault, ChildFault, Memory}
 
 abbrev pub code_of : Status → ℕ
 code_of One = 0
@@ -17,6 +17,7 @@ code_of WriteFault = 9
 code_of (BadInput bad) = 10
 code_of DoorFault = 11
 code_of Memory = 12
+code_of ChildFault = 13
 
 -- what stands on standard error, empty where nothing does
 abbrev pub line_of : Status → List ℕ
@@ -31,6 +32,7 @@ line_of WriteFault = codes "pir: write fault"
 line_of (BadInput bad) = codes "pir: bad input"
 line_of DoorFault = codes "pir: door fault"
 line_of Memory = codes "pir: no memory"
+line_of ChildFault = codes "pir: child fault"
 
 -- by how many blocks are listed
 abbrev pub status_of_blocks : List (List ℕ) → Status

@@ -1,5 +1,5 @@
 -- What a run may say of any port.
-use Rattle.std.specs.Prelude.{◌≡◌, ◌≢◌, ◌⊎◌, ℕ, ◌<◌, List, length, take}
+use Rattle.std.specs.Prelude.{◌≡◌, ◌≢◌, ◌⊎◌, ℕ, ◌<◌, ◌≤◌, List, length, take}
 use Rattle.pir_ports.specs.World.{World}
 use Rattle.pir_ports.specs.Moves.{Rose, took, gave, named, counted}
 use Rattle.pir_ports.specs.Whole.{FailsWithin}
@@ -20,6 +20,10 @@ NoneRose old new = (p : ℕ) → p < 256 → DidRise p old new → ⊥
 -- no call failed, but maybe on the guest that was in
 abbrev pub NoneRoseButGuests : World → World → Type 0
 NoneRoseButGuests old new = (p : ℕ) → p < 256 → p ≢ 6 → DidRise p old new → ⊥
+
+-- no child could not be started
+abbrev pub NoChildRose : World → World → Type 0
+NoChildRose old new = (p : ℕ) → 512 ≤ p → p < 768 → DidRise p old new → ⊥
 
 -- a file can't be read: a call on its port failed, to open it by this name or to take from it later
 pub record Unread (p : ℕ) (name : List ℕ) (old new : World) : Type 0 where

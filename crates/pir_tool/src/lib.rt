@@ -1,13 +1,18 @@
 //! The program `pir`: all that it does, over ports that tell what goes in and out.
 #![tactic(auto)]
 
+mod demo_command;
 mod fetch_command;
 pub mod laws;
+mod obey;
 mod replay_command;
 mod report;
+mod selfrun_command;
 mod serve_command;
 mod status;
+mod stream;
 mod top;
+mod workload;
 
 pub use status::{Bad, Status, code, line};
 pub use top::run;

@@ -10,7 +10,7 @@ use block_decoder::{Verdict, write_verdict};
 use pir_ports::{Failed, Ports};
 
 /// The status that a verdict is.
-fn status_by(verdict: &Verdict) -> Status
+pub(crate) fn status_by(verdict: &Verdict) -> Status
     ensures { result ≡ status_of verdict.now }
 {
     match verdict {

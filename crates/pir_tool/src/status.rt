@@ -41,6 +41,8 @@ pub enum Status {
     DoorFault,
     /// Want of memory; nothing was written.
     Memory,
+    /// A child could not be started; nothing was written, and no server was asked.
+    ChildFault,
 }
 
 /// The exit code of the program for a status.
@@ -59,6 +61,7 @@ pub fn code(status: &Status) -> u8
         Status::BadInput(_) => 10,
         Status::DoorFault => 11,
         Status::Memory => 12,
+        Status::ChildFault => 13,
     }
 }
 
@@ -78,5 +81,6 @@ pub fn line(status: &Status) -> &'static str
         Status::BadInput(_) => "pir: bad input",
         Status::DoorFault => "pir: door fault",
         Status::Memory => "pir: no memory",
+        Status::ChildFault => "pir: child fault",
     }
 }

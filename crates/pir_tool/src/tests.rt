@@ -1,6 +1,9 @@
+mod demos;
 mod fetches;
 mod grammar;
+mod selfruns;
 mod serving;
+mod xor;
 
 ghost use Rattle.std.specs.Prelude.{◌<◌};
 
@@ -19,6 +22,9 @@ const SESSION: [u8; 124] = [
     0x02, 0x01, 0x00, 0x00, 0x00, 0x1a, 0x50, 0x49, 0x52, 0x41, 0x01, 0x01, 0x02, 0x00, 0x00, 0x00, 0x00, 0x00, 0x00, 0x00, 0x00, 0x07, 0x00, 0x00, 0x00, 0x02, 0x00, 0x00, 0x00, 0x02, 0x40, 0x73,
     0x03, 0x01, 0x00, 0x00, 0x00, 0x1a, 0x50, 0x49, 0x52, 0x41, 0x01, 0x01, 0x03, 0x00, 0x00, 0x00, 0x00, 0x00, 0x00, 0x00, 0x00, 0x07, 0x00, 0x00, 0x00, 0x02, 0x00, 0x00, 0x00, 0x02, 0xcc, 0xe5,
 ];
+
+// What each byte of a session is replaced by.
+const BYTES: [u8; 13] = [0, 1, 2, 3, 4, 8, 9, 16, 26, 27, 64, 128, 255];
 
 /// A recorded session with number 7 and two rows, and what its replay says.
 #[derive(Drop)]
@@ -147,7 +153,7 @@ fn altered_sessions(rt: HostRuntime) -> Result<(), Fail> {
     // The place of a byte, what stands there in its stead, and the place at which the bytes stop to begin a session.
     for (at, byte, place) in [
         (28, 2, 28),
-        (5, 2, 5),
+        (5, 2, 8),
         (7, 1, 7),
         (23, 0, 23),
         (33, 0x1b, 33),
@@ -251,6 +257,7 @@ fn words_without_form(rt: HostRuntime) -> Result<(), Fail> {
         "fetch --rows 2 --width 2 --block 1 --scheme xor --degree 1 a b",
         "serve --database D --width 2 --conns 1",
         "serve --database D --width 2 --conns 1 --listen L --workers 17",
+        "demo --port 80 --database D --rows 2 --width 2 --block 1 --servers 3 --degree 1 --agree 2",
     ] {
         let words = words_in(alloc, text)?;
         let mut ports = ports_with(alloc, 1000, None, &SESSION, 100)?;
@@ -263,25 +270,34 @@ fn words_without_form(rt: HostRuntime) -> Result<(), Fail> {
         for port in [Port::Input, Port::Coins, Port::Link(1), Port::Door] {
             assert_eq!(rt; ports.opened_as(port, 0), None, "{text}");
         }
+        assert_eq!(rt; ports.started_word(0, 0), None, "{text}");
         assert_eq!(rt; ports.seen(Port::Output), b"".as_slice(), "{text}");
     }
     Ok(())
 }
 
+/// The place at which a replay refuses these bytes, where it does.
+fn refused_place<R: Threads + Sync>(
+    rt: &R,
+    alloc: Global,
+    session: &[u8],
+) -> Result<Option<u64>, Fail> {
+    let words = words_of(alloc, &["replay", "-"])?;
+    let mut ports = ports_with(alloc, 31, None, session, 100)?;
+    match run_in_memory(rt, alloc, &words, &mut ports) {
+        Status::BadInput(Bad::Session { place }) => Ok(Some(place)),
+        _ => Ok(None),
+    }
+}
+
 #[test]
 fn each_byte_replaced(rt: HostRuntime) -> Result<(), Fail> {
     let alloc = rt.alloc();
-    let words = words_of(alloc, &["replay", "-"])?;
     for at in 0..124 {
-        for byte in [0, 1, 2, 3, 4, 8, 9, 16, 26, 27, 64, 128, 255] {
+        for byte in BYTES {
             let mut session = SESSION;
             session[at] = byte;
-            let mut ports = ports_with(alloc, 31, None, &session, 100)?;
-            let status = run_in_memory(&rt, alloc, &words, &mut ports);
-            let place = match status {
-                Status::BadInput(Bad::Session { place }) => Some(place),
-                _ => None,
-            };
+            let place = refused_place(&rt, alloc, &session)?;
             assert_eq!(rt; place, place_by_format(&session), "byte {at} is {byte}");
         }
     }

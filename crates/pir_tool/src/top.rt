@@ -1,104 +1,41 @@
 //! The top call.
 
 ghost use Rattle.std.specs.Prelude.{◌≡◌, ◌<◌, ◌≤◌, ◌⊎◌, List, ℕ, [], length, Some, None, map, string_bytes};
-ghost use Rattle.std.specs.Option.{option_copied};
 ghost use Rattle.wire_frames.specs.Session.{Transcript, IsSession};
-ghost use Rattle.pir_words.specs.Form.{asked_of, InRange};
+ghost use Rattle.pir_words.specs.Form.{asked_of};
 ghost use Rattle.replay.specs.Replayed.{NoSession};
 ghost use Rattle.fetch_client.specs.Plan.{need};
 ghost use Rattle.block_matrix.specs.Database.{limit};
-ghost use Rattle.pir_tool.specs.Told.{NoneRose, NoneRoseButGuests};
+ghost use Rattle.pir_tool.specs.Told.{DidRise, NoChildRose, NoneRose, NoneRoseButGuests};
 ghost use Rattle.pir_tool.specs.ReplayOutcome.{Answered};
 ghost use Rattle.pir_tool.specs.FetchOrder.{FetchOrder, Orders};
 ghost use Rattle.pir_tool.specs.FetchOutcome.{FetchReported};
 ghost use Rattle.pir_tool.specs.ServeOrder.{ServeOrder, asked_to_serve};
 ghost use Rattle.pir_tool.specs.ServeOutcome.{ServedAll};
-ghost use Rattle.pir_tool.specs.Outcome.{Outcome, Runs};
+ghost use Rattle.pir_tool.specs.DemoOrder.{DemoOrder, asked_to_demonstrate, plan_of};
+ghost use Rattle.pir_tool.specs.DemoOutcome.{DemoReported};
+ghost use Rattle.pir_tool.specs.SelfrunOutcome.{SelfrunReported, asked_to_selfrun};
+ghost use Rattle.pir_tool.specs.declared.workload.Workload.{Workload};
+ghost use Rattle.pir_tool.specs.Outcome.{Runs};
 
-use crate::fetch_command::fetch_block;
-use crate::replay_command::replay_file;
-use crate::serve_command::{Serving, serve_file};
+use crate::obey::obey;
 use crate::status::{Bad, Status};
-use fetch_client::FetchPlan;
 use pir_ports::Ports;
-use pir_words::{Asked, Text, WordsFault, read_words};
+use pir_words::{Asked, WordsFault, read_words};
 use std::alloc::Global;
 use std::thread::Threads;
-
-/// The text of a word, where there is one.
-fn text_of(word: &Option<Text>) -> Option<&str>
-    ensures { option_copied result ≡ word.now }
-{
-    match word {
-        Some(text) => Some(text.as_str()),
-        None => None,
-    }
-}
-
-/// Does what the command says.
-fn obey<R: Threads + Sync, P: Ports>(rt: &R, alloc: Global, asked: &Asked, ports: &mut P) -> Status
-    requires { InRange asked.now }
-    ensures { Outcome asked.now result (P.world ports.old) (P.world ports.new) }
-{
-    match asked {
-        Asked::Replay { file } => replay_file(alloc, file.as_str(), ports),
-        Asked::Fetch {
-            scheme,
-            rows,
-            width,
-            block,
-            degree,
-            agree,
-            coins,
-            keep,
-            addresses,
-        } => {
-            let addresses = addresses.as_slice();
-            let plan = FetchPlan {
-                scheme: *scheme,
-                t: *degree,
-                h: *agree,
-                n: addresses.len() as u8,
-                r: *rows,
-                s: *width,
-                block: *block,
-            };
-            fetch_block(
-                alloc,
-                &plan,
-                addresses,
-                coins.as_str(),
-                text_of(keep),
-                ports,
-            )
-        }
-        Asked::Serve {
-            scheme,
-            database,
-            width,
-            conns,
-            listen,
-            workers,
-        } => {
-            let order = Serving {
-                scheme: *scheme,
-                database: database.as_str(),
-                width: *width,
-                guests: *conns,
-                listen: listen.as_str(),
-                workers: *workers,
-            };
-            serve_file(rt, alloc, &order, ports)
-        }
-    }
-}
 
 /// Does all that the program does, by its words.
 ///
 /// `replay FILE` opens FILE as Input (`-` is standard input), judges the session that it holds, and writes the verdict's
 /// text to Output. `fetch` reads coins, asks each server for its share of a block, records the session where a file for it
 /// is named, and writes the verdict's text. `serve` loads a database, opens Door, writes `ready` to Output, and serves its
-/// guests one after the other.
+/// guests one after the other. `selfrun` draws a workload from a number, runs its servers and the decoder in memory, and writes
+/// the verdict's text. `demo` starts this program as a child for each server, and fetches a block from them.
+///
+/// The first three know both schemes: Shamir's sharing (Goldberg 2007), in which servers that lie or are silent can be outvoted,
+/// and the XOR scheme (Chor, Goldreich, Kushilevitz and Sudan 1995), in which all servers have to answer, and a lie isn't
+/// noticed. `selfrun` and `demo` take Shamir's.
 pub fn run<R: Threads + Sync, P: Ports>(
     rt: &R,
     alloc: Global,
@@ -139,6 +76,20 @@ pub fn run<R: Threads + Sync, P: Ports>(
         → NoneRoseButGuests (P.world ports.old) (P.world ports.new) → (result ≡ Status.BadInput Bad.EmptyFile) ⊎ (result ≡ Status.Memory) }
     ensures too_big { (order : ServeOrder) (bytes : List ℕ) → asked_of (map string_bytes words.now) ≡ Some (asked_to_serve order) → ((P.world ports.old).at 2).holds ≡ Some bytes → limit order.width < length bytes
         → NoneRoseButGuests (P.world ports.old) (P.world ports.new) → (result ≡ Status.BadInput (Bad.TooBig (limit order.width))) ⊎ (result ≡ Status.Memory) }
+
+    // Where no call on Output failed, exactly the text of the verdict on a workload is written, with the line of the numbers
+    // after a listing, or memory ran out.
+    ensures selfrun { (load : Workload) (workers : ℕ) → asked_of (map string_bytes words.now) ≡ Some (asked_to_selfrun load workers)
+        → (DidRise 1 (P.world ports.old) (P.world ports.new) → ⊥) → SelfrunReported load result (P.world ports.old) (P.world ports.new) ⊎ (result ≡ Status.Memory) }
+
+    // Where Coins holds enough and no call failed but on links, all children were started, each with its words, and exactly
+    // the text of the verdict on the session with them is written, or memory ran out.
+    ensures demonstrated { (order : DemoOrder) (held : List ℕ) → asked_of (map string_bytes words.now) ≡ Some (asked_to_demonstrate order) → ((P.world ports.old).at 3).holds ≡ Some held → need (plan_of order) ≤ length held
+        → NoneRose (P.world ports.old) (P.world ports.new) → NoChildRose (P.world ports.old) (P.world ports.new) → DemoReported order result (P.world ports.old) (P.world ports.new) ⊎ (result ≡ Status.Memory) }
+
+    // Where it holds fewer and no call failed, that is said, with their number.
+    ensures demonstrated_with_too_few_coins { (order : DemoOrder) (held : List ℕ) → asked_of (map string_bytes words.now) ≡ Some (asked_to_demonstrate order) → ((P.world ports.old).at 3).holds ≡ Some held → length held < need (plan_of order)
+        → NoneRose (P.world ports.old) (P.world ports.new) → NoChildRose (P.world ports.old) (P.world ports.new) → (result ≡ Status.BadInput (Bad.CoinsEnded (length held))) ⊎ (result ≡ Status.Memory) }
 {
     match read_words(alloc, words) {
         Ok(asked) => obey(rt, alloc, &asked, ports),

@@ -13,12 +13,12 @@ const WORDS: &str =
     "fetch --rows 2 --width 2 --block 1 --degree 1 --agree 2 --coins C --record F a b c";
 
 // The number of the session is 7, and the polynomials of the rows are `05 x` and `01 + 07 x`.
-const COINS: [u8; 10] = [0, 0, 0, 0, 0, 0, 0, 7, 5, 7];
+pub const COINS: [u8; 10] = [0, 0, 0, 0, 0, 0, 0, 7, 5, 7];
 
-const TEXT: &[u8] = b"blocks 1\n4344\n";
+pub const TEXT: &[u8] = b"blocks 1\n4344\n";
 
 // What the servers are sent. Their answers stand in the session.
-const QUERIES: [&[u8; 26]; 3] = [
+pub const QUERIES: [&[u8; 26]; 3] = [
     b"PIRQ\x01\x01\x01\0\0\0\0\0\0\0\0\x07\0\0\0\x02\0\0\0\x02\x05\x06",
     b"PIRQ\x01\x01\x02\0\0\0\0\0\0\0\0\x07\0\0\0\x02\0\0\0\x02\x0a\x0f",
     b"PIRQ\x01\x01\x03\0\0\0\0\0\0\0\0\x07\0\0\0\x02\0\0\0\x02\x0f\x08",
@@ -51,7 +51,7 @@ fn ports_with(
 }
 
 /// Whether the link was opened by this address alone, and took this query.
-fn was_asked(ports: &MemPorts, link: u8, address: &str, query: &[u8]) -> bool {
+pub fn was_asked(ports: &MemPorts, link: u8, address: &str, query: &[u8]) -> bool {
     let opened = match ports.opened_as(Port::Link(link), 0) {
         Some(name) => name == address.as_bytes(),
         None => false,
@@ -60,14 +60,20 @@ fn was_asked(ports: &MemPorts, link: u8, address: &str, query: &[u8]) -> bool {
     opened && !again && ports.seen(Port::Link(link)) == query
 }
 
-/// Whether the replay of this record gives the block.
-fn is_replayed<R: Threads + Sync>(rt: &R, alloc: Global, record: &[u8]) -> Result<bool, Fail> {
+/// Whether the replay of this record ends so, and writes this text.
+pub fn is_replayed<R: Threads + Sync>(
+    rt: &R,
+    alloc: Global,
+    record: &[u8],
+    status: Status,
+    text: &[u8],
+) -> Result<bool, Fail> {
     let words = words_in(alloc, "replay F")?;
     let mut ports = MemPorts::new(alloc, 50, &[], 1, 1)?;
     ports.put(alloc, Port::Input, record)?;
     ports.room(alloc, Port::Output, 100)?;
-    let status = run_in_memory(rt, alloc, &words, &mut ports);
-    Ok(status == Status::One && ports.seen(Port::Output) == TEXT)
+    let ended = run_in_memory(rt, alloc, &words, &mut ports);
+    Ok(ended == status && ports.seen(Port::Output) == text)
 }
 
 /// Whether the record has so many bytes, begins as the session up to `front`, and ends as it from `back` on.
@@ -97,8 +103,25 @@ fn a_fetch_and_its_replay(rt: HostRuntime) -> Result<(), Fail> {
         assert!(rt; was_asked(&ports, 2, "b", QUERIES[1]));
         assert!(rt; was_asked(&ports, 3, "c", QUERIES[2]));
         assert!(rt; is_record(ports.seen(Port::Record), 124, 124, 0));
-        assert!(rt; is_replayed(&rt, alloc, ports.seen(Port::Record))?);
+        assert!(rt; is_replayed(&rt, alloc, ports.seen(Port::Record), Status::One, TEXT)?);
     }
+    Ok(())
+}
+
+// From these coins server 2 is sent for block 0 what it is sent for block 1 from those above, byte for byte.
+#[test]
+fn the_same_is_sent_for_another_block(rt: HostRuntime) -> Result<(), Fail> {
+    let alloc = rt.alloc();
+    let words = words_in(
+        alloc,
+        "fetch --rows 2 --width 2 --block 0 --degree 1 --agree 2 --coins C a b c",
+    )?;
+    let coins = [0, 0, 0, 0, 0, 0, 0, 7, 0x88, 0x8a];
+    let mut ports = ports_with(alloc, 1000, &[], &coins, 26)?;
+    run_in_memory(&rt, alloc, &words, &mut ports);
+    let other = b"PIRQ\x01\x01\x01\0\0\0\0\0\0\0\0\x07\0\0\0\x02\0\0\0\x02\x89\x8a";
+    assert!(rt; was_asked(&ports, 1, "a", other));
+    assert!(rt; was_asked(&ports, 2, "b", QUERIES[1]));
     Ok(())
 }
 

@@ -48,10 +48,11 @@ pub fn place_by_format(bytes: &[u8]) -> Option<u64> {
     };
     scan.number(4, 0x50495253, 0x50495253);
     scan.number(1, 1, 1);
-    scan.number(1, 1, 1);
+    let scheme = scan.number(1, 1, 2);
     let degree = scan.number(1, 1, 7);
-    let agreement = scan.number(1, degree.saturating_add(1), 8);
-    let servers = scan.number(1, agreement, 8);
+    let least = degree.saturating_add(1);
+    let agreement = scan.number(1, least, if scheme == 2 { least } else { 8 });
+    let servers = scan.number(1, agreement, if scheme == 2 { agreement } else { 8 });
     scan.number(3, 0, 0);
     scan.number(8, 0, u64::MAX);
     let rows = scan.number(4, 1, 1 << 20);

@@ -1,9 +1,12 @@
-use Rattle.std.proofs.Common.{[], refl, subst}
+use Rattle.std.proofs.Common.{[], refl, subst, arith}
 use Rattle.pir_tool.specs.Outcome.{Outcome}
 use Rattle.pir_tool.specs.FetchOutcome.{FetchOutcome}
-use Rattle.pir_tool.proofs.Headline.{answered, refused, reported, too_few}
+use Rattle.pir_tool.proofs.Demonstrating.{demo_reported, demo_too_few}
+use Rattle.pir_tool.proofs.Headline.{answered, reported}
+use Rattle.pir_tool.proofs.SelfrunHeadline.{selfrun_reported}
 use Rattle.pir_tool.proofs.ServeHeadline.{served, empty_file, too_big}
 use Rattle.pir_tool.proofs.Fetching.{one_command, order_is}
+use Rattle.pir_words.specs.Form.{InRange}
 use Rattle.pir_tool.proofs.top.run.Goals as goal
 
 pub returns-in-Ok-clause-headline : goal.returns-in-Ok-clause-headline
@@ -40,3 +43,26 @@ returns-in-Ok-clause-too_big g c = λ order bytes command held more none.
     let new = g.P.Ports.world c.obey.new.ports in
     let outcome = subst (λ a. Outcome a c.obey.result old new) (one_command _ _ _ c.in-Ok.ensures.form command) c.obey.ensures in
     too_big order old new none bytes held c.obey.result more outcome.ends
+
+pub returns-in-Ok-clause-selfrun : goal.returns-in-Ok-clause-selfrun
+returns-in-Ok-clause-selfrun g c = λ load workers command none.
+    let old = g.P.Ports.world c.args.ports.now in
+    let new = g.P.Ports.world c.obey.new.ports in
+    let outcome = subst (λ a. Outcome a c.obey.result old new) (one_command _ _ _ c.in-Ok.ensures.form command) c.obey.ensures in
+    selfrun_reported load c.obey.result old new none outcome.ends
+
+pub returns-in-Ok-clause-demonstrated : goal.returns-in-Ok-clause-demonstrated
+returns-in-Ok-clause-demonstrated g c = λ order held command told enough none ready.
+    let old = g.P.Ports.world c.args.ports.now in
+    let new = g.P.Ports.world c.obey.new.ports in
+    let same = one_command _ _ _ c.in-Ok.ensures.form command in
+    let ranges = subst InRange same c.in-Ok.ensures.ranges in
+    demo_reported order old new (omega (arith, ranges.fetch.numbers.few_servers)) none ready held told c.obey.result enough (subst (λ a. Outcome a c.obey.result old new) same c.obey.ensures)
+
+pub returns-in-Ok-clause-demonstrated_with_too_few_coins : goal.returns-in-Ok-clause-demonstrated_with_too_few_coins
+returns-in-Ok-clause-demonstrated_with_too_few_coins g c = λ order held command told few none ready.
+    let old = g.P.Ports.world c.args.ports.now in
+    let new = g.P.Ports.world c.obey.new.ports in
+    let same = one_command _ _ _ c.in-Ok.ensures.form command in
+    let ranges = subst InRange same c.in-Ok.ensures.ranges in
+    demo_too_few order old new (omega (arith, ranges.fetch.numbers.few_servers)) none ready held told c.obey.result few (subst (λ a. Outcome a c.obey.result old new) same c.obey.ensures)

@@ -1,0 +1,161 @@
+-- A demonstration from its first child to the verdict.
+use Rattle.std.proofs.Common.{◌≡◌, ◌∙◌, ◌⊎◌, inl, inr, ℕ, ◌+◌, ◌<◌, ◌≤◌, List, length, map, refl, lit<, sym, ap, subst, arith}
+use Rattle.std.specs.Prelude.{Some, None}
+use Rattle.std.specs.List.{range_with_len}
+use Rattle.std.proofs.lemmas.List.{length-map}
+use Rattle.std.proofs.lemmas.List.FromFn.{length-map-range_with_len}
+use Rattle.std.proofs.lemmas.Simd.{map-map}
+use Rattle.pir_ports.specs.World.{Cell, World}
+use Rattle.pir_ports.specs.Moves.{Rose, gave, named}
+use Rattle.pir_ports.proofs.Ranges.{each_within}
+use Rattle.wire_frames.specs.Session.{Transcript}
+use Rattle.block_decoder.specs.Text.{text}
+use Rattle.fetch_client.specs.Plan.{need}
+use Rattle.fetch_client.specs.Tossed.{Tossed}
+use Rattle.pir_tool.specs.Told.{NoneRose, NoChildRose}
+use Rattle.pir_tool.specs.FetchOrder.{FetchOrder}
+use Rattle.pir_tool.specs.FetchOutcome.{InSession, FetchReported, FetchEnds, TouchesFetch}
+use Rattle.pir_tool.specs.DemoOrder.{DemoOrder, plan_of, address_from, addresses_from, words_to_serve, words_of_children, fetch_from_children}
+use Rattle.pir_tool.specs.DemoOutcome.{StartsAll, StartsSome, Demonstrated, DemoOutcome, DemoReported}
+use Rattle.pir_tool.specs.declared.status.Status.{Status}
+use Rattle.pir_tool.specs.declared.status.Status.TheVariants.{One, Usage, NoBlock, Several, TooFew, TooWeak, ReadFault, WriteFault, BadInput, DoorFault, ChildFault, Memory}
+use Rattle.pir_tool.specs.declared.status.Bad.TheVariants.{CoinsEnded}
+use Rattle.pir_tool.proofs.Headline.{reported, too_few}
+use Rattle.pir_tool.proofs.Fetching.{recorded_before}
+
+-- the addresses are as many as the children
+pub length-addresses : (port n : ℕ) → length (addresses_from port n) ≡ n
+unfolding addresses_from
+length-addresses port n = length-map-range_with_len (address_from port) 1 n
+
+-- the words that are made of the addresses are those of all children
+pub words_are : {X Y : Type 0} (f : X → List ℕ) (g : Y → List (List ℕ)) (database : List ℕ) (width port n : ℕ) (made given : List X) (lists taken : List Y) → map f made ≡ addresses_from port n → given ≡ made
+    → map g lists ≡ map (words_to_serve database width) (map f given) → taken ≡ lists → map g taken ≡ map (λ i. words_to_serve database width (address_from port i)) (range_with_len 1 n)
+unfolding addresses_from
+words_are f g database width port n made given lists taken at same words as_made =
+    ap (map g) as_made ∙ words ∙ ap (λ xs. map (words_to_serve database width) (map f xs)) same ∙ ap (map (words_to_serve database width)) at
+    ∙ map-map (words_to_serve database width) (address_from port) (range_with_len 1 n)
+
+-- so they are as many as the children
+pub size_of_words : {Y : Type 0} (g : Y → List (List ℕ)) (h : ℕ → List (List ℕ)) (lists : List Y) (n : ℕ) → map g lists ≡ map h (range_with_len 1 n) → length lists ≡ n
+size_of_words g h lists n words = sym (length-map lists g) ∙ ap length words ∙ length-map-range_with_len h 1 n
+
+-- and so are the addresses
+pub size_of_addresses : {X : Type 0} (f : X → List ℕ) (made given : List X) (port n : ℕ) → map f made ≡ addresses_from port n → given ≡ made → length given ≡ n
+size_of_addresses f made given port n at same = ap length same ∙ sym (length-map made f) ∙ ap length at ∙ length-addresses port n
+
+-- what a demonstration ends with is what its fetch ends with
+pub demonstrated_as : (o : DemoOrder) (status : Status) (old new : World) → Demonstrated o status old new → DemoOutcome o status old new
+demonstrated_as o One old new d = d
+demonstrated_as o Usage old new d = d
+demonstrated_as o NoBlock old new d = d
+demonstrated_as o Several old new d = d
+demonstrated_as o (TooFew k h) old new d = d
+demonstrated_as o (TooWeak k t h) old new d = d
+demonstrated_as o ReadFault old new d = d
+demonstrated_as o WriteFault old new d = d
+demonstrated_as o (BadInput bad) old new d = d
+demonstrated_as o DoorFault old new d = d
+demonstrated_as o ChildFault old new d = absurd d.fetched.ends
+demonstrated_as o Memory old new d = inr d
+
+-- the children were started with these words, and then a block was fetched from these addresses
+pub demonstrates : (o : DemoOrder) (addresses : List (List ℕ)) (lists : List (List (List ℕ))) (status : Status) (w v u : World) → addresses ≡ addresses_from o.port o.servers → lists ≡ words_of_children o
+    → StartsAll lists w v → FetchEnds (record { plan = plan_of o; addresses = addresses; coins = o.coins; keep = None }) status v u → TouchesFetch o.servers v u → DemoOutcome o status w u
+demonstrates o addresses lists status w v u at words starts ends others = demonstrated_as o status w u record {
+  between = v;
+  starts = subst (λ l. StartsAll l w v) words starts;
+  fetched = record {
+    ends = subst (λ a. FetchEnds (record { plan = plan_of o; addresses = a; coins = o.coins; keep = None }) status v u) at ends;
+    others = others;
+  };
+}
+
+-- no port is touched before the fetch
+module _ (o : FetchOrder) (w v z : World) (same : (q : ℕ) → q < 1024 → v.at q ≡ w.at q) (fits : 257 + o.plan.n ≤ 1024) where
+  in_session_before : (coins : List ℕ) (session : Transcript) → InSession o coins session v z → InSession o coins session w z
+  in_session_before coins session s = record {
+    tossed = subst (λ (c : Cell). Tossed (need o.plan) coins (named o.coins c) (z.at 3)) (same 3 (lit< tt)) s.tossed;
+    asked = record {
+      params = s.asked.params;
+      whole = s.asked.whole;
+      links = each_within _ 257 o.plan.n w v z z (λ i l. same (257 + i) (omega arith)) (λ i l. refl) s.asked.links;
+    };
+  }
+
+  reported_before : (status : Status) → FetchReported o status v z → FetchReported o status w z
+  reported_before status r = record {
+    session = r.session;
+    verdict = r.verdict;
+    settled = record {
+      coins = r.settled.coins;
+      fetched = in_session_before r.settled.coins r.session r.settled.fetched;
+      judged = r.settled.judged;
+      found = r.settled.found;
+    };
+    status_is = r.status_is;
+    recorded = recorded_before o.keep r.session w v z (same 4 (lit< tt)) r.recorded;
+    written = r.written ∙ ap (gave (text r.verdict)) (same 1 (lit< tt));
+  }
+
+-- no call failed
+module _ (o : DemoOrder) (old new : World) (few : o.servers < 256) (none : NoneRose old new) (ready : NoChildRose old new) where
+  -- so all children were started
+  started : StartsSome (words_of_children o) old new → ⊥
+  started s =
+      let fewer : s.before < 255 = omega (arith, s.fewer, length-map-range_with_len (λ i. words_to_serve o.database o.width (address_from o.port i)) 1 o.servers, few) in
+      ready (513 + s.before) (omega arith) (omega (arith, fewer)) (subst (λ (c : Cell). Rose c.faults (new.at (513 + s.before)).faults) (s.starts.ports (513 + s.before) (omega (arith, fewer))) s.fails.rose)
+
+  none_after : (v : World) → ((q : ℕ) → q < 1024 → v.at q ≡ old.at q) → NoneRose v new
+  none_after v same = λ p l rose. none p l (subst (λ (c : Cell). Rose c.faults (new.at p).faults) (same p (omega (arith, l))) rose)
+
+  told_after : (v : World) (held : List ℕ) → ((q : ℕ) → q < 1024 → v.at q ≡ old.at q) → (old.at 3).holds ≡ Some held → (v.at 3).holds ≡ Some held
+  told_after v held same told = ap (λ (c : Cell). c.holds) (same 3 (lit< tt)) ∙ told
+
+  module _ (held : List ℕ) (told : (old.at 3).holds ≡ Some held) where
+    reports : (status : Status) → need (plan_of o) ≤ length held → Demonstrated o status old new → DemoReported o status old new ⊎ (status ≡ Memory)
+    reports status enough d =
+        let same = d.starts.ports in
+        elim (reported (fetch_from_children o) status d.between new held (told_after d.between held same told) enough (none_after d.between same) d.fetched.ends) [
+          | inl r ↦
+              inl record {
+                started = d.fetched.others.started ∙ d.starts.started;
+                reported = reported_before (fetch_from_children o) old d.between new same (omega (arith, few)) status r;
+              }
+          | inr m ↦ inr m
+        ]
+
+    lacks : (status : Status) → length held < need (plan_of o) → Demonstrated o status old new → (status ≡ BadInput (CoinsEnded (length held))) ⊎ (status ≡ Memory)
+    lacks status short d =
+        let same = d.starts.ports in
+        too_few (fetch_from_children o) status d.between new held (told_after d.between held same told) short (none_after d.between same) d.fetched.ends
+
+    -- where there are coins enough, the verdict is reported
+    pub demo_reported : (status : Status) → need (plan_of o) ≤ length held → DemoOutcome o status old new → DemoReported o status old new ⊎ (status ≡ Memory)
+    demo_reported One enough d = reports One enough d
+    demo_reported Usage enough d = reports Usage enough d
+    demo_reported NoBlock enough d = reports NoBlock enough d
+    demo_reported Several enough d = reports Several enough d
+    demo_reported (TooFew k h) enough d = reports (TooFew k h) enough d
+    demo_reported (TooWeak k t h) enough d = reports (TooWeak k t h) enough d
+    demo_reported ReadFault enough d = reports ReadFault enough d
+    demo_reported WriteFault enough d = reports WriteFault enough d
+    demo_reported (BadInput bad) enough d = reports (BadInput bad) enough d
+    demo_reported DoorFault enough d = reports DoorFault enough d
+    demo_reported ChildFault enough d = absurd (started d)
+    demo_reported Memory enough d = inr refl
+
+    -- where there are fewer, that is said
+    pub demo_too_few : (status : Status) → length held < need (plan_of o) → DemoOutcome o status old new → (status ≡ BadInput (CoinsEnded (length held))) ⊎ (status ≡ Memory)
+    demo_too_few One short d = lacks One short d
+    demo_too_few Usage short d = lacks Usage short d
+    demo_too_few NoBlock short d = lacks NoBlock short d
+    demo_too_few Several short d = lacks Several short d
+    demo_too_few (TooFew k h) short d = lacks (TooFew k h) short d
+    demo_too_few (TooWeak k t h) short d = lacks (TooWeak k t h) short d
+    demo_too_few ReadFault short d = lacks ReadFault short d
+    demo_too_few WriteFault short d = lacks WriteFault short d
+    demo_too_few (BadInput bad) short d = lacks (BadInput bad) short d
+    demo_too_few DoorFault short d = lacks DoorFault short d
+    demo_too_few ChildFault short d = absurd (started d)
+    demo_too_few Memory short d = inr refl

@@ -1,0 +1,23 @@
+-- What a run says of a workload.
+use Rattle.std.proofs.Common.{◌≡◌, ◌⊎◌, inl, inr, refl}
+use Rattle.pir_ports.specs.World.{World}
+use Rattle.pir_tool.specs.Told.{DidRise}
+use Rattle.pir_tool.specs.SelfrunOutcome.{SelfrunEnds, SelfrunReported}
+use Rattle.pir_tool.specs.declared.workload.Workload.{Workload}
+use Rattle.pir_tool.specs.declared.status.Status.{Status}
+use Rattle.pir_tool.specs.declared.status.Status.TheVariants.{One, Usage, NoBlock, Several, TooFew, TooWeak, ReadFault, WriteFault, BadInput, DoorFault, ChildFault, Memory}
+
+-- where no call on Output failed, the verdict is reported
+pub selfrun_reported : (w : Workload) (status : Status) (old new : World) → (DidRise 1 old new → ⊥) → SelfrunEnds w status old new → SelfrunReported w status old new ⊎ (status ≡ Memory)
+selfrun_reported w One old new none said = inl said
+selfrun_reported w Usage old new none said = absurd said
+selfrun_reported w NoBlock old new none said = inl said
+selfrun_reported w Several old new none said = inl said
+selfrun_reported w (TooFew k h) old new none said = inl said
+selfrun_reported w (TooWeak k t h) old new none said = inl said
+selfrun_reported w ReadFault old new none said = absurd said
+selfrun_reported w WriteFault old new none said = absurd (none said.written.rose)
+selfrun_reported w (BadInput bad) old new none said = absurd said
+selfrun_reported w DoorFault old new none said = absurd said
+selfrun_reported w ChildFault old new none said = absurd said
+selfrun_reported w Memory old new none said = inr refl

@@ -1,0 +1,43 @@
+-- What `demo` does to the outside, by the status that it ends with.
+use Rattle.std.specs.Prelude.{◌≡◌, ◌⊎◌, ℕ, ◌+◌, ◌<◌, List, length, take, ◌++◌}
+use Rattle.std.specs.Option.{option_map}
+use Rattle.pir_ports.specs.World.{World}
+use Rattle.pir_ports.specs.Moves.{Fails, Touches}
+use Rattle.pir_tool.specs.DemoOrder.{DemoOrder, fetch_from_children, words_of_children}
+use Rattle.pir_tool.specs.FetchOutcome.{FetchOutcome, FetchReported}
+use Rattle.pir_tool.specs.declared.status.Status.{Status}
+use Rattle.pir_tool.specs.declared.status.Status.TheVariants.{ChildFault, Memory}
+
+-- children were started with these lists of words, the last that are told of, and nothing else changed
+pub record StartsAll (lists : List (List (List ℕ))) (old new : World) : Type 0 where
+  pub started : new.started ≡ option_map (λ starts. starts ++ lists) old.started
+  pub ports : (q : ℕ) → q < 1024 → new.at q ≡ old.at q
+  pub crowd : new.crowd ≡ old.crowd
+
+-- the children before one were started, and then that one could not be: its port counts the failed call, and nothing else
+-- changed
+pub record StartsSome (lists : List (List (List ℕ))) (old new : World) : Type 0 where
+  pub before : ℕ
+  pub fewer : before < length lists
+  pub between : World
+  pub starts : StartsAll (take before lists) old between
+  pub fails : Fails (513 + before) between new
+  pub others : Touches (513 + before) between new
+
+-- all children were started, and then a fetch from them ended with this status
+pub record Demonstrated (o : DemoOrder) (status : Status) (old new : World) : Type 0 where
+  pub between : World
+  pub starts : StartsAll (words_of_children o) old between
+  pub fetched : FetchOutcome (fetch_from_children o) status between new
+
+-- what `demo` did, and that it did no more, by its status. Without a child no link is opened, and memory may run out before
+-- anything is touched
+abbrev pub DemoOutcome : DemoOrder → Status → World → World → Type 0
+DemoOutcome o ChildFault old new = StartsSome (words_of_children o) old new
+DemoOutcome o Memory old new = (new ≡ old) ⊎ Demonstrated o Memory old new
+DemoOutcome o status old new = Demonstrated o status old new
+
+-- all children were started, and the verdict on the session with them is written whole
+pub record DemoReported (o : DemoOrder) (status : Status) (old new : World) : Type 0 where
+  pub started : new.started ≡ option_map (λ starts. starts ++ words_of_children o) old.started
+  pub reported : FetchReported (fetch_from_children o) status old new

@@ -1,0 +1,142 @@
+//! The command `demo`.
+
+ghost use Rattle.std.specs.Prelude.{◌≡◌, ◌+◌, ◌<◌, length, map, string_bytes, IfOk, OnOk, OnErr};
+ghost use Rattle.fetch_client.specs.Plan.{IsPlan};
+ghost use Rattle.pir_tool.specs.DemoOrder.{address_from, addresses_from, plan_of, words_to_serve};
+ghost use Rattle.pir_tool.specs.DemoOutcome.{DemoOutcome, StartsAll, StartsSome};
+
+use crate::fetch_command::fetch_block;
+use crate::status::Status;
+use fetch_client::FetchPlan;
+use pir_ports::{Failed, Ports};
+use std::alloc::{AllocError, Global};
+
+/// What is fetched, from which children, and with which coins.
+#[derive(Drop)]
+pub(crate) struct Demonstration<'a> {
+    pub(crate) port: u16,
+    pub(crate) database: &'a str,
+    pub(crate) rows: u32,
+    pub(crate) width: u32,
+    pub(crate) block: u32,
+    pub(crate) servers: u8,
+    pub(crate) degree: u8,
+    pub(crate) agree: u8,
+    pub(crate) coins: &'a str,
+}
+
+/// The address of child i, counted from 1.
+#[tactic(auto, unfolding(crate::specs::DemoOrder::address_from))]
+fn address_of_child(alloc: Global, port: u16, i: u8) -> Result<String, AllocError>
+    requires { port + i < 65536 }
+    ensures { IfOk result (λ address. string_bytes address ≡ address_from port i) }
+{
+    let own = port + u16::from(i);
+    format!(in alloc; "127.0.0.1:{own}")
+}
+
+/// The addresses of so many children, in their order.
+#[tactic(auto, unfolding(crate::specs::DemoOrder::addresses_from))]
+fn addresses_of_children(alloc: Global, port: u16, servers: u8) -> Result<Vec<String>, AllocError>
+    requires { port + servers < 65536 }
+    ensures { IfOk result (λ addresses. map string_bytes addresses.items ≡ addresses_from port servers) }
+{
+    let mut addresses = Vec::new(alloc);
+    'children: for i in 0..servers {
+        addresses.push(address_of_child(alloc, port, i + 1)?)?;
+    }
+    Ok(addresses)
+}
+
+/// The words of a child that serves the database, in rows of this width, to one guest at this address.
+#[tactic(auto, unfolding(crate::specs::DemoOrder::words_to_serve))]
+fn words_of_child(
+    alloc: Global,
+    database: &str,
+    width: u32,
+    address: &str,
+) -> Result<Vec<String>, AllocError>
+    ensures { IfOk result (λ words. map string_bytes words.items ≡ words_to_serve database.now width address.now) }
+{
+    let width = format!(in alloc; "{width}")?;
+    let texts = [
+        "serve",
+        "--database",
+        database,
+        "--width",
+        &width,
+        "--conns",
+        "1",
+        "--listen",
+        address,
+    ];
+    let mut words = Vec::new(alloc);
+    'words: for text in texts {
+        words.push(String::from_str(alloc, text)?)?;
+    }
+    Ok(words)
+}
+
+/// The words of the children at these addresses, in their order.
+fn words_of_children(
+    alloc: Global,
+    database: &str,
+    width: u32,
+    addresses: &[String],
+) -> Result<Vec<Vec<String>>, AllocError>
+    ensures { IfOk result (λ lists. map (λ words. map string_bytes words.items) lists.items ≡ map (words_to_serve database.now width) (map string_bytes addresses.now)) }
+{
+    let mut lists = Vec::new(alloc);
+    'children: for address in addresses {
+        lists.push(words_of_child(alloc, database, width, address)?)?;
+    }
+    Ok(lists)
+}
+
+/// Starts a child with each list of words, in their order.
+///
+/// # Errors
+///
+/// `Failed` if a child could not be started. Those before it were, and no further one is.
+fn start_children<P: Ports>(ports: &mut P, lists: &[Vec<String>]) -> Result<(), Failed>
+    requires { length lists.now < 256 }
+    ensures ok { OnOk result (StartsAll (map (λ words. map string_bytes words.items) lists.now) (P.world ports.old) (P.world ports.new)) }
+    ensures failed { OnErr result (StartsSome (map (λ words. map string_bytes words.items) lists.now) (P.world ports.old) (P.world ports.new)) }
+{
+    let mut i = 0u8;
+    'children: for words in lists {
+        i += 1;
+        let Ok(()) = ports.start_child(i, words) else {
+            return Err(Failed);
+        };
+    }
+    Ok(())
+}
+
+/// Starts servers as children, each for one guest on loopback, and fetches a block from them, as `fetch` does, with no
+/// record. All texts are made before the first child is started.
+pub(crate) fn demonstrate<P: Ports>(alloc: Global, order: &Demonstration, ports: &mut P) -> Status
+    requires ports { order.now.port + order.now.servers < 65536 }
+    requires plan { IsPlan (plan_of (record { port = order.now.port; database = order.now.database.now; rows = order.now.rows; width = order.now.width; block = order.now.block; servers = order.now.servers; degree = order.now.degree; agree = order.now.agree; coins = order.now.coins.now })) }
+    ensures { DemoOutcome (record { port = order.now.port; database = order.now.database.now; rows = order.now.rows; width = order.now.width; block = order.now.block; servers = order.now.servers; degree = order.now.degree; agree = order.now.agree; coins = order.now.coins.now }) result (P.world ports.old) (P.world ports.new) }
+{
+    let Ok(addresses) = addresses_of_children(alloc, order.port, order.servers) else {
+        return Status::Memory;
+    };
+    let Ok(lists) = words_of_children(alloc, order.database, order.width, &addresses) else {
+        return Status::Memory;
+    };
+    let Ok(()) = start_children(ports, &lists) else {
+        return Status::ChildFault;
+    };
+    let plan = FetchPlan {
+        scheme: 1,
+        t: order.degree,
+        h: order.agree,
+        n: order.servers,
+        r: order.rows,
+        s: order.width,
+        block: order.block,
+    };
+    fetch_block(alloc, &plan, &addresses, order.coins, None, ports)
+}
