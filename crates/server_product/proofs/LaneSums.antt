@@ -8,29 +8,39 @@ use Rattle.gf256.specs.Field.{◌⊕◌, ◌⊗◌}
 use Rattle.gf256.proofs.Xor.{add_zero, add_assoc}
 use Rattle.gf256.proofs.FieldLaws.{mul_zero}
 use Rattle.server_product.specs.FourRows.{four_at, AreProducts}
-
--- `new` is `old` plus g in the places below n, and `old` in the others
-pub record IsSummed (new old : List ℕ) (g : ℕ → ℕ) (n : ℕ) : Type 0 where
-  pub added : (k : ℕ) → k < n → get_or new k 0 ≡ get_or old k 0 ⊕ g k
-  pub after : (k : ℕ) → n ≤ k → get_or new k 0 ≡ get_or old k 0
+use Rattle.server_product.specs.Summed.{IsSummed}
 
 -- nothing yet
-pub summed-none : (old : List ℕ) (g : ℕ → ℕ) → IsSummed old old g 0
-summed-none old g = record {
-  added = λ k l. absurd (omega arith);
+pub summed-none : (old : List ℕ) (g : ℕ → ℕ) (at : ℕ) → IsSummed old old g at at
+summed-none old g at = record {
+  before = λ k l. refl;
+  added = λ k l m. absurd (omega arith);
   after = λ k l. refl;
 }
 
+-- one piece after the other
+pub summed-on : (new mid old : List ℕ) (g : ℕ → ℕ) (from at to : ℕ) → from ≤ at → at ≤ to → IsSummed mid old g from at → IsSummed new mid g at to → IsSummed new old g from to
+summed-on new mid old g from at to l m a b = record {
+  before = λ k h. b.before k (omega arith) ∙ a.before k h;
+  added = λ k h i.
+      elim (cases_lt k at) [
+        | inl low ↦ b.before k low ∙ a.added k h low
+        | inr high ↦ b.added k high i ∙ ap (λ x. x ⊕ g k) (a.after k high)
+      ];
+  after = λ k h. b.after k h ∙ a.after k (omega arith);
+}
+
 -- one more place
-pub summed-place : (acc old : List ℕ) (g : ℕ → ℕ) (n x : ℕ) → n < length acc → x ≡ g n → IsSummed acc old g n
-    → IsSummed (set acc n (bit_xor (get_or acc n 0) x)) old g (n + 1)
+pub summed-place : (acc old : List ℕ) (g : ℕ → ℕ) (from n x : ℕ) → from ≤ n → n < length acc → x ≡ g n → IsSummed acc old g from n
+    → IsSummed (set acc n (bit_xor (get_or acc n 0) x)) old g from (n + 1)
 unfolding ◌⊕◌
-summed-place acc old g n x l e done =
+summed-place acc old g from n x m l e done =
     let y = bit_xor (get_or acc n 0) x in
     record {
-      added = λ k h.
+      before = λ k h. get_or-set_other acc n k y 0 (λ same. omega arith) ∙ done.before k h;
+      added = λ k i h.
           elim (cases_lt k n) [
-            | inl low ↦ get_or-set_other acc n k y 0 (λ same. omega arith) ∙ done.added k low
+            | inl low ↦ get_or-set_other acc n k y 0 (λ same. omega arith) ∙ done.added k i low
             | inr high ↦
                 let same : n ≡ k = omega arith in
                 subst (λ j. get_or (set acc n y) j 0 ≡ bit_xor (get_or old j 0) (g j)) same
@@ -40,14 +50,15 @@ summed-place acc old g n x l e done =
     }
 
 -- sixteen places at once, of which the first may be done
-pub summed-lanes : (acc old piece : List ℕ) (g : ℕ → ℕ) (start n : ℕ) → start + 16 ≤ length acc → length piece ≡ 16 → start ≤ n → n ≤ start + 16
+pub summed-lanes : (acc old piece : List ℕ) (g : ℕ → ℕ) (from start n : ℕ) → start + 16 ≤ length acc → length piece ≡ 16 → from ≤ start → start ≤ n → n ≤ start + 16
     → ((k : ℕ) → k < 16 → get_or piece k 0 ≡ get_or old (start + k) 0 ⊕ g (start + k))
-    → IsSummed acc old g n → IsSummed (put_chunk start acc piece) old g (start + 16)
-summed-lanes acc old piece g start n room long from to is done =
+    → IsSummed acc old g from n → IsSummed (put_chunk start acc piece) old g from (start + 16)
+summed-lanes acc old piece g from start n room long first low_end high_end is done =
     record {
-      added = λ k h.
+      before = λ k h. get_or-put_chunk_below start acc piece k 0 (omega arith) ∙ done.before k h;
+      added = λ k i h.
           elim (cases_lt k start) [
-            | inl low ↦ get_or-put_chunk_below start acc piece k 0 low ∙ done.added k (omega arith)
+            | inl low ↦ get_or-put_chunk_below start acc piece k 0 low ∙ done.added k i (omega arith)
             | inr high ↦
                 let place : start + (k - start) ≡ k = omega arith in
                 subst (λ p. get_or (put_chunk start acc piece) p 0 ≡ get_or old p 0 ⊕ g p) place
@@ -57,11 +68,11 @@ summed-lanes acc old piece g start n room long from to is done =
     }
 
 -- the whole list: past its end nothing is added
-pub summed-all : (new old : List ℕ) (g : ℕ → ℕ) (n : ℕ) → n ≡ length old → ((k : ℕ) → n ≤ k → g k ≡ 0) → IsSummed new old g n
+pub summed-all : (new old : List ℕ) (g : ℕ → ℕ) (n : ℕ) → n ≡ length old → ((k : ℕ) → n ≤ k → g k ≡ 0) → IsSummed new old g 0 n
     → (k : ℕ) → get_or new k 0 ≡ get_or old k 0 ⊕ g k
 summed-all new old g n size past done k =
     elim (cases_lt k n) [
-      | inl low ↦ done.added k low
+      | inl low ↦ done.added k (omega arith) low
       | inr high ↦ done.after k high ∙ sym (ap (◌⊕◌ (get_or old k 0)) (past k high) ∙ add_zero _)
     ]
 
@@ -136,12 +147,12 @@ module _ (acc a b c d pa pb pc pd : List ℕ) (fa fb fc fd at : ℕ) (room : at 
 pub four-put : (acc old base a b c d pa pb pc pd : List ℕ) (fa fb fc fd start n : ℕ) → start + 16 ≤ length acc → length base ≡ length acc → start ≤ n → n ≤ start + 16
     → ((k : ℕ) → start ≤ k → get_or base k 0 ≡ get_or old k 0)
     → AreProducts pa a fa start → AreProducts pb b fb start → AreProducts pc c fc start → AreProducts pd d fd start
-    → IsSummed acc old (four_at a b c d fa fb fc fd) n
-    → IsSummed (put_chunk start acc (zip2 bit_xor (zip2 bit_xor (zip2 bit_xor (zip2 bit_xor (chunk start 16 base) pa) pb) pc) pd)) old (four_at a b c d fa fb fc fd) (start + 16)
+    → IsSummed acc old (four_at a b c d fa fb fc fd) 0 n
+    → IsSummed (put_chunk start acc (zip2 bit_xor (zip2 bit_xor (zip2 bit_xor (zip2 bit_xor (chunk start 16 base) pa) pb) pc) pd)) old (four_at a b c d fa fb fc fd) 0 (start + 16)
 four-put acc old base a b c d pa pb pc pd fa fb fc fd start n room same from to read is_a is_b is_c is_d done =
     let within : start + 16 ≤ length base = omega arith in
-    summed-lanes acc old _ (four_at a b c d fa fb fc fd) start n room
-    (four-size base a b c d pa pb pc pd fa fb fc fd start within is_a is_b is_c is_d) from to
+    summed-lanes acc old _ (four_at a b c d fa fb fc fd) 0 start n room
+    (four-size base a b c d pa pb pc pd fa fb fc fd start within is_a is_b is_c is_d) (omega arith) from to
     (λ k l.
     four-lanes base a b c d pa pb pc pd fa fb fc fd start within is_a is_b is_c is_d k l
     ∙ ap (λ x. x ⊕ four_at a b c d fa fb fc fd (start + k)) (read (start + k) (omega arith)))

@@ -1,3 +1,6 @@
 pub mod FourRows
 pub mod Runs
 pub mod Parts
+pub mod Summed
+pub mod Trios
+pub mod Gathered

@@ -4,16 +4,10 @@ ghost use Rattle.std.specs.Prelude.{◌≡◌, ℕ, ◌+◌, ◌<◌, ◌≤◌,
 ghost use Rattle.gf256.specs.Field.{◌⊕◌, ◌⊗◌};
 ghost use Rattle.server_product.specs.FourRows.{four_at, AreProducts};
 
+use crate::rows::Scaled;
 use gf256::mul;
 use gf256::rows::Products;
 use std::simd::prelude::*;
-
-/// A row, and the factor that it is multiplied by.
-#[derive(Clone, Copy, Drop)]
-pub struct Scaled<'a> {
-    pub row: &'a [u8],
-    pub factor: u8,
-}
 
 /// The products of 16 bytes of the row from place `at` on.
 #[inline(always)]
@@ -24,8 +18,8 @@ fn products_at(row: &[u8], products: &Products, at: usize) -> u8x16
     products.times(u8x16::from_slice(&row[at..]))
 }
 
-/// Adds the four rows, each times its factor, to `acc`: each is as long. The last 16 places may overlap those before, so
-/// their sums are taken from what stood there at first.
+/// Adds the four rows, each times its factor, to `acc`: each is as long. Where the last places are fewer than 16, the last
+/// 16 are added at once: some of them are done before, so their sums are taken from what stood there at first.
 pub fn add_four_rows(acc: &mut [u8], a: Scaled, b: Scaled, c: Scaled, d: Scaled)
     requires a { length a.row.now ≡ length acc.old }
     requires b { length b.row.now ≡ length acc.old }
@@ -45,7 +39,7 @@ pub fn add_four_rows(acc: &mut [u8], a: Scaled, b: Scaled, c: Scaled, d: Scaled)
     let last = acc.len() - 16;
     let end = u8x16::from_slice(&acc[last..]);
     let mut at = 0;
-    'lanes: while at < last {
+    'lanes: while at <= last {
         let sum = u8x16::from_slice(&acc[at..])
             ^ products_at(a.row, &by_a, at)
             ^ products_at(b.row, &by_b, at)
@@ -54,12 +48,14 @@ pub fn add_four_rows(acc: &mut [u8], a: Scaled, b: Scaled, c: Scaled, d: Scaled)
         sum.copy_to_slice(&mut acc[at..]);
         at += 16;
     }
-    let sum = end
-        ^ products_at(a.row, &by_a, last)
-        ^ products_at(b.row, &by_b, last)
-        ^ products_at(c.row, &by_c, last)
-        ^ products_at(d.row, &by_d, last);
-    sum.copy_to_slice(&mut acc[last..]);
+    if at < acc.len() {
+        let sum = end
+            ^ products_at(a.row, &by_a, last)
+            ^ products_at(b.row, &by_b, last)
+            ^ products_at(c.row, &by_c, last)
+            ^ products_at(d.row, &by_d, last);
+        sum.copy_to_slice(&mut acc[last..]);
+    }
 }
 
 /// The same for rows of fewer than 16 bytes.

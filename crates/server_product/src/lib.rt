@@ -10,13 +10,17 @@
 
 mod four_rows;
 mod gate;
+mod gather;
 mod plain;
+mod quarters;
+mod rows;
 mod runs;
 #[cfg(test)]
 mod tests;
+mod trios;
 mod whole;
 
 pub use gate::{Gate, OpenGate};
 pub use plain::plain_into;
-pub use runs::mul_add_row;
+pub use rows::mul_add_row;
 pub use whole::product_into;

@@ -50,16 +50,20 @@ fn scattered(alloc: Global, count: usize) -> Result<Vec<u8>, AllocError>
     Ok(bytes)
 }
 
-/// Whether both bodies give the same, for each number of workers.
+/// Whether both bodies give the same, for each number of workers, where the query has only the bits of `factors` set.
 fn bodies_agree<R: Threads + Sync>(
     rt: &R,
     alloc: Global,
     rows: u16,
     width: u16,
+    factors: u8,
 ) -> Result<bool, Fail> {
     let bytes = scattered(alloc, rows as usize * width as usize)?;
     let matrix = matrix_of(alloc, &bytes, width)?;
-    let q = scattered(alloc, matrix.rows() as usize)?;
+    let mut q = scattered(alloc, matrix.rows() as usize)?;
+    for byte in q.iter_mut() {
+        *byte &= factors;
+    }
     let mut want = vec![in alloc; 0; matrix.width() as usize]?;
     plain_into(&matrix, &q, &mut want);
     for workers in 1..=16 {
@@ -86,7 +90,25 @@ fn bodies_agree_at_many_shapes(rt: HostRuntime) -> Result<(), Fail> {
         (1000, 1),
         (1000, 1000),
     ] {
-        let agree = bodies_agree(&rt, alloc, rows, width)?;
+        let agree = bodies_agree(&rt, alloc, rows, width, 0xff)?;
+        assert!(rt; agree, "{rows} rows of {width}");
+    }
+    Ok(())
+}
+
+// Rows so wide are added in trios, where enough of them have the same factor.
+#[test]
+fn bodies_agree_where_rows_are_wide(rt: HostRuntime) -> Result<(), Fail> {
+    let alloc = rt.alloc();
+    for (rows, width, factors) in [
+        (1, 8192, 0xff),
+        (3, 8192, 0x00),
+        (9, 8192, 0x00),
+        (50, 8203, 0x13),
+        (200, 8193, 0x81),
+        (300, 9000, 0xff),
+    ] {
+        let agree = bodies_agree(&rt, alloc, rows, width, factors)?;
         assert!(rt; agree, "{rows} rows of {width}");
     }
     Ok(())

@@ -7,7 +7,8 @@ ghost use Rattle.std.specs.Thread.{IsSync};
 ghost use Rattle.server_product.specs.Parts.{part, HasParts};
 
 use crate::gate::Gate;
-use crate::runs::{clear, sum_rows};
+use crate::rows::clear;
+use crate::runs::sum_rows;
 use block_matrix::Matrix;
 use std::thread::{Threads, join_mut};
 

@@ -2,7 +2,7 @@ use Rattle.std.proofs.Common.{◌≡◌, ◌∙◌, ◌+◌, ◌*◌, sym, ap, a
 use Rattle.gf256.specs.Field.{◌⊕◌}
 use Rattle.gf256.proofs.Xor.{add_zero, add_assoc}
 use Rattle.server_product.proofs.RunSums.{quarters, quarters-none, quarters-next, quarters-all, four-terms}
-use Rattle.server_product.proofs.runs.add_quarters.Goals as goal
+use Rattle.server_product.proofs.quarters.add_quarters.Goals as goal
 
 pub loop-i-init : goal.loop-i-init
 loop-i-init c = λ k.
@@ -16,10 +16,10 @@ loop-i-preserved c = λ k.
     let from = c.args.from in
     let quarter = c.args.quarter in
     let i = c.loop-i.i in
-    let s = c.scaled in
-    let s2 = c.scaled-in-loop-i in
-    let s3 = c.scaled-in-loop-i-2 in
-    let s4 = c.scaled-in-loop-i-3 in
+    let s = c.scaled_row in
+    let s2 = c.scaled_row-in-loop-i in
+    let s3 = c.scaled_row-in-loop-i-2 in
+    let s4 = c.scaled_row-in-loop-i-3 in
     c.add_four_rows.ensures k
     ∙ ap₂ ◌⊕◌ (c.loop-i.invariant k)
     (four-terms q rows k (from + i) (from + quarter + i) (from + 2 * quarter + i) (from + 3 * quarter + i) _ _ _ _ _ _ _ _

@@ -1,0 +1,110 @@
+-- Rows that wait, and what they give.
+use Rattle.std.proofs.Common.{◌≡◌, ℕ, zero, suc, ◌+◌, ◌<◌, List, [], ◌∷◌, length, slice_index, slice_index_or, slice_set, drop, replicate, refl, sym, ap, ap₂, subst, ◌∙◌, arith, add-one}
+use Rattle.gf256.specs.Field.{◌⊕◌, ◌⊗◌}
+use Rattle.gf256.proofs.Xor.{sums, add_assoc, add_zero}
+use Rattle.gf256.proofs.FieldLaws.{mul_add}
+use Rattle.server_product.specs.Runs.{term}
+use Rattle.server_product.specs.Trios.{trio_at}
+use Rattle.server_product.specs.Gathered.{few_sum, three_sum, waiting_sum, AreOf, FewAreOf}
+use Rattle.server_product.specs.declared.gather.Three.{Three}
+use Rattle.server_product.specs.declared.gather.Few.{Few}
+use Rattle.server_product.specs.declared.gather.Few.TheVariants.{Empty, One, Two, All}
+
+-- one that waits in place of another
+pub waiting-set : (q : List ℕ) (rows : List (List ℕ)) (c : ℕ) (waiting : List Few) (i : ℕ) (few : Few) → i < length waiting
+    → waiting_sum q rows c (slice_set waiting i few) ≡ waiting_sum q rows c waiting ⊕ few_sum q rows c (slice_index_or waiting i Empty) ⊕ few_sum q rows c few
+unfolding waiting_sum
+waiting-set q rows c [] i few l = absurd (omega arith)
+waiting-set q rows c (x ∷ xs) zero few l = swapped (few_sum q rows c x) (few_sum q rows c few) (waiting_sum q rows c xs) where
+  swapped : (x y w : ℕ) → y ⊕ w ≡ x ⊕ w ⊕ x ⊕ y
+  swapped x y w = simp sums
+waiting-set q rows c (x ∷ xs) (suc i) few l =
+    ap (◌⊕◌ (few_sum q rows c x)) (waiting-set q rows c xs i few (omega arith))
+    ∙ further (few_sum q rows c x) (waiting_sum q rows c xs) (few_sum q rows c (slice_index_or xs i Empty)) (few_sum q rows c few) where
+      further : (x w y z : ℕ) → x ⊕ (w ⊕ y ⊕ z) ≡ x ⊕ w ⊕ y ⊕ z
+      further x w y z = simp sums
+
+-- the first that wait, and those after them
+waiting_suc : (q : List ℕ) (rows : List (List ℕ)) (c : ℕ) (waiting : List Few) (i : ℕ) → i < length waiting
+    → waiting_sum q rows c (drop i waiting) ≡ few_sum q rows c (slice_index_or waiting i Empty) ⊕ waiting_sum q rows c (drop (suc i) waiting)
+unfolding waiting_sum
+waiting_suc q rows c [] i l = absurd (omega arith)
+waiting_suc q rows c (x ∷ xs) zero l = refl
+waiting_suc q rows c (x ∷ xs) (suc i) l = waiting_suc q rows c xs i (omega arith)
+
+pub waiting-next : (q : List ℕ) (rows : List (List ℕ)) (c : ℕ) (waiting : List Few) (i : ℕ) → i < length waiting
+    → waiting_sum q rows c (drop i waiting) ≡ few_sum q rows c (slice_index_or waiting i Empty) ⊕ waiting_sum q rows c (drop (i + 1) waiting)
+waiting-next q rows c waiting i l =
+    waiting_suc q rows c waiting i l
+    ∙ ap (λ n. few_sum q rows c (slice_index_or waiting i Empty) ⊕ waiting_sum q rows c (drop n waiting)) (sym (add-one i))
+
+-- past the last none wait
+pub waiting-end : (q : List ℕ) (rows : List (List ℕ)) (c : ℕ) (waiting : List Few) (n : ℕ) → n ≡ length waiting → waiting_sum q rows c (drop n waiting) ≡ 0
+unfolding waiting_sum
+waiting-end q rows c [] zero e = refl
+waiting-end q rows c [] (suc n) e = refl
+waiting-end q rows c (x ∷ xs) zero e = absurd (omega arith)
+waiting-end q rows c (x ∷ xs) (suc n) e = waiting-end q rows c xs n (omega arith)
+
+-- where none wait they give nothing
+pub waiting-none : (q : List ℕ) (rows : List (List ℕ)) (c n : ℕ) → waiting_sum q rows c (replicate n Empty) ≡ 0
+unfolding waiting_sum few_sum ◌⊕◌
+waiting-none q rows c zero = refl
+waiting-none q rows c (suc n) = waiting-none q rows c n
+
+-- those that don't wait are of any factor
+pub none-are : (q : List ℕ) (f n : ℕ) → FewAreOf q f (slice_index_or (replicate n Empty) f Empty)
+none-are q f n = subst (FewAreOf q f) (sym (none_at n f)) (record {}) where
+  none_at : (n f : ℕ) → slice_index_or (replicate n Empty) f Empty ≡ Empty
+  none_at zero f = refl
+  none_at (suc n) zero = refl
+  none_at (suc n) (suc f) = none_at n f
+
+-- three rows of one factor are a trio
+pub trio-is : (q : List ℕ) (rows : List (List ℕ)) (c : ℕ) (three : Three) (x y z : List ℕ) (f : ℕ)
+    → x ≡ slice_index_or rows three.a [] → y ≡ slice_index_or rows three.b [] → z ≡ slice_index_or rows three.c []
+    → f ≡ slice_index q three.a → AreOf q (slice_index q three.a) three
+    → trio_at x y z f c ≡ three_sum q rows c three
+unfolding trio_at three_sum term
+trio-is q rows c three x y z f ex ey ez ef are =
+    let at = λ (row : List ℕ). slice_index row c in
+    (λ t. trio_at (ex t) (ey t) (ez t) (ef t) c)
+    ∙ mul_add (slice_index q three.a) (at (slice_index_or rows three.a []) ⊕ at (slice_index_or rows three.b [])) (at (slice_index_or rows three.c []))
+    ∙ ap (λ s. s ⊕ slice_index q three.a ⊗ at (slice_index_or rows three.c [])) (mul_add (slice_index q three.a) (at (slice_index_or rows three.a [])) (at (slice_index_or rows three.b [])))
+    ∙ ap₂ (λ fb fc. slice_index q three.a ⊗ at (slice_index_or rows three.a []) ⊕ fb ⊗ at (slice_index_or rows three.b []) ⊕ fc ⊗ at (slice_index_or rows three.c []))
+    (sym are.b.1) (sym are.c.1)
+
+-- one that joins those of its factor
+pub joined-waiting : (x h w w' f f' t : ℕ) → w' ≡ w ⊕ f ⊕ f' → f' ≡ f ⊕ t → x ⊕ h ⊕ w' ≡ x ⊕ h ⊕ w ⊕ t
+joined-waiting x h w w' f f' t ew ef =
+    ap (◌⊕◌ (x ⊕ h)) (ew ∙ ap (◌⊕◌ (w ⊕ f)) ef) ∙ plain where
+      plain : x ⊕ h ⊕ (w ⊕ f ⊕ (f ⊕ t)) ≡ x ⊕ h ⊕ w ⊕ t
+      plain = simp sums
+
+-- three that go, and one that waits in their place
+pub three-gone : (x' h' x h w w' s t : ℕ) → x' ⊕ h' ≡ x ⊕ h ⊕ s → w' ≡ w ⊕ s ⊕ t → x' ⊕ h' ⊕ w' ≡ x ⊕ h ⊕ w ⊕ t
+three-gone x' h' x h w w' s t ex ew = ap₂ ◌⊕◌ ex ew ∙ plain where
+  plain : x ⊕ h ⊕ s ⊕ (w ⊕ s ⊕ t) ≡ x ⊕ h ⊕ w ⊕ t
+  plain = simp sums
+
+-- a sum that grew beside others
+pub beside-held : (x' r' x h r t : ℕ) → x' ⊕ r' ≡ x ⊕ r ⊕ t → x' ⊕ h ⊕ r' ≡ x ⊕ h ⊕ r ⊕ t
+beside-held x' r' x h r t e = turned ∙ ap (◌⊕◌ h) e ∙ back where
+  turned : x' ⊕ h ⊕ r' ≡ h ⊕ (x' ⊕ r')
+  turned = simp sums
+
+  back : h ⊕ (x ⊕ r ⊕ t) ≡ x ⊕ h ⊕ r ⊕ t
+  back = simp sums
+
+pub beside-rest : (x' h' x h r t : ℕ) → x' ⊕ h' ≡ x ⊕ h ⊕ t → x' ⊕ h' ⊕ r ≡ x ⊕ h ⊕ r ⊕ t
+beside-rest x' h' x h r t e = ap (λ s. s ⊕ r) e ∙ back where
+  back : x ⊕ h ⊕ t ⊕ r ≡ x ⊕ h ⊕ r ⊕ t
+  back = simp sums
+
+-- nothing, and one
+pub plus-none : (x t : ℕ) → x ⊕ t ≡ x ⊕ 0 ⊕ t
+plus-none x t = ap (λ y. y ⊕ t) (sym (add_zero x))
+
+-- four at once, and nothing
+pub four-and-none : (x a b c t : ℕ) → x ⊕ (a ⊕ b ⊕ c ⊕ t) ⊕ 0 ≡ x ⊕ (a ⊕ b ⊕ c) ⊕ t
+four-and-none x a b c t = simp sums

@@ -1,0 +1,41 @@
+use Rattle.std.proofs.Common.{◌∙◌, sym, ap, slice_index}
+use Rattle.gf256.specs.Field.{◌⊕◌}
+use Rattle.gf256.proofs.Xor.{add_zero, add_assoc}
+use Rattle.server_product.specs.Runs.{term}
+use Rattle.server_product.specs.Gathered.{few_sum, three_sum}
+use Rattle.server_product.proofs.gather.add_few.Goals as goal
+
+pub returns-in-Empty : goal.returns-in-Empty
+unfolding few_sum
+returns-in-Empty c = λ k.
+    sym (ap (λ few. slice_index c.args.sums.now k ⊕ few_sum c.args.q.now c.args.matrix.now.rows k few) c.in-Empty.is ∙ add_zero _)
+
+pub returns-in-One : goal.returns-in-One
+unfolding few_sum
+returns-in-One c = λ k.
+    c.add_row.ensures k ∙ sym (ap (λ few. slice_index c.args.sums.now k ⊕ few_sum c.args.q.now c.args.matrix.now.rows k few) c.in-One.is)
+
+pub returns-in-Two : goal.returns-in-Two
+unfolding few_sum
+returns-in-Two c = λ k.
+    let q = c.args.q.now in
+    let rows = c.args.matrix.now.rows in
+    let x = slice_index c.args.sums.now k in
+    c.add_row-in-Two-2.ensures k
+    ∙ ap (λ s. s ⊕ term q rows k c.in-Two.b) (c.add_row-in-Two.ensures k)
+    ∙ add_assoc x (term q rows k c.in-Two.a) (term q rows k c.in-Two.b)
+    ∙ sym (ap (λ few. x ⊕ few_sum q rows k few) c.in-Two.is)
+
+pub returns-in-All : goal.returns-in-All
+unfolding few_sum three_sum
+returns-in-All c = λ k.
+    let q = c.args.q.now in
+    let rows = c.args.matrix.now.rows in
+    let x = slice_index c.args.sums.now k in
+    let a = term q rows k c.in-All.three.a in
+    let b = term q rows k c.in-All.three.b in
+    let d = term q rows k c.in-All.three.c in
+    c.add_row-in-All-3.ensures k
+    ∙ ap (λ s. s ⊕ d) (c.add_row-in-All-2.ensures k ∙ ap (λ s. s ⊕ b) (c.add_row-in-All.ensures k) ∙ add_assoc x a b)
+    ∙ add_assoc x (a ⊕ b) d
+    ∙ sym (ap (λ few. x ⊕ few_sum q rows k few) c.in-All.is)

@@ -1,0 +1,53 @@
+use Rattle.std.proofs.Common.{◌≡◌, ◌∙◌, ◌+◌, length, drop, sym, ap, ap₂, arith, slice_index, slice_index_or}
+use Rattle.gf256.specs.Field.{◌⊕◌}
+use Rattle.gf256.proofs.Xor.{add_zero, add_assoc}
+use Rattle.server_product.specs.Gathered.{few_sum, held_sum, waiting_sum}
+use Rattle.server_product.specs.declared.gather.Few.TheVariants.{Empty}
+use Rattle.server_product.proofs.Gathering.{waiting-next, waiting-end}
+use Rattle.server_product.proofs.gather.add_waiting.Goals as goal
+
+pub loop-factor-init : goal.loop-factor-init
+unfolding few_sum
+loop-factor-init c = record {
+  held = c.requires.held;
+  rest = record {};
+  sum = λ k.
+      let q = c.args.q.now in
+      let rows = c.args.matrix.now.rows in
+      ap (λ s. s ⊕ waiting_sum q rows k c.args.waiting.now) (add_zero (slice_index c.args.sums.now k ⊕ held_sum q rows k c.args.held));
+}
+
+pub loop-factor-preserved : goal.loop-factor-preserved
+loop-factor-preserved c =
+    let q = c.args.q.now in
+    let rows = c.args.matrix.now.rows in
+    let waiting = c.args.waiting.now in
+    let i = c.loop-factor.factor in
+    record {
+      held = c.add_or_leave-left.ensures.held;
+      rest = c.add_or_leave-left.ensures.rest;
+      sum = λ k.
+          let before = slice_index c.loop-factor.sums k ⊕ held_sum q rows k c.loop-factor.left.held ⊕ few_sum q rows k c.loop-factor.left.rest in
+          let here = few_sum q rows k (slice_index_or waiting i Empty) in
+          let after = waiting_sum q rows k (drop (i + 1) waiting) in
+          ap (λ s. s ⊕ after) (c.add_or_leave-left.ensures.sum k)
+          ∙ add_assoc before here after
+          ∙ ap (◌⊕◌ before) (sym (waiting-next q rows k waiting i (omega arith)))
+          ∙ c.loop-factor.invariant.sum k;
+    }
+
+pub add_few-requires-clause-few : goal.add_few-requires-clause-few
+add_few-requires-clause-few c = c.few_of.ensures.rows c.args.q.now c.loop-factor.invariant.held
+
+pub returns : goal.returns
+returns c = λ k.
+    let q = c.args.q.now in
+    let rows = c.args.matrix.now.rows in
+    let waiting = c.args.waiting.now in
+    let x = slice_index c.loop-factor.sums k in
+    let h = held_sum q rows k c.loop-factor.left.held in
+    let r = few_sum q rows k c.loop-factor.left.rest in
+    c.add_few-2.ensures k
+    ∙ ap (λ s. s ⊕ r) (c.add_few.ensures k ∙ ap (◌⊕◌ x) (c.few_of.ensures.sum q rows k))
+    ∙ sym (ap (◌⊕◌ (x ⊕ h ⊕ r)) (waiting-end q rows k waiting c.loop-factor.factor (omega arith)) ∙ add_zero _)
+    ∙ c.loop-factor.invariant.sum k

@@ -1,0 +1,55 @@
+use Rattle.std.proofs.Common.{◌≡◌, ◌+◌, ◌-◌, length, slice_index, sym, ap₂, subst, ◌∙◌, arith}
+use Rattle.gf256.specs.Field.{◌⊕◌}
+use Rattle.server_product.specs.Summed.{IsSummed}
+use Rattle.server_product.specs.Trios.{trio_at}
+use Rattle.server_product.proofs.TrioSums.{trio-past, IsLagged, lagged-start, lagged-first, lagged-second, lagged-all}
+use Rattle.server_product.proofs.trios.add_two_trios.Goals as goal
+
+pub lanes-init : goal.lanes-init
+lanes-init c =
+    let a = c.args.first in
+    let b = c.args.second in
+    let g = trio_at a.a.now a.b.now a.c.now c.of-by_first.result in
+    let h = trio_at b.a.now b.b.now b.c.now c.of-by_second.result in
+    let lag = c.min-lag.result in
+    let none : 0 ≡ lag - lag = omega arith in
+    record {
+      begun = omega arith;
+      within = omega arith;
+      lagged = subst (IsLagged c.add_places.new.acc c.args.acc.now g h lag) none (lagged-start c.add_places.new.acc c.args.acc.now g h lag c.add_places.ensures);
+    }
+
+pub lanes-preserved : goal.lanes-preserved
+lanes-preserved c =
+    let a = c.args.first in
+    let b = c.args.second in
+    let g = trio_at a.a.now a.b.now a.c.now c.of-by_first.result in
+    let h = trio_at b.a.now b.b.now b.c.now c.of-by_second.result in
+    let at = c.lanes.at in
+    let lag = c.min-lag.result in
+    let next : at - lag + 16 ≡ at + 16 - lag = omega (arith, c.lanes.invariant.begun) in
+    let ahead = lagged-first c.add_lanes.new.acc c.lanes.acc c.args.acc.now g h at (at - lag) (at + 16) (omega arith) (omega arith) c.add_lanes.ensures c.lanes.invariant.lagged in
+    record {
+      begun = omega (arith, c.lanes.invariant.begun);
+      within = omega (arith, c.lanes.invariant.within);
+      lagged =
+          subst (IsLagged c.add_lanes-in-lanes.new.acc c.args.acc.now g h (at + 16)) next
+          (lagged-second c.add_lanes-in-lanes.new.acc c.add_lanes.new.acc c.args.acc.now g h (at + 16) (at - lag) (at - lag + 16) (omega arith) (omega arith) c.add_lanes-in-lanes.ensures ahead);
+    }
+
+pub returns : goal.returns
+returns c = λ k.
+    let a = c.args.first in
+    let b = c.args.second in
+    let g = trio_at a.a.now a.b.now a.c.now c.of-by_first.result in
+    let h = trio_at b.a.now b.b.now b.c.now c.of-by_second.result in
+    let old = c.args.acc.now in
+    let n = length old in
+    let at = c.lanes.at in
+    let lag = c.min-lag.result in
+    let ahead = lagged-first c.add_places-2.new.acc c.lanes.acc old g h at (at - lag) n (omega arith) (omega (arith, c.lanes.invariant.within)) c.add_places-2.ensures c.lanes.invariant.lagged in
+    lagged-all c.add_places-3.new.acc old g h n
+    (trio-past a.a.now a.b.now a.c.now c.of-by_first.result n c.requires.first_a c.requires.first_b c.requires.first_c)
+    (trio-past b.a.now b.b.now b.c.now c.of-by_second.result n c.requires.second_a c.requires.second_b c.requires.second_c)
+    (lagged-second c.add_places-3.new.acc c.add_places-2.new.acc old g h n (at - lag) n (omega (arith, c.lanes.invariant.within)) (omega arith) c.add_places-3.ensures ahead) k
+    ∙ ap₂ (λ f e. slice_index old k ⊕ trio_at a.a.now a.b.now a.c.now f k ⊕ trio_at b.a.now b.b.now b.c.now e k) c.of-by_first.ensures c.of-by_second.ensures

@@ -1,0 +1,16 @@
+use Rattle.std.proofs.Common.{◌-◌, ◌≤◌}
+use Rattle.server_product.specs.Trios.{trio_at}
+use Rattle.server_product.proofs.TrioSums.{IsLagged}
+use Rattle.server_product.proofs.trios.add_two_trios.Given as goal
+
+abbrev pub invariant-lanes : goal.invariant-lanes
+invariant-lanes l = record {
+  begun : l.lag ≤ l.at;
+  within : l.at ≤ l.len;
+  lagged :
+      IsLagged l.acc l.fn.acc (trio_at l.first.a.now l.first.b.now l.first.c.now l.by_first)
+      (trio_at l.second.a.now l.second.b.now l.second.c.now l.by_second) l.at (l.at - l.lag);
+}
+
+abbrev pub decreases-lanes : goal.decreases-lanes
+decreases-lanes l = l.len - l.at

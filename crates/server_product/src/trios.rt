@@ -1,0 +1,97 @@
+//! Three rows of the same factor at once: their sum is multiplied, which costs one product for the three.
+
+ghost use Rattle.std.specs.Prelude.{◌≡◌, ℕ, ◌+◌, ◌≤◌, length, slice_index};
+ghost use Rattle.std.specs.Simd.Lanes.{chunk};
+ghost use Rattle.gf256.specs.Field.{◌⊕◌, ◌⊗◌};
+ghost use Rattle.server_product.specs.Summed.{IsSummed};
+ghost use Rattle.server_product.specs.Trios.{trio_at};
+
+use gf256::mul;
+use gf256::rows::Products;
+use std::simd::prelude::*;
+
+/// How many columns the second of two trios stays behind the first: half a page of 4096 bytes.
+const LAG: usize = 2048;
+
+/// Three rows, and the factor that each is multiplied by.
+#[derive(Clone, Copy, Drop)]
+pub struct Trio<'a> {
+    pub a: &'a [u8],
+    pub b: &'a [u8],
+    pub c: &'a [u8],
+    pub factor: u8,
+}
+
+/// The 16 bytes of the row from place `at` on.
+#[inline(always)]
+fn lanes_of(row: &[u8], at: usize) -> u8x16
+    requires { at + 16 ≤ length row.now }
+    ensures { result ≡ chunk at 16 row.now }
+{
+    u8x16::from_slice(&row[at..])
+}
+
+/// Adds the products of 16 places of the rows, from place `at` on, to those of `acc`.
+#[inline(always)]
+fn add_lanes(acc: &mut [u8], trio: Trio, products: &Products, at: usize)
+    requires a { length trio.a.now ≡ length acc.old }
+    requires b { length trio.b.now ≡ length acc.old }
+    requires c { length trio.c.now ≡ length acc.old }
+    requires within { at + 16 ≤ length acc.old }
+    ensures { IsSummed acc.new acc.old
+        (trio_at trio.entry.a.now trio.entry.b.now trio.entry.c.now products.now) at (at + 16) }
+{
+    let rows = lanes_of(trio.a, at) ^ lanes_of(trio.b, at) ^ lanes_of(trio.c, at);
+    let sum = u8x16::from_slice(&acc[at..]) ^ products.times(rows);
+    sum.copy_to_slice(&mut acc[at..]);
+}
+
+/// Adds the products of the places from `from` up to `to` to those of `acc`.
+fn add_places(acc: &mut [u8], trio: Trio, products: &Products, from: usize, to: usize)
+    requires a { length trio.a.now ≡ length acc.old }
+    requires b { length trio.b.now ≡ length acc.old }
+    requires c { length trio.c.now ≡ length acc.old }
+    requires factor { products.now ≡ trio.factor }
+    requires order { from ≤ to }
+    requires within { to ≤ length acc.old }
+    ensures { IsSummed acc.new acc.old
+        (trio_at trio.entry.a.now trio.entry.b.now trio.entry.c.now products.now) from to }
+{
+    let mut at = from;
+    'lanes: while to - at >= 16 {
+        add_lanes(acc, trio, products, at);
+        at += 16;
+    }
+    for i in at..to {
+        acc[i] ^= mul(trio.factor, trio.a[i] ^ trio.b[i] ^ trio.c[i]);
+    }
+}
+
+/// Adds the rows of two trios, each times its factor, to `acc`: each row is as long. The second trio stays half a page
+/// behind the first. So not all six rows come to a new page at the same time, as rows of whole pages do otherwise, which
+/// makes them slower.
+pub fn add_two_trios(acc: &mut [u8], first: Trio, second: Trio)
+    requires first_a { length first.a.now ≡ length acc.old }
+    requires first_b { length first.b.now ≡ length acc.old }
+    requires first_c { length first.c.now ≡ length acc.old }
+    requires second_a { length second.a.now ≡ length acc.old }
+    requires second_b { length second.b.now ≡ length acc.old }
+    requires second_c { length second.c.now ≡ length acc.old }
+    ensures { (k : ℕ) → slice_index acc.new k ≡ slice_index acc.old k
+        ⊕ trio_at first.entry.a.now first.entry.b.now first.entry.c.now first.entry.factor k
+        ⊕ trio_at second.entry.a.now second.entry.b.now second.entry.c.now second.entry.factor k }
+{
+    let by_first = Products::of(first.factor);
+    let by_second = Products::of(second.factor);
+    let len = acc.len();
+    let lag = LAG.min(len);
+    add_places(acc, first, &by_first, 0, lag);
+    let mut at = lag;
+    'lanes: while len - at >= 16 {
+        add_lanes(acc, first, &by_first, at);
+        add_lanes(acc, second, &by_second, at - lag);
+        at += 16;
+    }
+    add_places(acc, first, &by_first, at, len);
+    add_places(acc, second, &by_second, at - lag, len);
+}
