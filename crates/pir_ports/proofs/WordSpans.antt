@@ -5,7 +5,7 @@ use Rattle.std.specs.List.{AllByRecursion}
 use Rattle.std.proofs.lemmas.List.{take-append-le, drop_at, take_all, map_push}
 use Rattle.std.proofs.lemmas.List.Elements.{recursion_from_All}
 use Rattle.std.proofs.lemmas.Slice.{between_is}
-use Rattle.pir_ports.specs.WordsInside.{word_in, LiesIn}
+use Rattle.pir_ports.specs.WordsInside.{LiesIn}
 use Rattle.pir_ports.specs.declared.words.Span.{Span}
 
 -- more behind a part leaves it as it is

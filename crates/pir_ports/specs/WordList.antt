@@ -1,5 +1,5 @@
 -- Words that are kept one after another, in room that was taken before.
-use Rattle.std.specs.Prelude.{ℕ, ◌-◌, ◌<◌, ◌≤◌, List, [], ◌∷◌, ◌++◌, length, sum_by}
+use Rattle.std.specs.Prelude.{ℕ, ◌-◌, ◌≤◌, List, [], ◌++◌, length, sum_by}
 
 -- the words, and the room left: for so many words, with so many bytes in all
 pub record WordList : Type 0 where
