@@ -28,7 +28,7 @@ ghost use Rattle.wire_frames.specs.Layout.{IsHeader, IsRecordHeader};
 use crate::field::{Number, number_at};
 use crate::header::VERSION;
 use crate::session::SessionParams;
-use crate::{MOST_CELLS, MOST_DEGREE, MOST_ROWS, MOST_SERVERS, MOST_WIDTH};
+use crate::{MOST_CELLS, MOST_DEGREE, MOST_ROWS, MOST_SERVERS, MOST_WIDTH, SHAMIR, XOR};
 
 /// How many bytes the header of a session has.
 pub(crate) const HEADER_LEN: usize = 28;
@@ -51,14 +51,12 @@ pub(crate) const VERSION_FIELD: Number = Number {
     most: VERSION as u64,
 };
 
-/// The number of a scheme: 1 for Shamir's sharing, or that of the XOR scheme.
+/// The number of a scheme.
 pub(crate) const SCHEME: Number = Number {
     width: 1,
-    least: 1,
-    most: XOR,
+    least: SHAMIR as u64,
+    most: XOR as u64,
 };
-
-const XOR: u64 = 2;
 
 const DEGREE: Number = Number {
     width: 1,
@@ -129,7 +127,11 @@ pub(crate) fn width_field(rows: u64) -> Number
 fn servers_field(scheme: u64, least: u64) -> Number
     ensures { result ≡ servers_field scheme least }
 {
-    let most = if scheme == XOR { least } else { SERVERS.most };
+    let most = if scheme == u64::from(XOR) {
+        least
+    } else {
+        SERVERS.most
+    };
     Number {
         least,
         most,

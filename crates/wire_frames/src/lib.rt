@@ -17,6 +17,7 @@ mod query;
 mod reader;
 mod records;
 mod records_reader;
+mod scheme;
 mod session;
 #[cfg(test)]
 mod tests;
@@ -26,6 +27,7 @@ pub use answer::usable_answer;
 pub use header::{QueryHeader, write_answer_header, write_query_header};
 pub use query::{Field, FrameFault, read_query_header};
 pub use reader::{BadSession, FeedFault, SessionReader};
+pub use scheme::{SHAMIR, XOR};
 pub use session::{Session, SessionParams};
 pub use write::write_session;
 
