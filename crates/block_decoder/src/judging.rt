@@ -13,10 +13,7 @@ use crate::verdict::Verdict;
 use std::alloc::{AllocError, Global};
 use std::sync::ledger::Ledger;
 use uni_poly::steps::Steps;
-use wire_frames::Session;
-
-/// The number of the XOR scheme; that of Shamir's sharing is 1.
-const XOR: u8 = 2;
+use wire_frames::{Session, XOR};
 
 /// What the usable answers of a session say of the block that was asked for. All `n` records were pushed; a record that
 /// is absent, or no usable answer to the query of its own server, counts for nothing.
