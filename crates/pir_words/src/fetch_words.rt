@@ -7,12 +7,12 @@ ghost use Rattle.pir_words.specs.FetchForm.{addresses_in, fetch_of, fetch_sharin
 ghost use Rattle.pir_words.specs.Form.{Answers};
 
 use crate::asked::{Asked, WordsFault};
-use crate::ranges::{SHAMIR, Sharing, block_at, coins_at, scheme_at, sharing_at, sizes_at};
+use crate::ranges::{Sharing, block_at, coins_at, scheme_at, sharing_at, sizes_at};
 use crate::text::Texts;
 use crate::values::{kept, owned, text_at, texts_at};
 use clap::ArgMatches;
 use std::alloc::Global;
-use wire_frames::MOST_SERVERS;
+use wire_frames::{MOST_SERVERS, SHAMIR};
 
 /// The addresses, of no more servers than there may be.
 #[tactic(auto, unfolding(crate::specs::FetchForm::addresses_in))]

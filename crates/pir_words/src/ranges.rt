@@ -7,7 +7,7 @@ ghost use Rattle.pir_words.specs.Ranges.{block_in, coins_in, scheme_in, scheme_n
 use crate::MOST_WORKERS;
 use crate::values::{limited_at, number_at, number_of, text_at};
 use clap::ArgMatches;
-use wire_frames::{MOST_CELLS, MOST_DEGREE, MOST_ROWS, MOST_SERVERS, MOST_WIDTH};
+use wire_frames::{MOST_CELLS, MOST_DEGREE, MOST_ROWS, MOST_SERVERS, MOST_WIDTH, SHAMIR, XOR};
 
 /// The sizes of a database.
 #[derive(Clone, Copy)]
@@ -53,9 +53,6 @@ pub fn block_at(matches: &ArgMatches, rows: u32) -> Option<u32>
     }
 }
 
-/// The number of Shamir's scheme; that of the XOR scheme is 2.
-pub const SHAMIR: u8 = 1;
-
 /// The number of a scheme by its name.
 #[tactic(auto, unfolding(crate::specs::Ranges::scheme_named))]
 fn scheme_of(name: &str) -> Option<u8>
@@ -63,7 +60,7 @@ fn scheme_of(name: &str) -> Option<u8>
 {
     match name {
         "shamir" => Some(SHAMIR),
-        "xor" => Some(2),
+        "xor" => Some(XOR),
         _ => None,
     }
 }
