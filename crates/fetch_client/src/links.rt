@@ -11,11 +11,11 @@ ghost use Rattle.fetch_client.specs.Asked.{Asked};
 ghost use Rattle.fetch_client.specs.Fetched.{AsksNext, AskedEach};
 
 use crate::coins::session_number_of;
-use crate::plan::{FetchPlan, XOR};
+use crate::plan::FetchPlan;
 use chor_xor::bitmap_into;
 use pir_ports::{Filled, Port, Ports, read_exactly, write_all};
 use shamir_share::query_into;
-use wire_frames::{QueryHeader, Session, write_query_header};
+use wire_frames::{QueryHeader, Session, XOR, write_query_header};
 
 // How many bytes stand before the payload of a query and of an answer.
 pub(crate) const HEADER_LEN: usize = 24;

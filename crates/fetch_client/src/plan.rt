@@ -5,10 +5,7 @@ ghost use Rattle.fetch_client.specs.Plan.{IsPlan, need, params_of};
 ghost use Rattle.fetch_client.specs.Sent.{payload_size};
 
 use thiserror::Error;
-use wire_frames::SessionParams;
-
-/// The number of the XOR scheme; that of Shamir's sharing is 1.
-pub(crate) const XOR: u8 = 2;
+use wire_frames::{SessionParams, XOR};
 
 /// What is to be fetched, and how.
 #[derive(Clone, Copy, Debug, PartialEq, Eq)]
