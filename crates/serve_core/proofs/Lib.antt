@@ -1,4 +1,3 @@
 pub mod OneReply
 mod Replying
 pub mod ServingOne
-pub mod ShamirScheme

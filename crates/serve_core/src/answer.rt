@@ -14,13 +14,10 @@ use pir_ports::{Failed, Filled, Port, Ports, read_exactly, write_all};
 use server_product::{Gate, product_into};
 use std::alloc::{AllocError, Global};
 use std::thread::Threads;
-use wire_frames::write_answer_header;
+use wire_frames::{XOR, write_answer_header};
 
 /// How many bytes stand before the payload of a query and of an answer.
 pub(crate) const HEADER_LEN: usize = 24;
-
-/// The number of the XOR scheme; that of Shamir's sharing is 1.
-const XOR: u8 = 2;
 
 /// How many bytes the payload of a query has.
 #[tactic(auto, unfolding(crate::specs::Reply::payload_size))]
