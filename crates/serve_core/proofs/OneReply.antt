@@ -1,12 +1,12 @@
 -- The bytes of a guest ask for one reply alone.
-use Rattle.std.proofs.Common.{◌≡◌, true, false, inl, inr, ℕ, ◌+◌, ◌≤◌, List, length, take, drop, get_or, refl, sym, ◌∙◌, ap, arith}
+use Rattle.std.proofs.Common.{◌≡◌, true, false, inl, inr, ℕ, ◌≤◌, List, length, take, drop, get_or, refl, sym, ◌∙◌, ap, arith}
 use Rattle.std.proofs.lemmas.Bool.{false≢true}
 use Rattle.wire_frames.specs.declared.header.QueryHeader.{QueryHeader}
 use Rattle.wire_frames.specs.Header.{answer_to, query_header}
 use Rattle.wire_frames.specs.Query.{IsQueryHeader}
 use Rattle.wire_frames.proofs.Parsing.{same_digits}
 use Rattle.serve_core.specs.Service.{Service}
-use Rattle.serve_core.specs.Reply.{IsShaped, IsWhole, IsWholeWith, Suits, RefusedByHeader, Refuses, IsCut, AsksForOneReply, payload_size}
+use Rattle.serve_core.specs.Reply.{IsShaped, IsWhole, IsWholeWith, Suits, RefusedByHeader, Refuses, IsCut, AsksForOneReply}
 use Rattle.serve_core.specs.declared.met.Met.TheVariants.{Served, Refused, Gone, GuestFault}
 
 -- two queries that are judged alike
