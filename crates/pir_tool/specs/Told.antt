@@ -21,7 +21,7 @@ NoneRose old new = (p : ℕ) → p < 256 → DidRise p old new → ⊥
 abbrev pub NoneRoseButGuests : World → World → Type 0
 NoneRoseButGuests old new = (p : ℕ) → p < 256 → p ≢ 6 → DidRise p old new → ⊥
 
--- no child could not be started
+-- no start of a child failed
 abbrev pub NoChildRose : World → World → Type 0
 NoChildRose old new = (p : ℕ) → 512 ≤ p → p < 768 → DidRise p old new → ⊥
 

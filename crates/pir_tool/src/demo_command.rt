@@ -10,6 +10,7 @@ use crate::status::Status;
 use fetch_client::FetchPlan;
 use pir_ports::{Failed, Ports};
 use std::alloc::{AllocError, Global};
+use wire_frames::SHAMIR;
 
 /// What is fetched, from which children, and with which coins.
 #[derive(Drop)]
@@ -130,7 +131,7 @@ pub(crate) fn demonstrate<P: Ports>(alloc: Global, order: &Demonstration, ports:
         return Status::ChildFault;
     };
     let plan = FetchPlan {
-        scheme: 1,
+        scheme: SHAMIR,
         t: order.degree,
         h: order.agree,
         n: order.servers,
