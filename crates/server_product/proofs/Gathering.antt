@@ -1,14 +1,14 @@
 -- Rows that wait, and what they give.
-use Rattle.std.proofs.Common.{◌≡◌, ℕ, zero, suc, ◌+◌, ◌<◌, List, [], ◌∷◌, length, slice_index, slice_index_or, slice_set, drop, replicate, refl, sym, ap, ap₂, subst, ◌∙◌, arith, add-one}
+use Rattle.std.proofs.Common.{◌≡◌, ℕ, zero, suc, ◌+◌, ◌<◌, List, [], ◌∷◌, length, slice_index, slice_index_or, slice_set, drop, replicate, Option, None, Some, refl, sym, ap, ap₂, subst, ◌∙◌, arith, add-one}
 use Rattle.gf256.specs.Field.{◌⊕◌, ◌⊗◌}
 use Rattle.gf256.proofs.Xor.{sums, add_assoc, add_zero}
 use Rattle.gf256.proofs.FieldLaws.{mul_add}
 use Rattle.server_product.specs.Runs.{term}
 use Rattle.server_product.specs.Trios.{trio_at}
-use Rattle.server_product.specs.Gathered.{few_sum, three_sum, waiting_sum, AreOf, FewAreOf}
+use Rattle.server_product.specs.Gathered.{few_sum, three_sum, waiting_sum, AreOf, FewAreOf, HeldAreAlike, HeldAreRows}
 use Rattle.server_product.specs.declared.gather.Three.{Three}
 use Rattle.server_product.specs.declared.gather.Few.{Few}
-use Rattle.server_product.specs.declared.gather.Few.TheVariants.{Empty, One, Two, All}
+use Rattle.server_product.specs.declared.gather.Few.TheVariants.{Empty}
 
 -- one that waits in place of another
 pub waiting-set : (q : List ℕ) (rows : List (List ℕ)) (c : ℕ) (waiting : List Few) (i : ℕ) (few : Few) → i < length waiting
@@ -60,6 +60,11 @@ none-are q f n = subst (FewAreOf q f) (sym (none_at n f)) (record {}) where
   none_at (suc n) zero = refl
   none_at (suc n) (suc f) = none_at n f
 
+-- three rows of one factor are rows
+pub are-rows : (q : List ℕ) (held : Option Three) → HeldAreAlike q held → HeldAreRows q held
+are-rows q None alike = record {}
+are-rows q (Some three) alike = (alike.a.0, alike.b.0, alike.c.0)
+
 -- three rows of one factor are a trio
 pub trio-is : (q : List ℕ) (rows : List (List ℕ)) (c : ℕ) (three : Three) (x y z : List ℕ) (f : ℕ)
     → x ≡ slice_index_or rows three.a [] → y ≡ slice_index_or rows three.b [] → z ≡ slice_index_or rows three.c []
@@ -105,6 +110,17 @@ beside-rest x' h' x h r t e = ap (λ s. s ⊕ r) e ∙ back where
 pub plus-none : (x t : ℕ) → x ⊕ t ≡ x ⊕ 0 ⊕ t
 plus-none x t = ap (λ y. y ⊕ t) (sym (add_zero x))
 
--- four at once, and nothing
-pub four-and-none : (x a b c t : ℕ) → x ⊕ (a ⊕ b ⊕ c ⊕ t) ⊕ 0 ≡ x ⊕ (a ⊕ b ⊕ c) ⊕ t
-four-and-none x a b c t = simp sums
+-- one more of the rest
+pub joined-rest : (x h f f' t : ℕ) → f' ≡ f ⊕ t → x ⊕ (h ⊕ f') ≡ x ⊕ (h ⊕ f) ⊕ t
+joined-rest x h f f' t e = ap (λ y. x ⊕ (h ⊕ y)) e ∙ ap (◌⊕◌ x) (sym (add_assoc h f t)) ∙ sym (add_assoc x (h ⊕ f) t)
+
+-- three of the rest that go, and one that is left in their place
+pub three-go : (x' h' x h s f t : ℕ) → x' ⊕ h' ≡ x ⊕ h ⊕ s → f ≡ s → x' ⊕ (h' ⊕ t) ≡ x ⊕ (h ⊕ f) ⊕ t
+three-go x' h' x h s f t e same =
+    sym (add_assoc x' h' t) ∙ ap (λ y. y ⊕ t) (e ∙ add_assoc x h s ∙ ap (λ y. x ⊕ (h ⊕ y)) (sym same))
+
+-- six at once, and nothing
+pub six-and-none : (x a b c d e f : ℕ) → x ⊕ (a ⊕ b ⊕ c ⊕ d ⊕ e ⊕ f) ⊕ 0 ≡ x ⊕ (a ⊕ b ⊕ c) ⊕ (d ⊕ e ⊕ f)
+six-and-none x a b c d e f = add_zero _ ∙ ap (◌⊕◌ x) grouped ∙ sym (add_assoc x (a ⊕ b ⊕ c) (d ⊕ e ⊕ f)) where
+  grouped : a ⊕ b ⊕ c ⊕ d ⊕ e ⊕ f ≡ a ⊕ b ⊕ c ⊕ (d ⊕ e ⊕ f)
+  grouped = simp add_assoc

@@ -7,7 +7,7 @@ use Rattle.std.proofs.lemmas.Simd.{length-chunk, length-zip2, get_or-chunk, get_
 use Rattle.gf256.specs.Field.{◌⊕◌, ◌⊗◌}
 use Rattle.gf256.proofs.Xor.{add_zero, add_assoc}
 use Rattle.gf256.proofs.FieldLaws.{mul_zero}
-use Rattle.server_product.specs.FourRows.{four_at, AreProducts}
+use Rattle.server_product.specs.SixRows.{six_at, AreProducts}
 use Rattle.server_product.specs.Summed.{IsSummed}
 
 -- nothing yet
@@ -80,86 +80,72 @@ summed-all new old g n size past done k =
 past-row : (row : List ℕ) (f k : ℕ) → length row ≤ k → f ⊗ get_or row k 0 ≡ 0
 past-row row f k l = ap (λ x. f ⊗ x) (get_or_past row k 0 l) ∙ mul_zero f
 
--- four rows give nothing past their ends
-pub four-past : (a b c d : List ℕ) (fa fb fc fd n : ℕ) → length a ≡ n → length b ≡ n → length c ≡ n → length d ≡ n
-    → (k : ℕ) → n ≤ k → four_at a b c d fa fb fc fd k ≡ 0
-unfolding four_at
-four-past a b c d fa fb fc fd n ea eb ec ed k l =
-    ap₂ ◌⊕◌ (ap₂ ◌⊕◌ (ap₂ ◌⊕◌ (past-row a fa k (omega arith)) (past-row b fb k (omega arith))) (past-row c fc k (omega arith))) (past-row d fd k (omega arith))
-    ∙ (let e : 0 ⊕ 0 ⊕ 0 ⊕ 0 ≡ 0 = simp add_zero in e)
+-- six rows give nothing past their ends
+pub six-past : (a b c d e f : List ℕ) (fa fb fc fd fe ff n : ℕ)
+    → length a ≡ n → length b ≡ n → length c ≡ n → length d ≡ n → length e ≡ n → length f ≡ n
+    → (k : ℕ) → n ≤ k → six_at a b c d e f fa fb fc fd fe ff k ≡ 0
+unfolding six_at
+six-past a b c d e f fa fb fc fd fe ff n ea eb ec ed ee ef k l =
+    ap₂ ◌⊕◌ (ap₂ ◌⊕◌ (ap₂ ◌⊕◌ (ap₂ ◌⊕◌ (ap₂ ◌⊕◌
+    (past-row a fa k (omega arith)) (past-row b fb k (omega arith))) (past-row c fc k (omega arith))) (past-row d fd k (omega arith)))
+    (past-row e fe k (omega arith))) (past-row f ff k (omega arith))
+    ∙ (let none : 0 ⊕ 0 ⊕ 0 ⊕ 0 ⊕ 0 ⊕ 0 ≡ 0 = simp add_zero in none)
 
--- the same four factors
-pub four-same : (a b c d : List ℕ) (fa fb fc fd ga gb gc gd k : ℕ) → ga ≡ fa → gb ≡ fb → gc ≡ fc → gd ≡ fd
-    → four_at a b c d ga gb gc gd k ≡ four_at a b c d fa fb fc fd k
-four-same a b c d fa fb fc fd ga gb gc gd k ea eb ec ed = λ i. four_at a b c d (ea i) (eb i) (ec i) (ed i) k
+-- the same six factors
+pub six-same : (a b c d e f : List ℕ) (fa fb fc fd fe ff ga gb gc gd ge gf k : ℕ) → ga ≡ fa → gb ≡ fb → gc ≡ fc → gd ≡ fd → ge ≡ fe → gf ≡ ff
+    → six_at a b c d e f ga gb gc gd ge gf k ≡ six_at a b c d e f fa fb fc fd fe ff k
+six-same a b c d e f fa fb fc fd fe ff ga gb gc gd ge gf k ea eb ec ed ee ef = λ i. six_at a b c d e f (ea i) (eb i) (ec i) (ed i) (ee i) (ef i) k
 
--- four terms, one by one or as one
-plus-four : (x a b c d : ℕ) → x ⊕ a ⊕ b ⊕ c ⊕ d ≡ x ⊕ (a ⊕ b ⊕ c ⊕ d)
-plus-four x a b c d = simp add_assoc
+-- six terms, one by one or as one
+plus_six : (x a b c d e f : ℕ) → x ⊕ a ⊕ b ⊕ c ⊕ d ⊕ e ⊕ f ≡ x ⊕ (a ⊕ b ⊕ c ⊕ d ⊕ e ⊕ f)
+plus_six x a b c d e f = simp add_assoc
 
--- 16 places and their products with four rows, added lane by lane
-module _ (acc a b c d pa pb pc pd : List ℕ) (fa fb fc fd at : ℕ) (room : at + 16 ≤ length acc)
-    (is_a : AreProducts pa a fa at) (is_b : AreProducts pb b fb at) (is_c : AreProducts pc c fc at) (is_d : AreProducts pd d fd at) where
-  abbrev lanes_a : List ℕ
-  lanes_a = zip2 bit_xor (chunk at 16 acc) pa
+-- 16 lanes that stand for places from `at` on: lane k is g at the place
+record AreLanes (lanes : List ℕ) (g : ℕ → ℕ) (at : ℕ) : Type 0 where
+  size : length lanes ≡ 16
+  each : (k : ℕ) → k < 16 → get_or lanes k 0 ≡ g (at + k)
 
-  abbrev lanes_b : List ℕ
-  lanes_b = zip2 bit_xor lanes_a pb
+-- those of a list
+lanes_of : (xs : List ℕ) (at : ℕ) → at + 16 ≤ length xs → AreLanes (chunk at 16 xs) (λ k. get_or xs k 0) at
+lanes_of xs at room = record {
+  size = length-chunk at 16 xs room;
+  each = λ k l. get_or-chunk at 16 xs k 0 l;
+}
 
-  abbrev lanes_c : List ℕ
-  lanes_c = zip2 bit_xor lanes_b pc
+-- the products of one more row
+lanes_more : (lanes products row : List ℕ) (g : ℕ → ℕ) (f at : ℕ) → AreLanes lanes g at → AreProducts products row f at
+    → AreLanes (zip2 bit_xor lanes products) (λ k. g k ⊕ f ⊗ get_or row k 0) at
+unfolding ◌⊕◌
+lanes_more lanes products row g f at are is = record {
+  size = length-zip2 bit_xor lanes products (are.size ∙ sym is.size) ∙ are.size;
+  each = λ k l. get_or-zip2 bit_xor lanes products k 0 0 0 (omega (arith, are.size)) (omega (arith, is.size)) ∙ ap₂ bit_xor (are.each k l) (is.each k l);
+}
 
-  abbrev pub lanes_d : List ℕ
-  lanes_d = zip2 bit_xor lanes_c pd
-
-  size_a : length lanes_a ≡ 16
-  size_a = length-zip2 bit_xor (chunk at 16 acc) pa (length-chunk at 16 acc room ∙ sym is_a.size) ∙ length-chunk at 16 acc room
-
-  size_b : length lanes_b ≡ 16
-  size_b = length-zip2 bit_xor lanes_a pb (size_a ∙ sym is_b.size) ∙ size_a
-
-  size_c : length lanes_c ≡ 16
-  size_c = length-zip2 bit_xor lanes_b pc (size_b ∙ sym is_c.size) ∙ size_b
-
-  pub four-size : length lanes_d ≡ 16
-  four-size = length-zip2 bit_xor lanes_c pd (size_c ∙ sym is_d.size) ∙ size_c
-
-  one_more : (x p : List ℕ) (k : ℕ) → length x ≡ 16 → length p ≡ 16 → k < 16 → get_or (zip2 bit_xor x p) k 0 ≡ bit_xor (get_or x k 0) (get_or p k 0)
-  one_more x p k n m l = get_or-zip2 bit_xor x p k 0 0 0 (omega arith) (omega arith)
-
-  pub four-lanes : (k : ℕ) → k < 16 → get_or lanes_d k 0 ≡ get_or acc (at + k) 0 ⊕ four_at a b c d fa fb fc fd (at + k)
-  unfolding ◌⊕◌ four_at
-  four-lanes k l =
-      one_more lanes_c pd k size_c is_d.size l
-      ∙ ap₂ bit_xor
-      (one_more lanes_b pc k size_b is_c.size l
-      ∙ ap₂ bit_xor
-      (one_more lanes_a pb k size_a is_b.size l
-      ∙ ap₂ bit_xor
-      (one_more (chunk at 16 acc) pa k (length-chunk at 16 acc room) is_a.size l
-      ∙ ap₂ bit_xor (get_or-chunk at 16 acc k 0 l) (is_a.each k l))
-      (is_b.each k l))
-      (is_c.each k l))
-      (is_d.each k l)
-      ∙ plus-four (get_or acc (at + k) 0) (fa ⊗ get_or a (at + k) 0) (fb ⊗ get_or b (at + k) 0) (fc ⊗ get_or c (at + k) 0) (fd ⊗ get_or d (at + k) 0)
-
--- 16 places with their products with four rows, stored where they stand; `base` is what was read
-pub four-put : (acc old base a b c d pa pb pc pd : List ℕ) (fa fb fc fd start n : ℕ) → start + 16 ≤ length acc → length base ≡ length acc → start ≤ n → n ≤ start + 16
+-- 16 places with their products with six rows, stored where they stand; `base` is what was read
+pub six-put : (acc old base a b c d e f pa pb pc pd pe pf : List ℕ) (fa fb fc fd fe ff start n : ℕ)
+    → start + 16 ≤ length acc → length base ≡ length acc → start ≤ n → n ≤ start + 16
     → ((k : ℕ) → start ≤ k → get_or base k 0 ≡ get_or old k 0)
-    → AreProducts pa a fa start → AreProducts pb b fb start → AreProducts pc c fc start → AreProducts pd d fd start
-    → IsSummed acc old (four_at a b c d fa fb fc fd) 0 n
-    → IsSummed (put_chunk start acc (zip2 bit_xor (zip2 bit_xor (zip2 bit_xor (zip2 bit_xor (chunk start 16 base) pa) pb) pc) pd)) old (four_at a b c d fa fb fc fd) 0 (start + 16)
-four-put acc old base a b c d pa pb pc pd fa fb fc fd start n room same from to read is_a is_b is_c is_d done =
+    → AreProducts pa a fa start → AreProducts pb b fb start → AreProducts pc c fc start → AreProducts pd d fd start → AreProducts pe e fe start → AreProducts pf f ff start
+    → IsSummed acc old (six_at a b c d e f fa fb fc fd fe ff) 0 n
+    → IsSummed (put_chunk start acc (zip2 bit_xor (zip2 bit_xor (zip2 bit_xor (zip2 bit_xor (zip2 bit_xor (zip2 bit_xor (chunk start 16 base) pa) pb) pc) pd) pe) pf))
+    old (six_at a b c d e f fa fb fc fd fe ff) 0 (start + 16)
+unfolding six_at
+six-put acc old base a b c d e f pa pb pc pd pe pf fa fb fc fd fe ff start n room same from to read is_a is_b is_c is_d is_e is_f done =
     let within : start + 16 ≤ length base = omega arith in
-    summed-lanes acc old _ (four_at a b c d fa fb fc fd) 0 start n room
-    (four-size base a b c d pa pb pc pd fa fb fc fd start within is_a is_b is_c is_d) (omega arith) from to
+    let all = lanes_more _ pf f _ ff start (lanes_more _ pe e _ fe start (lanes_more _ pd d _ fd start (lanes_more _ pc c _ fc start
+    (lanes_more _ pb b _ fb start (lanes_more _ pa a _ fa start (lanes_of base start within) is_a) is_b) is_c) is_d) is_e) is_f in
+    summed-lanes acc old _ (six_at a b c d e f fa fb fc fd fe ff) 0 start n room all.size (omega arith) from to
     (λ k l.
-    four-lanes base a b c d pa pb pc pd fa fb fc fd start within is_a is_b is_c is_d k l
-    ∙ ap (λ x. x ⊕ four_at a b c d fa fb fc fd (start + k)) (read (start + k) (omega arith)))
+    let p = start + k in
+    all.each k l
+    ∙ plus_six (get_or base p 0) (fa ⊗ get_or a p 0) (fb ⊗ get_or b p 0) (fc ⊗ get_or c p 0) (fd ⊗ get_or d p 0) (fe ⊗ get_or e p 0) (ff ⊗ get_or f p 0)
+    ∙ ap (λ x. x ⊕ six_at a b c d e f fa fb fc fd fe ff p) (read p (omega arith)))
     done
 
--- one place of four rows
-pub four-place : (a b c d : List ℕ) (fa fb fc fd k xa xb xc xd : ℕ) → xa ≡ fa ⊗ get_or a k 0 → xb ≡ fb ⊗ get_or b k 0 → xc ≡ fc ⊗ get_or c k 0 → xd ≡ fd ⊗ get_or d k 0
-    → bit_xor (bit_xor (bit_xor xa xb) xc) xd ≡ four_at a b c d fa fb fc fd k
-unfolding ◌⊕◌ four_at
-four-place a b c d fa fb fc fd k xa xb xc xd ea eb ec ed = ap₂ bit_xor (ap₂ bit_xor (ap₂ bit_xor ea eb) ec) ed
+-- one place of six rows
+pub six-place : (a b c d e f : List ℕ) (fa fb fc fd fe ff k xa xb xc xd xe xf : ℕ)
+    → xa ≡ fa ⊗ get_or a k 0 → xb ≡ fb ⊗ get_or b k 0 → xc ≡ fc ⊗ get_or c k 0 → xd ≡ fd ⊗ get_or d k 0 → xe ≡ fe ⊗ get_or e k 0 → xf ≡ ff ⊗ get_or f k 0
+    → bit_xor (bit_xor (bit_xor (bit_xor (bit_xor xa xb) xc) xd) xe) xf ≡ six_at a b c d e f fa fb fc fd fe ff k
+unfolding ◌⊕◌ six_at
+six-place a b c d e f fa fb fc fd fe ff k xa xb xc xd xe xf ea eb ec ed ee ef =
+    ap₂ bit_xor (ap₂ bit_xor (ap₂ bit_xor (ap₂ bit_xor (ap₂ bit_xor ea eb) ec) ed) ee) ef

@@ -7,7 +7,7 @@ use Rattle.gf256.specs.Sums.{sum_to}
 use Rattle.gf256.specs.Product.{product_at, product}
 use Rattle.gf256.proofs.Xor.{sums, add_zero, add_swap, add_self_left}
 use Rattle.gf256.proofs.Sums.{sum_to-append, sum_to-same}
-use Rattle.server_product.specs.FourRows.{four_at}
+use Rattle.server_product.specs.SixRows.{six_at}
 use Rattle.server_product.specs.Runs.{term, run_sum}
 
 -- the sum of a run, by those of all rows before its ends
@@ -55,21 +55,24 @@ run-all q rows c =
     ap (sum_to (λ i. term q rows c (0 + i))) all
     ∙ sum_to-same (λ i. term q rows c (0 + i)) (term q rows c) (length rows) (λ i l. let e : 0 + i ≡ i = omega arith in ap (term q rows c) e)
 
--- the first n rows of each of four quarters
-abbrev pub quarters : List ℕ → List (List ℕ) → ℕ → ℕ → ℕ → ℕ → ℕ
-quarters q rows c from quarter n =
-    run_sum q rows c from (from + n) ⊕ run_sum q rows c (from + quarter) (from + quarter + n)
-    ⊕ run_sum q rows c (from + 2 * quarter) (from + 2 * quarter + n) ⊕ run_sum q rows c (from + 3 * quarter) (from + 3 * quarter + n)
+-- the first n rows of each of six parts, of so many rows
+abbrev pub sixths : List ℕ → List (List ℕ) → ℕ → ℕ → ℕ → ℕ → ℕ
+sixths q rows c from sixth n =
+    run_sum q rows c from (from + n) ⊕ run_sum q rows c (from + sixth) (from + sixth + n)
+    ⊕ run_sum q rows c (from + 2 * sixth) (from + 2 * sixth + n) ⊕ run_sum q rows c (from + 3 * sixth) (from + 3 * sixth + n)
+    ⊕ run_sum q rows c (from + 4 * sixth) (from + 4 * sixth + n) ⊕ run_sum q rows c (from + 5 * sixth) (from + 5 * sixth + n)
 
 -- no rows of a run that begins anywhere
 none_yet : (q : List ℕ) (rows : List (List ℕ)) (c from : ℕ) → run_sum q rows c from (from + 0) ≡ 0
 none_yet q rows c from = let e : from + 0 ≡ from = omega arith in ap (run_sum q rows c from) e ∙ run-none q rows c from
 
 -- no rows of each
-pub quarters-none : (q : List ℕ) (rows : List (List ℕ)) (c from quarter : ℕ) → quarters q rows c from quarter 0 ≡ 0
-quarters-none q rows c from quarter =
-    ap₂ ◌⊕◌ (ap₂ ◌⊕◌ (ap₂ ◌⊕◌ (none_yet q rows c from) (none_yet q rows c (from + quarter))) (none_yet q rows c (from + 2 * quarter))) (none_yet q rows c (from + 3 * quarter))
-    ∙ (let e : 0 ⊕ 0 ⊕ 0 ⊕ 0 ≡ 0 = simp add_zero in e)
+pub sixths-none : (q : List ℕ) (rows : List (List ℕ)) (c from sixth : ℕ) → sixths q rows c from sixth 0 ≡ 0
+sixths-none q rows c from sixth =
+    ap₂ ◌⊕◌ (ap₂ ◌⊕◌ (ap₂ ◌⊕◌ (ap₂ ◌⊕◌ (ap₂ ◌⊕◌
+    (none_yet q rows c from) (none_yet q rows c (from + sixth))) (none_yet q rows c (from + 2 * sixth))) (none_yet q rows c (from + 3 * sixth)))
+    (none_yet q rows c (from + 4 * sixth))) (none_yet q rows c (from + 5 * sixth))
+    ∙ (let e : 0 ⊕ 0 ⊕ 0 ⊕ 0 ⊕ 0 ⊕ 0 ≡ 0 = simp add_zero in e)
 
 -- one more of a run
 one_more : (q : List ℕ) (rows : List (List ℕ)) (c from n : ℕ) → run_sum q rows c from (from + (n + 1)) ≡ run_sum q rows c from (from + n) ⊕ term q rows c (from + n)
@@ -77,41 +80,53 @@ one_more q rows c from n =
     let e : from + (n + 1) ≡ from + n + 1 = omega arith in
     ap (run_sum q rows c from) e ∙ run-next q rows c from (from + n) (omega arith)
 
-in_pairs : (a b c d w x y z : ℕ) → (a ⊕ w) ⊕ (b ⊕ x) ⊕ (c ⊕ y) ⊕ (d ⊕ z) ≡ (a ⊕ b ⊕ c ⊕ d) ⊕ (w ⊕ x ⊕ y ⊕ z)
-in_pairs a b c d w x y z =
-    ap (λ s. s ⊕ (c ⊕ y) ⊕ (d ⊕ z)) (add_swap a w b x)
-    ∙ ap (λ s. s ⊕ (d ⊕ z)) (add_swap (a ⊕ b) (w ⊕ x) c y)
-    ∙ add_swap (a ⊕ b ⊕ c) (w ⊕ x ⊕ y) d z
+in_pairs : (a b c d e f u v w x y z : ℕ) → (a ⊕ u) ⊕ (b ⊕ v) ⊕ (c ⊕ w) ⊕ (d ⊕ x) ⊕ (e ⊕ y) ⊕ (f ⊕ z) ≡ (a ⊕ b ⊕ c ⊕ d ⊕ e ⊕ f) ⊕ (u ⊕ v ⊕ w ⊕ x ⊕ y ⊕ z)
+in_pairs a b c d e f u v w x y z =
+    ap (λ s. s ⊕ (c ⊕ w) ⊕ (d ⊕ x) ⊕ (e ⊕ y) ⊕ (f ⊕ z)) (add_swap a u b v)
+    ∙ ap (λ s. s ⊕ (d ⊕ x) ⊕ (e ⊕ y) ⊕ (f ⊕ z)) (add_swap (a ⊕ b) (u ⊕ v) c w)
+    ∙ ap (λ s. s ⊕ (e ⊕ y) ⊕ (f ⊕ z)) (add_swap (a ⊕ b ⊕ c) (u ⊕ v ⊕ w) d x)
+    ∙ ap (λ s. s ⊕ (f ⊕ z)) (add_swap (a ⊕ b ⊕ c ⊕ d) (u ⊕ v ⊕ w ⊕ x) e y)
+    ∙ add_swap (a ⊕ b ⊕ c ⊕ d ⊕ e) (u ⊕ v ⊕ w ⊕ x ⊕ y) f z
 
 -- one more row of each
-pub quarters-next : (q : List ℕ) (rows : List (List ℕ)) (c from quarter n : ℕ)
-    → quarters q rows c from quarter (n + 1)
-    ≡ quarters q rows c from quarter n ⊕ (term q rows c (from + n) ⊕ term q rows c (from + quarter + n) ⊕ term q rows c (from + 2 * quarter + n) ⊕ term q rows c (from + 3 * quarter + n))
-quarters-next q rows c from quarter n =
-    ap₂ ◌⊕◌ (ap₂ ◌⊕◌ (ap₂ ◌⊕◌ (one_more q rows c from n) (one_more q rows c (from + quarter) n)) (one_more q rows c (from + 2 * quarter) n)) (one_more q rows c (from + 3 * quarter) n)
-    ∙ in_pairs _ _ _ _ _ _ _ _
+pub sixths-next : (q : List ℕ) (rows : List (List ℕ)) (c from sixth n : ℕ)
+    → sixths q rows c from sixth (n + 1)
+    ≡ sixths q rows c from sixth n
+    ⊕ (term q rows c (from + n) ⊕ term q rows c (from + sixth + n) ⊕ term q rows c (from + 2 * sixth + n)
+    ⊕ term q rows c (from + 3 * sixth + n) ⊕ term q rows c (from + 4 * sixth + n) ⊕ term q rows c (from + 5 * sixth + n))
+sixths-next q rows c from sixth n =
+    ap₂ ◌⊕◌ (ap₂ ◌⊕◌ (ap₂ ◌⊕◌ (ap₂ ◌⊕◌ (ap₂ ◌⊕◌
+    (one_more q rows c from n) (one_more q rows c (from + sixth) n)) (one_more q rows c (from + 2 * sixth) n)) (one_more q rows c (from + 3 * sixth) n))
+    (one_more q rows c (from + 4 * sixth) n)) (one_more q rows c (from + 5 * sixth) n)
+    ∙ in_pairs _ _ _ _ _ _ _ _ _ _ _ _
 
--- whole quarters are one run
-pub quarters-all : (q : List ℕ) (rows : List (List ℕ)) (c from quarter : ℕ) → quarters q rows c from quarter quarter ≡ run_sum q rows c from (from + 4 * quarter)
-quarters-all q rows c from quarter =
-    let R = run_sum q rows c in
-    let e2 : from + quarter + quarter ≡ from + 2 * quarter = omega arith in
-    let e3 : from + 2 * quarter + quarter ≡ from + 3 * quarter = omega arith in
-    let e4 : from + 3 * quarter + quarter ≡ from + 4 * quarter = omega arith in
-    ap (λ s. s ⊕ R (from + 2 * quarter) (from + 2 * quarter + quarter) ⊕ R (from + 3 * quarter) (from + 3 * quarter + quarter))
-    (ap (λ t. R from (from + quarter) ⊕ R (from + quarter) t) e2 ∙ run-join q rows c from (from + quarter) (from + 2 * quarter) (omega arith) (omega arith))
-    ∙ ap (λ s. s ⊕ R (from + 3 * quarter) (from + 3 * quarter + quarter))
-    (ap (λ t. R from (from + 2 * quarter) ⊕ R (from + 2 * quarter) t) e3 ∙ run-join q rows c from (from + 2 * quarter) (from + 3 * quarter) (omega arith) (omega arith))
-    ∙ (ap (λ t. R from (from + 3 * quarter) ⊕ R (from + 3 * quarter) t) e4 ∙ run-join q rows c from (from + 3 * quarter) (from + 4 * quarter) (omega arith) (omega arith))
+-- a part that follows the rows before it
+part_follows : (q : List ℕ) (rows : List (List ℕ)) (c from m k n : ℕ) → m + n ≡ k → run_sum q rows c from (from + m) ⊕ run_sum q rows c (from + m) (from + m + n) ≡ run_sum q rows c from (from + k)
+part_follows q rows c from m k n e =
+    let end : from + m + n ≡ from + k = omega arith in
+    ap (λ t. run_sum q rows c from (from + m) ⊕ run_sum q rows c (from + m) t) end
+    ∙ run-join q rows c from (from + m) (from + k) (omega arith) (omega arith)
 
--- four rows of the matrix, each times the query's byte for it, give their terms
-pub four-terms : (q : List ℕ) (rows : List (List ℕ)) (c i j k l : ℕ) (ri rj rk rl : List ℕ) (fi fj fk fl : ℕ)
-    → ri ≡ slice_index_or rows i [] → rj ≡ slice_index_or rows j [] → rk ≡ slice_index_or rows k [] → rl ≡ slice_index_or rows l []
-    → fi ≡ slice_index q i → fj ≡ slice_index q j → fk ≡ slice_index q k → fl ≡ slice_index q l
-    → four_at ri rj rk rl fi fj fk fl c ≡ term q rows c i ⊕ term q rows c j ⊕ term q rows c k ⊕ term q rows c l
-unfolding four_at term
-four-terms q rows c i j k l ri rj rk rl fi fj fk fl ei ej ek el gi gj gk gl =
-    λ t. four_at (ei t) (ej t) (ek t) (el t) (gi t) (gj t) (gk t) (gl t) c
+-- whole parts are one run
+pub sixths-all : (q : List ℕ) (rows : List (List ℕ)) (c from sixth : ℕ) → sixths q rows c from sixth sixth ≡ run_sum q rows c from (from + 6 * sixth)
+sixths-all q rows c from sixth =
+    let P = λ (m : ℕ). run_sum q rows c (from + m) (from + m + sixth) in
+    ap (λ s. s ⊕ P (2 * sixth) ⊕ P (3 * sixth) ⊕ P (4 * sixth) ⊕ P (5 * sixth)) (part_follows q rows c from sixth (2 * sixth) sixth (omega arith))
+    ∙ ap (λ s. s ⊕ P (3 * sixth) ⊕ P (4 * sixth) ⊕ P (5 * sixth)) (part_follows q rows c from (2 * sixth) (3 * sixth) sixth (omega arith))
+    ∙ ap (λ s. s ⊕ P (4 * sixth) ⊕ P (5 * sixth)) (part_follows q rows c from (3 * sixth) (4 * sixth) sixth (omega arith))
+    ∙ ap (λ s. s ⊕ P (5 * sixth)) (part_follows q rows c from (4 * sixth) (5 * sixth) sixth (omega arith))
+    ∙ part_follows q rows c from (5 * sixth) (6 * sixth) sixth (omega arith)
+
+-- six rows of the matrix, each times the query's byte for it, give their terms
+pub six-terms : (q : List ℕ) (rows : List (List ℕ)) (c i j k l m n : ℕ) (ri rj rk rl rm rn : List ℕ) (fi fj fk fl fm fn : ℕ)
+    → ri ≡ slice_index_or rows i [] → rj ≡ slice_index_or rows j [] → rk ≡ slice_index_or rows k []
+    → rl ≡ slice_index_or rows l [] → rm ≡ slice_index_or rows m [] → rn ≡ slice_index_or rows n []
+    → fi ≡ slice_index q i → fj ≡ slice_index q j → fk ≡ slice_index q k → fl ≡ slice_index q l → fm ≡ slice_index q m → fn ≡ slice_index q n
+    → six_at ri rj rk rl rm rn fi fj fk fl fm fn c
+    ≡ term q rows c i ⊕ term q rows c j ⊕ term q rows c k ⊕ term q rows c l ⊕ term q rows c m ⊕ term q rows c n
+unfolding six_at term
+six-terms q rows c i j k l m n ri rj rk rl rm rn fi fj fk fl fm fn ei ej ek el em en gi gj gk gl gm gn =
+    λ t. six_at (ei t) (ej t) (ek t) (el t) (em t) (en t) (gi t) (gj t) (gk t) (gl t) (gm t) (gn t) c
 
 -- one more row of all
 pub term-next : (q : List ℕ) (rows : List (List ℕ)) (c j sum next : ℕ) → sum ≡ sum_to (term q rows c) j

@@ -1,4 +1,4 @@
-pub mod FourRows
+pub mod SixRows
 pub mod Runs
 pub mod Parts
 pub mod Summed

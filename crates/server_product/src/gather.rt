@@ -1,17 +1,30 @@
 //! The sum over a run of rows, in trios of the same factor.
 //!
 //! Each row waits for others whose byte of the query is the same, so that three cost one product: the rows of a factor are
-//! added up before they are multiplied, as in the buckets of Pippenger (1976). What is left over at the end is added four
+//! added up before they are multiplied, as in the buckets of Pippenger (1976). What is left over at the end is added six
 //! rows at once.
 
 ghost use Rattle.std.specs.Prelude.{◌≡◌, ℕ, ◌<◌, ◌≤◌, List, length, replicate, slice_index, slice_index_or};
 ghost use Rattle.gf256.specs.Field.{◌⊕◌};
 ghost use Rattle.server_product.specs.Runs.{term, run_sum};
 ghost use Rattle.server_product.specs.Trios.{trio_at};
-ghost use Rattle.server_product.specs.Gathered.{three_sum, few_sum, held_sum, waiting_sum, AreOf, FewAreOf, AreRows, HeldAreAlike};
+ghost use Rattle.server_product.specs.Gathered.{
+  three_sum,
+  few_sum,
+  held_sum,
+  rest_sum,
+  waiting_sum,
+  AreOf,
+  FewAreOf,
+  HeldAreAlike,
+  ThreeAreRows,
+  AreRows,
+  HeldAreRows,
+  RestAreRows,
+};
 
-use crate::four_rows::add_four_rows;
 use crate::rows::{add_row, scaled_row};
+use crate::six_rows::add_six_rows;
 use crate::trios::{Trio, add_two_trios};
 use block_matrix::Matrix;
 
@@ -136,11 +149,18 @@ fn trio_of<'a>(matrix: &'a Matrix, q: &[u8], three: Three) -> Trio<'a>
     }
 }
 
-/// Rows that are still to be added: three of the same factor, if there are some, and up to three others.
+/// Rows that are still to be added, each by itself: three, if there are some, and up to three others.
+#[derive(Clone, Copy, Drop)]
+struct Rest {
+    three: Option<Three>,
+    few: Few,
+}
+
+/// Rows that are still to be added: three of the same factor, if there are some, and the rest.
 #[derive(Clone, Copy, Drop)]
 struct Left {
     held: Option<Three>,
-    rest: Few,
+    rest: Rest,
 }
 
 /// Adds all rows that wait, and those that are held.
@@ -160,13 +180,17 @@ fn add_waiting(
 {
     let mut left = Left {
         held,
-        rest: Few::Empty,
+        rest: Rest {
+            three: None,
+            few: Few::Empty,
+        },
     };
     for factor in 0..256 {
         left = add_or_leave(matrix, q, factor, waiting[factor as usize], left, sums);
     }
     add_few(matrix, q, few_of(left.held), sums);
-    add_few(matrix, q, left.rest, sums);
+    add_few(matrix, q, few_of(left.rest.three), sums);
+    add_few(matrix, q, left.rest.few, sums);
 }
 
 /// Adds the few rows, of one factor, with those that are left, or leaves them with those.
@@ -182,12 +206,12 @@ fn add_or_leave(
     requires room { length sums.old ≡ matrix.now.width }
     requires few { FewAreOf q.now factor few }
     requires held { HeldAreAlike q.now left.held }
-    requires rest { AreRows q.now left.rest }
+    requires rest { RestAreRows q.now left.rest }
     ensures held { HeldAreAlike q.now result.held }
-    ensures rest { AreRows q.now result.rest }
+    ensures rest { RestAreRows q.now result.rest }
     ensures sum { (k : ℕ) →
-        slice_index sums.new k ⊕ held_sum q.now matrix.now.rows k result.held ⊕ few_sum q.now matrix.now.rows k result.rest
-        ≡ slice_index sums.old k ⊕ held_sum q.now matrix.now.rows k left.held ⊕ few_sum q.now matrix.now.rows k left.rest
+        slice_index sums.new k ⊕ held_sum q.now matrix.now.rows k result.held ⊕ rest_sum q.now matrix.now.rows k result.rest
+        ≡ slice_index sums.old k ⊕ held_sum q.now matrix.now.rows k left.held ⊕ rest_sum q.now matrix.now.rows k left.rest
         ⊕ few_sum q.now matrix.now.rows k few }
 {
     let Left { held, rest } = left;
@@ -213,7 +237,7 @@ fn add_or_leave(
 
 /// The three rows, where there are some.
 fn few_of(held: Option<Three>) -> Few
-    ensures rows { (query : List ℕ) → HeldAreAlike query held → AreRows query result }
+    ensures rows { (query : List ℕ) → HeldAreRows query held → AreRows query result }
     ensures sum { (query : List ℕ) → (rows : List (List ℕ)) → (k : ℕ) → few_sum query rows k result ≡ held_sum query rows k held }
 {
     match held {
@@ -222,29 +246,60 @@ fn few_of(held: Option<Three>) -> Few
     }
 }
 
-/// Adds row `j` with the three that are left over, or leaves it over with those.
-fn add_to_rest(matrix: &Matrix, q: &[u8], rest: Few, j: u32, sums: &mut [u8]) -> Few
+/// Leaves row `j` with the rest. Where three are left already, they go first.
+fn add_to_rest(matrix: &Matrix, q: &[u8], rest: Rest, j: u32, sums: &mut [u8]) -> Rest
     requires row { j < length matrix.now.rows }
     requires query { length q.now ≡ length matrix.now.rows }
     requires room { length sums.old ≡ matrix.now.width }
-    requires rest { AreRows q.now rest }
-    ensures rest { AreRows q.now result }
-    ensures sum { (k : ℕ) → slice_index sums.new k ⊕ few_sum q.now matrix.now.rows k result
-        ≡ slice_index sums.old k ⊕ few_sum q.now matrix.now.rows k rest ⊕ term q.now matrix.now.rows k j }
+    requires rest { RestAreRows q.now rest }
+    ensures rest { RestAreRows q.now result }
+    ensures sum { (k : ℕ) → slice_index sums.new k ⊕ rest_sum q.now matrix.now.rows k result
+        ≡ slice_index sums.old k ⊕ rest_sum q.now matrix.now.rows k rest ⊕ term q.now matrix.now.rows k j }
 {
-    match rest {
+    let Rest { three, few } = rest;
+    let few = match few {
         Few::Empty => Few::One(j),
         Few::One(a) => Few::Two(a, j),
         Few::Two(a, b) => Few::All(Three { a, b, c: j }),
-        Few::All(three) => {
-            add_four_rows(
+        Few::All(full) => {
+            return Rest {
+                three: add_six(matrix, q, full, three, sums),
+                few: Few::One(j),
+            };
+        }
+    };
+    Rest { three, few }
+}
+
+/// Adds the three rows with three others that are left, or leaves them where there are none.
+fn add_six(
+    matrix: &Matrix,
+    q: &[u8],
+    three: Three,
+    left: Option<Three>,
+    sums: &mut [u8],
+) -> Option<Three>
+    requires query { length q.now ≡ length matrix.now.rows }
+    requires room { length sums.old ≡ matrix.now.width }
+    requires left { HeldAreRows q.now left }
+    requires three { ThreeAreRows q.now three }
+    ensures left { HeldAreRows q.now result }
+    ensures sum { (k : ℕ) → slice_index sums.new k ⊕ held_sum q.now matrix.now.rows k result
+        ≡ slice_index sums.old k ⊕ held_sum q.now matrix.now.rows k left ⊕ three_sum q.now matrix.now.rows k three }
+{
+    match left {
+        None => Some(three),
+        Some(other) => {
+            add_six_rows(
                 sums,
+                scaled_row(matrix, q, other.a),
+                scaled_row(matrix, q, other.b),
+                scaled_row(matrix, q, other.c),
                 scaled_row(matrix, q, three.a),
                 scaled_row(matrix, q, three.b),
                 scaled_row(matrix, q, three.c),
-                scaled_row(matrix, q, j),
             );
-            Few::Empty
+            None
         }
     }
 }

@@ -8,13 +8,13 @@
 //! entries of the field's tables it reads depends on its bytes.
 #![tactic(auto)]
 
-mod four_rows;
 mod gate;
 mod gather;
 mod plain;
-mod quarters;
 mod rows;
 mod runs;
+mod six_rows;
+mod sixths;
 #[cfg(test)]
 mod tests;
 mod trios;

@@ -4,8 +4,8 @@ ghost use Rattle.std.specs.Prelude.{◌≡◌, ℕ, ◌≤◌, length, slice_ind
 ghost use Rattle.server_product.specs.Runs.{run_sum};
 
 use crate::gather::add_in_trios;
-use crate::quarters::add_in_quarters;
 use crate::rows::clear;
+use crate::sixths::add_in_sixths;
 use block_matrix::Matrix;
 
 /// From how many bytes on a row is so wide that going from one to any other costs little beside reading it.
@@ -24,6 +24,6 @@ pub fn sum_rows(matrix: &Matrix, q: &[u8], from: u32, to: u32, sums: &mut [u8])
     if matrix.width() >= WIDE {
         add_in_trios(matrix, q, from, to, sums);
     } else {
-        add_in_quarters(matrix, q, from, to, sums);
+        add_in_sixths(matrix, q, from, to, sums);
     }
 }

@@ -1,4 +1,4 @@
-use Rattle.std.proofs.Common.{◌≡◌, ◌∙◌, ◌+◌, sym, ap, ap₂, subst, arith, slice_index, slice_index_or}
+use Rattle.std.proofs.Common.{◌≡◌, ◌∙◌, sym, ap, ap₂, subst, arith, slice_index, slice_index_or}
 use Rattle.gf256.specs.Field.{◌⊕◌}
 use Rattle.gf256.proofs.Xor.{add_zero, add_assoc}
 use Rattle.server_product.specs.Runs.{term, run_sum}

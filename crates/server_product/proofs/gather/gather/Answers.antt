@@ -1,6 +1,6 @@
-use Rattle.std.proofs.Common.{◌∙◌, ap, refl, sym, slice_index, slice_index_or, arith}
+use Rattle.std.proofs.Common.{◌∙◌, ap, refl, sym, slice_index, arith}
 use Rattle.gf256.specs.Field.{◌⊕◌}
-use Rattle.gf256.proofs.Xor.{zero_add, add_zero}
+use Rattle.gf256.proofs.Xor.{zero_add}
 use Rattle.server_product.specs.Runs.{term}
 use Rattle.server_product.specs.Gathered.{few_sum, three_sum, held_sum, waiting_sum}
 use Rattle.server_product.specs.declared.gather.Few.TheVariants.{Empty, One, Two, All}

@@ -11,5 +11,5 @@ returns-then-width-ge-WIDE c = λ k.
 
 pub returns-else-width-ge-WIDE : goal.returns-else-width-ge-WIDE
 returns-else-width-ge-WIDE c = λ k.
-    c.add_in_quarters.ensures k
+    c.add_in_sixths.ensures k
     ∙ ap (λ s. s ⊕ run_sum c.args.q.now c.args.matrix.now.rows k c.args.from c.args.to) (c.clear.ensures k) ∙ zero_add _

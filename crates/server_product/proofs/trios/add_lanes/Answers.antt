@@ -1,4 +1,4 @@
-use Rattle.std.proofs.Common.{◌≡◌, List, ℕ, map, bit_xor, ap, ap₂, ◌∙◌}
+use Rattle.std.proofs.Common.{map, bit_xor, ap, ap₂, ◌∙◌}
 use Rattle.std.specs.Simd.Lanes.{zip2}
 use Rattle.gf256.specs.Field.{◌⊗◌}
 use Rattle.server_product.proofs.TrioSums.{trio-put}

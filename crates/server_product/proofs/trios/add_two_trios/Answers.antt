@@ -1,6 +1,5 @@
-use Rattle.std.proofs.Common.{◌≡◌, ◌+◌, ◌-◌, length, slice_index, sym, ap₂, subst, ◌∙◌, arith}
+use Rattle.std.proofs.Common.{◌≡◌, ◌+◌, ◌-◌, length, slice_index, ap₂, subst, ◌∙◌, arith}
 use Rattle.gf256.specs.Field.{◌⊕◌}
-use Rattle.server_product.specs.Summed.{IsSummed}
 use Rattle.server_product.specs.Trios.{trio_at}
 use Rattle.server_product.proofs.TrioSums.{trio-past, IsLagged, lagged-start, lagged-first, lagged-second, lagged-all}
 use Rattle.server_product.proofs.trios.add_two_trios.Goals as goal

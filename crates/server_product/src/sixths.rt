@@ -1,15 +1,15 @@
-//! The sum over a run of rows, in four streams.
+//! The sum over a run of rows, in six streams.
 
 ghost use Rattle.std.specs.Prelude.{◌≡◌, ℕ, ◌+◌, ◌*◌, ◌<◌, ◌≤◌, length, slice_index};
 ghost use Rattle.gf256.specs.Field.{◌⊕◌};
 ghost use Rattle.server_product.specs.Runs.{run_sum};
 
-use crate::four_rows::add_four_rows;
 use crate::rows::{add_row, scaled_row};
+use crate::six_rows::add_six_rows;
 use block_matrix::Matrix;
 
 /// Adds the rows from `from` up to `to`, each times the query's byte for it.
-pub fn add_in_quarters(matrix: &Matrix, q: &[u8], from: u32, to: u32, sums: &mut [u8])
+pub fn add_in_sixths(matrix: &Matrix, q: &[u8], from: u32, to: u32, sums: &mut [u8])
     requires order { from ≤ to }
     requires within { to ≤ length matrix.now.rows }
     requires query { length q.now ≡ length matrix.now.rows }
@@ -17,20 +17,20 @@ pub fn add_in_quarters(matrix: &Matrix, q: &[u8], from: u32, to: u32, sums: &mut
     ensures { (k : ℕ) → slice_index sums.new k
         ≡ slice_index sums.old k ⊕ run_sum q.now matrix.now.rows k from to }
 {
-    let quarter = quarter_of(to - from, matrix.width());
-    add_quarters(matrix, q, from, quarter, sums);
-    for j in from + 4 * quarter..to {
+    let sixth = sixth_of(to - from, matrix.width());
+    add_sixths(matrix, q, from, sixth, sums);
+    for j in from + 6 * sixth..to {
         add_row(matrix, q, j, sums);
     }
 }
 
-/// How many rows each of the four streams takes of so many rows of this width: a fourth, or up to a sixteenth fewer. Streams
+/// How many rows each of the six streams takes of so many rows of this width: a sixth, or up to a sixteenth fewer. Streams
 /// that stand at the same place of their pages, of 4096 bytes, come to new pages at the same time, which makes them slower; so
-/// it looks for a number of rows that keeps them all 512 bytes or more apart there.
-fn quarter_of(rows: u32, width: u32) -> u32
-    ensures { 4 * result ≤ rows }
+/// it looks for a number of rows that keeps each stream 512 bytes or more apart there from the three after it.
+fn sixth_of(rows: u32, width: u32) -> u32
+    ensures { 6 * result ≤ rows }
 {
-    let most = rows / 4;
+    let most = rows / 6;
     for less in 0..(most / 16).min(64) {
         let distance = u64::from(most - less) * u64::from(width);
         if is_apart(distance) && is_apart(2 * distance) && is_apart(3 * distance) {
@@ -46,24 +46,26 @@ fn is_apart(distance: u64) -> bool {
     512 <= place && place <= 3584
 }
 
-/// Adds the rows from `from` on, four times `quarter` of them: one from each quarter at once, so that the memory is read in
-/// four streams.
-fn add_quarters(matrix: &Matrix, q: &[u8], from: u32, quarter: u32, sums: &mut [u8])
-    requires within { from + 4 * quarter ≤ length matrix.now.rows }
+/// Adds the rows from `from` on, six times `sixth` of them: one from each sixth at once, so that the memory is read in
+/// six streams.
+fn add_sixths(matrix: &Matrix, q: &[u8], from: u32, sixth: u32, sums: &mut [u8])
+    requires within { from + 6 * sixth ≤ length matrix.now.rows }
     requires query { length q.now ≡ length matrix.now.rows }
     requires room { length sums.old ≡ matrix.now.width }
     ensures { (k : ℕ) → slice_index sums.new k
-        ≡ slice_index sums.old k ⊕ run_sum q.now matrix.now.rows k from (from + 4 * quarter) }
+        ≡ slice_index sums.old k ⊕ run_sum q.now matrix.now.rows k from (from + 6 * sixth) }
 {
     // Its contract bounds the number of rows.
     let _rows = matrix.rows();
-    for i in 0..quarter {
-        add_four_rows(
+    for i in 0..sixth {
+        add_six_rows(
             sums,
             scaled_row(matrix, q, from + i),
-            scaled_row(matrix, q, from + quarter + i),
-            scaled_row(matrix, q, from + 2 * quarter + i),
-            scaled_row(matrix, q, from + 3 * quarter + i),
+            scaled_row(matrix, q, from + sixth + i),
+            scaled_row(matrix, q, from + 2 * sixth + i),
+            scaled_row(matrix, q, from + 3 * sixth + i),
+            scaled_row(matrix, q, from + 4 * sixth + i),
+            scaled_row(matrix, q, from + 5 * sixth + i),
         );
     }
 }

@@ -4,7 +4,7 @@ use Rattle.std.proofs.lemmas.List.{length-map}
 use Rattle.std.proofs.lemmas.Simd.{length-chunk}
 use Rattle.gf256.specs.Field.{◌⊗◌}
 use Rattle.gf256.proofs.RowSums.{times-lanes}
-use Rattle.server_product.proofs.four_rows.products_at.Goals as goal
+use Rattle.server_product.proofs.six_rows.products_at.Goals as goal
 
 pub returns : goal.returns
 returns c = record {

@@ -3,7 +3,7 @@ use Rattle.gf256.specs.Field.{◌⊕◌}
 use Rattle.gf256.proofs.Xor.{add_assoc}
 use Rattle.server_product.specs.Runs.{term, run_sum}
 use Rattle.server_product.proofs.RunSums.{run-next}
-use Rattle.server_product.proofs.quarters.add_in_quarters.Goals as goal
+use Rattle.server_product.proofs.sixths.add_in_sixths.Goals as goal
 
 pub loop-j-preserved : goal.loop-j-preserved
 loop-j-preserved c = λ k.

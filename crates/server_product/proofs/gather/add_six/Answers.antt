@@ -1,0 +1,39 @@
+use Rattle.std.proofs.Common.{◌∙◌, sym, ap, slice_index}
+use Rattle.gf256.specs.Field.{◌⊕◌}
+use Rattle.server_product.specs.Runs.{term}
+use Rattle.server_product.specs.Gathered.{held_sum, three_sum}
+use Rattle.server_product.proofs.RunSums.{six-terms}
+use Rattle.server_product.proofs.Gathering.{plus-none, six-and-none}
+use Rattle.server_product.proofs.gather.add_six.Goals as goal
+
+pub returns-in-None-clause-sum : goal.returns-in-None-clause-sum
+unfolding held_sum
+returns-in-None-clause-sum c = λ k.
+    let q = c.args.q.now in
+    let rows = c.args.matrix.now.rows in
+    let x = slice_index c.args.sums.now k in
+    let s = three_sum q rows k c.args.three in
+    plus-none x s ∙ sym (ap (λ left. x ⊕ held_sum q rows k left ⊕ s) c.in-None.is)
+
+pub returns-in-Some-clause-sum : goal.returns-in-Some-clause-sum
+unfolding held_sum three_sum
+returns-in-Some-clause-sum c = λ k.
+    let q = c.args.q.now in
+    let rows = c.args.matrix.now.rows in
+    let x = slice_index c.args.sums.now k in
+    let o = c.in-Some.other in
+    let t = c.args.three in
+    let s = c.scaled_row in
+    let s2 = c.scaled_row-in-Some in
+    let s3 = c.scaled_row-in-Some-2 in
+    let s4 = c.scaled_row-in-Some-3 in
+    let s5 = c.scaled_row-in-Some-4 in
+    let s6 = c.scaled_row-in-Some-5 in
+    ap (λ y. y ⊕ 0)
+    (c.add_six_rows.ensures k
+    ∙ ap (◌⊕◌ x)
+    (six-terms q rows k o.a o.b o.c t.a t.b t.c _ _ _ _ _ _ _ _ _ _ _ _
+    s.ensures.row s2.ensures.row s3.ensures.row s4.ensures.row s5.ensures.row s6.ensures.row
+    s.ensures.factor s2.ensures.factor s3.ensures.factor s4.ensures.factor s5.ensures.factor s6.ensures.factor))
+    ∙ six-and-none x (term q rows k o.a) (term q rows k o.b) (term q rows k o.c) (term q rows k t.a) (term q rows k t.b) (term q rows k t.c)
+    ∙ sym (ap (λ left. x ⊕ held_sum q rows k left ⊕ three_sum q rows k t) c.in-Some.is)

@@ -1,7 +1,0 @@
-use Rattle.std.proofs.Common.{◌≡◌, ℕ, slice_index}
-use Rattle.gf256.specs.Field.{◌⊕◌}
-use Rattle.server_product.proofs.RunSums.{quarters}
-use Rattle.server_product.proofs.quarters.add_quarters.Given as goal
-
-abbrev pub invariant-loop-i : goal.invariant-loop-i
-invariant-loop-i l = (k : ℕ) → slice_index l.sums k ≡ slice_index l.initial.sums k ⊕ quarters l.q l.matrix.rows k l.from l.quarter l.i
