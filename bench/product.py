@@ -24,7 +24,7 @@ def lines_of(folder, program, words):
 def measured(what, folder, rounds, shape):
     """The best time of each name at each number of workers, how many bytes are read, and the set of checksums."""
     rows, width = shape.split("x")
-    calls = str(min(2000, max(3, (1 << 31) // (int(rows) * int(width)))))
+    calls = str(min(2000, max(8, (1 << 32) // (int(rows) * int(width)))))
     times, checksums, read = {}, set(), 0
     for _ in range(rounds):
         for program in ["ours", "ours-avx2", "peers"]:
