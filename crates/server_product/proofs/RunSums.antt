@@ -1,5 +1,5 @@
 -- Sums over runs of rows.
-use Rattle.std.proofs.Common.{◌≡◌, ℕ, suc, ◌+◌, ◌*◌, ◌-◌, ◌≤◌, ◌<◌, List, [], length, get_or, slice_index, slice_index_or, sym, ap, ap₂, ◌∙◌, arith, add-one}
+use Rattle.std.proofs.Common.{◌≡◌, ℕ, zero, suc, ◌+◌, ◌*◌, ◌-◌, ◌≤◌, ◌<◌, List, [], length, get_or, slice_index, slice_index_or, take, replicate, refl, sym, ap, ap₂, ◌∙◌, arith, add-one}
 use Rattle.std.proofs.lemmas.List.{same_lists, get_or_default}
 use Rattle.std.proofs.lemmas.List.FromFn.{length-map-range_with_len, get_or-map-range_with_len}
 use Rattle.gf256.specs.Field.{◌⊕◌, ◌⊗◌}
@@ -127,6 +127,13 @@ pub six-terms : (q : List ℕ) (rows : List (List ℕ)) (c i j k l m n : ℕ) (r
 unfolding six_at term
 six-terms q rows c i j k l m n ri rj rk rl rm rn fi fj fk fl fm fn ei ej ek el em en gi gj gk gl gm gn =
     λ t. six_at (ei t) (ej t) (ek t) (el t) (em t) (en t) (gi t) (gj t) (gk t) (gl t) (gm t) (gn t) c
+
+-- a place of the front of a list of zeros
+pub zeros-at : (n m k : ℕ) → slice_index (take n (replicate m 0)) k ≡ 0
+zeros-at zero m k = refl
+zeros-at (suc n) zero k = refl
+zeros-at (suc n) (suc m) zero = refl
+zeros-at (suc n) (suc m) (suc k) = zeros-at n m k
 
 -- one more row of all
 pub term-next : (q : List ℕ) (rows : List (List ℕ)) (c j sum next : ℕ) → sum ≡ sum_to (term q rows c) j

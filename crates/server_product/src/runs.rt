@@ -12,7 +12,8 @@ use block_matrix::Matrix;
 const WIDE: u32 = 8192;
 
 /// Makes `sums` the sum over the rows from `from` up to `to`. Rows of one factor are looked for where they are wide; narrow
-/// rows are read in the order in which they stand.
+/// rows are read in the order in which they stand, and summed on the worker's own stack: the parts of two workers may share
+/// a cache line, which is slow to write where both do it for each row.
 pub fn sum_rows(matrix: &Matrix, q: &[u8], from: u32, to: u32, sums: &mut [u8])
     requires order { from ≤ to }
     requires within { to ≤ length matrix.now.rows }
@@ -20,10 +21,13 @@ pub fn sum_rows(matrix: &Matrix, q: &[u8], from: u32, to: u32, sums: &mut [u8])
     requires room { length sums.old ≡ matrix.now.width }
     ensures { (k : ℕ) → slice_index sums.new k ≡ run_sum q.now matrix.now.rows k from to }
 {
-    clear(sums);
     if matrix.width() >= WIDE {
+        clear(sums);
         add_in_trios(matrix, q, from, to, sums);
     } else {
-        add_in_sixths(matrix, q, from, to, sums);
+        let mut stack = [0; WIDE as usize];
+        let own = &mut stack[..sums.len()];
+        add_in_sixths(matrix, q, from, to, own);
+        sums.copy_from_slice(own);
     }
 }

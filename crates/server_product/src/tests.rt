@@ -101,6 +101,7 @@ fn bodies_agree_at_many_shapes(rt: HostRuntime) -> Result<(), Fail> {
 fn bodies_agree_where_rows_are_wide(rt: HostRuntime) -> Result<(), Fail> {
     let alloc = rt.alloc();
     for (rows, width, factors) in [
+        (20, 8191, 0xff),
         (1, 8192, 0xff),
         (3, 8192, 0x00),
         (9, 8192, 0x00),
