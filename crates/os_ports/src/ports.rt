@@ -42,7 +42,7 @@ pub struct OsPorts<R: Files + Input + Print + Net + Processes + Env + AllocGloba
     // It is dropped last, so that the numbers are held for as long as anything is open.
     streams: Streams<R>,
     counts: Counts,
-    standard: StandardStreams<R>,
+    standard: StandardStreams<R::File>,
 }
 
 impl<R: Files + Input + Print + Net + Processes + Env + AllocGlobal + Drop> OsPorts<R> {

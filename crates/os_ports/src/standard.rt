@@ -11,22 +11,19 @@ use std::{fs, io};
 /// opened, for reading: neither a read nor a write on it succeeds, so a use of the closed stream fails, and is
 /// no end of input and no swallowed text.
 #[derive(Drop)]
-pub struct StandardStreams<R: Files> {
-    input: Option<R::File>,
-    output: Option<R::File>,
-    error: Option<R::File>,
+pub struct StandardStreams<F> {
+    input: Option<F>,
+    output: Option<F>,
+    error: Option<F>,
 }
 
-impl<R: Files> StandardStreams<R>
-where
-    R::File: AsRawFd,
-{
+impl<F: AsRawFd> StandardStreams<F> {
     /// Holds each number from 0 to 2 that is free. It has to come before anything else is opened.
     ///
     /// # Errors
     ///
     /// That of the system where it can't open the root folder.
-    pub fn hold(rt: &R) -> io::Result<Self> {
+    pub fn hold<R: Files<File = F>>(rt: &R) -> io::Result<Self> {
         let mut held = StandardStreams {
             input: None,
             output: None,

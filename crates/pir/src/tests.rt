@@ -77,34 +77,47 @@ fn words_of(alloc: Global, coins: &str, record: &str) -> Result<Vec<String>, Fai
     Ok(words)
 }
 
+/// Opens a door for each manner, and adds its address to the words.
+fn open_doors<R: Net + AllocGlobal>(
+    rt: &R,
+    words: &mut Vec<String>,
+) -> io::Result<Vec<R::Listener>> {
+    let mut doors = Vec::new(rt.alloc());
+    for _ in 0..MANNERS.len() {
+        let door = TcpListener::bind(rt, (Ipv4Addr::LOCALHOST, 0))?;
+        words.push(format!(in rt.alloc(); "{}", door.local_addr()?)?)?;
+        doors.push(door)?;
+    }
+    Ok(doors)
+}
+
+/// How the words end, run over ports of their own.
+fn status_of(rt: HostRuntime, words: &[String]) -> Option<Status> {
+    match OsPorts::new(&rt) {
+        Ok(mut ports) => Some(run(&rt, rt.alloc(), words, &mut ports)),
+        Err(_) => None,
+    }
+}
+
+// The servers are threads 0 to 5, and the client is the last.
 #[test]
 fn a_fetch_outlives_its_servers(rt: HostRuntime) -> Result<(), Fail> {
-    let alloc = rt.alloc();
     let coins = temp_path(rt, "coins")?;
     let record = temp_path(rt, "record")?;
     fs::write(&rt, &coins, &COINS)?;
-    let mut words = words_of(alloc, &coins, &record)?;
-    let mut doors = Vec::new(alloc);
-    for _ in 0..MANNERS.len() {
-        let door = TcpListener::bind(&rt, (Ipv4Addr::LOCALHOST, 0))?;
-        words.push(format!(in alloc; "{}", door.local_addr()?)?)?;
-        doors.push(door)?;
-    }
-
-    // The servers are threads 0 to 5, and the client is the last.
+    let mut words = words_of(rt.alloc(), &coins, &record)?;
+    let doors = open_doors(&rt, &mut words)?;
     let seats = thread::map_indices(
         &rt,
-        alloc,
+        rt.alloc(),
         7,
-        &|i| match (doors.get(i), MANNERS.get(i)) {
-            (Some(door), Some(manner)) => {
+        &|i| {
+            if let (Some(door), Some(manner)) = (doors.get(i), MANNERS.get(i)) {
                 let _ = serve::<HostRuntime>(door, *manner);
                 None
+            } else {
+                status_of(rt, &words)
             }
-            _ => match OsPorts::new(&rt) {
-                Ok(mut ports) => Some(run(&rt, rt.alloc(), &words, &mut ports)),
-                Err(_) => None,
-            },
         },
     )?;
     fs::remove_file(&rt, &coins)?;
@@ -226,30 +239,36 @@ fn holds_payloads(record: &[u8]) -> bool {
         == Some(payload.as_slice()))
 }
 
+/// Fetches with these words from three processes that serve the database. Whether all of them ended well.
+fn fetches_from_processes(
+    rt: HostRuntime,
+    database: &str,
+    mut words: Vec<String>,
+) -> Result<bool, Fail> {
+    let addresses = free_addresses(&rt)?;
+    for address in &addresses {
+        words.push(address.clone()?)?;
+    }
+    let mut servers = Vec::new(rt.alloc());
+    let opened = open_servers(&rt, database, &addresses, &mut servers);
+    let fetched = opened.is_ok() && status_of(rt, &words) == Some(Status::One);
+    Ok(all_end_well(&mut servers, fetched))
+}
+
 #[test]
 fn a_fetch_asks_three_processes(rt: HostRuntime) -> Result<(), Fail> {
-    let alloc = rt.alloc();
     let database = temp_path(rt, "database")?;
     let coins = temp_path(rt, "coins")?;
     let record = temp_path(rt, "record")?;
     fs::write(&rt, &database, b"ABCD")?;
     fs::write(&rt, &coins, &COINS)?;
-    let addresses = free_addresses(&rt)?;
-    let mut words = words_of(alloc, &coins, &record)?;
-    for address in &addresses {
-        words.push(address.clone()?)?;
-    }
-    let mut ports = OsPorts::new(&rt)?;
-    let mut servers = Vec::new(alloc);
-    let opened = open_servers(&rt, &database, &addresses, &mut servers);
-    let fetched = opened.is_ok() && run(&rt, alloc, &words, &mut ports) == Status::One;
-    let ended = all_end_well(&mut servers, fetched);
+    let words = words_of(rt.alloc(), &coins, &record)?;
+    let fetched = fetches_from_processes(rt, &database, words);
     let kept = fs::read(&rt, &record);
     for file in [&database, &coins, &record] {
         let _ = fs::remove_file(&rt, file);
     }
-    assert!(rt; fetched);
-    assert!(rt; ended);
+    assert!(rt; fetched?);
     assert!(rt; holds_payloads(&kept?));
     Ok(())
 }
