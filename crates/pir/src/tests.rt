@@ -6,11 +6,13 @@ ghost use Rattle.std.specs.Prelude.{◌+◌, ◌<◌};
 use crate::{OsPorts, run_words};
 use pir_tool::{Status, run};
 use std::alloc::Global;
-use std::io::{self, ErrorKind, Read, Write};
+use std::io::{self, ErrorKind, Input, Print, Read, Write};
 use std::net::{Ipv4Addr, Net, OpenListener, TcpListener};
+use std::os::fd::AsRawFd;
 use std::process::{Child, Command, OpenProcess, Processes, Stdio};
-use std::rt::Env;
+use std::rt::{Env, Files};
 use std::test::Fail;
+use std::thread::Threads;
 use std::{env, fs, process, thread};
 
 // How a server behaves that was sent its query.
@@ -91,14 +93,6 @@ fn open_doors<R: Net + AllocGlobal>(
     Ok(doors)
 }
 
-/// How the words end, run over ports of their own.
-fn status_of(rt: HostRuntime, words: &[String]) -> Option<Status> {
-    match OsPorts::new(&rt) {
-        Ok(mut ports) => Some(run(&rt, rt.alloc(), words, &mut ports)),
-        Err(_) => None,
-    }
-}
-
 // The servers are threads 0 to 5, and the client is the last.
 #[test]
 fn a_fetch_outlives_its_servers(rt: HostRuntime) -> Result<(), Fail> {
@@ -116,7 +110,10 @@ fn a_fetch_outlives_its_servers(rt: HostRuntime) -> Result<(), Fail> {
                 let _ = serve::<HostRuntime>(door, *manner);
                 None
             } else {
-                status_of(rt, &words)
+                match OsPorts::new(&rt) {
+                    Ok(mut ports) => Some(run(&rt, rt.alloc(), &words, &mut ports)),
+                    Err(_) => None,
+                }
             }
         },
     )?;
@@ -239,19 +236,24 @@ fn holds_payloads(record: &[u8]) -> bool {
         == Some(payload.as_slice()))
 }
 
-/// Fetches with these words from three processes that serve the database. Whether all of them ended well.
-fn fetches_from_processes(
-    rt: HostRuntime,
+/// Fetches with these words over the ports from three processes that serve the database. Whether all of them ended well.
+fn fetches_from_processes<R, S>(
+    rt: &R,
+    ports: &mut OsPorts<S>,
     database: &str,
     mut words: Vec<String>,
-) -> Result<bool, Fail> {
-    let addresses = free_addresses(&rt)?;
+) -> io::Result<bool>
+where
+    R: Threads + Sync + Net + Processes + Env + AllocGlobal,
+    S: Files + Input + Print + Net + Processes + Env + AllocGlobal + Drop,
+{
+    let addresses = free_addresses(rt)?;
     for address in &addresses {
         words.push(address.clone()?)?;
     }
     let mut servers = Vec::new(rt.alloc());
-    let opened = open_servers(&rt, database, &addresses, &mut servers);
-    let fetched = opened.is_ok() && status_of(rt, &words) == Some(Status::One);
+    let opened = open_servers(rt, database, &addresses, &mut servers);
+    let fetched = opened.is_ok() && run_words(rt, &words, ports) == Status::One;
     Ok(all_end_well(&mut servers, fetched))
 }
 
@@ -263,7 +265,8 @@ fn a_fetch_asks_three_processes(rt: HostRuntime) -> Result<(), Fail> {
     fs::write(&rt, &database, b"ABCD")?;
     fs::write(&rt, &coins, &COINS)?;
     let words = words_of(rt.alloc(), &coins, &record)?;
-    let fetched = fetches_from_processes(rt, &database, words);
+    let mut ports = OsPorts::new(&rt)?;
+    let fetched = fetches_from_processes(&rt, &mut ports, &database, words);
     let kept = fs::read(&rt, &record);
     for file in [&database, &coins, &record] {
         let _ = fs::remove_file(&rt, file);
