@@ -5,7 +5,8 @@ top=$(dirname "$(readlink -f "${BASH_SOURCE[0]}")") || exit 1
 program=$top/crates/pir/out/pir
 
 newer_sources() {
-  find "$top/crates" "$top/crates.txt" \( -name out -o -name must-fail \) -prune -o -type f -newer "$program" -print -quit
+  find "$top/crates" "$top/crates.txt" -name out -prune -o -type f -newer "$program" \
+    \( -path '*/src/*' -o -path '*/specs/*' -o -path '*/proofs/*' -o -name crates.txt \) -print -quit
 }
 
 if [ ! -x "$program" ] || [ -n "$(newer_sources)" ]; then
