@@ -4,15 +4,14 @@ use Rattle.std.proofs.lemmas.Bool.{cases_lt}
 use Rattle.std.proofs.lemmas.List.{get_or_past, get_or-map, length-map}
 use Rattle.gf256.specs.Field.{◌⊕◌, ◌⊗◌}
 use Rattle.gf256.specs.Sums.{sum_to}
-use Rattle.gf256.specs.Polynomial.{coef, val}
+use Rattle.gf256.specs.Polynomial.{coef}
 use Rattle.gf256.proofs.Xor.{add_zero, zero_add, add_lt}
 use Rattle.gf256.proofs.FieldLaws.{mul_zero, mul_lt, zero_mul}
-use Rattle.uni_poly.specs.Coefficients.{IsBytes}
 use Rattle.uni_poly.specs.Product.{linear, product}
 use Rattle.uni_poly.specs.Taylor.{taylor}
 use Rattle.uni_poly.proofs.Addition.{add_list, coef-add_list}
 use Rattle.uni_poly.proofs.Products.{scale_list, coef-scale_list}
-use Rattle.uni_poly.proofs.Taylor.{taylor-same, taylor-zero}
+use Rattle.uni_poly.proofs.Taylor.{taylor-same, taylor-zero, taylor_lt}
 use Rattle.uni_poly.proofs.LinearFactor.{before, coef-product_linear, length-product_linear, taylor-product_linear, val-product_linear, IsBytes-product}
 use Rattle.bi_poly.specs.Rows.{row, cell, AreBytes}
 use Rattle.bi_poly.specs.Hasse.{hasse}
@@ -25,6 +24,10 @@ use Rattle.bi_poly.proofs.Zeros.{taylor-add_list, taylor-scale_list}
 -- the derivatives in x are the coefficients of a polynomial in y
 hasse-taylor : (q : List (List ℕ)) (u v a b : ℕ) → hasse q u v a b ≡ taylor (derivatives q a u) b v
 hasse-taylor q u v a b = hasse-derivative q u v a b ∙ sym (taylor-derivative (derivatives q a u) b v)
+
+-- they are bytes
+pub hasse_lt : (q : List (List ℕ)) (u v a b : ℕ) → hasse q u v a b < 256
+hasse_lt q u v a b = subst (λ x. x < 256) (sym (hasse-taylor q u v a b)) (taylor_lt (derivatives q a u) b v)
 
 -- what holds of the derivatives of each row holds of the whole
 hasse-rows : (s q p : List (List ℕ)) (f u x y v a b : ℕ) → ((j : ℕ) → taylor (row s j) a u ≡ taylor (row q j) a x ⊕ f ⊗ taylor (row p j) a y)

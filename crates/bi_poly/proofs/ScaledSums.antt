@@ -1,5 +1,5 @@
 -- Adding a multiple of a polynomial, row by row.
-use Rattle.std.proofs.Common.{◌≡◌, ℕ, ◌+◌, ◌-◌, ◌<◌, ◌≤◌, max, List, [], ◌++◌, length, set, get_or, take, drop, replicate, refl, sym, ap, ap₂, ◌∙◌, subst, arith, inl, inr, length-append, length-set, get_or-set_same, get_or-set_other, get_or-take, get_or-drop}
+use Rattle.std.proofs.Common.{◌≡◌, ℕ, ◌+◌, ◌-◌, ◌<◌, ◌≤◌, List, [], ◌++◌, length, set, get_or, take, drop, replicate, refl, sym, ap, ◌∙◌, subst, arith, inl, inr, length-append, length-set, get_or-set_same, get_or-set_other, get_or-take, get_or-drop}
 use Rattle.std.proofs.lemmas.List.{get_or_append_left, get_or-append_right, get_or-replicate, length-replicate, get_or_past}
 use Rattle.std.proofs.lemmas.Bool.{cases_lt, cases_eq}
 use Rattle.gf256.specs.Field.{◌⊕◌, ◌⊗◌}
