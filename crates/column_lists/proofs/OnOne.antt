@@ -1,9 +1,7 @@
 -- Points that all lie on one polynomial: it alone agrees with more of them than its degree.
-use Rattle.std.proofs.Common.{◌≡◌, ◌≢◌, ℕ, zero, suc, ◌+◌, ◌<◌, ◌≤◌, ◌↔◌, Bool, true, false, IsTrue, List, [], ◌∷◌, length, map, get_or, take, All, AllPairs, Contains, ◌==◌, refl, sym, ap, ap₂, subst, ◌∙◌, arith, length-take, get_or-take, eq-eqb}
+use Rattle.std.proofs.Common.{◌≡◌, ◌≢◌, ℕ, zero, suc, ◌+◌, ◌<◌, ◌≤◌, ◌↔◌, Bool, false, IsTrue, List, [], ◌∷◌, length, map, get_or, take, All, AllPairs, ◌==◌, refl, sym, ap, subst, ◌∙◌, arith, length-take, get_or-take, eq-eqb}
 use Rattle.std.specs.List.{filter, count_by}
-use Rattle.std.specs.Cmp.Lexicographic.{slice_cmp}
 use Rattle.std.specs.List.Sorted.{IsStrictlySortedBy}
-use Rattle.std.specs.Ordering.{nat_cmp}
 use Rattle.std.proofs.lemmas.Bool.{eqb-true, false≢true}
 use Rattle.std.proofs.lemmas.List.{length-map, get_or-map}
 use Rattle.std.proofs.lemmas.List.Elements.{All-map, All-filter, All-take, filter_passes}

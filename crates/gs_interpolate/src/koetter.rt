@@ -11,7 +11,8 @@ use std::alloc::{AllocError, Global};
 /// the lightest is light enough, since each condition makes one of them heavier by one and no other.
 ///
 /// It keeps as many polynomials as it takes rows of monomials to outnumber the conditions, and not always `d / t + 1`. For
-/// c conditions and n polynomials it takes about `c^2 * n / 2` products of bytes.
+/// c conditions and n polynomials it takes about `c^2 * n / 2` products of bytes for the derivatives, which it finds anew for
+/// each condition, and as many, 16 at once, for the multiples.
 pub struct Koetter;
 
 impl Interpolate for Koetter {

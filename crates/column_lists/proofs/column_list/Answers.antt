@@ -1,4 +1,4 @@
-use Rattle.std.proofs.Common.{List, ℕ, [], ◌∷◌, ◌≡◌, length, map, All, sym, ap, subst, ◌∙◌, Vec, Global}
+use Rattle.std.proofs.Common.{List, ℕ, ◌≡◌, length, map, All, sym, ap, subst, ◌∙◌, Vec, Global}
 use Rattle.gf256.specs.Polynomial.{val}
 use Rattle.column_lists.specs.Agreement.{ListsAgreeing}
 use Rattle.column_lists.proofs.OnOne.{lists_one, off_one}
