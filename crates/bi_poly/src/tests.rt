@@ -66,6 +66,34 @@ fn two_roots_worked(rt: HostRuntime) -> Result<(), AllocError> {
     Ok(())
 }
 
+/// Whether these are its rows.
+fn has_rows(q: &BiPoly, slices: &[&[u8]]) -> bool {
+    let rows = q.rows();
+    rows.len() == slices.len() && (0..rows.len()).all(|j| rows[j].as_slice() == slices[j])
+}
+
+#[test]
+fn products_and_multiples_worked(rt: HostRuntime) -> Result<(), AllocError> {
+    let alloc = rt.alloc();
+    let mut q = two_roots(alloc)?;
+    let product = q.times_linear(alloc, 0x01)?;
+    assert!(rt;
+        has_rows(
+            &product,
+            &[&[0x00, 0x01, 0x01], &[0x01, 0x00, 0x01], &[0x01, 0x01]]
+        )
+    );
+    assert!(rt; product.len() <= q.len());
+    q.add_scaled(&product, 0x02)?;
+    assert!(rt;
+        has_rows(
+            &q,
+            &[&[0x00, 0x03, 0x02], &[0x03, 0x01, 0x02], &[0x03, 0x02]]
+        )
+    );
+    Ok(())
+}
+
 #[test]
 fn zero_has_no_degree(rt: HostRuntime) -> Result<(), AllocError> {
     let zero = from_slices(rt.alloc(), &[&[], &[0x00, 0x00]])?;
