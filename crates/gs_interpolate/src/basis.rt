@@ -1,7 +1,6 @@
 //! The polynomials of Koetter's iteration.
 
-ghost use Rattle.std.specs.Prelude.{◌≡◌, ◌≢◌, ℕ, ◌+◌, ◌*◌, ◌^◌, ◌<◌, ◌≤◌, [], ◌∷◌, length, map, sum, slice_index, IfOk, MatchOption};
-ghost use Rattle.gf256.specs.Field.{◌⊗◌, inverse};
+ghost use Rattle.std.specs.Prelude.{◌≡◌, ◌≢◌, ℕ, ◌+◌, ◌*◌, ◌^◌, ◌<◌, ◌≤◌, length, sum, slice_index, IfOk, MatchOption};
 ghost use Rattle.gs_interpolate.specs.Monomials.{conditions};
 ghost use Rattle.gs_interpolate.specs.Basis.{polynomial, values, factor, IsBasis, IsCleared, IsPivot, IsFirstNonzero, IsMeeting, IsPassing, IsLightest, IsPowerOfY};
 
