@@ -13,8 +13,6 @@
 
 mod agreement;
 mod numbers;
-#[cfg(test)]
-mod tests;
 
 ghost use Rattle.std.specs.Prelude.{◌≡◌, ◌≢◌, ◌+◌, ◌*◌, ◌/◌, ◌<◌, ◌≤◌, length, map, All, AllPairs, IfOk};
 ghost use Rattle.gs_interpolate.specs.Monomials.{monomials};

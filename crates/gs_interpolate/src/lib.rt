@@ -12,8 +12,6 @@ mod condition;
 mod elimination;
 pub mod laws;
 mod layout;
-#[cfg(test)]
-mod tests;
 
 ghost use Rattle.std.specs.Prelude.{◌≢◌, ◌<◌, ◌≤◌, ◌^◌, length, AllPairs, IfOk};
 ghost use Rattle.gs_interpolate.specs.Monomials.{monomials, conditions};

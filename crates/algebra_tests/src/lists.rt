@@ -1,6 +1,8 @@
+// List decoding of one column.
 ghost use Rattle.std.specs.Prelude.{◌≢◌, ◌≡◌, ◌<◌, All, AllPairs, IsTrue};
 
-use crate::{column_list, plan};
+use crate::rows::are;
+use column_lists::{column_list, plan};
 use gs_interpolate::Elimination;
 use std::alloc::{AllocError, Global};
 use std::marker::Brand;
@@ -125,11 +127,6 @@ const WORKED: [Worked<'static>; 3] = [
     },
 ];
 
-/// Whether the lists are these slices.
-fn are(lists: &[Vec<u8>], slices: &[&[u8]]) -> bool {
-    lists.len() == slices.len() && (0..lists.len()).all(|i| lists[i].as_slice() == slices[i])
-}
-
 #[test]
 fn lists_the_worked_points(rt: HostRuntime) -> Result<(), AllocError> {
     for worked in &WORKED {
@@ -137,14 +134,6 @@ fn lists_the_worked_points(rt: HostRuntime) -> Result<(), AllocError> {
         assert!(rt; list.is_some_and(|list| are(&list, worked.list)));
     }
     Ok(())
-}
-
-#[test]
-fn plans_the_worked_numbers(rt: HostRuntime) {
-    let five = plan(5, 1, 3);
-    assert!(rt; (five.m, five.d, five.cost) == (1, 2, 5));
-    let eight = plan(8, 3, 5);
-    assert!(rt; (eight.m, eight.d, eight.cost) == (10, 49, 440));
 }
 
 /// The polynomial through the points whose bits are set in `choice`, where these are `t + 1`.

@@ -1,4 +1,4 @@
-use Rattle.rr_roots.proofs.tests.is_solved.Given as goal
+use Rattle.algebra_tests.proofs.roots.is_solved.Given as goal
 
 -- the nodes are counted in the blank's own ledger
 abbrev pub ghosts-roots_in_steps : goal.ghosts-roots_in_steps

@@ -2,7 +2,7 @@ use Rattle.std.proofs.Common.{◌≡◌, ◌<◌, ℕ, List, [], length, map, ge
 use Rattle.std.proofs.lemmas.List.{get_or-map, get_or_default}
 use Rattle.gf256.specs.Polynomial.{coef}
 use Rattle.bi_poly.specs.Rows.{row, cell, IsZero}
-use Rattle.rr_roots.proofs.tests.is_nonzero.Goals as goal
+use Rattle.algebra_tests.proofs.rows.is_nonzero.Goals as goal
 
 -- where q is 0, so is each row
 row_of_zero : {V : Type 0} (items : V → List ℕ) (rows : List V) (q : List (List ℕ)) (r : V) (j : ℕ) → map items rows ≡ q → r ≡ get_or rows j r → j < length rows → IsZero q → All (λ c. c ≡ 0) (items r)

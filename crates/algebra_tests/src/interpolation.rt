@@ -1,8 +1,9 @@
-ghost use Rattle.std.specs.Prelude.{◌≢◌, ◌<◌, ◌≤◌, ◌^◌, length, AllPairs, IsTrue};
+// Interpolation with multiplicities.
+ghost use Rattle.std.specs.Prelude.{◌≡◌, ◌≢◌, ◌<◌, ◌≤◌, ◌^◌, length, AllPairs, IsTrue};
 ghost use Rattle.gs_interpolate.specs.Monomials.{monomials, conditions};
 
-use crate::{Elimination, Interpolate};
 use bi_poly::BiPoly;
+use gs_interpolate::{Elimination, Interpolate};
 use std::alloc::{AllocError, Global};
 
 /// Whether the first members ascend.
@@ -30,10 +31,11 @@ fn has_zero(q: &BiPoly, point: (u8, u8), m: u32) -> bool {
     true
 }
 
-/// Whether elimination gives a polynomial, not 0, of weighted degree at most `d` with these zeros.
-#[tactic(auto, using(crate::proofs::Promise::within_limits))]
-fn is_interpolated(
+/// Whether `way` gives a polynomial, not 0, of weighted degree at most `d` with these zeros.
+#[tactic(auto, using(gs_interpolate::proofs::Promise::within_limits))]
+fn is_interpolated<I: Interpolate>(
     alloc: Global,
+    way: &I,
     points: &[(u8, u8)],
     m: u32,
     t: u32,
@@ -46,33 +48,35 @@ fn is_interpolated(
     requires few { conditions (length points.now) m ≤ 32768 }
     requires enough { conditions (length points.now) m < monomials t d }
 {
-    let q = Elimination.interpolate(alloc, points, m, t, d)?;
+    let q = way.interpolate(alloc, points, m, t, d)?;
     let is_light = q.weighted_degree(t).is_some_and(|w| w <= u64::from(d));
     Ok(is_light && points.iter().all(|&point| has_zero(&q, point, m)))
 }
 
+const ON_TWO_LINES: [(u8, u8); 5] = [(1, 0x10), (2, 0x10), (3, 0x10), (4, 0x17), (5, 0x16)];
+
 // Five points on two lines, of which each has three: a product of the two lines is among what may come out.
 #[test]
-#[tactic(auto, unfolding(crate::specs::Monomials::monomials_below))]
+#[tactic(auto, unfolding(gs_interpolate::specs::Monomials::monomials_below))]
 fn through_two_lines(rt: HostRuntime) -> Result<(), AllocError> {
-    let points = [(1, 0x10), (2, 0x10), (3, 0x10), (4, 0x17), (5, 0x16)];
+    let points = ON_TWO_LINES;
     assert!(rt; is_ascending(&points));
-    assert!(rt; is_interpolated(rt.alloc(), &points, 1, 1, 2)?);
+    assert!(rt; is_interpolated(rt.alloc(), &Elimination, &points, 1, 1, 2)?);
     Ok(())
 }
 
 #[test]
-#[tactic(auto, unfolding(crate::specs::Monomials::monomials_below))]
+#[tactic(auto, unfolding(gs_interpolate::specs::Monomials::monomials_below))]
 fn with_multiplicity_two(rt: HostRuntime) -> Result<(), AllocError> {
-    let points = [(1, 0x10), (2, 0x10), (3, 0x10), (4, 0x17), (5, 0x16)];
+    let points = ON_TWO_LINES;
     assert!(rt; is_ascending(&points));
-    assert!(rt; is_interpolated(rt.alloc(), &points, 2, 1, 5)?);
+    assert!(rt; is_interpolated(rt.alloc(), &Elimination, &points, 2, 1, 5)?);
     Ok(())
 }
 
 // Eight points on one constant, of which three decide: 168 conditions, and 171 monomials.
 #[test]
-#[tactic(auto, unfolding(crate::specs::Monomials::monomials_below))]
+#[tactic(auto, unfolding(gs_interpolate::specs::Monomials::monomials_below))]
 fn with_multiplicity_six(rt: HostRuntime) -> Result<(), AllocError> {
     let points = [
         (1, 0x43),
@@ -85,6 +89,6 @@ fn with_multiplicity_six(rt: HostRuntime) -> Result<(), AllocError> {
         (8, 0x43),
     ];
     assert!(rt; is_ascending(&points));
-    assert!(rt; is_interpolated(rt.alloc(), &points, 6, 1, 17)?);
+    assert!(rt; is_interpolated(rt.alloc(), &Elimination, &points, 6, 1, 17)?);
     Ok(())
 }

@@ -1,5 +1,5 @@
 use Rattle.std.proofs.Common.{◌≡◌}
-use Rattle.linear_solve.proofs.tests.drawn_table.Given as goal
+use Rattle.algebra_tests.proofs.systems.drawn_table.Given as goal
 
 abbrev pub invariant-loop-j : goal.invariant-loop-j
 invariant-loop-j l = (l.table.rows ≡ l.rows) × (l.table.cols ≡ l.cols)

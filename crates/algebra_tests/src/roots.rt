@@ -1,9 +1,10 @@
-ghost use Rattle.std.specs.Prelude.{◌≡◌, ◌<◌, ◌≤◌, IsTrue};
+// The y-roots of polynomials in two variables.
+ghost use Rattle.std.specs.Prelude.{◌≡◌, ◌<◌, ◌≤◌};
 ghost use Rattle.bi_poly.specs.Rows.{IsZero};
 
-use crate::descent::is_zero;
-use crate::y_roots;
+use crate::rows::{are, from_slices, is_nonzero};
 use bi_poly::BiPoly;
+use rr_roots::y_roots;
 use std::alloc::{AllocError, Global};
 use std::marker::Brand;
 use std::sync::ledger::{Blank, Ledger};
@@ -143,27 +144,6 @@ const WORKED: [Worked<'static>; 11] = [
     },
 ];
 
-/// The polynomial with these rows.
-fn from_slices(alloc: Global, slices: &[&[u8]]) -> Result<BiPoly, AllocError> {
-    let mut rows = Vec::new(alloc);
-    for slice in slices {
-        rows.push(Vec::from_slice(alloc, slice)?)?;
-    }
-    Ok(BiPoly::from_rows(rows))
-}
-
-/// Whether some coefficient is not 0.
-fn is_nonzero(q: &BiPoly) -> bool
-    ensures { IsTrue result → ¬ IsZero q.now }
-{
-    for row in q.rows() {
-        if !is_zero(row) {
-            return true;
-        }
-    }
-    false
-}
-
 /// The y-roots of `q`, where the nodes are counted by the blank's ledger.
 fn roots_in_steps<N: Ledger>(
     nodes: Blank,
@@ -177,11 +157,6 @@ fn roots_in_steps<N: Ledger>(
 {
     let mut nodes: Steps<N> = Steps::new(nodes);
     y_roots(alloc, q, t, &mut nodes)
-}
-
-/// Whether the lists are these slices.
-fn are(lists: &[Vec<u8>], slices: &[&[u8]]) -> bool {
-    lists.len() == slices.len() && (0..lists.len()).all(|i| lists[i].as_slice() == slices[i])
 }
 
 /// Whether the y-roots are as they should.
