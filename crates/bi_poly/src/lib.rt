@@ -13,8 +13,6 @@
 pub mod laws;
 mod product;
 mod row;
-#[cfg(test)]
-mod tests;
 
 ghost use Rattle.std.specs.Prelude.{◌≡◌, ◌<◌, ◌≤◌, length, map, MatchOption, IfOk};
 ghost use Rattle.std.specs.List.{range_with_len};

@@ -14,8 +14,6 @@
 mod agreement;
 mod numbers;
 mod one_polynomial;
-#[cfg(test)]
-mod tests;
 
 ghost use Rattle.std.specs.Prelude.{◌≡◌, ◌≢◌, ◌+◌, ◌*◌, ◌/◌, ◌<◌, ◌≤◌, length, map, All, AllPairs, IfOk};
 ghost use Rattle.gs_interpolate.specs.Monomials.{monomials};

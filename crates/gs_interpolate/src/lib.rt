@@ -14,8 +14,6 @@ mod elimination;
 mod koetter;
 pub mod laws;
 mod layout;
-#[cfg(test)]
-mod tests;
 
 ghost use Rattle.std.specs.Prelude.{◌≢◌, ◌<◌, ◌≤◌, ◌^◌, length, AllPairs, IfOk};
 ghost use Rattle.gs_interpolate.specs.Monomials.{monomials, conditions};
