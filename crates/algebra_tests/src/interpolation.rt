@@ -58,7 +58,6 @@ fn is_interpolated<I: Interpolate>(
 /// The same, both by elimination and by Koetter's iteration.
 fn is_interpolated_both_ways(
     alloc: Global,
-    way: &I,
     points: &[(u8, u8)],
     m: u32,
     t: u32,

@@ -84,7 +84,7 @@ fn products_and_multiples_worked(rt: HostRuntime) -> Result<(), AllocError> {
             &[&[0x00, 0x01, 0x01], &[0x01, 0x00, 0x01], &[0x01, 0x01]]
         )
     );
-    assert!(rt; product.len() <= q.len());
+    assert!(rt; product.rows().len() <= q.rows().len());
     q.add_scaled(&product, 0x02)?;
     assert!(rt;
         has_rows(
