@@ -3,13 +3,14 @@
 use crate::fault::Fault;
 use crate::lines::number;
 use crate::session::append_session;
+use crate::texts::append_text;
 use std::alloc::Global;
 use std::collections::BTreeMap;
 
 /// Bytes by their names.
 pub type Names = BTreeMap<String, Vec<u8>>;
 
-/// Whether a text is in quotes or in parentheses at some place.
+/// Whether a text is in quotes, behind a backslash there, or in parentheses.
 #[derive(Clone, Copy)]
 struct Nesting {
     quoted: bool,
@@ -32,9 +33,8 @@ impl Nesting {
     }
 }
 
-/// The items of a text, apart by blanks.
-fn split_items<'a>(alloc: Global, text: &'a str) -> Result<Vec<&'a str>, Fault> {
-    let mut items = Vec::new(alloc);
+/// Appends the bytes that a text spells: those of its items, which stand apart by blanks.
+fn append_bytes(names: &Names, text: &str, bytes: &mut Vec<u8>) -> Result<(), Fault> {
     let mut nesting = Nesting {
         quoted: false,
         escaped: false,
@@ -43,155 +43,172 @@ fn split_items<'a>(alloc: Global, text: &'a str) -> Result<Vec<&'a str>, Fault> 
     let mut start = 0usize;
     for (i, c) in text.char_indices() {
         if c == ' ' && !nesting.quoted && !nesting.inside {
-            items.push(text.get(start..i).unwrap_or(""))?;
+            append_item(names, text.get(start..i).unwrap_or(""), bytes)?;
             start = i.saturating_add(1);
         }
         nesting = nesting.past(c);
     }
-    items.push(text.get(start..).unwrap_or(""))?;
-    if nesting.quoted || nesting.inside {
-        return Err(Fault::Bytes);
-    }
-    Ok(items)
+    append_item(names, text.get(start..).unwrap_or(""), bytes)
 }
 
 /// The bytes that a text spells.
 pub fn read_bytes(alloc: Global, names: &Names, text: &str) -> Result<Vec<u8>, Fault> {
     let mut bytes = Vec::new(alloc);
-    for item in &split_items(alloc, text)? {
-        append_item(alloc, names, item, &mut bytes)?;
-    }
+    append_bytes(names, text, &mut bytes)?;
     Ok(bytes)
 }
 
 /// Appends the bytes of one item.
-fn append_item(
-    alloc: Global,
-    names: &Names,
-    item: &str,
-    bytes: &mut Vec<u8>,
-) -> Result<(), Fault> {
-    if let Some(text) = item.strip_prefix('"') {
-        append_text(text, bytes)
-    } else if let Some(session) = item.strip_prefix('(') {
-        append_session(alloc, session, bytes)
-    } else if append_plain(alloc, item, bytes)? {
-        Ok(())
-    } else {
-        append_named(alloc, names, item, bytes)
-    }
-}
-
-/// Appends the bytes of hexadecimal digits, or of one byte that stands there many times. `false` if the item is neither.
-pub fn append_plain(alloc: Global, item: &str, bytes: &mut Vec<u8>) -> Result<bool, Fault> {
-    if let Some((byte, times)) = item.split_once('*') {
-        let piece = hex::decode(alloc, byte)?;
-        for _ in 0..number(times)? {
-            bytes.extend_from_slice(&piece)?;
+fn append_item(names: &Names, item: &str, bytes: &mut Vec<u8>) -> Result<(), Fault> {
+    match item.as_bytes() {
+        [b'"', ..] => append_text(item, bytes),
+        [b'(', .., b')'] => {
+            let inside = 1..item.len().saturating_sub(1);
+            append_session(item.get(inside).unwrap_or(""), bytes)
         }
-        return Ok(true);
+        _ if is_plain(item) => append_plain(item, bytes),
+        _ => append_named(names, item, bytes),
     }
-    if item.len() % 2 == 1 || !item.bytes().all(|b| b.is_ascii_hexdigit()) {
-        return Ok(false);
-    }
-    bytes.extend_from_slice(&hex::decode(alloc, item)?)?;
-    Ok(true)
-}
-
-/// Where a text in quotes stands: at a character of its own, behind a backslash, before the two digits of a byte, or between
-/// them.
-#[derive(Clone, Copy)]
-enum Place {
-    Plain,
-    Escape,
-    Digits,
-    Digit(u8),
 }
 
 /// The value of a hexadecimal digit.
-fn digit(byte: u8) -> Result<u8, Fault> {
-    match char::from(byte).to_digit(16) {
-        Some(value) => u8::try_from(value).or(Err(Fault::Bytes)),
-        None => Err(Fault::Bytes),
+pub fn digit(byte: u8) -> Result<u8, Fault> {
+    match byte {
+        b'0'..=b'9' => Ok(byte - b'0'),
+        b'a'..=b'f' => Ok(byte - b'a' + 10),
+        b'A'..=b'F' => Ok(byte - b'A' + 10),
+        _ => Err(Fault::Form("this is no hexadecimal digit")),
     }
 }
 
-/// Goes over one byte of a text in quotes, and appends the byte that ends there.
-fn step(place: Place, byte: u8, bytes: &mut Vec<u8>) -> Result<Place, Fault> {
-    let ended = match (place, byte) {
-        (Place::Plain, b'\\') => return Ok(Place::Escape),
-        (Place::Plain, _) => byte,
-        (Place::Escape, b'x') => return Ok(Place::Digits),
-        (Place::Escape, b'n') => b'\n',
-        (Place::Escape, b'0') => 0,
-        (Place::Escape, b'\\') | (Place::Escape, b'"') => byte,
-        (Place::Escape, _) => return Err(Fault::Bytes),
-        (Place::Digits, _) => return Ok(Place::Digit(digit(byte)?)),
-        (Place::Digit(high), _) => high.wrapping_mul(16) | digit(byte)?,
-    };
-    bytes.push(ended)?;
-    Ok(Place::Plain)
-}
-
-/// Appends the bytes of a text whose first quote is past.
-fn append_text(text: &str, bytes: &mut Vec<u8>) -> Result<(), Fault> {
-    let Some(text) = text.strip_suffix('"') else {
-        return Err(Fault::Bytes);
-    };
-    let mut place = Place::Plain;
-    for byte in text.bytes() {
-        place = step(place, byte, bytes)?;
-    }
-    match place {
-        Place::Plain => Ok(()),
-        _ => Err(Fault::Bytes),
-    }
-}
-
-/// Appends bytes that have a name, or a part of them, or them with some of them set.
-fn append_named(
-    alloc: Global,
-    names: &Names,
-    item: &str,
-    bytes: &mut Vec<u8>,
-) -> Result<(), Fault> {
-    let (name, parts) = item.split_once('[').unwrap_or((item, ""));
-    let Some(named) = names.get(name) else {
-        return Err(Fault::Name);
-    };
-    let mut found = Vec::from_slice(alloc, named)?;
-    if !parts.is_empty() {
-        for part in parts.split('[') {
-            let Some(part) = part.strip_suffix(']') else {
-                return Err(Fault::Bytes);
-            };
-            found = altered(alloc, found, part)?;
+/// Whether an item is an even number of hexadecimal digits, or has a `*`.
+pub fn is_plain(item: &str) -> bool {
+    let mut digits = 0usize;
+    for byte in item.bytes() {
+        if byte == b'*' {
+            return true;
         }
+        if !byte.is_ascii_hexdigit() {
+            return false;
+        }
+        digits = digits.saturating_add(1);
     }
-    bytes.extend_from_slice(&found)?;
-    Ok(())
+    digits % 2 == 0
 }
 
-/// A part of bytes, as `34..60`, or the bytes with some of them set, as `28=02`.
-fn altered(alloc: Global, mut bytes: Vec<u8>, part: &str) -> Result<Vec<u8>, Fault> {
-    if let Some((at, value)) = part.split_once('=') {
-        let mut at = number(at)?;
-        for byte in &hex::decode(alloc, value)? {
-            match bytes.get_mut(at) {
-                Some(place) => *place = *byte,
-                None => return Err(Fault::Part),
+/// Appends the bytes of hexadecimal digits, or of such that stand there many times, as `00*100`.
+pub fn append_plain(item: &str, bytes: &mut Vec<u8>) -> Result<(), Fault> {
+    match item.split_once('*') {
+        Some((digits, times)) => {
+            for _ in 0..number(times)? {
+                append_digits(digits, bytes)?;
             }
-            at = at.saturating_add(1);
+            Ok(())
         }
-        return Ok(bytes);
+        None => append_digits(item, bytes),
     }
-    let Some((from, to)) = part.split_once("..") else {
-        return Err(Fault::Bytes);
+}
+
+/// Appends the bytes of hexadecimal digits.
+fn append_digits(digits: &str, bytes: &mut Vec<u8>) -> Result<(), Fault> {
+    let mut high = None;
+    for byte in digits.bytes() {
+        let value = digit(byte)?;
+        high = match high {
+            None => Some(value),
+            Some(high) => {
+                bytes.push(join(high, value))?;
+                None
+            }
+        };
+    }
+    match high {
+        None => Ok(()),
+        Some(_) => Err(Fault::Form("there is a digit too many")),
+    }
+}
+
+/// The byte of two digits.
+pub fn join(high: u8, low: u8) -> u8 {
+    high.wrapping_mul(16) | low
+}
+
+/// A part of bytes that have a name, or some bytes of it that are set.
+#[derive(Clone, Copy)]
+enum Part<'a> {
+    /// From one place to before another.
+    Range(&'a str, &'a str),
+    /// From a place on, to these digits.
+    Set(usize, &'a str),
+}
+
+/// The part that stands in brackets, the first of which is past.
+fn part_in(text: &str) -> Result<Part<'_>, Fault> {
+    let Some(text) = text.strip_suffix(']') else {
+        return Err(Fault::Form("a bracket is missing"));
     };
+    if let Some((from, to)) = text.split_once("..") {
+        return Ok(Part::Range(from, to));
+    }
+    match text.split_once('=') {
+        Some((at, digits)) => Ok(Part::Set(number(at)?, digits)),
+        None => Err(Fault::Form("this is no part of bytes")),
+    }
+}
+
+/// The bytes of a range; with no number, from the first, or to the last.
+fn range_of<'a>(bytes: &'a [u8], from: &str, to: &str) -> Result<&'a [u8], Fault> {
     let from = if from.is_empty() { 0 } else { number(from)? };
     let to = if to.is_empty() { bytes.len() } else { number(to)? };
     match bytes.get(from..to) {
-        Some(found) => Ok(Vec::from_slice(alloc, found)?),
-        None => Err(Fault::Part),
+        Some(range) => Ok(range),
+        None => Err(Fault::Form("there are fewer bytes")),
+    }
+}
+
+/// Sets the bytes from this place on to those of the digits.
+fn set_digits(mut at: usize, digits: &str, bytes: &mut [u8]) -> Result<(), Fault> {
+    let mut high = None;
+    for byte in digits.bytes() {
+        let value = digit(byte)?;
+        let Some(first) = high else {
+            high = Some(value);
+            continue;
+        };
+        match bytes.get_mut(at) {
+            Some(place) => *place = join(first, value),
+            None => return Err(Fault::Form("there are fewer bytes")),
+        }
+        high = None;
+        at = at.saturating_add(1);
+    }
+    Ok(())
+}
+
+/// Appends bytes of which parts are taken, and then some are set.
+fn append_parts(named: &[u8], parts: &str, bytes: &mut Vec<u8>) -> Result<(), Fault> {
+    let mut found = named;
+    for part in parts.split('[') {
+        if let Part::Range(from, to) = part_in(part)? {
+            found = range_of(found, from, to)?;
+        }
+    }
+    let start = bytes.len();
+    bytes.extend_from_slice(found)?;
+    for part in parts.split('[') {
+        if let Part::Set(at, digits) = part_in(part)? {
+            set_digits(start.saturating_add(at), digits, bytes)?;
+        }
+    }
+    Ok(())
+}
+
+/// Appends bytes that have a name, as `s1`, or a part of them, as `s1[34..60]`, of which some may be set, as `s1[34..60][7=03]`.
+fn append_named(names: &Names, item: &str, bytes: &mut Vec<u8>) -> Result<(), Fault> {
+    let (name, parts) = item.split_once('[').unwrap_or((item, ""));
+    match names.get(name) {
+        Some(named) if parts.is_empty() => Ok(bytes.extend_from_slice(named)?),
+        Some(named) => append_parts(named, parts, bytes),
+        None => Err(Fault::Form("no bytes have this name")),
     }
 }

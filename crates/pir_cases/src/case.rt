@@ -123,47 +123,55 @@ pub struct Case {
     pub sound: bool,
 }
 
+impl Setup {
+    /// A set-up in which nothing is said yet.
+    pub fn new(alloc: Global) -> Self {
+        Setup {
+            words: Vec::new(alloc),
+            held: Vec::new(alloc),
+            rooms: Vec::new(alloc),
+            guests: Vec::new(alloc),
+            pieces: Vec::new(alloc),
+            names: 1000,
+            name_bytes: 50_000,
+            fails: Vec::new(alloc),
+        }
+    }
+}
+
+impl Expected {
+    /// An expectation of which nothing is said yet.
+    fn new(alloc: Global) -> Self {
+        Expected {
+            status: String::new(alloc),
+            output: Vec::new(alloc),
+            took: Vec::new(alloc),
+            opened: Vec::new(alloc),
+            given: Vec::new(alloc),
+            started: Vec::new(alloc),
+            left: Vec::new(alloc),
+            calls: None,
+            replays: false,
+            twice: false,
+        }
+    }
+}
+
 impl Case {
     /// A case of which no line was read yet.
     pub fn new(alloc: Global, line: usize, name: String) -> Self {
         Case {
             line,
             name,
-            setup: Setup {
-                words: Vec::new(alloc),
-                held: Vec::new(alloc),
-                rooms: Vec::new(alloc),
-                guests: Vec::new(alloc),
-                pieces: Vec::new(alloc),
-                names: 1000,
-                name_bytes: 50000,
-                fails: Vec::new(alloc),
-            },
+            setup: Setup::new(alloc),
             each: Each::Once,
-            expected: Expected {
-                status: String::new(alloc),
-                output: Vec::new(alloc),
-                took: Vec::new(alloc),
-                opened: Vec::new(alloc),
-                given: Vec::new(alloc),
-                started: Vec::new(alloc),
-                left: Vec::new(alloc),
-                calls: None,
-                replays: false,
-                twice: false,
-            },
+            expected: Expected::new(alloc),
             sound: true,
         }
     }
 
-    /// The bytes that the port holds; of `guest` those of the last guest.
+    /// The bytes that the port holds.
     pub fn held(&self, port: Port) -> &[u8] {
-        if port == Port::Guest {
-            return match self.setup.guests.last() {
-                Some(guest) => guest.bytes.as_slice(),
-                None => &[],
-            };
-        }
         for held in &self.setup.held {
             if held.port == port {
                 return held.bytes.as_slice();

@@ -1,77 +1,40 @@
 //! A run beside what is expected of it.
 
-use crate::case::{Case, Ending, Took};
+use crate::case::{Case, Ending, Expected, Took};
 use crate::fault::Fault;
+use crate::findings::{Findings, What};
 use crate::naming::read_status;
 use crate::reach::Reach;
-use crate::running::{Change, Ran, Trial};
-use crate::showing::{differ, differ_in_bytes, push_word};
-use crate::watched::WatchedPorts;
-use pir_ports::{Failed, Port, Ports};
+use crate::running::{Change, Ran};
+use pir_ports::{Failed, MemPorts, Port, Ports};
 use pir_tool::{Bad, Status};
-use std::alloc::Global;
+use std::alloc::{AllocError, Global};
 
-/// More names, words or guests than any run has.
+/// More calls than it takes to read what is left on a port.
 const MANY: usize = 1000;
 
-/// What is otherwise than expected, in a run that comes so far.
+/// Compares a run that comes so far with what the case expects.
 pub fn compare(
     alloc: Global,
     case: &Case,
-    trial: Trial,
     reach: Reach<'_>,
     ran: &mut Ran,
-) -> Result<Vec<String>, Fault> {
-    let mut found = Vec::new(alloc);
-    compare_status(alloc, case, trial, ran.status, &mut found)?;
-    compare_calls(alloc, case, ran.ports.log.count(), &mut found)?;
-    compare_output(alloc, case, reach, &ran.ports, &mut found)?;
-    for took in &case.expected.took {
-        compare_took(alloc, case, trial, reach, took, &ran.ports, &mut found)?;
+    found: &mut Findings,
+) -> Result<(), Fault> {
+    let expected = &case.expected;
+    let status = read_status(expected.status.as_str(), found.trial.front())?;
+    found.status(alloc, What::Status, ran.status, status)?;
+    found.calls(alloc, ran.ports.log.count(), expected.calls)?;
+    let ports = &mut ran.ports.ports;
+    compare_output(alloc, expected, reach, ports, found)?;
+    for took in &expected.took {
+        compare_took(alloc, case, took, reach, ports, found)?;
     }
-    compare_opened(alloc, case, reach, &ran.ports, &mut found)?;
-    compare_given(alloc, case, reach, &ran.ports, &mut found)?;
-    compare_started(alloc, case, reach, &ran.ports, &mut found)?;
+    compare_opened(alloc, expected, reach, ports, found)?;
+    compare_given(alloc, expected, reach, ports, found)?;
+    compare_started(alloc, expected, reach, ports, found)?;
     if let Reach::Whole = reach {
-        compare_left(alloc, case, &mut ran.ports, &mut found)?;
-    }
-    Ok(found)
-}
-
-/// The length of the front that a run has.
-fn front_of(trial: Trial) -> usize {
-    match trial.change {
-        Change::Front(_, len) => len,
-        _ => 0,
-    }
-}
-
-/// Compares the status.
-fn compare_status(
-    alloc: Global,
-    case: &Case,
-    trial: Trial,
-    status: Status,
-    found: &mut Vec<String>,
-) -> Result<(), Fault> {
-    let wanted = read_status(case.expected.status.as_str(), front_of(trial))?;
-    if status != wanted {
-        found.push(format!(in alloc; "it ended with {status:?} where {wanted:?} is expected")?)?;
-    }
-    Ok(())
-}
-
-/// Compares the number of calls, where one is expected.
-fn compare_calls(
-    alloc: Global,
-    case: &Case,
-    count: u64,
-    found: &mut Vec<String>,
-) -> Result<(), Fault> {
-    if let Some(wanted) = case.expected.calls
-        && wanted != count
-    {
-        found.push(format!(in alloc; "it made {count} calls where {wanted} are expected")?)?;
+        compare_left(alloc, expected, ports, found)?;
     }
     Ok(())
 }
@@ -79,43 +42,50 @@ fn compare_calls(
 /// Compares what Output took.
 fn compare_output(
     alloc: Global,
-    case: &Case,
+    expected: &Expected,
     reach: Reach<'_>,
-    ports: &WatchedPorts,
-    found: &mut Vec<String>,
-) -> Result<(), Fault> {
-    let all = case.expected.output.as_slice();
+    ports: &MemPorts,
+    found: &mut Findings,
+) -> Result<(), AllocError> {
+    let all = expected.output.as_slice();
     let len = reach.bytes(Port::Output, all.len());
     let wanted = all.get(..len).unwrap_or(all);
-    differ_in_bytes(alloc, "Output took", ports.ports.seen(Port::Output), wanted, found)
+    found.bytes(alloc, What::Took(Port::Output), ports.seen(Port::Output), wanted)
 }
 
 /// Compares what another port took.
 fn compare_took(
     alloc: Global,
     case: &Case,
-    trial: Trial,
-    reach: Reach<'_>,
     took: &Took,
-    ports: &WatchedPorts,
-    found: &mut Vec<String>,
+    reach: Reach<'_>,
+    ports: &MemPorts,
+    found: &mut Findings,
 ) -> Result<(), Fault> {
-    let port = took.port;
-    let mut wanted = Vec::from_slice(alloc, &took.bytes)?;
-    let mut seen = ports.ports.seen(port);
+    let all = took.bytes.as_slice();
+    let seen = ports.seen(took.port);
+    let what = What::Took(took.port);
     match took.ending {
-        Ending::Here => wanted.truncate(reach.bytes(port, took.bytes.len())),
-        Ending::Anyhow => seen = seen.get(..wanted.len()).unwrap_or(seen),
-        Ending::Front => append_front(case, trial, &mut wanted)?,
+        Ending::Here => {
+            let len = reach.bytes(took.port, all.len());
+            found.bytes(alloc, what, seen, all.get(..len).unwrap_or(all))?;
+        }
+        Ending::Anyhow => {
+            found.bytes(alloc, what, seen.get(..all.len()).unwrap_or(seen), all)?;
+        }
+        Ending::Front => {
+            let mut wanted = Vec::from_slice(alloc, all)?;
+            append_front(case, found.trial.change, &mut wanted)?;
+            found.bytes(alloc, what, seen, &wanted)?;
+        }
     }
-    let what = format!(in alloc; "{port:?} took")?;
-    differ_in_bytes(alloc, what.as_str(), seen, &wanted, found)
+    Ok(())
 }
 
 /// Appends the length of the front that a run has, in four bytes, and the front.
-fn append_front(case: &Case, trial: Trial, bytes: &mut Vec<u8>) -> Result<(), Fault> {
-    let Change::Front(port, len) = trial.change else {
-        return Err(Fault::Each);
+fn append_front(case: &Case, change: Change, bytes: &mut Vec<u8>) -> Result<(), Fault> {
+    let Change::Front(port, len) = change else {
+        return Err(Fault::Form("`front` stands in a case of fronts"));
     };
     let held = case.held(port);
     let front = held.get(..len).unwrap_or(held);
@@ -127,26 +97,19 @@ fn append_front(case: &Case, trial: Trial, bytes: &mut Vec<u8>) -> Result<(), Fa
 /// Compares the names that ports were opened with.
 fn compare_opened(
     alloc: Global,
-    case: &Case,
+    expected: &Expected,
     reach: Reach<'_>,
-    ports: &WatchedPorts,
-    found: &mut Vec<String>,
-) -> Result<(), Fault> {
-    for opened in &case.expected.opened {
-        let port = opened.port;
-        let mut wanted = String::new(alloc);
-        for name in opened.names.iter().take(reach.names(port, opened.names.len())) {
-            push_word(&mut wanted, name.as_bytes())?;
+    ports: &MemPorts,
+    found: &mut Findings,
+) -> Result<(), AllocError> {
+    for opened in &expected.opened {
+        let what = What::OpenedWith(opened.port);
+        let count = reach.names(opened.port, opened.names.len());
+        for (i, name) in opened.names.iter().take(count).enumerate() {
+            let seen = ports.opened_as(opened.port, i);
+            found.some(alloc, what, seen, name.as_bytes())?;
         }
-        let mut names = String::new(alloc);
-        for i in 0..MANY {
-            match ports.ports.opened_as(port, i) {
-                Some(name) => push_word(&mut names, name)?,
-                None => break,
-            }
-        }
-        let what = format!(in alloc; "{port:?} was opened with")?;
-        differ(alloc, what.as_str(), names.as_str(), wanted.as_str(), found)?;
+        found.none(alloc, what, ports.opened_as(opened.port, count))?;
     }
     Ok(())
 }
@@ -154,124 +117,104 @@ fn compare_opened(
 /// Compares what each guest was given.
 fn compare_given(
     alloc: Global,
-    case: &Case,
+    expected: &Expected,
     reach: Reach<'_>,
-    ports: &WatchedPorts,
-    found: &mut Vec<String>,
-) -> Result<(), Fault> {
-    let given = &case.expected.given;
-    let guests = reach.guests(given.len());
-    for (i, bytes) in given.iter().take(guests).enumerate() {
+    ports: &MemPorts,
+    found: &mut Findings,
+) -> Result<(), AllocError> {
+    let guests = reach.guests(expected.given.len());
+    for (i, bytes) in expected.given.iter().take(guests).enumerate() {
         let len = reach.guest_bytes(i, bytes.len());
         let wanted = bytes.get(..len).unwrap_or(bytes);
-        let what = format!(in alloc; "guest {i}, counted from 0, was given")?;
-        match ports.ports.answered_to(i) {
-            Some(seen) => differ_in_bytes(alloc, what.as_str(), seen, wanted, found)?,
-            None => found.push(format!(in alloc; "guest {i}, counted from 0, did not come in")?)?,
-        }
+        found.some(alloc, What::GuestWasGiven(i), ports.answered_to(i), wanted)?;
     }
-    if ports.ports.answered_to(guests).is_some() {
-        found.push(format!(in alloc; "more than {guests} guests came in")?)?;
-    }
-    Ok(())
+    found.none(alloc, What::GuestWasGiven(guests), ports.answered_to(guests))
 }
 
-/// The words that children were started with, a line for each child.
-fn starts_of(alloc: Global, ports: &WatchedPorts) -> Result<String, Fault> {
-    let mut text = String::new(alloc);
-    for i in 0..MANY {
-        if ports.ports.started_word(i, 0).is_none() {
-            break;
-        }
-        for j in 0..MANY {
-            match ports.ports.started_word(i, j) {
-                Some(word) => push_word(&mut text, word)?,
-                None => break,
-            }
-        }
-        text.push(' ')?;
+/// Compares the words that a child was started with.
+fn compare_start(
+    alloc: Global,
+    i: usize,
+    words: &[String],
+    ports: &MemPorts,
+    found: &mut Findings,
+) -> Result<(), AllocError> {
+    let what = What::ChildWasStartedWith(i);
+    for (j, word) in words.iter().enumerate() {
+        found.some(alloc, what, ports.started_word(i, j), word.as_bytes())?;
     }
-    Ok(text)
+    found.none(alloc, what, ports.started_word(i, words.len()))
 }
 
-/// Compares the words that children were started with.
+/// Compares the children that were started.
 fn compare_started(
     alloc: Global,
-    case: &Case,
+    expected: &Expected,
     reach: Reach<'_>,
-    ports: &WatchedPorts,
-    found: &mut Vec<String>,
-) -> Result<(), Fault> {
-    let started = &case.expected.started;
-    let mut wanted = String::new(alloc);
-    for words in started.iter().take(reach.starts(started.len())) {
-        for word in words {
-            push_word(&mut wanted, word.as_bytes())?;
-        }
-        wanted.push(' ')?;
+    ports: &MemPorts,
+    found: &mut Findings,
+) -> Result<(), AllocError> {
+    let starts = reach.starts(expected.started.len());
+    for (i, words) in expected.started.iter().take(starts).enumerate() {
+        compare_start(alloc, i, words, ports, found)?;
     }
-    let seen = starts_of(alloc, ports)?;
-    differ(alloc, "children were started with", seen.as_str(), wanted.as_str(), found)
+    let more = ports.started_word(starts, 0);
+    found.none(alloc, What::ChildWasStartedWith(starts), more)
 }
 
-/// What the port still holds.
-fn left_on(alloc: Global, ports: &mut WatchedPorts, port: Port) -> Result<Vec<u8>, Fault> {
-    let mut bytes = Vec::new(alloc);
+/// Appends what the port still holds.
+fn append_left(ports: &mut MemPorts, port: Port, bytes: &mut Vec<u8>) -> Result<(), AllocError> {
     let mut piece = [0; 1000];
     for _ in 0..MANY {
-        match ports.ports.take(port, &mut piece) {
+        match ports.take(port, &mut piece) {
             Ok(0) => break,
             Ok(n) => bytes.extend_from_slice(piece.get(..n).unwrap_or(&[]))?,
             Err(Failed) => {}
         }
     }
-    Ok(bytes)
+    Ok(())
 }
 
 /// Compares what ports still hold.
 fn compare_left(
     alloc: Global,
-    case: &Case,
-    ports: &mut WatchedPorts,
-    found: &mut Vec<String>,
-) -> Result<(), Fault> {
-    for left in &case.expected.left {
-        let port = left.port;
-        let seen = left_on(alloc, ports, port)?;
-        let what = format!(in alloc; "{port:?} still holds")?;
-        differ_in_bytes(alloc, what.as_str(), &seen, &left.bytes, found)?;
+    expected: &Expected,
+    ports: &mut MemPorts,
+    found: &mut Findings,
+) -> Result<(), AllocError> {
+    for left in &expected.left {
+        let mut seen = Vec::new(alloc);
+        append_left(ports, left.port, &mut seen)?;
+        found.bytes(alloc, What::StillHolds(left.port), &seen, &left.bytes)?;
     }
     Ok(())
 }
 
 /// Compares the place at which a session is refused, where it is.
-pub fn compare_place(alloc: Global, place: Option<u64>, ran: &Ran) -> Result<Vec<String>, Fault> {
-    let mut found = Vec::new(alloc);
-    let status = ran.status;
-    match (place, status) {
-        (Some(place), Status::BadInput(Bad::Session { place: at })) if place == at => {
-            let seen = ran.ports.ports.seen(Port::Output);
-            differ_in_bytes(alloc, "Output took", seen, &[], &mut found)?;
-        }
-        (Some(place), _) => found
-            .push(format!(in alloc; "it ended with {status:?} where place {place} is expected")?)?,
-        (None, Status::BadInput(_)) => {
-            found.push(format!(in alloc; "it ended with {status:?} where no refusal is expected")?)?
-        }
-        (None, _) => {}
-    }
-    Ok(found)
+pub fn compare_place(
+    alloc: Global,
+    place: Option<u64>,
+    ran: &Ran,
+    found: &mut Findings,
+) -> Result<(), AllocError> {
+    let Some(place) = place else {
+        return found.refusal(alloc, ran.status);
+    };
+    let wanted = Status::BadInput(Bad::Session { place });
+    found.status(alloc, What::Status, ran.status, wanted)?;
+    let seen = ran.ports.ports.seen(Port::Output);
+    found.bytes(alloc, What::Took(Port::Output), seen, &[])
 }
 
 /// Compares a run with the replay of what it recorded.
-pub fn compare_replay(alloc: Global, ran: &Ran, replayed: &Ran) -> Result<Vec<String>, Fault> {
-    let mut found = Vec::new(alloc);
-    let (status, wanted) = (replayed.status, ran.status);
-    if status != wanted {
-        found.push(format!(in alloc; "the replay ended with {status:?} where {wanted:?} is expected")?)?;
-    }
+pub fn compare_replay(
+    alloc: Global,
+    ran: &Ran,
+    replayed: &Ran,
+    found: &mut Findings,
+) -> Result<(), AllocError> {
+    found.status(alloc, What::StatusOfTheReplay, replayed.status, ran.status)?;
     let seen = replayed.ports.ports.seen(Port::Output);
     let wanted = ran.ports.ports.seen(Port::Output);
-    differ_in_bytes(alloc, "Output of the replay took", seen, wanted, &mut found)?;
-    Ok(found)
+    found.bytes(alloc, What::ReplayTook(Port::Output), seen, wanted)
 }

@@ -20,41 +20,54 @@ pub fn split_word(text: &str) -> (&str, &str) {
 
 /// The number that a word is.
 pub fn number(word: &str) -> Result<usize, Fault> {
-    word.parse::<usize>().or(Err(Fault::Number))
+    match word.parse::<usize>() {
+        Ok(number) => Ok(number),
+        Err(_) => Err(Fault::Form("this is no number")),
+    }
 }
 
 /// The number below 256 that a word is.
 pub fn small_number(word: &str) -> Result<u8, Fault> {
-    word.parse::<u8>().or(Err(Fault::Number))
+    match word.parse::<u8>() {
+        Ok(number) => Ok(number),
+        Err(_) => Err(Fault::Form("this is no number below 256")),
+    }
 }
 
 /// Goes on with the last line, if there is one.
-fn go_on(lines: &mut [Line], more: &str) -> Result<bool, AllocError> {
+fn go_on(lines: &mut [Line], more: &str) -> Result<(), AllocError> {
     let Some(line) = lines.last_mut() else {
-        return Ok(false);
+        return Ok(());
     };
     line.text.push(' ')?;
-    line.text.push_str(more)?;
-    Ok(true)
+    line.text.push_str(more)
+}
+
+/// Adds a line, or goes on with the one before where this one begins with `+ `.
+fn add_line(
+    alloc: Global,
+    number: usize,
+    text: &str,
+    lines: &mut Vec<Line>,
+) -> Result<(), AllocError> {
+    if text.is_empty() || text.starts_with('#') {
+        return Ok(());
+    }
+    if let Some(more) = text.strip_prefix("+ ") {
+        return go_on(lines, more);
+    }
+    let text = String::from_str(alloc, text)?;
+    lines.push(Line { number, text })?;
+    Ok(())
 }
 
 /// The lines of a text that say something. A line that begins with `+ ` goes on with the one before.
 pub fn lines_of(alloc: Global, text: &str) -> Result<Vec<Line>, AllocError> {
     let mut lines = Vec::new(alloc);
-    for (i, line) in text.lines().enumerate() {
-        let line = line.trim();
-        if line.is_empty() || line.starts_with('#') {
-            continue;
-        }
-        if let Some(more) = line.strip_prefix("+ ")
-            && go_on(&mut lines, more)?
-        {
-            continue;
-        }
-        lines.push(Line {
-            number: i.saturating_add(1),
-            text: String::from_str(alloc, line)?,
-        })?;
+    let mut number = 0usize;
+    for line in text.lines() {
+        number = number.saturating_add(1);
+        add_line(alloc, number, line.trim(), &mut lines)?;
     }
     Ok(lines)
 }

@@ -7,6 +7,7 @@ mod comparing;
 mod expected_lines;
 mod families;
 mod fault;
+mod findings;
 mod lines;
 mod naming;
 mod reach;
@@ -14,23 +15,23 @@ mod reading;
 mod running;
 mod session;
 mod setup_lines;
-mod showing;
 mod shown_words;
 mod tables;
 #[cfg(test)]
 mod tests;
+mod texts;
 mod watched;
 
 use anyhow::{Context, Result};
+use case::Case;
 use families::try_case;
 use lines::{Line, lines_of};
-use reading::read_cases;
+use reading::Reader;
 use std::alloc::Global;
 use std::process::ExitCode;
-use std::rt::{Env, Files};
 use std::thread::Threads;
 use std::{env, fs, io};
-use tables::Table;
+use tables::answer;
 
 /// How many cases there were, and how many of them failed.
 #[derive(Clone, Copy)]
@@ -43,13 +44,34 @@ impl Tally {
     /// Counts one case more.
     fn count(&mut self, failed: bool) {
         self.cases = self.cases.saturating_add(1);
-        if failed {
-            self.failed = self.failed.saturating_add(1);
+        self.failed = self.failed.saturating_add(u64::from(failed));
+    }
+}
+
+/// Runs a case, and prints what is otherwise than expected. `true` if something is.
+fn run_case<R: Print + Threads + Sync>(
+    rt: &R,
+    alloc: Global,
+    file: &str,
+    case: &Case,
+) -> io::Result<bool> {
+    let line = case.line;
+    let name = case.name.as_str();
+    match try_case(rt, alloc, case) {
+        Ok(found) => {
+            for difference in &found.list {
+                println!(rt; "{file}:{line}: {name}: {difference}")?;
+            }
+            Ok(!found.list.is_empty())
+        }
+        Err(fault) => {
+            println!(rt; "{file}:{line}: {name}: {fault}")?;
+            Ok(true)
         }
     }
 }
 
-/// Runs the cases of one file, and prints what is otherwise than expected.
+/// Runs the cases of one file.
 fn run_file<R: Print + Threads + Sync>(
     rt: &R,
     alloc: Global,
@@ -57,30 +79,44 @@ fn run_file<R: Print + Threads + Sync>(
     lines: &[Line],
     tally: &mut Tally,
 ) -> Result<()> {
-    let read = read_cases(alloc, lines)?;
-    for line in &read.unread {
+    let mut reader = Reader::new(alloc);
+    reader.read(alloc, lines)?;
+    for unread in &reader.unread {
         tally.count(true);
-        println!(rt; "{file}:{}: can't be read: {} ({})", line.number, line.text, line.fault)?;
+        if let Some(line) = lines.get(unread.line) {
+            println!(rt; "{file}:{}: can't be read: {} ({})", line.number, line.text, unread.fault)?;
+        }
     }
-    for case in read.cases.iter().filter(|case| case.sound) {
-        let failed = match try_case(rt, alloc, case) {
-            Ok(found) => {
-                for text in &found {
-                    println!(rt; "{file}:{}: {}: {text}", case.line, case.name)?;
-                }
-                !found.is_empty()
-            }
-            Err(fault) => {
-                println!(rt; "{file}:{}: {}: {fault}", case.line, case.name)?;
-                true
-            }
-        };
-        tally.count(failed);
+    for case in &reader.cases {
+        if case.sound {
+            tally.count(run_case(rt, alloc, file, case)?);
+        }
     }
     Ok(())
 }
 
-/// Goes over a table of words, and prints what is otherwise than expected.
+/// Goes over a row of a table, `WORDS => ANSWER`, and prints what is otherwise than expected. `true` if something is.
+fn run_row<R: Print>(
+    rt: &R,
+    alloc: Global,
+    file: &str,
+    mark: &str,
+    line: &Line,
+) -> Result<bool> {
+    let number = line.number;
+    let Some((row, wanted)) = line.text.split_once("=>") else {
+        println!(rt; "{file}:{number}: can't be read: {} (a row has `=>`)", line.text)?;
+        return Ok(true);
+    };
+    let seen = answer(alloc, mark, row)?;
+    let wanted = wanted.trim();
+    if seen.as_str() != wanted {
+        println!(rt; "{file}:{number}: {row}: {seen} where {wanted} is expected")?;
+    }
+    Ok(seen.as_str() != wanted)
+}
+
+/// Goes over a table of words.
 fn run_table<R: Print>(
     rt: &R,
     alloc: Global,
@@ -88,18 +124,13 @@ fn run_table<R: Print>(
     lines: &[Line],
     tally: &mut Tally,
 ) -> Result<()> {
-    let mut table = Table::new(alloc);
+    let mut mark = "";
     for line in lines {
-        if let Err(fault) = table.try_line(alloc, line) {
-            tally.count(true);
-            println!(rt; "{file}:{}: can't be read: {} ({fault})", line.number, line.text)?;
+        match line.text.strip_prefix("mark $ ") {
+            Some(words) => mark = words,
+            None => tally.count(run_row(rt, alloc, file, mark, line)?),
         }
     }
-    for text in &table.found {
-        println!(rt; "{file}:{text}")?;
-    }
-    tally.cases = tally.cases.saturating_add(table.rows);
-    tally.failed = tally.failed.saturating_add(table.found.len() as u64);
     Ok(())
 }
 
@@ -120,9 +151,5 @@ fn main(rt: HostRuntime) -> Result<ExitCode> {
         }
     }
     println!(rt; "{} cases, {} failed", tally.cases, tally.failed)?;
-    Ok(if tally.failed == 0 {
-        ExitCode::SUCCESS
-    } else {
-        ExitCode::FAILURE
-    })
+    Ok(ExitCode::from(u8::from(tally.failed > 0)))
 }

@@ -26,7 +26,7 @@ fn read_numbered_port<'a>(name: &str, text: &'a str) -> Result<(Port, &'a str), 
     match name {
         "link" => Ok((Port::Link(small_number(word)?), rest)),
         "child" => Ok((Port::Child(small_number(word)?), rest)),
-        _ => Err(Fault::Port),
+        _ => Err(Fault::Form("no port is called so")),
     }
 }
 
@@ -50,7 +50,10 @@ pub fn read_status(text: &str, front: usize) -> Result<Status, Fault> {
 
 /// The number below 2^32 that a word is.
 fn wide_number(word: &str) -> Result<u32, Fault> {
-    word.parse::<u32>().or(Err(Fault::Number))
+    match word.parse::<u32>() {
+        Ok(number) => Ok(number),
+        Err(_) => Err(Fault::Form("this is no number below 2^32")),
+    }
 }
 
 /// The status of this name with the numbers of the text.
@@ -67,7 +70,7 @@ fn read_verdict(name: &str, text: &str) -> Result<Status, Fault> {
             t: wide_number(second)?,
             h: wide_number(third)?,
         }),
-        _ => Err(Fault::Status),
+        _ => Err(Fault::Form("no status is called so")),
     }
 }
 
@@ -82,6 +85,6 @@ fn read_bad(text: &str, front: usize) -> Result<Bad, Fault> {
         "session" => Ok(Bad::Session { place: value }),
         "too-big" => Ok(Bad::TooBig { limit: value }),
         "coins-ended" => Ok(Bad::CoinsEnded { taken: value }),
-        _ => Err(Fault::Status),
+        _ => Err(Fault::Form("no status is called so")),
     }
 }

@@ -1,81 +1,90 @@
 //! The cases of a file.
 
-use crate::bytes::{Names, read_bytes};
+use crate::bytes::{Names, is_plain, read_bytes};
 use crate::case::Case;
 use crate::fault::Fault;
 use crate::lines::{Line, split_word};
 use crate::setup_lines::read_setup;
-use std::alloc::Global;
+use std::alloc::{AllocError, Global};
 use std::collections::BTreeMap;
 
-/// A line that can't be read, by its number, and why.
+/// A line that can't be read, counted from 0 among those of its file, and why.
 #[derive(Drop)]
 pub struct Unread {
-    pub number: usize,
-    pub text: String,
+    pub line: usize,
     pub fault: Fault,
 }
 
-/// The cases of a file, and the lines of it that can't be read.
+/// The cases of a file, the lines of it that can't be read, and the bytes that have names so far.
 #[derive(Drop)]
-pub struct Cases {
+pub struct Reader {
     pub cases: Vec<Case>,
     pub unread: Vec<Unread>,
+    names: Names,
+    /// Whether the last case goes on.
+    open: bool,
 }
 
-/// The cases of a file.
-pub fn read_cases(alloc: Global, lines: &[Line]) -> Result<Cases, Fault> {
-    let mut names = BTreeMap::new(alloc);
-    let mut cases = Vec::new(alloc);
-    let mut unread = Vec::new(alloc);
-    let mut open = false;
-    for line in lines {
-        let (word, rest) = split_word(line.text.as_str());
-        let read = match word {
-            "case" => {
-                open = true;
-                let name = String::from_str(alloc, rest)?;
-                cases.push(Case::new(alloc, line.number, name))?;
-                Ok(())
-            }
-            "bytes" => {
-                open = false;
-                name_bytes(alloc, &mut names, rest)
-            }
-            _ if open => read_last(alloc, &names, &mut cases, word, rest),
-            _ => Err(Fault::NoCase),
-        };
-        if let Err(fault) = read {
-            unread.push(Unread {
-                number: line.number,
-                text: line.text.clone()?,
-                fault,
-            })?;
+impl Reader {
+    /// A reader that has read nothing yet.
+    pub fn new(alloc: Global) -> Self {
+        Reader {
+            cases: Vec::new(alloc),
+            unread: Vec::new(alloc),
+            names: BTreeMap::new(alloc),
+            open: false,
         }
     }
-    Ok(Cases { cases, unread })
-}
 
-/// Gives bytes the name at the head of the text.
-fn name_bytes(alloc: Global, names: &mut Names, text: &str) -> Result<(), Fault> {
-    let (name, rest) = split_word(text);
-    let bytes = read_bytes(alloc, names, rest)?;
-    names.insert(String::from_str(alloc, name)?, bytes)?;
-    Ok(())
-}
+    /// Reads the lines of a file.
+    pub fn read(&mut self, alloc: Global, lines: &[Line]) -> Result<(), AllocError> {
+        for (i, line) in lines.iter().enumerate() {
+            if let Err(fault) = self.read_line(alloc, line) {
+                self.unread.push(Unread { line: i, fault })?;
+            }
+        }
+        Ok(())
+    }
 
-/// Reads a line of the last case.
-fn read_last(
-    alloc: Global,
-    names: &Names,
-    cases: &mut [Case],
-    word: &str,
-    rest: &str,
-) -> Result<(), Fault> {
-    let Some(case) = cases.last_mut() else {
-        return Err(Fault::NoCase);
-    };
-    let read = read_setup(alloc, names, case, word, rest);
-    case.sound = case.sound && read.is_ok();
-    read
+    /// Reads one line.
+    fn read_line(&mut self, alloc: Global, line: &Line) -> Result<(), Fault> {
+        let (word, rest) = split_word(line.text.as_str());
+        match word {
+            "case" => self.begin(alloc, line.number, rest),
+            "bytes" => self.name(alloc, rest),
+            _ => self.go_on(alloc, word, rest),
+        }
+    }
+
+    /// Begins a case.
+    fn begin(&mut self, alloc: Global, line: usize, name: &str) -> Result<(), Fault> {
+        let name = String::from_str(alloc, name)?;
+        self.cases.push(Case::new(alloc, line, name))?;
+        self.open = true;
+        Ok(())
+    }
+
+    /// Gives bytes the name at the head of the text.
+    fn name(&mut self, alloc: Global, text: &str) -> Result<(), Fault> {
+        self.open = false;
+        let (name, rest) = split_word(text);
+        if is_plain(name) {
+            return Err(Fault::Form("a name isn't an even number of hexadecimal digits"));
+        }
+        let bytes = read_bytes(alloc, &self.names, rest)?;
+        self.names.insert(String::from_str(alloc, name)?, bytes)?;
+        Ok(())
+    }
+
+    /// Reads a line of the last case.
+    fn go_on(&mut self, alloc: Global, word: &str, rest: &str) -> Result<(), Fault> {
+        match self.cases.last_mut() {
+            Some(case) if self.open => {
+                let read = read_setup(alloc, &self.names, case, word, rest);
+                case.sound = case.sound && read.is_ok();
+                read
+            }
+            _ => Err(Fault::Form("this line stands in no case")),
+        }
+    }
 }

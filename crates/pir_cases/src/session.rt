@@ -2,105 +2,127 @@
 
 use crate::bytes::append_plain;
 use crate::fault::Fault;
-use crate::lines::{number, small_number};
-use std::alloc::Global;
+use crate::lines::{number, small_number, split_word};
 
-/// What the header of a session says besides the number 7 and two rows, and how many records there are.
+/// What the header of a session says besides the number 7 and two rows.
 #[derive(Clone, Copy)]
 struct Shape {
     scheme: u8,
     degree: u8,
     agreement: u8,
     servers: u8,
-    width: u32,
+    width: [u8; 4],
 }
 
-/// Appends the number of the session, that of its rows and their width.
-fn append_numbers(shape: &Shape, bytes: &mut Vec<u8>) -> Result<(), Fault> {
-    bytes.extend_from_slice(&[0, 0, 0, 0, 0, 0, 0, 7, 0, 0, 0, 2])?;
-    bytes.extend_from_slice(&shape.width.to_be_bytes())?;
-    Ok(())
+/// The width that a word is.
+fn width_of(word: &str) -> Result<[u8; 4], Fault> {
+    match u32::try_from(number(word)?) {
+        Ok(width) => Ok(width.to_be_bytes()),
+        Err(_) => Err(Fault::Form("this is no width")),
+    }
+}
+
+/// A payload, and how many servers in a row answer it: `43^9` stands for nine.
+fn payload_in(word: &str) -> Result<(&str, u8), Fault> {
+    match word.split_once('^') {
+        Some((payload, times)) => Ok((payload, small_number(times)?)),
+        None => Ok((word, 1)),
+    }
+}
+
+/// How many servers these payloads are of.
+fn servers_in(payloads: &str) -> Result<u8, Fault> {
+    let mut servers = 0u8;
+    for word in payloads.split_whitespace() {
+        servers = servers.saturating_add(payload_in(word)?.1);
+    }
+    Ok(servers)
 }
 
 /// Appends the record of one server: the answer of status 0 with its payload, or none.
 fn append_record(
-    alloc: Global,
-    shape: &Shape,
+    shape: Shape,
     index: u8,
     payload: &str,
     bytes: &mut Vec<u8>,
 ) -> Result<(), Fault> {
     if payload == "-" {
-        bytes.extend_from_slice(&[index, 0, 0, 0, 0, 0])?;
-        return Ok(());
+        return Ok(bytes.extend_from_slice(&[index, 0, 0, 0, 0, 0])?);
     }
-    let mut answer = Vec::new(alloc);
-    if !append_plain(alloc, payload, &mut answer)? {
-        return Err(Fault::Bytes);
+    let [a, b, c, d] = shape.width;
+    let start = bytes.len();
+    #[rattlefmt::skip]
+    bytes.extend_from_slice(&[
+        index, 1, 0, 0, 0, 0,
+        b'P', b'I', b'R', b'A', 1, shape.scheme, index, 0,
+        0, 0, 0, 0, 0, 0, 0, 7, 0, 0, 0, 2, a, b, c, d,
+    ])?;
+    append_plain(payload, bytes)?;
+    let len = bytes.len().saturating_sub(start).saturating_sub(6);
+    let mut at = start.saturating_add(2);
+    for byte in u32::try_from(len).unwrap_or(0).to_be_bytes() {
+        if let Some(place) = bytes.get_mut(at) {
+            *place = byte;
+        }
+        at = at.saturating_add(1);
     }
-    let len = u32::try_from(answer.len()).unwrap_or(0).wrapping_add(24);
-    bytes.extend_from_slice(&[index, 1])?;
-    bytes.extend_from_slice(&len.to_be_bytes())?;
-    bytes.extend_from_slice(b"PIRA")?;
-    bytes.extend_from_slice(&[1, shape.scheme, index, 0])?;
-    append_numbers(shape, bytes)?;
-    bytes.extend_from_slice(&answer)?;
     Ok(())
 }
 
-/// The payloads one by one, where `43^9` stands for nine times `43`.
-fn payloads_of<'a>(alloc: Global, words: &[&'a str]) -> Result<Vec<&'a str>, Fault> {
-    let mut payloads = Vec::new(alloc);
-    for word in words {
-        let (payload, times) = word.split_once('^').unwrap_or((*word, "1"));
-        for _ in 0..number(times)? {
-            payloads.push(payload)?;
-        }
-    }
-    Ok(payloads)
-}
-
-/// Appends a session of the given shape with these payloads.
-fn append_records(
-    alloc: Global,
-    shape: &Shape,
-    payloads: &[&str],
-    bytes: &mut Vec<u8>,
-) -> Result<(), Fault> {
-    bytes.extend_from_slice(b"PIRS")?;
-    bytes.extend_from_slice(&[1, shape.scheme, shape.degree, shape.agreement])?;
-    bytes.extend_from_slice(&[shape.servers, 0, 0, 0])?;
-    append_numbers(shape, bytes)?;
+/// Appends a session of this shape with these payloads.
+fn append_records(shape: Shape, payloads: &str, bytes: &mut Vec<u8>) -> Result<(), Fault> {
+    let [a, b, c, d] = shape.width;
+    #[rattlefmt::skip]
+    bytes.extend_from_slice(&[
+        b'P', b'I', b'R', b'S', 1, shape.scheme, shape.degree, shape.agreement, shape.servers, 0, 0, 0,
+        0, 0, 0, 0, 0, 0, 0, 7, 0, 0, 0, 2, a, b, c, d,
+    ])?;
     let mut index = 0u8;
-    for payload in payloads {
-        index = index.wrapping_add(1);
-        append_record(alloc, shape, index, payload, bytes)?;
+    for word in payloads.split_whitespace() {
+        let (payload, times) = payload_in(word)?;
+        for _ in 0..times {
+            index = index.wrapping_add(1);
+            append_record(shape, index, payload, bytes)?;
+        }
     }
     Ok(())
 }
 
-/// Appends the session that a text between parentheses spells, the first of which is past: `session T H S P1 P2 ..)` or
-/// `xor-session S P1 P2 ..)`.
-pub fn append_session(alloc: Global, text: &str, bytes: &mut Vec<u8>) -> Result<(), Fault> {
-    let Some(text) = text.strip_suffix(')') else {
-        return Err(Fault::Bytes);
-    };
-    let words: Vec<&str> = text.split_whitespace().collect(alloc)?;
-    let (scheme, degree, agreement, width, words) = match words.as_slice() {
-        ["session", degree, agreement, width, words @ ..] => {
-            (1, small_number(degree)?, small_number(agreement)?, width, words)
-        }
-        ["xor-session", width, words @ ..] => (2, 0, 0, width, words),
-        _ => return Err(Fault::Bytes),
-    };
-    let payloads = payloads_of(alloc, words)?;
-    let servers = u8::try_from(payloads.len()).or(Err(Fault::Number))?;
+/// Appends the session that a text spells: `session T H S P1 P2 ..`, or `xor-session S P1 P2 ..`, in which all have to agree.
+pub fn append_session(text: &str, bytes: &mut Vec<u8>) -> Result<(), Fault> {
+    let (name, rest) = split_word(text);
+    match name {
+        "session" => append_shamir(rest, bytes),
+        "xor-session" => append_xor(rest, bytes),
+        _ => Err(Fault::Form("in parentheses stands a session")),
+    }
+}
+
+/// Appends a session of Shamir's scheme, as `T H S P1 P2 ..`.
+fn append_shamir(text: &str, bytes: &mut Vec<u8>) -> Result<(), Fault> {
+    let (degree, rest) = split_word(text);
+    let (agreement, rest) = split_word(rest);
+    let (width, payloads) = split_word(rest);
     let shape = Shape {
-        scheme,
-        degree: if scheme == 1 { degree } else { servers.wrapping_sub(1) },
-        agreement: if scheme == 1 { agreement } else { servers },
-        servers,
-        width: width.parse::<u32>().or(Err(Fault::Number))?,
+        scheme: 1,
+        degree: small_number(degree)?,
+        agreement: small_number(agreement)?,
+        servers: servers_in(payloads)?,
+        width: width_of(width)?,
     };
-    append_records(alloc, &shape, &payloads, bytes)
+    append_records(shape, payloads, bytes)
+}
+
+/// Appends a session of the XOR scheme, as `S P1 P2 ..`.
+fn append_xor(text: &str, bytes: &mut Vec<u8>) -> Result<(), Fault> {
+    let (width, payloads) = split_word(text);
+    let servers = servers_in(payloads)?;
+    let shape = Shape {
+        scheme: 2,
+        degree: servers.saturating_sub(1),
+        agreement: servers,
+        servers,
+        width: width_of(width)?,
+    };
+    append_records(shape, payloads, bytes)
 }

@@ -1,65 +1,47 @@
 //! Commands, as a table of words writes them.
 
-use pir_words::{Asked, Text};
-use std::alloc::{AllocError, Global};
+use pir_words::Asked;
+use std::fmt;
+use std::fmt::{Formatter, Write};
 
 /// A command with its values; each text stands between `<` and `>`.
-pub fn show_asked(alloc: Global, asked: &Asked) -> Result<String, AllocError> {
-    match asked {
-        Asked::Replay { file } => format!(in alloc; "replay <{}>", file.as_str()),
-        Asked::Fetch { .. } => show_fetch(alloc, asked),
-        Asked::Serve {
-            scheme,
-            database,
-            width,
-            conns,
-            listen,
-            workers,
-        } => format!(in alloc;
-            "serve scheme {scheme} database <{}> width {width} conns {conns} listen <{}> workers {workers}",
-            database.as_str(),
-            listen.as_str()
-        ),
-        Asked::Selfrun {
-            seed,
-            rows,
-            width,
-            servers,
-            degree,
-            agree,
-            liars,
-            workers,
-        } => format!(in alloc;
-            "selfrun seed {seed} rows {rows} width {width} servers {servers} degree {degree} agree {agree} liars {liars} workers {workers}"
-        ),
-        Asked::Demo {
-            port,
-            database,
-            rows,
-            width,
-            block,
-            servers,
-            degree,
-            agree,
-            coins,
-        } => format!(in alloc;
-            "demo port {port} database <{}> rows {rows} width {width} block {block} servers {servers} degree {degree} agree {agree} coins <{}>",
-            database.as_str(),
-            coins.as_str()
-        ),
+#[derive(Clone, Copy)]
+pub struct Shown<'a>(pub &'a Asked);
+
+impl fmt::Display for Shown<'_> {
+    fn fmt<W: Write>(&self, f: &mut Formatter<W>) -> fmt::Result {
+        match self.0 {
+            Asked::Replay { file } => text(f, "replay", file.as_str()),
+            Asked::Fetch { .. } => fetch(f, self.0),
+            Asked::Serve { .. } => serve(f, self.0),
+            Asked::Selfrun { .. } => selfrun(f, self.0),
+            Asked::Demo { .. } => demo(f, self.0),
+        }
     }
 }
 
-/// Appends the name of the record, or `-` where none is kept.
-fn push_record(alloc: Global, keep: &Option<Text>, text: &mut String) -> Result<(), AllocError> {
-    match keep {
-        Some(name) => text.push_str(format!(in alloc; "<{}>", name.as_str())?.as_str()),
-        None => text.push('-'),
-    }
+/// Writes a name and a number.
+fn number<W: Write>(f: &mut Formatter<W>, name: &str, value: u64) -> fmt::Result {
+    write!(f, "{name} {value}")
 }
 
-/// `fetch` with its values.
-fn show_fetch(alloc: Global, asked: &Asked) -> Result<String, AllocError> {
+/// Writes a name and a text.
+fn text<W: Write>(f: &mut Formatter<W>, name: &str, value: &str) -> fmt::Result {
+    write!(f, "{name} <{value}>")
+}
+
+/// Writes the shape of a database, with the block that is fetched.
+fn shape<W: Write>(f: &mut Formatter<W>, rows: u32, width: u32) -> fmt::Result {
+    write!(f, " rows {rows} width {width}")
+}
+
+/// Writes a degree and an agreement.
+fn agreement<W: Write>(f: &mut Formatter<W>, degree: u8, agree: u8) -> fmt::Result {
+    write!(f, " degree {degree} agree {agree}")
+}
+
+/// Writes `fetch` with its values.
+fn fetch<W: Write>(f: &mut Formatter<W>, asked: &Asked) -> fmt::Result {
     let Asked::Fetch {
         scheme,
         rows,
@@ -72,16 +54,89 @@ fn show_fetch(alloc: Global, asked: &Asked) -> Result<String, AllocError> {
         addresses,
     } = asked
     else {
-        return Ok(String::new(alloc));
+        return Ok(());
     };
-    let mut text = format!(in alloc;
-        "fetch scheme {scheme} rows {rows} width {width} block {block} degree {degree} agree {agree} coins <{}> record ",
-        coins.as_str()
-    )?;
-    push_record(alloc, keep, &mut text)?;
-    text.push_str(" from ")?;
-    for address in addresses.as_slice() {
-        text.push_str(format!(in alloc; "<{}>", address.as_str())?.as_str())?;
+    number(f, "fetch scheme", u64::from(*scheme))?;
+    shape(f, *rows, *width)?;
+    number(f, " block", u64::from(*block))?;
+    agreement(f, *degree, *agree)?;
+    text(f, " coins", coins.as_str())?;
+    match keep {
+        Some(name) => text(f, " record", name.as_str())?,
+        None => f.write_str(" record -")?,
     }
-    Ok(text)
+    f.write_str(" from ")?;
+    for address in addresses.as_slice() {
+        write!(f, "<{address}>")?;
+    }
+    Ok(())
+}
+
+/// Writes `serve` with its values.
+fn serve<W: Write>(f: &mut Formatter<W>, asked: &Asked) -> fmt::Result {
+    let Asked::Serve {
+        scheme,
+        database,
+        width,
+        conns,
+        listen,
+        workers,
+    } = asked
+    else {
+        return Ok(());
+    };
+    number(f, "serve scheme", u64::from(*scheme))?;
+    text(f, " database", database.as_str())?;
+    number(f, " width", u64::from(*width))?;
+    number(f, " conns", u64::from(*conns))?;
+    text(f, " listen", listen.as_str())?;
+    number(f, " workers", u64::from(*workers))
+}
+
+/// Writes `selfrun` with its values.
+fn selfrun<W: Write>(f: &mut Formatter<W>, asked: &Asked) -> fmt::Result {
+    let Asked::Selfrun {
+        seed,
+        rows,
+        width,
+        servers,
+        degree,
+        agree,
+        liars,
+        workers,
+    } = asked
+    else {
+        return Ok(());
+    };
+    number(f, "selfrun seed", *seed)?;
+    shape(f, *rows, *width)?;
+    number(f, " servers", u64::from(*servers))?;
+    agreement(f, *degree, *agree)?;
+    number(f, " liars", u64::from(*liars))?;
+    number(f, " workers", u64::from(*workers))
+}
+
+/// Writes `demo` with its values.
+fn demo<W: Write>(f: &mut Formatter<W>, asked: &Asked) -> fmt::Result {
+    let Asked::Demo {
+        port,
+        database,
+        rows,
+        width,
+        block,
+        servers,
+        degree,
+        agree,
+        coins,
+    } = asked
+    else {
+        return Ok(());
+    };
+    number(f, "demo port", u64::from(*port))?;
+    text(f, " database", database.as_str())?;
+    shape(f, *rows, *width)?;
+    number(f, " block", u64::from(*block))?;
+    number(f, " servers", u64::from(*servers))?;
+    agreement(f, *degree, *agree)?;
+    text(f, " coins", coins.as_str())
 }

@@ -1,73 +1,55 @@
 //! Tables of words.
 
 use crate::fault::Fault;
-use crate::lines::Line;
-use crate::shown_words::show_asked;
-use pir_words::{WordsFault, read_words};
-use std::alloc::Global;
+use crate::setup_lines::{append_word, append_words};
+use crate::shown_words::Shown;
+use pir_words::{Asked, WordsFault, read_words};
+use std::alloc::{AllocError, Global};
 
-/// The words of a row: `''` is the empty word, `_` stands for a blank in a word, and `$` for the words of the mark.
-fn words_of(alloc: Global, mark: &str, row: &str) -> Result<Vec<String>, Fault> {
-    let mut words = Vec::new(alloc);
+/// Appends a word in which `_` stands for a blank.
+fn append_blanks(alloc: Global, word: &str, words: &mut Vec<String>) -> Result<(), Fault> {
+    let mut text = String::new(alloc);
+    for c in word.chars() {
+        text.push(if c == '_' { ' ' } else { c })?;
+    }
+    words.push(text)?;
+    Ok(())
+}
+
+/// Appends the words of a row: `''` is the empty word, `_` stands for a blank in a word, and `$` for the words of the mark.
+fn append_row(
+    alloc: Global,
+    mark: &str,
+    row: &str,
+    words: &mut Vec<String>,
+) -> Result<(), Fault> {
     for word in row.split_whitespace() {
-        if word == "$" {
-            for option in mark.split_whitespace() {
-                words.push(String::from_str(alloc, option)?)?;
-            }
-        } else {
-            let word = if word == "''" { "" } else { word };
-            words.push(word.replace(alloc, '_', " ")?)?;
+        match word {
+            "$" => append_words(alloc, mark, words)?,
+            "''" => append_word(alloc, word, words)?,
+            _ => append_blanks(alloc, word, words)?,
         }
     }
-    Ok(words)
+    Ok(())
 }
 
-/// What the words ask for.
-fn answer(alloc: Global, words: &[String]) -> Result<String, Fault> {
-    match read_words(alloc, words) {
-        Ok(asked) => Ok(show_asked(alloc, &asked)?),
-        Err(WordsFault::Usage) => Ok(String::from_str(alloc, "usage")?),
-        Err(WordsFault::Memory) => Ok(String::from_str(alloc, "memory")?),
+/// What the words ask for. It is looked at, and nothing of what its reading promises is needed.
+fn asked_by(alloc: Global, words: &[String]) -> Result<Asked, WordsFault> {
+    read_words(alloc, words)
+}
+
+/// What the words ask for, as a table writes it.
+fn answer_of(alloc: Global, words: &[String]) -> Result<String, AllocError> {
+    match asked_by(alloc, words) {
+        Ok(asked) => Shown(&asked).to_string(alloc),
+        Err(WordsFault::Usage) => String::from_str(alloc, "usage"),
+        Err(WordsFault::Memory) => String::from_str(alloc, "memory"),
     }
 }
 
-/// A table of words, as it is gone over: the words of the mark, the number of rows so far, and what was otherwise than
-/// expected or could not be read.
-#[derive(Drop)]
-pub struct Table {
-    mark: String,
-    pub rows: u64,
-    pub found: Vec<String>,
-}
-
-impl Table {
-    /// A table of which no row was read yet.
-    pub fn new(alloc: Global) -> Self {
-        Table {
-            mark: String::new(alloc),
-            rows: 0,
-            found: Vec::new(alloc),
-        }
-    }
-
-    /// Goes over one row, `WORDS => ANSWER`, or takes a mark, `mark $ WORDS`.
-    pub fn try_line(&mut self, alloc: Global, line: &Line) -> Result<(), Fault> {
-        if let Some(mark) = line.text.strip_prefix("mark $ ") {
-            self.mark = String::from_str(alloc, mark)?;
-            return Ok(());
-        }
-        let Some((row, wanted)) = line.text.split_once("=>") else {
-            return Err(Fault::Row);
-        };
-        self.rows = self.rows.saturating_add(1);
-        let words = words_of(alloc, self.mark.as_str(), row)?;
-        let seen = answer(alloc, &words)?;
-        let wanted = wanted.trim();
-        if seen.as_str() != wanted {
-            let number = line.number;
-            self.found
-                .push(format!(in alloc; "{number}: {row} asks for {seen} where {wanted} is expected")?)?;
-        }
-        Ok(())
-    }
+/// What the words of a row ask for.
+pub fn answer(alloc: Global, mark: &str, row: &str) -> Result<String, Fault> {
+    let mut words = Vec::new(alloc);
+    append_row(alloc, mark, row, &mut words)?;
+    Ok(answer_of(alloc, &words)?)
 }
