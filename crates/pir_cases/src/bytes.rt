@@ -159,7 +159,11 @@ fn part_in(text: &str) -> Result<Part<'_>, Fault> {
 /// The bytes of a range; with no number, from the first, or to the last.
 fn range_of<'a>(bytes: &'a [u8], from: &str, to: &str) -> Result<&'a [u8], Fault> {
     let from = if from.is_empty() { 0 } else { number(from)? };
-    let to = if to.is_empty() { bytes.len() } else { number(to)? };
+    let to = if to.is_empty() {
+        bytes.len()
+    } else {
+        number(to)?
+    };
     match bytes.get(from..to) {
         Some(range) => Ok(range),
         None => Err(Fault::Form("there are fewer bytes")),

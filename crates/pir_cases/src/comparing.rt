@@ -50,7 +50,12 @@ fn compare_output(
     let all = expected.output.as_slice();
     let len = reach.bytes(Port::Output, all.len());
     let wanted = all.get(..len).unwrap_or(all);
-    found.bytes(alloc, What::Took(Port::Output), ports.seen(Port::Output), wanted)
+    found.bytes(
+        alloc,
+        What::Took(Port::Output),
+        ports.seen(Port::Output),
+        wanted,
+    )
 }
 
 /// Compares what another port took.
@@ -128,7 +133,11 @@ fn compare_given(
         let wanted = bytes.get(..len).unwrap_or(bytes);
         found.some(alloc, What::GuestWasGiven(i), ports.answered_to(i), wanted)?;
     }
-    found.none(alloc, What::GuestWasGiven(guests), ports.answered_to(guests))
+    found.none(
+        alloc,
+        What::GuestWasGiven(guests),
+        ports.answered_to(guests),
+    )
 }
 
 /// Compares the words that a child was started with.

@@ -114,11 +114,7 @@ fn append_given(
 }
 
 /// Appends the words that a child is started with.
-fn append_started(
-    alloc: Global,
-    text: &str,
-    started: &mut Vec<Vec<String>>,
-) -> Result<(), Fault> {
+fn append_started(alloc: Global, text: &str, started: &mut Vec<Vec<String>>) -> Result<(), Fault> {
     started.push(words_of(alloc, text)?)?;
     Ok(())
 }

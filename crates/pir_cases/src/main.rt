@@ -17,8 +17,6 @@ mod session;
 mod setup_lines;
 mod shown_words;
 mod tables;
-#[cfg(test)]
-mod tests;
 mod texts;
 mod watched;
 
@@ -84,7 +82,10 @@ fn run_file<R: Print + Threads + Sync>(
     for unread in &reader.unread {
         tally.count(true);
         if let Some(line) = lines.get(unread.line) {
-            println!(rt; "{file}:{}: can't be read: {} ({})", line.number, line.text, unread.fault)?;
+            println!(rt;
+                "{file}:{}: can't be read: {} ({})",
+                line.number, line.text, unread.fault
+            )?;
         }
     }
     for case in &reader.cases {
@@ -96,16 +97,13 @@ fn run_file<R: Print + Threads + Sync>(
 }
 
 /// Goes over a row of a table, `WORDS => ANSWER`, and prints what is otherwise than expected. `true` if something is.
-fn run_row<R: Print>(
-    rt: &R,
-    alloc: Global,
-    file: &str,
-    mark: &str,
-    line: &Line,
-) -> Result<bool> {
+fn run_row<R: Print>(rt: &R, alloc: Global, file: &str, mark: &str, line: &Line) -> Result<bool> {
     let number = line.number;
     let Some((row, wanted)) = line.text.split_once("=>") else {
-        println!(rt; "{file}:{number}: can't be read: {} (a row has `=>`)", line.text)?;
+        println!(rt;
+            "{file}:{number}: can't be read: {} (a row has `=>`)",
+            line.text
+        )?;
         return Ok(true);
     };
     let seen = answer(alloc, mark, row)?;

@@ -80,7 +80,11 @@ fn read_bad(text: &str, front: usize) -> Result<Bad, Fault> {
     if name == "empty-file" && word.is_empty() {
         return Ok(Bad::EmptyFile);
     }
-    let value = if word == "front" { front } else { number(word)? } as u64;
+    let value = if word == "front" {
+        front
+    } else {
+        number(word)?
+    } as u64;
     match name {
         "session" => Ok(Bad::Session { place: value }),
         "too-big" => Ok(Bad::TooBig { limit: value }),

@@ -114,12 +114,7 @@ fn put_with(
 }
 
 /// Puts on the port what it holds.
-fn put(
-    alloc: Global,
-    trial: Trial,
-    held: &Held,
-    ports: &mut MemPorts,
-) -> Result<(), AllocError> {
+fn put(alloc: Global, trial: Trial, held: &Held, ports: &mut MemPorts) -> Result<(), AllocError> {
     match trial.change {
         Change::Byte(of, at, byte) if of == held.port => put_with(alloc, held, at, byte, ports),
         _ => ports.put(alloc, held.port, trial.front_of(held.port, &held.bytes)),
@@ -145,22 +140,11 @@ fn fill(
 }
 
 /// Ports for a run in which the calls with these numbers fail.
-fn new_ports(
-    alloc: Global,
-    setup: &Setup,
-    trial: Trial,
-    fails: &[u64],
-) -> Result<MemPorts, Fault> {
+fn new_ports(alloc: Global, setup: &Setup, trial: Trial, fails: &[u64]) -> Result<MemPorts, Fault> {
     if fails.contains(&u64::MAX) || trial.piece == 0 {
         return Err(Fault::Form("a call moves a byte at least"));
     }
-    Ok(MemPorts::new(
-        alloc,
-        trial.piece,
-        fails,
-        setup.names,
-        setup.name_bytes,
-    )?)
+    Ok(MemPorts::new(alloc, trial.piece, fails, setup.names, setup.name_bytes)?)
 }
 
 /// The run over these ports. What it did is looked at, and nothing of what it promises is needed.

@@ -40,12 +40,7 @@ fn servers_in(payloads: &str) -> Result<u8, Fault> {
 }
 
 /// Appends the record of one server: the answer of status 0 with its payload, or none.
-fn append_record(
-    shape: Shape,
-    index: u8,
-    payload: &str,
-    bytes: &mut Vec<u8>,
-) -> Result<(), Fault> {
+fn append_record(shape: Shape, index: u8, payload: &str, bytes: &mut Vec<u8>) -> Result<(), Fault> {
     if payload == "-" {
         return Ok(bytes.extend_from_slice(&[index, 0, 0, 0, 0, 0])?);
     }

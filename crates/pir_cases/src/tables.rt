@@ -17,12 +17,7 @@ fn append_blanks(alloc: Global, word: &str, words: &mut Vec<String>) -> Result<(
 }
 
 /// Appends the words of a row: `''` is the empty word, `_` stands for a blank in a word, and `$` for the words of the mark.
-fn append_row(
-    alloc: Global,
-    mark: &str,
-    row: &str,
-    words: &mut Vec<String>,
-) -> Result<(), Fault> {
+fn append_row(alloc: Global, mark: &str, row: &str, words: &mut Vec<String>) -> Result<(), Fault> {
     for word in row.split_whitespace() {
         match word {
             "$" => append_words(alloc, mark, words)?,

@@ -1,4 +1,4 @@
-use Rattle.pir_cases.proofs.tests.agreed_blocks.count_of_both.Given as goal
+use Rattle.program_tests.proofs.agreed_blocks.count_of_both.Given as goal
 
 -- the steps are counted in the blank's own ledger
 abbrev pub ghosts-decided : goal.ghosts-decided

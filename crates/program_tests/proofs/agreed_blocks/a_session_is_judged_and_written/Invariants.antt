@@ -1,4 +1,4 @@
-use Rattle.pir_cases.proofs.tests.agreed_blocks.a_session_is_judged_and_written.Given as goal
+use Rattle.program_tests.proofs.agreed_blocks.a_session_is_judged_and_written.Given as goal
 
 -- the steps are counted in the blank's own ledger
 abbrev pub ghosts-judged : goal.ghosts-judged

@@ -1,5 +1,5 @@
 use Rattle.std.proofs.Common.{inl, refl, lit<, arith}
-use Rattle.pir_cases.proofs.tests.one_fetch.fetched.Goals as goal
+use Rattle.program_tests.proofs.one_fetch.fetched.Goals as goal
 
 pub fetch-requires-clause-plan : goal.fetch-requires-clause-plan
 fetch-requires-clause-plan g c = record {

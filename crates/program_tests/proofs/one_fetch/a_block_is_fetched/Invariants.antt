@@ -1,4 +1,4 @@
-use Rattle.pir_cases.proofs.tests.one_fetch.a_block_is_fetched.Given as goal
+use Rattle.program_tests.proofs.one_fetch.a_block_is_fetched.Given as goal
 
 -- the steps are counted in the blank's own ledger
 abbrev pub ghosts-fetched : goal.ghosts-fetched

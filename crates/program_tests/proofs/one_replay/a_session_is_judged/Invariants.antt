@@ -1,4 +1,4 @@
-use Rattle.pir_cases.proofs.tests.one_replay.a_session_is_judged.Given as goal
+use Rattle.program_tests.proofs.one_replay.a_session_is_judged.Given as goal
 
 -- the steps are counted in the blank's own ledger
 abbrev pub ghosts-replayed : goal.ghosts-replayed
