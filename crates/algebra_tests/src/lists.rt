@@ -3,7 +3,7 @@ ghost use Rattle.std.specs.Prelude.{◌≢◌, ◌≡◌, ◌<◌, All, AllPairs
 
 use crate::rows::are;
 use column_lists::{column_list, plan};
-use gs_interpolate::Elimination;
+use gs_interpolate::{Elimination, Interpolate, Koetter};
 use std::alloc::{AllocError, Global};
 use std::marker::Brand;
 use std::sync::ledger::{Blank, Ledger};
@@ -38,10 +38,11 @@ fn ascends(xs: &[u8]) -> bool
 }
 
 /// The list, where each counter is that of its blank's ledger; `None` where the numbers don't admit one.
-fn listed_in_steps<C: Ledger, N: Ledger>(
+fn listed_in_steps<I: Interpolate, C: Ledger, N: Ledger>(
     cols: Blank,
     nodes: Blank,
     alloc: Global,
+    way: &I,
     points: &[(u8, u8)],
     t: u32,
     h: u32,
@@ -58,17 +59,42 @@ fn listed_in_steps<C: Ledger, N: Ledger>(
     }
     let mut cols: Steps<C> = Steps::new(cols);
     let mut nodes: Steps<N> = Steps::new(nodes);
-    let list = column_list(alloc, &Elimination, points, t, h, &mut cols, &mut nodes)?;
+    let list = column_list(alloc, way, points, t, h, &mut cols, &mut nodes)?;
     Ok(Some(list))
 }
 
-fn listed(
+fn listed_by_elimination(
     alloc: Global,
     points: &[(u8, u8)],
     t: u32,
     h: u32,
 ) -> Result<Option<Vec<Vec<u8>>>, AllocError> {
-    listed_in_steps::<Brand, Brand>(Blank::new(1), Blank::new(1), alloc, points, t, h)
+    listed_in_steps::<Elimination, Brand, Brand>(
+        Blank::new(1),
+        Blank::new(1),
+        alloc,
+        &Elimination,
+        points,
+        t,
+        h,
+    )
+}
+
+fn listed_by_koetter(
+    alloc: Global,
+    points: &[(u8, u8)],
+    t: u32,
+    h: u32,
+) -> Result<Option<Vec<Vec<u8>>>, AllocError> {
+    listed_in_steps::<Koetter, Brand, Brand>(
+        Blank::new(1),
+        Blank::new(1),
+        alloc,
+        &Koetter,
+        points,
+        t,
+        h,
+    )
 }
 
 /// Points, and the polynomials of degree at most `t` that agree with at least `h` of them.
@@ -130,7 +156,9 @@ const WORKED: [Worked<'static>; 3] = [
 #[test]
 fn lists_the_worked_points(rt: HostRuntime) -> Result<(), AllocError> {
     for worked in &WORKED {
-        let list = listed(rt.alloc(), worked.points, worked.t, worked.h)?;
+        let list = listed_by_elimination(rt.alloc(), worked.points, worked.t, worked.h)?;
+        assert!(rt; list.is_some_and(|list| are(&list, worked.list)));
+        let list = listed_by_koetter(rt.alloc(), worked.points, worked.t, worked.h)?;
         assert!(rt; list.is_some_and(|list| are(&list, worked.list)));
     }
     Ok(())
@@ -194,11 +222,15 @@ fn listed_slowly(
     Ok(found)
 }
 
-/// Whether the list is that of the slow program.
+/// Whether the list is that of the slow program, whichever way is taken to interpolate.
 fn is_as_slow(alloc: Global, points: &[(u8, u8)], t: u32, h: u32) -> Result<bool, AllocError> {
     let slow = listed_slowly(alloc, points, t, h)?;
-    let list = listed(alloc, points, t, h)?;
-    Ok(list.is_some_and(|list| list == slow))
+    let by_elimination = listed_by_elimination(alloc, points, t, h)?;
+    let by_koetter = listed_by_koetter(alloc, points, t, h)?;
+    Ok(
+        by_elimination.is_some_and(|list| list == slow)
+            && by_koetter.is_some_and(|list| list == slow),
+    )
 }
 
 /// A byte that looks random (Press et al. 1992).

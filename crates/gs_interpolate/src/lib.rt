@@ -8,8 +8,10 @@
 //! Not promised: which of the many such polynomials it is, and anything of time.
 #![tactic(auto)]
 
+mod basis;
 mod condition;
 mod elimination;
+mod koetter;
 pub mod laws;
 mod layout;
 
@@ -19,6 +21,7 @@ ghost use Rattle.gs_interpolate.specs.Interpolant.{IsInterpolant};
 
 use bi_poly::BiPoly;
 pub use elimination::Elimination;
+pub use koetter::Koetter;
 use std::alloc::{AllocError, Global};
 
 /// A way to interpolate with multiplicities.

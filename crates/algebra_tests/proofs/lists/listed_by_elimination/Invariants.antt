@@ -1,4 +1,4 @@
-use Rattle.algebra_tests.proofs.lists.listed.Given as goal
+use Rattle.algebra_tests.proofs.lists.listed_by_elimination.Given as goal
 
 -- the steps are counted in the blanks' own ledgers
 abbrev pub ghosts-listed_in_steps-C-Ledger : goal.ghosts-listed_in_steps-C-Ledger
