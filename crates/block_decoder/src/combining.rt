@@ -11,9 +11,6 @@ use chor_xor::combine_into;
 use std::alloc::{AllocError, Global};
 use wire_frames::Session;
 
-#[cfg(test)]
-mod tests;
-
 /// What the usable answers say in the XOR scheme (Chor, Goldreich, Kushilevitz and Sudan 1995): the sum of all payloads
 /// is the block, and without one of them nothing is known of it. Memory is taken for the block and its listing.
 pub(crate) fn combine_all(alloc: Global, session: &Session) -> Result<Verdict, AllocError>

@@ -20,12 +20,8 @@ mod lagrange;
 pub mod laws;
 mod listing;
 mod plain;
-#[cfg(test)]
-mod tests;
 mod usable;
 mod verdict;
-#[cfg(test)]
-mod worked_rows;
 mod write;
 
 pub use decoder::{bound, decide};

@@ -21,6 +21,3 @@ mod plan;
 
 pub use fetch_once::fetch;
 pub use plan::{FetchFault, FetchPlan};
-
-#[cfg(test)]
-mod tests;

@@ -15,8 +15,6 @@ mod header;
 pub mod laws;
 mod met;
 mod serve;
-#[cfg(test)]
-mod tests;
 
 pub use desk::Desk;
 pub use met::Met;

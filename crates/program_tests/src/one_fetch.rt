@@ -1,0 +1,100 @@
+//! A block fetched from three servers in memory, and the texts of the faults of a fetch.
+
+ghost use Rattle.std.specs.Prelude.{◌≡◌, ◌<◌, length};
+
+use block_decoder::Verdict;
+use fetch_client::{FetchFault, FetchPlan, fetch};
+use pir_ports::{MemPorts, Port};
+use std::alloc::{AllocError, Global};
+use std::marker::Brand;
+use std::sync::ledger::{Blank, Ledger};
+use std::test::Fail;
+use uni_poly::steps::Steps;
+use wire_frames::Session;
+
+// The second of two rows of two bytes. The number of the session is 7, and the polynomials of the rows are `05 x` and
+// `01 + 07 x`.
+const PLAN: FetchPlan = FetchPlan {
+    scheme: 1,
+    t: 1,
+    h: 2,
+    n: 3,
+    r: 2,
+    s: 2,
+    block: 1,
+};
+
+// What the servers answer, and what the second is asked.
+const ANSWERS: [&[u8; 26]; 3] = [
+    b"PIRA\x01\x01\x01\0\0\0\0\0\0\0\0\x07\0\0\0\x02\0\0\0\x02\xcf\xd2",
+    b"PIRA\x01\x01\x02\0\0\0\0\0\0\0\0\x07\0\0\0\x02\0\0\0\x02\x40\x73",
+    b"PIRA\x01\x01\x03\0\0\0\0\0\0\0\0\x07\0\0\0\x02\0\0\0\x02\xcc\xe5",
+];
+
+const QUERY: &[u8] = b"PIRQ\x01\x01\x02\0\0\0\0\0\0\0\0\x07\0\0\0\x02\0\0\0\x02\x0a\x0f";
+
+/// The fetch, with a counter of columns made of the blank.
+fn fetched<C: Ledger>(
+    alloc: Global,
+    blank: Blank,
+    addresses: &[String],
+    ports: &mut MemPorts,
+) -> Result<(Session, Verdict), FetchFault>
+    requires blank { (blank.name ≡ C.name) × (blank.parts ≡ C.parts) × (0 < blank.parts) }
+    requires addresses { length addresses.now ≡ 3 }
+{
+    let mut cols: Steps<C> = Steps::new(blank);
+    fetch(alloc, &PLAN, addresses, ports, &mut cols)
+}
+
+/// Ports with the coins, with the answers of the servers, and with room for their queries.
+fn ports_of_servers(alloc: Global) -> Result<MemPorts, AllocError> {
+    let mut ports = MemPorts::new(alloc, 7, &[], 3, 30)?;
+    ports.put(alloc, Port::Coins, b"\0\0\0\0\0\0\0\x07\x05\x07")?;
+    for i in 0..3u8 {
+        let link = Port::Link(i + 1);
+        ports.put(alloc, link, ANSWERS[i as usize])?;
+        ports.room(alloc, link, 26)?;
+    }
+    Ok(ports)
+}
+
+fn addresses(alloc: Global) -> Result<[String; 3], AllocError> {
+    Ok([
+        String::from_str(alloc, "a")?,
+        String::from_str(alloc, "b")?,
+        String::from_str(alloc, "c")?,
+    ])
+}
+
+#[test]
+fn a_block_is_fetched(rt: HostRuntime) -> Result<(), Fail> {
+    let alloc = rt.alloc();
+    let addresses = addresses(alloc)?;
+    let mut ports = ports_of_servers(alloc)?;
+    let Ok((session, verdict)) = fetched::<Brand>(alloc, Blank::new(1), &addresses, &mut ports)
+    else {
+        return Err(Fail::new("a fault"));
+    };
+    assert!(rt;
+        matches!(&verdict, Verdict::Listed(blocks) if blocks.len() == 1 && blocks.get(0) == Some(b"CD".as_slice()))
+    );
+    assert!(rt; session.session() == 7 && session.record_count() == 3);
+    assert!(rt; ports.seen(Port::Link(2)) == QUERY);
+    Ok(())
+}
+
+#[test]
+fn the_texts_of_faults(rt: HostRuntime) -> Result<(), Fail> {
+    for (fault, text) in [
+        (FetchFault::CoinsFault, "a call on the coins failed"),
+        (
+            FetchFault::CoinsEnded { taken: 9 },
+            "the coins ended after 9 bytes",
+        ),
+        (FetchFault::Memory, "no memory"),
+    ] {
+        assert_eq!(rt; format!(in rt.alloc(); "{fault}")?.as_str(), text);
+    }
+    Ok(())
+}
