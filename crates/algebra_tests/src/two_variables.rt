@@ -101,24 +101,3 @@ fn zero_has_no_degree(rt: HostRuntime) -> Result<(), AllocError> {
     assert!(rt; weight(&zero, 1) == None);
     Ok(())
 }
-
-#[test]
-fn products_and_multiples_worked(rt: HostRuntime) -> Result<(), AllocError> {
-    let mut q = two_roots(rt.alloc())?;
-    let product = q.times_linear(rt.alloc(), 0x01)?;
-    assert!(rt;
-        has_rows(
-            &product,
-            &[&[0x00, 0x01, 0x01], &[0x01, 0x00, 0x01], &[0x01, 0x01]]
-        )
-    );
-    assert!(rt; product.rows().len() <= q.rows().len());
-    q.add_scaled(&product, 0x02)?;
-    assert!(rt;
-        has_rows(
-            &q,
-            &[&[0x00, 0x03, 0x02], &[0x03, 0x01, 0x02], &[0x03, 0x02]]
-        )
-    );
-    Ok(())
-}
