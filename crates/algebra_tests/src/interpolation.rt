@@ -1,5 +1,5 @@
 // Interpolation with multiplicities.
-ghost use Rattle.std.specs.Prelude.{◌≡◌, ◌≢◌, ◌<◌, ◌≤◌, ◌^◌, length, AllPairs, IsTrue};
+ghost use Rattle.std.specs.Prelude.{◌≢◌, ◌<◌, ◌≤◌, ◌^◌, length, AllPairs, IsTrue};
 ghost use Rattle.gs_interpolate.specs.Monomials.{monomials, conditions};
 
 use bi_poly::BiPoly;
@@ -96,13 +96,11 @@ fn eight(state: &mut u32) -> [(u8, u8); 8] {
     ]
 }
 
-const ON_TWO_LINES: [(u8, u8); 5] = [(1, 0x10), (2, 0x10), (3, 0x10), (4, 0x17), (5, 0x16)];
-
 // Five points on two lines, of which each has three: a product of the two lines is among what may come out.
 #[test]
 #[tactic(auto, unfolding(gs_interpolate::specs::Monomials::monomials_below))]
 fn through_two_lines(rt: HostRuntime) -> Result<(), AllocError> {
-    let points = ON_TWO_LINES;
+    let points = [(1, 0x10), (2, 0x10), (3, 0x10), (4, 0x17), (5, 0x16)];
     assert!(rt; is_ascending(&points));
     assert!(rt; is_interpolated_both_ways(rt.alloc(), &points, 1, 1, 2)?);
     Ok(())
@@ -111,7 +109,7 @@ fn through_two_lines(rt: HostRuntime) -> Result<(), AllocError> {
 #[test]
 #[tactic(auto, unfolding(gs_interpolate::specs::Monomials::monomials_below))]
 fn with_multiplicity_two(rt: HostRuntime) -> Result<(), AllocError> {
-    let points = ON_TWO_LINES;
+    let points = [(1, 0x10), (2, 0x10), (3, 0x10), (4, 0x17), (5, 0x16)];
     assert!(rt; is_ascending(&points));
     assert!(rt; is_interpolated_both_ways(rt.alloc(), &points, 2, 1, 5)?);
     Ok(())

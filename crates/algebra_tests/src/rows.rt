@@ -1,5 +1,5 @@
 // Polynomials in two variables for the tests.
-ghost use Rattle.std.specs.Prelude.{◌≡◌, ◌↔◌, IsTrue, All};
+ghost use Rattle.std.specs.Prelude.{◌≡◌, ◌↔◌, IsTrue, All, length};
 ghost use Rattle.bi_poly.specs.Rows.{IsZero, IsWithinLimits};
 
 use bi_poly::BiPoly;
@@ -12,6 +12,13 @@ pub fn from_slices(alloc: Global, slices: &[&[u8]]) -> Result<BiPoly, AllocError
         rows.push(Vec::from_slice(alloc, slice)?)?;
     }
     Ok(BiPoly::from_rows(rows))
+}
+
+/// How many rows there are.
+pub fn row_count(q: &BiPoly) -> usize
+    ensures { result ≡ length q.now }
+{
+    q.rows().len()
 }
 
 /// Whether it is small enough for its weighted degree.

@@ -1,5 +1,5 @@
 // Polynomials in two variables.
-use crate::rows::{from_slices, has_rows, is_nonzero, is_same, is_within_limits};
+use crate::rows::{are, from_slices, has_rows, is_nonzero, is_same, is_within_limits, row_count};
 use bi_poly::BiPoly;
 use std::alloc::{AllocError, Global};
 
@@ -66,11 +66,11 @@ fn one_root_is_shifted_to_zero(rt: HostRuntime) -> Result<(), AllocError> {
     Ok(())
 }
 
-#[test]
-fn zero_has_no_degree(rt: HostRuntime) -> Result<(), AllocError> {
-    let zero = from_slices(rt.alloc(), &[&[], &[0x00, 0x00]])?;
-    assert!(rt; is_within_limits(&zero));
-    assert!(rt; weight(&zero, 1) == None);
+/// Adds `factor` times `p`, where it has no more rows.
+fn add_multiple(q: &mut BiPoly, p: &BiPoly, factor: u8) -> Result<(), AllocError> {
+    if row_count(p) <= row_count(q) {
+        q.add_scaled(p, factor)?;
+    }
     Ok(())
 }
 
@@ -79,18 +79,25 @@ fn products_and_multiples_worked(rt: HostRuntime) -> Result<(), AllocError> {
     let mut q = two_roots(rt.alloc())?;
     let product = q.times_linear(rt.alloc(), 0x01)?;
     assert!(rt;
-        has_rows(
-            &product,
+        are(
+            product.rows(),
             &[&[0x00, 0x01, 0x01], &[0x01, 0x00, 0x01], &[0x01, 0x01]]
         )
     );
-    assert!(rt; product.rows().len() <= q.rows().len());
-    q.add_scaled(&product, 0x02)?;
+    add_multiple(&mut q, &product, 0x02)?;
     assert!(rt;
-        has_rows(
-            &q,
+        are(
+            q.rows(),
             &[&[0x00, 0x03, 0x02], &[0x03, 0x01, 0x02], &[0x03, 0x02]]
         )
     );
+    Ok(())
+}
+
+#[test]
+fn zero_has_no_degree(rt: HostRuntime) -> Result<(), AllocError> {
+    let zero = from_slices(rt.alloc(), &[&[], &[0x00, 0x00]])?;
+    assert!(rt; is_within_limits(&zero));
+    assert!(rt; weight(&zero, 1) == None);
     Ok(())
 }
