@@ -68,7 +68,7 @@ expansion-cons c p a m j l =
     (λ v k. ap (λ x. G v ⊕ T v ⊗ x) (linear_power-next a v j) ∙ turn (T v) (L v) (before (times_linear (1 ∷ []) a v) j) a))
 
 -- derivative u of row j
-derivatives-row : (q : List (List ℕ)) (a u j : ℕ) → coef (derivatives q a u) j ≡ taylor (row q j) a u
+pub derivatives-row : (q : List (List ℕ)) (a u j : ℕ) → coef (derivatives q a u) j ≡ taylor (row q j) a u
 unfolding derivatives coef
 derivatives-row q a u j =
     elim (cases_lt j (length q)) [

@@ -3,3 +3,4 @@ pub mod Hasse
 pub mod Degree
 pub mod Substitution
 pub mod Expansion
+pub mod Combination

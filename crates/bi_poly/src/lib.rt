@@ -13,8 +13,6 @@
 pub mod laws;
 mod product;
 mod row;
-#[cfg(test)]
-mod tests;
 
 ghost use Rattle.std.specs.Prelude.{◌≡◌, ◌<◌, ◌≤◌, length, map, MatchOption, IfOk};
 ghost use Rattle.std.specs.List.{range_with_len};
@@ -22,10 +20,11 @@ ghost use Rattle.bi_poly.specs.Rows.{row as row_of, column, IsZero, IsWithinLimi
 ghost use Rattle.bi_poly.specs.Degree.{IsWeightedDegree, IsOrderInX, without_first};
 ghost use Rattle.bi_poly.specs.Hasse.{hasse};
 ghost use Rattle.bi_poly.specs.Substitution.{IsAtPoly, IsShiftedRoot, shifted_row};
+ghost use Rattle.bi_poly.specs.Combination.{IsScaledSum2, times_linear_rows};
 
 use crate::product::multiply_and_add;
 pub use crate::row::is_odd_binomial;
-use crate::row::{coefficient, degree, derivative, drop_first, order};
+use crate::row::{add_scaled, coefficient, degree, derivative, drop_first, order};
 use std::alloc::{AllocError, Global};
 use std::marker::Model;
 
@@ -93,6 +92,37 @@ impl BiPoly {
             power = gf256::mul(power, b);
         }
         sum
+    }
+
+    /// Adds `factor` times `p`, which must have no more rows. A row of `p` that is longer makes this one's longer.
+    ///
+    /// # Errors
+    ///
+    /// `AllocError` where there is no memory for a longer row. Some rows have their sums then, and the others have not.
+    pub fn add_scaled(&mut self, p: &BiPoly, factor: u8) -> Result<(), AllocError>
+        requires { length p.now ≤ length self.old }
+        ensures { IfOk result (λ _. IsScaledSum2 self.new self.old p.now factor) }
+    {
+        for j in 0..p.len() {
+            add_scaled(&mut self.rows[j], p.row(j), factor)?;
+        }
+        Ok(())
+    }
+
+    /// The product with `x - a`, each of whose rows is one longer: that of `y^2 + (1 + x)*y + x` and `x - 1` is
+    /// `(1 + x)*y^2 + (1 + x^2)*y + x + x^2`.
+    ///
+    /// # Errors
+    ///
+    /// `AllocError` where there is no memory for the rows.
+    pub fn times_linear(&self, alloc: Global, a: u8) -> Result<BiPoly, AllocError>
+        ensures { IfOk result (λ s. s ≡ times_linear_rows self.now a) }
+    {
+        let mut rows = Vec::new(alloc);
+        for j in 0..self.len() {
+            rows.push(uni_poly::mul_by_linear(alloc, self.row(j), a)?)?;
+        }
+        Ok(BiPoly { rows })
     }
 
     /// The weighted degree, x having the weight 1 and y the weight `t`, at most 254: the greatest `i + t*j` of a

@@ -7,8 +7,6 @@
 
 mod file;
 mod matrix;
-#[cfg(test)]
-mod tests;
 
 pub use file::load;
 pub use matrix::{LoadFault, Matrix, most_bytes};

@@ -16,8 +16,6 @@
 mod answer;
 mod bitmap;
 pub mod laws;
-#[cfg(test)]
-mod tests;
 
 pub use answer::{answer_into, combine_into};
 pub use bitmap::{bitmap_into, has_unused_bits};

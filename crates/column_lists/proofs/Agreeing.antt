@@ -23,33 +23,33 @@ use Rattle.column_lists.specs.Agreement.{agreements}
 use Rattle.column_lists.proofs.ComposedDegree.{at_series-degree, at_series-bytes, IsLighterThan}
 
 -- whether phi takes the second member at the first
-takes : List ℕ → ℕ × ℕ → Bool
+unfoldable pub takes : List ℕ → ℕ × ℕ → Bool
 takes phi p = val phi p.0 == p.1
 
 -- where: the first members of the points at which it does
-places : List ℕ → List (ℕ × ℕ) → List ℕ
+unfoldable pub places : List ℕ → List (ℕ × ℕ) → List ℕ
 places phi points = map (λ p. p.0) (filter (takes phi) points)
 
 -- they are as many as the agreements
-length-places : (phi : List ℕ) (points : List (ℕ × ℕ)) → length (places phi points) ≡ agreements phi points
+pub length-places : (phi : List ℕ) (points : List (ℕ × ℕ)) → length (places phi points) ≡ agreements phi points
 unfolding places takes agreements
 length-places phi points = length-map (filter (takes phi) points) (λ p. p.0) ∙ length-filter (takes phi) points
 
 -- they are bytes
-places-bytes : (phi : List ℕ) (points : List (ℕ × ℕ)) → All (λ p. p.0 < 256) points → All (λ x. x < 256) (places phi points)
+pub places-bytes : (phi : List ℕ) (points : List (ℕ × ℕ)) → All (λ p. p.0 < 256) points → All (λ x. x < 256) (places phi points)
 unfolding places
 places-bytes phi points h =
     All-map (λ x. x < 256) (λ p. p.0) (filter (takes phi) points) (All-filter (takes phi) (λ p. p.0 < 256) points h)
 
 -- no two are the same
-AllPairs-firsts : (points : List (ℕ × ℕ)) → AllPairs (λ p q. p.0 ≢ q.0) points → AllPairs (λ x y. x ≢ y) (map (λ p. p.0) points)
+pub AllPairs-firsts : (points : List (ℕ × ℕ)) → AllPairs (λ p q. p.0 ≢ q.0) points → AllPairs (λ x y. x ≢ y) (map (λ p. p.0) points)
 AllPairs-firsts points h = λ i j d l m.
     let n = length-map points (λ p. p.0) in
     let e = get_or-map (λ (p : ℕ × ℕ). p.0) points i (d, 0) d (omega arith) in
     let f = get_or-map (λ (p : ℕ × ℕ). p.0) points j (d, 0) d (omega arith) in
     λ same. h i j (d, 0) l (omega arith) (sym e ∙ same ∙ f)
 
-places-distinct : (phi : List ℕ) (points : List (ℕ × ℕ)) → AllPairs (λ p q. p.0 ≢ q.0) points → AllPairs (λ x y. x ≢ y) (places phi points)
+pub places-distinct : (phi : List ℕ) (points : List (ℕ × ℕ)) → AllPairs (λ p q. p.0 ≢ q.0) points → AllPairs (λ x y. x ≢ y) (places phi points)
 unfolding places
 places-distinct phi points h = AllPairs-firsts (filter (takes phi) points) (AllPairs-filter (λ p q. p.0 ≢ q.0) (takes phi) points h)
 

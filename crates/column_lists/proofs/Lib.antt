@@ -3,3 +3,4 @@ pub mod ComposedDegree
 pub mod Agreeing
 pub mod Kept
 pub mod Listed
+pub mod OnOne

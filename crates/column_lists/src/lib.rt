@@ -13,18 +13,18 @@
 
 mod agreement;
 mod numbers;
-#[cfg(test)]
-mod tests;
+mod one_polynomial;
 
 ghost use Rattle.std.specs.Prelude.{◌≡◌, ◌≢◌, ◌+◌, ◌*◌, ◌/◌, ◌<◌, ◌≤◌, length, map, All, AllPairs, IfOk};
 ghost use Rattle.gs_interpolate.specs.Monomials.{monomials};
 ghost use Rattle.column_lists.specs.Numbers.{mult, cost, degree_of};
-ghost use Rattle.column_lists.specs.Agreement.{ListsAgreeing};
+ghost use Rattle.column_lists.specs.Agreement.{ListsAgreeing, LieOnOne};
 
 use crate::agreement::{keep_agreeing, places_are_bytes};
 use bi_poly::laws::coefficients_are_bytes;
 use gs_interpolate::Interpolate;
 pub use numbers::Plan;
+use one_polynomial::{lie_on, through_first};
 use rr_roots::y_roots;
 use std::alloc::{AllocError, Global};
 use std::sync::ledger::Ledger;
@@ -66,7 +66,8 @@ pub fn plan(k: u32, t: u32, h: u32) -> Plan
 /// `10 00` and `13 01`.
 ///
 /// `cols` counts the column, and `nodes` the coefficients fixed in looking for the y-roots: at most `(t + 1) * (d / t)`,
-/// where d is the plan's degree, and at least `t + 1` where something is listed.
+/// where d is the plan's degree, and at least `t + 1` where something is listed. Where all points lie on one polynomial of
+/// degree at most `t`, it is listed alone, and no y-roots are looked for: `nodes` stays.
 ///
 /// # Errors
 ///
@@ -91,12 +92,17 @@ pub fn column_list<I: Interpolate, C: Ledger, N: Ledger>(
     ensures exact { IfOk result (λ list. ListsAgreeing (map (λ r. r.items) list.items) points.now t h) }
     ensures cols { cols.new ≡ cols.old + 1 }
     ensures most { nodes.new ≤ nodes.old + (t + 1) * (degree_of (length points.now) t h / t) }
-    ensures least { IfOk result (λ list. 0 < length list.items → nodes.old + (t + 1) ≤ nodes.new) }
+    ensures least { IfOk result (λ list. 0 < length list.items → ¬ LieOnOne points.now t → nodes.old + (t + 1) ≤ nodes.new) }
+    ensures short { LieOnOne points.now t → nodes.new ≡ nodes.old }
 {
     cols.tick();
+    places_are_bytes(points);
+    let first = through_first(alloc, points, t)?;
+    if lie_on(&first, points) {
+        return Ok(vec![in alloc; first]?);
+    }
     let plan = plan(points.len() as u32, t, h);
     let q = way.interpolate(alloc, points, plan.m, t, plan.d)?;
-    places_are_bytes(points);
     coefficients_are_bytes(&q);
     let mut list = y_roots(alloc, &q, t, nodes)?;
     keep_agreeing(&mut list, points, h);

@@ -4,3 +4,7 @@ pub mod Promise
 pub mod RowLengths
 pub mod Conditions
 pub mod Interpolants
+pub mod Leading
+pub mod Meeting
+pub mod Passing
+pub mod Lightest

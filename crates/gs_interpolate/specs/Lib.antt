@@ -2,3 +2,4 @@ pub mod Monomials
 pub mod Interpolant
 pub mod Conditions
 pub mod Layout
+pub mod Basis

@@ -8,12 +8,12 @@
 //! Not promised: which of the many such polynomials it is, and anything of time.
 #![tactic(auto)]
 
+mod basis;
 mod condition;
 mod elimination;
+mod koetter;
 pub mod laws;
 mod layout;
-#[cfg(test)]
-mod tests;
 
 ghost use Rattle.std.specs.Prelude.{◌≢◌, ◌<◌, ◌≤◌, ◌^◌, length, AllPairs, IfOk};
 ghost use Rattle.gs_interpolate.specs.Monomials.{monomials, conditions};
@@ -21,6 +21,7 @@ ghost use Rattle.gs_interpolate.specs.Interpolant.{IsInterpolant};
 
 use bi_poly::BiPoly;
 pub use elimination::Elimination;
+pub use koetter::Koetter;
 use std::alloc::{AllocError, Global};
 
 /// A way to interpolate with multiplicities.

@@ -13,8 +13,6 @@
 mod echelon;
 mod row;
 mod table;
-#[cfg(test)]
-mod tests;
 
 ghost use Rattle.std.specs.Prelude.{◌<◌, IfOk};
 ghost use Rattle.linear_solve.specs.Kernel.{IsKernelVector};

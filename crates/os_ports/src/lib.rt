@@ -4,6 +4,9 @@
 //! Promised is that a call that fails raises the count of its own port, that one that succeeds
 //! raises none, and that no count but that of the port named is touched.
 //!
+//! No file, link, guest, listener or child's pipe is given one of the numbers 0, 1 and 2, whichever standard
+//! streams the program was started without; that is tried and not proved.
+//!
 //! Not promised is anything about bytes: [`OsPorts`] tells its counts alone. What files, servers,
 //! guests and children hold, take and do is the system's.
 #![tactic(auto)]
@@ -11,6 +14,7 @@
 mod children;
 mod counts;
 mod ports;
+mod standard;
 mod streams;
 #[cfg(test)]
 mod tests;

@@ -2,11 +2,12 @@
 ghost use Rattle.std.specs.Prelude.{◌≡◌, ℕ, slice_index, IfOk};
 
 use crate::counts::Counts;
+use crate::standard::StandardStreams;
 use crate::streams::Streams;
 use pir_ports::{Failed, Port, Ports};
-use std::alloc::AllocError;
-use std::io::{Input, Print};
+use std::io::{self, Input, Print};
 use std::net::Net;
+use std::os::fd::AsRawFd;
 use std::process::Processes;
 use std::rt::{Env, Files};
 
@@ -16,10 +17,12 @@ use std::rt::{Env, Files};
 /// - `Input` is opened as standard input by the name `-`, and else as the file of that name.
 /// - `Output` is standard output.
 /// - `Database` and `Coins` are opened as files to read, `Record` as a file to write, which is made
-///   anew. The name `-` is that of a file here.
+///   anew. Where there is no such file, it is made for its owner alone to read and write; the mode of one that is
+///   there stays. The name `-` is that of a file here.
 /// - `Door` is opened by the address to listen at, a text `host:port`.
 /// - `Guest` is the TCP stream to the guest that `next_guest` let in. That call first closes the stream
-///   to the guest before, also where no other comes in, and waits for as long as none comes. Each read
+///   to the guest before, also where no other comes in, and waits for as long as none comes. One who gave up before
+///   being let in is passed over. Each read
 ///   and each write on the stream may take ten seconds, and fails then.
 /// - `Link(i)` is opened as a TCP stream to the address, a text `host:port`. To open it, and each read
 ///   and each write on it, may take ten seconds, and fails then.
@@ -36,23 +39,33 @@ use std::rt::{Env, Files};
 /// ```
 #[derive(Drop)]
 pub struct OsPorts<R: Files + Input + Print + Net + Processes + Env + AllocGlobal + Drop> {
+    // It is dropped last, so that the numbers are held for as long as anything is open.
     streams: Streams<R>,
     counts: Counts,
+    standard: StandardStreams<R::File>,
 }
 
 impl<R: Files + Input + Print + Net + Processes + Env + AllocGlobal + Drop> OsPorts<R> {
-    /// Ports over this runtime, none but `Output` open.
+    /// Ports over this runtime, none but `Output` open. It has to come before anything else is opened: where the
+    /// program was started with a standard stream closed, its number is held from here on, for as long as there
+    /// are the ports, so that no file, link, guest, listener or child's pipe is given it, and a use of the stream
+    /// fails.
     ///
     /// # Errors
     ///
-    /// `AllocError` where there is no memory for the counts.
-    pub fn new(rt: R) -> Result<Self, AllocError>
+    /// Of the kind `OutOfMemory` where there is no memory for the counts, and else that of the system where a number
+    /// can't be held.
+    pub fn new(rt: R) -> io::Result<Self>
+    where
+        R::File: AsRawFd,
         ensures { IfOk result (λ ports. (q : ℕ) → slice_index ports.counts q ≡ 0) }
     {
+        let standard = StandardStreams::hold(&rt)?;
         let counts = Counts::new(rt.alloc())?;
         Ok(OsPorts {
             streams: Streams::new(rt),
             counts,
+            standard,
         })
     }
 

@@ -3,8 +3,10 @@ ghost use Rattle.std.specs.Prelude.{◌≤◌, length, IfOk};
 
 use crate::children::Children;
 use pir_ports::Port;
+use std::fs::OpenOptions;
 use std::io::{ErrorKind, Input, Print, Read, Write};
 use std::net::{Net, OpenListener, OpenStream, TcpListener, TcpStream, ToSocketAddrs};
+use std::os::unix::fs::OpenOptionsExt;
 use std::process::Processes;
 use std::rt::{Env, Files};
 use std::time::Duration;
@@ -13,6 +15,10 @@ use std::{fs, io};
 // How long a link may wait to be opened, and then each read and each write on it, or on the stream to a
 // guest.
 const STREAM_SECONDS: u64 = 10;
+
+// The errors of Linux by which `accept` tells that one connection was given up: ENONET, EPROTO, ENOPROTOOPT,
+// EOPNOTSUPP, ENETDOWN, ENETUNREACH, ECONNABORTED, EHOSTDOWN and EHOSTUNREACH.
+const GIVEN_UP: [i32; 9] = [64, 71, 92, 95, 100, 101, 103, 112, 113];
 
 // Where Input reads from.
 #[derive(Drop)]
@@ -58,6 +64,37 @@ pub fn reach<R: Net>(rt: &R, address: &str) -> io::Result<R::Stream> {
         }
     }
     Err(fault)
+}
+
+// Makes the file of a record anew. The block can be read off a record, so a new file is its owner's alone.
+fn make_record<R: Files>(rt: &R, name: &str) -> io::Result<R::File> {
+    let mut options = OpenOptions::new();
+    options.write(true).create(true).truncate(true).mode(0o600);
+    options.open(rt, name)
+}
+
+// Whether an `accept` failed for one connection alone, which its other side or the network gave up: accept(2) names
+// these errors, and says to try again.
+fn is_given_up(error: &io::Error) -> bool {
+    if error.kind() == ErrorKind::Interrupted {
+        return true;
+    }
+    match error.raw_os_error() {
+        Some(code) => GIVEN_UP.contains(&code),
+        None => false,
+    }
+}
+
+// Lets the next guest in. One who gave up before is passed over.
+fn accept<L: OpenListener>(door: &L) -> io::Result<L::Stream> {
+    for _ in 0..u64::MAX {
+        match door.accept() {
+            Ok((stream, _)) => return Ok(stream),
+            Err(error) if is_given_up(&error) => {}
+            Err(error) => return Err(error),
+        }
+    }
+    Err(io::Error::from(ErrorKind::ConnectionAborted))
 }
 
 // Lets each read and each write on the stream wait no longer than it may.
@@ -112,7 +149,7 @@ impl<R: Files + Input + Print + Net + Processes + Env + AllocGlobal + Drop> Stre
             Port::Output | Port::Guest | Port::Child(_) => return Err(closed()),
             Port::Database => self.database = Some(fs::open(&self.rt, name)?),
             Port::Coins => self.coins = Some(fs::open(&self.rt, name)?),
-            Port::Record => self.record = Some(fs::create(&self.rt, name)?),
+            Port::Record => self.record = Some(make_record(&self.rt, name)?),
             Port::Door => self.door = Some(TcpListener::bind(&self.rt, name)?),
             Port::Link(i) => self.connect(i, name)?,
         }
@@ -136,7 +173,7 @@ impl<R: Files + Input + Print + Net + Processes + Env + AllocGlobal + Drop> Stre
         self.guest = None;
         match &self.door {
             Some(door) => {
-                let (stream, _) = door.accept()?;
+                let stream = accept(door)?;
                 limit_waits(&stream)?;
                 self.guest = Some(stream);
                 Ok(())

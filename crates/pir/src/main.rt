@@ -7,7 +7,7 @@ mod tests;
 use os_ports::OsPorts;
 use pir_tool::{Status, code, line, run};
 use std::env;
-use std::io::{ErrorKind, Input, Print};
+use std::io::{self, ErrorKind, Input, Print};
 use std::net::Net;
 use std::process::{ExitCode, Processes};
 use std::rt::{Env, Files};
@@ -42,11 +42,24 @@ where
     status
 }
 
+/// How the program ends where there are no ports: for want of memory, or since a standard stream is closed and its
+/// number can't be kept from what would be opened. That counts as a fault of standard output.
+fn status_without_ports(error: &io::Error) -> Status {
+    if error.kind() == ErrorKind::OutOfMemory {
+        Status::Memory
+    } else {
+        Status::WriteFault
+    }
+}
+
 fn main(rt: HostRuntime) -> ExitCode {
-    let status = match (words_of(&rt), OsPorts::new(&rt)) {
-        (Ok(words), Ok(mut ports)) => run_words(&rt, &words, &mut ports),
-        (Err(status), _) => status,
-        (_, Err(_)) => Status::Memory,
+    // The ports come first: nothing else is to be given the number of a standard stream.
+    let status = match OsPorts::new(&rt) {
+        Ok(mut ports) => match words_of(&rt) {
+            Ok(words) => run_words(&rt, &words, &mut ports),
+            Err(status) => status,
+        },
+        Err(error) => status_without_ports(&error),
     };
     let text = line(&status);
     if !text.is_empty() {

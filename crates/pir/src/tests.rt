@@ -6,11 +6,13 @@ ghost use Rattle.std.specs.Prelude.{◌+◌, ◌<◌};
 use crate::{OsPorts, run_words};
 use pir_tool::{Status, run};
 use std::alloc::Global;
-use std::io::{self, ErrorKind, Read, Write};
+use std::io::{self, ErrorKind, Input, Print, Read, Write};
 use std::net::{Ipv4Addr, Net, OpenListener, TcpListener};
+use std::os::fd::AsRawFd;
 use std::process::{Child, Command, OpenProcess, Processes, Stdio};
-use std::rt::Env;
+use std::rt::{Env, Files};
 use std::test::Fail;
+use std::thread::Threads;
 use std::{env, fs, process, thread};
 
 // How a server behaves that was sent its query.
@@ -77,34 +79,42 @@ fn words_of(alloc: Global, coins: &str, record: &str) -> Result<Vec<String>, Fai
     Ok(words)
 }
 
+/// Opens a door for each manner, and adds its address to the words.
+fn open_doors<R: Net + AllocGlobal>(
+    rt: &R,
+    words: &mut Vec<String>,
+) -> io::Result<Vec<R::Listener>> {
+    let mut doors = Vec::new(rt.alloc());
+    for _ in 0..MANNERS.len() {
+        let door = TcpListener::bind(rt, (Ipv4Addr::LOCALHOST, 0))?;
+        words.push(format!(in rt.alloc(); "{}", door.local_addr()?)?)?;
+        doors.push(door)?;
+    }
+    Ok(doors)
+}
+
+// The servers are threads 0 to 5, and the client is the last.
 #[test]
 fn a_fetch_outlives_its_servers(rt: HostRuntime) -> Result<(), Fail> {
-    let alloc = rt.alloc();
     let coins = temp_path(rt, "coins")?;
     let record = temp_path(rt, "record")?;
     fs::write(&rt, &coins, &COINS)?;
-    let mut words = words_of(alloc, &coins, &record)?;
-    let mut doors = Vec::new(alloc);
-    for _ in 0..MANNERS.len() {
-        let door = TcpListener::bind(&rt, (Ipv4Addr::LOCALHOST, 0))?;
-        words.push(format!(in alloc; "{}", door.local_addr()?)?)?;
-        doors.push(door)?;
-    }
-
-    // The servers are threads 0 to 5, and the client is the last.
+    let mut words = words_of(rt.alloc(), &coins, &record)?;
+    let doors = open_doors(&rt, &mut words)?;
     let seats = thread::map_indices(
         &rt,
-        alloc,
+        rt.alloc(),
         7,
-        &|i| match (doors.get(i), MANNERS.get(i)) {
-            (Some(door), Some(manner)) => {
+        &|i| {
+            if let (Some(door), Some(manner)) = (doors.get(i), MANNERS.get(i)) {
                 let _ = serve::<HostRuntime>(door, *manner);
                 None
+            } else {
+                match OsPorts::new(&rt) {
+                    Ok(mut ports) => Some(run(&rt, rt.alloc(), &words, &mut ports)),
+                    Err(_) => None,
+                }
             }
-            _ => match OsPorts::new(&rt) {
-                Ok(mut ports) => Some(run(&rt, rt.alloc(), &words, &mut ports)),
-                Err(_) => None,
-            },
         },
     )?;
     fs::remove_file(&rt, &coins)?;
@@ -226,30 +236,42 @@ fn holds_payloads(record: &[u8]) -> bool {
         == Some(payload.as_slice()))
 }
 
+/// Fetches with these words over the ports from three processes that serve the database. Whether all of them ended well.
+fn fetches_from_processes<R, S>(
+    rt: &R,
+    ports: &mut OsPorts<S>,
+    database: &str,
+    mut words: Vec<String>,
+) -> io::Result<bool>
+where
+    R: Threads + Sync + Net + Processes + Env + AllocGlobal,
+    S: Files + Input + Print + Net + Processes + Env + AllocGlobal + Drop,
+{
+    let addresses = free_addresses(rt)?;
+    for address in &addresses {
+        words.push(address.clone()?)?;
+    }
+    let mut servers = Vec::new(rt.alloc());
+    let opened = open_servers(rt, database, &addresses, &mut servers);
+    let fetched = opened.is_ok() && run_words(rt, &words, ports) == Status::One;
+    Ok(all_end_well(&mut servers, fetched))
+}
+
 #[test]
 fn a_fetch_asks_three_processes(rt: HostRuntime) -> Result<(), Fail> {
-    let alloc = rt.alloc();
     let database = temp_path(rt, "database")?;
     let coins = temp_path(rt, "coins")?;
     let record = temp_path(rt, "record")?;
     fs::write(&rt, &database, b"ABCD")?;
     fs::write(&rt, &coins, &COINS)?;
-    let addresses = free_addresses(&rt)?;
-    let mut words = words_of(alloc, &coins, &record)?;
-    for address in &addresses {
-        words.push(address.clone()?)?;
-    }
+    let words = words_of(rt.alloc(), &coins, &record)?;
     let mut ports = OsPorts::new(&rt)?;
-    let mut servers = Vec::new(alloc);
-    let opened = open_servers(&rt, &database, &addresses, &mut servers);
-    let fetched = opened.is_ok() && run(&rt, alloc, &words, &mut ports) == Status::One;
-    let ended = all_end_well(&mut servers, fetched);
+    let fetched = fetches_from_processes(&rt, &mut ports, &database, words);
     let kept = fs::read(&rt, &record);
     for file in [&database, &coins, &record] {
         let _ = fs::remove_file(&rt, file);
     }
-    assert!(rt; fetched);
-    assert!(rt; ended);
+    assert!(rt; fetched?);
     assert!(rt; holds_payloads(&kept?));
     Ok(())
 }

@@ -16,6 +16,3 @@ mod workload;
 
 pub use status::{Bad, Status, code, line};
 pub use top::run;
-
-#[cfg(test)]
-mod tests;

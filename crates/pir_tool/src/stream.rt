@@ -1,8 +1,5 @@
 //! The stream of bytes that a seed stands for.
 
-#[cfg(test)]
-mod tests;
-
 ghost use Rattle.std.specs.Prelude.{◌≡◌, ◌+◌, ◌-◌, ◌*◌, ◌/◌, ◌^◌, ◌<◌, ◌≤◌, ◌++◌, length, take, replicate, IfOk};
 ghost use Rattle.std.specs.Int.{bytes_high_first};
 ghost use Rattle.pir_tool.specs.Stream.{drawn, stream_bytes};

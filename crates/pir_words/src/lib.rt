@@ -25,8 +25,6 @@ mod ranges;
 mod replay_words;
 mod selfrun_words;
 mod serve_words;
-#[cfg(test)]
-mod tests;
 mod text;
 mod values;
 

@@ -15,8 +15,6 @@
 
 pub mod laws;
 mod shamir;
-#[cfg(test)]
-mod tests;
 mod xor;
 
 pub use shamir::partner;

@@ -8,8 +8,6 @@
 #![tactic(auto)]
 
 mod descent;
-#[cfg(test)]
-mod tests;
 
 ghost use Rattle.std.specs.Prelude.{ℕ, ◌≡◌, ◌+◌, ◌*◌, ◌<◌, ◌≤◌, length, map, IfOk};
 ghost use Rattle.bi_poly.specs.Rows.{IsZero};

@@ -15,8 +15,6 @@ mod rows;
 mod runs;
 mod six_rows;
 mod sixths;
-#[cfg(test)]
-mod tests;
 mod trios;
 mod whole;
 

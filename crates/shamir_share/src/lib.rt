@@ -13,8 +13,6 @@
 
 mod masks;
 mod products;
-#[cfg(test)]
-mod tests;
 
 ghost use Rattle.std.specs.Prelude.{◌≡◌, ◌≢◌, ◌*◌, ◌<◌, ◌≤◌, length};
 ghost use Rattle.shamir_share.specs.Query.{query};

@@ -15,8 +15,6 @@
 
 pub mod laws;
 pub mod steps;
-#[cfg(test)]
-mod tests;
 
 ghost use Rattle.std.specs.Prelude.{ℕ, List, ◌≡◌, ◌≢◌, ◌<◌, ◌≤◌, length, IfOk, AllPairs};
 ghost use Rattle.gf256.specs.Polynomial.{val};

@@ -19,8 +19,6 @@ mod records;
 mod records_reader;
 mod scheme;
 mod session;
-#[cfg(test)]
-mod tests;
 mod write;
 
 pub use answer::usable_answer;

@@ -13,9 +13,6 @@ use std::alloc::Global;
 use std::marker::Model;
 use thiserror::Error;
 
-#[cfg(test)]
-mod tests;
-
 /// The bytes are no session: `place` is the length of their longest prefix that begins some session.
 #[derive(Clone, Copy, Debug, PartialEq, Eq, Error)]
 #[error("no session: wrong at byte {place}")]

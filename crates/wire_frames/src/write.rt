@@ -13,9 +13,6 @@ use crate::session::{Session, SessionParams};
 use byteorder::{BigEndian, ByteOrder};
 use pir_ports::{Failed, Port, Ports, write_all};
 
-#[cfg(test)]
-mod tests;
-
 /// The header of a session with these numbers.
 fn header_of(params: &SessionParams) -> [u8; HEADER_LEN]
     ensures { result ≡ header_bytes params.now }

@@ -1,5 +1,0 @@
-use Rattle.std.proofs.Common.{ℕ, ◌<◌, get_or}
-use Rattle.column_lists.proofs.tests.ascends.Given as goal
-
-abbrev pub invariant-loop-i : goal.invariant-loop-i
-invariant-loop-i l = (i j : ℕ) → i < j → j < l.i → get_or l.xs i 0 < get_or l.xs j 0

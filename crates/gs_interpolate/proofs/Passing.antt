@@ -1,0 +1,144 @@
+-- The conditions of a zero at one point, one after the other.
+use Rattle.std.proofs.Common.{◌≡◌, ◌⊎◌, ℕ, zero, suc, ◌+◌, ◌-◌, ◌*◌, ◌/◌, ◌<◌, ◌≤◌, List, length, sum, refl, ap, ◌∙◌, arith, inl, inr}
+use Rattle.std.proofs.lemmas.Bool.{cases_lt, cases_eq}
+use Rattle.bi_poly.specs.Hasse.{hasse, HasZero}
+use Rattle.gs_interpolate.specs.Monomials.{conditions}
+use Rattle.gs_interpolate.specs.Basis.{polynomial, values, IsBasis, IsMeeting, IsPassing}
+use Rattle.gs_interpolate.proofs.Meeting.{met-size, met-basis, met-kept, met-gained, met-rise}
+
+-- how many orders (u, v) with u + v < m have their v below n
+unfoldable pub orders : ℕ → ℕ → ℕ
+orders m zero = 0
+orders m (suc n) = orders m n + (m - n)
+
+-- one more v
+pub orders-next : (m n k : ℕ) → k ≡ n + 1 → orders m k ≡ orders m n + (m - n)
+unfolding orders
+orders-next m n zero e = absurd (omega arith)
+orders-next m n (suc k) e = let same : k ≡ n = omega arith in ap (λ i. orders m i + (m - i)) same
+
+-- they grow
+pub orders_le : (m n k : ℕ) → n ≤ k → orders m n ≤ orders m k
+unfolding orders
+orders_le m n zero l = let same : n ≡ 0 = omega arith in let e = ap (orders m) same in omega arith
+orders_le m n (suc k) l =
+    elim (cases_lt n (suc k)) [
+      | inl h ↦ let ih = orders_le m n k (omega arith) in omega arith
+      | inr h ↦ let same : n ≡ suc k = omega arith in let e = ap (orders m) same in omega arith
+    ]
+
+-- twice as many
+orders-twice : (m n : ℕ) → n ≤ m → 2 * orders m n + n * n ≡ 2 * (m * n) + n
+unfolding orders
+orders-twice m zero l = omega arith
+orders-twice m (suc n) l =
+    let ih = orders-twice m n (omega arith) in
+    omega arith
+
+-- together they are the conditions of one zero
+twice_all : (m : ℕ) → 2 * orders m m ≡ m * (m + 1)
+twice_all m = let e = orders-twice m m (omega arith) in omega arith
+
+half : (x y : ℕ) → y ≡ 2 * x → y / 2 ≡ x
+half x y e = omega arith
+
+pub conditions-orders : (k m : ℕ) → conditions k m ≡ k * orders m m
+conditions-orders k m =
+    let e = ap (λ x. k * x) (twice_all m) in
+    half (k * orders m m) (k * m * (m + 1)) (omega arith)
+
+-- those of one zero
+pub conditions-one : (m : ℕ) → conditions 1 m ≡ orders m m
+conditions-one m = conditions-orders 1 m ∙ omega arith
+
+-- one point more
+pub conditions-next : (k m : ℕ) → conditions (k + 1) m ≡ conditions k m + conditions 1 m
+conditions-next k m =
+    let e = conditions-orders (k + 1) m in
+    let f = conditions-orders k m in
+    let g = conditions-one m in
+    omega arith
+
+-- The derivatives of order (i, w) at (a, b) are 0 for each w below v, and for v itself where i is below u.
+pub record IsUnder (t : ℕ) (gs : List (List (List ℕ))) (es : List ℕ) (made : List (List (List ℕ))) (raised : List ℕ) (a b m v u : ℕ) : Type 0 where
+  pub size : length made ≡ length gs
+  pub basis : IsBasis t made raised
+  pub zeros : (i w j : ℕ) → i + w < m → (w < v) ⊎ ((w ≡ v) × (i < u)) → hasse (polynomial made j) i w a b ≡ 0
+  pub kept : (x y n : ℕ) → ((j : ℕ) → HasZero (polynomial gs j) x y n) → (j : ℕ) → HasZero (polynomial made j) x y n
+  pub rise : sum raised ≤ sum es + (orders m v + u)
+
+-- none yet
+pub under-none : (t : ℕ) (gs : List (List (List ℕ))) (es : List ℕ) (a b m : ℕ) → IsBasis t gs es → IsUnder t gs es gs es a b m 0 0
+under-none t gs es a b m h = record {
+  size = refl;
+  basis = h;
+  zeros = λ i w j l o. absurd (elim o [ inl x ↦ omega arith | inr x ↦ omega arith ]);
+  kept = λ x y n z. z;
+  rise = omega arith;
+}
+
+-- the exponents stay small
+pub under-room : (t : ℕ) (gs : List (List (List ℕ))) (es : List ℕ) (made : List (List (List ℕ))) (raised : List ℕ) (a b m v u n : ℕ)
+    → IsUnder t gs es made raised a b m v u → u + v < m → sum es + conditions 1 m < n → sum raised < n
+under-room t gs es made raised a b m v u n h l room =
+    let rise = h.rise in
+    let next = orders-next m v (v + 1) refl in
+    let most = orders_le m (v + 1) m (omega arith) in
+    let all = conditions-one m in
+    omega arith
+
+-- one more
+pub under-met : (t : ℕ) (gs : List (List (List ℕ))) (es : List ℕ) (mid : List (List (List ℕ))) (ms : List ℕ) (made : List (List (List ℕ))) (raised : List ℕ) (a b m v u : ℕ)
+    → IsUnder t gs es mid ms a b m v u → u + v < m → IsMeeting t mid ms made raised (values mid u v a b) a → IsUnder t gs es made raised a b m v (u + 1)
+under-met t gs es mid ms made raised a b m v u h l met = record {
+  size = met-size t mid ms made raised u v a b h.basis met ∙ h.size;
+  basis = met-basis t mid ms made raised u v a b h.basis met;
+  zeros = λ i w j k o.
+      elim (cases_eq w v) [
+        | inl row ↦
+            elim (cases_eq i u) [
+              | inl same ↦
+                  ap (λ x. hasse (polynomial made j) x w a b) same ∙ ap (λ x. hasse (polynomial made j) u x a b) row
+                  ∙ met-gained t mid ms made raised u v a b h.basis met (λ n g e. h.zeros n v g (omega arith) (inr (refl, omega arith))) j
+              | inr other ↦
+                  met-kept t mid ms made raised u v a b h.basis met i w a b
+                  (λ g. h.zeros i w g k (inr (row, elim o [ inl x ↦ absurd (omega arith) | inr x ↦ omega (arith, other) ])))
+                  (λ n g e. h.zeros n w g (omega arith) (inr (row, elim o [ inl x ↦ absurd (omega arith) | inr x ↦ omega (arith, other) ]))) j
+            ]
+        | inr other ↦
+            let below : w < v = elim o [ inl x ↦ x | inr x ↦ absurd (other x.0) ] in
+            met-kept t mid ms made raised u v a b h.basis met i w a b
+            (λ g. h.zeros i w g k (inl below)) (λ n g e. h.zeros n w g (omega arith) (inl below)) j
+      ];
+  kept = λ x y n z j i w k.
+      met-kept t mid ms made raised u v a b h.basis met i w x y
+      (λ g. h.kept x y n z g i w k) (λ c g e. h.kept x y n z g c w (omega arith)) j;
+  rise = let r = met-rise t mid ms made raised u v a b h.basis met in let s = h.rise in omega arith;
+}
+
+-- all of one v
+pub under-row : (t : ℕ) (gs : List (List (List ℕ))) (es : List ℕ) (made : List (List (List ℕ))) (raised : List ℕ) (a b m v u : ℕ)
+    → IsUnder t gs es made raised a b m v u → u ≡ m - v → IsUnder t gs es made raised a b m (v + 1) 0
+under-row t gs es made raised a b m v u h e = record {
+  size = h.size;
+  basis = h.basis;
+  zeros = λ i w j k o.
+      h.zeros i w j k
+      (elim (cases_lt w v) [
+        | inl below ↦ inl below
+        | inr past ↦ let same : w ≡ v = elim o [ inl x ↦ omega arith | inr x ↦ absurd (omega arith) ] in inr (same, omega arith)
+      ]);
+  kept = h.kept;
+  rise = let s = h.rise in let n = orders-next m v (v + 1) refl in omega arith;
+}
+
+-- all
+pub under-all : (t : ℕ) (gs : List (List (List ℕ))) (es : List ℕ) (made : List (List (List ℕ))) (raised : List ℕ) (a b m v : ℕ)
+    → IsUnder t gs es made raised a b m v 0 → v ≡ m → IsPassing t gs es made raised a b m
+under-all t gs es made raised a b m v h e = record {
+  size = h.size;
+  basis = h.basis;
+  zeros = λ j i w k. h.zeros i w j k (inl (omega arith));
+  kept = h.kept;
+  rise = let s = h.rise in let c = conditions-one m in let same = ap (orders m) e in omega arith;
+}

@@ -1,8 +1,0 @@
-use Rattle.std.proofs.Common.{◌≡◌}
-use Rattle.linear_solve.proofs.tests.drawn_table.Given as goal
-
-abbrev pub invariant-loop-j : goal.invariant-loop-j
-invariant-loop-j l = (l.table.rows ≡ l.rows) × (l.table.cols ≡ l.cols)
-
-abbrev pub invariant-loop-i : goal.invariant-loop-i
-invariant-loop-i l = (l.table.rows ≡ l.rows) × (l.table.cols ≡ l.cols)

@@ -1,5 +1,0 @@
-use Rattle.pir_cases.proofs.tests.agreed_blocks.count_of_both.Given as goal
-
--- the steps are counted in the blank's own ledger
-abbrev pub ghosts-decided : goal.ghosts-decided
-ghosts-decided a = record { name = a.blank.name; parts = a.blank.parts }

@@ -1,5 +1,0 @@
-use Rattle.pir_cases.proofs.tests.one_fetch.a_block_is_fetched.Given as goal
-
--- the steps are counted in the blank's own ledger
-abbrev pub ghosts-fetched : goal.ghosts-fetched
-ghosts-fetched g a = record { name = a.blank.name; parts = a.blank.parts }

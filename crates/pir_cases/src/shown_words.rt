@@ -1,0 +1,142 @@
+//! Commands, as a table of words writes them.
+
+use pir_words::Asked;
+use std::fmt;
+use std::fmt::{Formatter, Write};
+
+/// A command with its values; each text stands between `<` and `>`.
+#[derive(Clone, Copy)]
+pub struct Shown<'a>(pub &'a Asked);
+
+impl fmt::Display for Shown<'_> {
+    fn fmt<W: Write>(&self, f: &mut Formatter<W>) -> fmt::Result {
+        match self.0 {
+            Asked::Replay { file } => text(f, "replay", file.as_str()),
+            Asked::Fetch { .. } => fetch(f, self.0),
+            Asked::Serve { .. } => serve(f, self.0),
+            Asked::Selfrun { .. } => selfrun(f, self.0),
+            Asked::Demo { .. } => demo(f, self.0),
+        }
+    }
+}
+
+/// Writes a name and a number.
+fn number<W: Write>(f: &mut Formatter<W>, name: &str, value: u64) -> fmt::Result {
+    write!(f, "{name} {value}")
+}
+
+/// Writes a name and a text.
+fn text<W: Write>(f: &mut Formatter<W>, name: &str, value: &str) -> fmt::Result {
+    write!(f, "{name} <{value}>")
+}
+
+/// Writes the shape of a database, with the block that is fetched.
+fn shape<W: Write>(f: &mut Formatter<W>, rows: u32, width: u32) -> fmt::Result {
+    write!(f, " rows {rows} width {width}")
+}
+
+/// Writes a degree and an agreement.
+fn agreement<W: Write>(f: &mut Formatter<W>, degree: u8, agree: u8) -> fmt::Result {
+    write!(f, " degree {degree} agree {agree}")
+}
+
+/// Writes `fetch` with its values.
+fn fetch<W: Write>(f: &mut Formatter<W>, asked: &Asked) -> fmt::Result {
+    let Asked::Fetch {
+        scheme,
+        rows,
+        width,
+        block,
+        degree,
+        agree,
+        coins,
+        keep,
+        addresses,
+    } = asked
+    else {
+        return Ok(());
+    };
+    number(f, "fetch scheme", u64::from(*scheme))?;
+    shape(f, *rows, *width)?;
+    number(f, " block", u64::from(*block))?;
+    agreement(f, *degree, *agree)?;
+    text(f, " coins", coins.as_str())?;
+    match keep {
+        Some(name) => text(f, " record", name.as_str())?,
+        None => f.write_str(" record -")?,
+    }
+    f.write_str(" from ")?;
+    for address in addresses.as_slice() {
+        write!(f, "<{address}>")?;
+    }
+    Ok(())
+}
+
+/// Writes `serve` with its values.
+fn serve<W: Write>(f: &mut Formatter<W>, asked: &Asked) -> fmt::Result {
+    let Asked::Serve {
+        scheme,
+        database,
+        width,
+        conns,
+        listen,
+        workers,
+    } = asked
+    else {
+        return Ok(());
+    };
+    number(f, "serve scheme", u64::from(*scheme))?;
+    text(f, " database", database.as_str())?;
+    number(f, " width", u64::from(*width))?;
+    number(f, " conns", u64::from(*conns))?;
+    text(f, " listen", listen.as_str())?;
+    number(f, " workers", u64::from(*workers))
+}
+
+/// Writes `selfrun` with its values.
+fn selfrun<W: Write>(f: &mut Formatter<W>, asked: &Asked) -> fmt::Result {
+    let Asked::Selfrun {
+        seed,
+        rows,
+        width,
+        servers,
+        degree,
+        agree,
+        liars,
+        workers,
+    } = asked
+    else {
+        return Ok(());
+    };
+    number(f, "selfrun seed", *seed)?;
+    shape(f, *rows, *width)?;
+    number(f, " servers", u64::from(*servers))?;
+    agreement(f, *degree, *agree)?;
+    number(f, " liars", u64::from(*liars))?;
+    number(f, " workers", u64::from(*workers))
+}
+
+/// Writes `demo` with its values.
+fn demo<W: Write>(f: &mut Formatter<W>, asked: &Asked) -> fmt::Result {
+    let Asked::Demo {
+        port,
+        database,
+        rows,
+        width,
+        block,
+        servers,
+        degree,
+        agree,
+        coins,
+    } = asked
+    else {
+        return Ok(());
+    };
+    number(f, "demo port", u64::from(*port))?;
+    text(f, " database", database.as_str())?;
+    shape(f, *rows, *width)?;
+    number(f, " block", u64::from(*block))?;
+    number(f, " servers", u64::from(*servers))?;
+    agreement(f, *degree, *agree)?;
+    text(f, " coins", coins.as_str())
+}

@@ -1,0 +1,14 @@
+//! Tests of the crates of the two schemes: queries and bitmaps, a server's product and answer, and the coins of another
+//! block. They stand in a crate of their own because a crate is proved once more for its tests.
+#![tactic(auto)]
+
+#[cfg(test)]
+mod bitmaps;
+#[cfg(test)]
+mod matrices;
+#[cfg(test)]
+mod partners;
+#[cfg(test)]
+mod products;
+#[cfg(test)]
+mod queries;
