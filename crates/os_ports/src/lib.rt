@@ -16,7 +16,5 @@ mod counts;
 mod ports;
 mod standard;
 mod streams;
-#[cfg(test)]
-mod tests;
 
 pub use ports::OsPorts;

@@ -3,7 +3,7 @@
 
 ghost use Rattle.std.specs.Prelude.{◌<◌, length};
 
-use crate::OsPorts;
+use os_ports::OsPorts;
 use pir_ports::{Filled, Port, Ports, read_exactly, write_all};
 use std::alloc::{AllocError, Global};
 use std::io::{Print, Read, Write};
@@ -145,7 +145,7 @@ fn guests_come_in_one_after_another(rt: HostRuntime) -> Result<(), Fail> {
 }
 
 // What this executable is told to run in a child: the one test, by its full name.
-const CHILD_TEST: &str = "tests::be_a_child_if_asked";
+const CHILD_TEST: &str = "system::be_a_child_if_asked";
 
 /// Lets one guest in at this place, and gives it back two bytes. Whether all of it went well, or the guest said nothing.
 fn echoes<P: Ports>(ports: &mut P) -> bool {
