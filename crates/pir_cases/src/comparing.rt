@@ -1,11 +1,11 @@
 //! A run beside what is expected of it.
 
-use crate::case::{Case, Ending, Expected, Took};
-use crate::fault::Fault;
 use crate::findings::{Findings, What};
-use crate::naming::read_status;
 use crate::reach::Reach;
 use crate::running::{Change, Ran};
+use case_files::case::{Case, Ending, Expected, Took};
+use case_files::fault::Fault;
+use case_files::naming::read_status;
 use pir_ports::{Failed, MemPorts, Port, Ports};
 use pir_tool::{Bad, Status};
 use std::alloc::{AllocError, Global};

@@ -1,12 +1,12 @@
 //! The runs that a case stands for.
 
-use crate::case::{Case, Each, Swap};
 use crate::comparing::{compare, compare_place, compare_replay};
-use crate::fault::Fault;
 use crate::findings::Findings;
 use crate::reach::Reach;
 use crate::running::{Change, Ran, Trial, replay, run_case};
 use crate::watched::Call;
+use case_files::case::{Case, Each, Swap};
+use case_files::fault::Fault;
 use pir_ports::Port;
 use std::alloc::Global;
 use std::thread::Threads;

@@ -1,30 +1,20 @@
 //! pir_cases FILE ..: runs the cases of these files.
 #![tactic(auto)]
 
-mod bytes;
-mod case;
 mod comparing;
-mod expected_lines;
 mod families;
-mod fault;
 mod findings;
-mod lines;
-mod naming;
 mod reach;
-mod reading;
 mod running;
-mod session;
-mod setup_lines;
 mod shown_words;
 mod tables;
-mod texts;
 mod watched;
 
 use anyhow::{Context, Result};
-use case::Case;
+use case_files::case::Case;
+use case_files::lines::{Line, lines_of};
+use case_files::reading::Reader;
 use families::try_case;
-use lines::{Line, lines_of};
-use reading::Reader;
 use std::alloc::Global;
 use std::process::ExitCode;
 use std::thread::Threads;

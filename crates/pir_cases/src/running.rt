@@ -3,10 +3,10 @@
 ghost use Rattle.std.specs.Prelude.{◌≡◌, ◌≢◌, ◌-◌, ◌^◌, ◌<◌, Contains};
 ghost use Rattle.pir_ports.specs.Number.{number};
 
-use crate::case::{Case, Failing, Held, Setup};
-use crate::fault::Fault;
-use crate::setup_lines::append_words;
 use crate::watched::WatchedPorts;
+use case_files::case::{Case, Failing, Held, Setup};
+use case_files::fault::Fault;
+use case_files::setup_lines::append_words;
 use pir_ports::{MemPorts, Port};
 use pir_tool::{Status, run};
 use std::alloc::{AllocError, Global};

@@ -1,8 +1,8 @@
 //! Tables of words.
 
-use crate::fault::Fault;
-use crate::setup_lines::{append_word, append_words};
 use crate::shown_words::Shown;
+use case_files::fault::Fault;
+use case_files::setup_lines::{append_word, append_words};
 use pir_words::{Asked, WordsFault, read_words};
 use std::alloc::{AllocError, Global};
 
