@@ -8,6 +8,8 @@ use Rattle.std.proofs.lemmas.List.Elements.{All-nil, All-cons, All-head, All-tai
 use Rattle.std.proofs.lemmas.List.Kept.{AllPairs-cons}
 use Rattle.std.proofs.lemmas.Option.{IfSome_then}
 use Rattle.std.proofs.lemmas.Slice.Eq.{bytes_eq-Decides}
+use Rattle.wire_frames.specs.Sizes.{answer_len}
+use Rattle.wire_frames.specs.declared.sizes.TheConstants.{FRAME_HEADER_LEN}
 use Rattle.wire_frames.specs.declared.header.QueryHeader.{QueryHeader}
 use Rattle.wire_frames.specs.declared.session.SessionParams.{SessionParams}
 use Rattle.wire_frames.specs.Header.{answer_header}
@@ -23,16 +25,16 @@ when_some true x b e = (refl, cc)
 when_some false x b e = absurd (cc)
 
 -- a usable answer's payload stands behind its header
-pub usable_payload : (bytes payload : List ℕ) (q : QueryHeader) → usable bytes q ≡ Some payload → drop 24 bytes ≡ payload
-usable_payload bytes payload q e = (when_some (bytes_eq (take 24 bytes) (answer_header q 0) && nat_eq (length bytes) (24 + q.s)) (drop 24 bytes) payload e).1
+pub usable_payload : (bytes payload : List ℕ) (q : QueryHeader) → usable bytes q ≡ Some payload → drop FRAME_HEADER_LEN bytes ≡ payload
+usable_payload bytes payload q e = (when_some (bytes_eq (take FRAME_HEADER_LEN bytes) (answer_header q 0) && nat_eq (length bytes) (answer_len q.s)) (drop FRAME_HEADER_LEN bytes) payload e).1
 
 -- a usable answer has a byte for each column
 pub usable_size : (bytes payload : List ℕ) (q : QueryHeader) → usable bytes q ≡ Some payload → length payload ≡ q.s
 usable_size bytes payload q e =
-    let parts = when_some (bytes_eq (take 24 bytes) (answer_header q 0) && nat_eq (length bytes) (24 + q.s)) (drop 24 bytes) payload e in
-    let tests = and_parts (bytes_eq (take 24 bytes) (answer_header q 0)) (nat_eq (length bytes) (24 + q.s)) parts.0 in
-    let size = eqb-true (length bytes) (24 + q.s) tests.1 in
-    let rest = length-drop 24 bytes in
+    let parts = when_some (bytes_eq (take FRAME_HEADER_LEN bytes) (answer_header q 0) && nat_eq (length bytes) (answer_len q.s)) (drop FRAME_HEADER_LEN bytes) payload e in
+    let tests = and_parts (bytes_eq (take FRAME_HEADER_LEN bytes) (answer_header q 0)) (nat_eq (length bytes) (answer_len q.s)) parts.0 in
+    let size = eqb-true (length bytes) (answer_len q.s) tests.1 in
+    let rest = length-drop FRAME_HEADER_LEN bytes in
     let same = ap length parts.1 in
     omega (arith, size, rest, same)
 
@@ -41,11 +43,11 @@ pub usable_frame : (payload : List ℕ) (q : QueryHeader) → length payload ≡
 usable_frame payload q size =
     let header = answer_header q 0 in
     let whole = length-append header payload in
-    let front : take 24 (header ++ payload) ≡ header = take-append_seam header payload in
-    let rest : drop 24 (header ++ payload) ≡ payload = drop-append_seam header payload in
-    let first : bytes_eq (take 24 (header ++ payload)) header ≡ true = (bytes_eq-Decides (take 24 (header ++ payload)) header).1 front in
-    let second : nat_eq (length (header ++ payload)) (24 + q.s) ≡ true = eq-eqb (length (header ++ payload)) (24 + q.s) (omega (arith, whole, size)) in
-    ap (λ t. cond t (Some (drop 24 (header ++ payload))) None) (ap₂ ◌&&◌ first second) ∙ ap Some rest
+    let front : take FRAME_HEADER_LEN (header ++ payload) ≡ header = take-append_seam header payload in
+    let rest : drop FRAME_HEADER_LEN (header ++ payload) ≡ payload = drop-append_seam header payload in
+    let first : bytes_eq (take FRAME_HEADER_LEN (header ++ payload)) header ≡ true = (bytes_eq-Decides (take FRAME_HEADER_LEN (header ++ payload)) header).1 front in
+    let second : nat_eq (length (header ++ payload)) (answer_len q.s) ≡ true = eq-eqb (length (header ++ payload)) (answer_len q.s) (omega (arith, whole, size)) in
+    ap (λ t. cond t (Some (drop FRAME_HEADER_LEN (header ++ payload))) None) (ap₂ ◌&&◌ first second) ∙ ap Some rest
 
 -- the first record's answer in front of the others
 pub answers_from-cons : (i : ℕ) (p : SessionParams) (x : Option (List ℕ)) (records : List (Option (List ℕ)))

@@ -1,6 +1,7 @@
 //! Writes the text of a verdict, in pieces, with no memory taken.
 
 ghost use Rattle.std.specs.Prelude.{◌≡◌, ◌<◌, ◌≤◌, length, map, flat_map};
+ghost use Rattle.pir_ports.specs.Number.{OUTPUT};
 ghost use Rattle.hex.specs.Hex.{encode_lower};
 ghost use Rattle.pir_ports.specs.Moves.{Touches};
 ghost use Rattle.pir_ports.specs.Written.{Written};
@@ -16,8 +17,8 @@ const PIECE: usize = 2048;
 /// A space, and a number in decimal.
 #[tactic(auto, using(std::proofs::lemmas::Fmt::decimal_nonempty))]
 fn write_number<P: Ports>(ports: &mut P, n: u64) -> Result<(), Failed>
-    ensures written { Written 1 (number_word n) result (P.world ports.old) (P.world ports.new) }
-    ensures others { Touches 1 (P.world ports.old) (P.world ports.new) }
+    ensures written { Written OUTPUT (number_word n) result (P.world ports.old) (P.world ports.new) }
+    ensures others { Touches OUTPUT (P.world ports.old) (P.world ports.new) }
 {
     let mut room = Buffer::new();
     let text = room.format(n);
@@ -27,8 +28,8 @@ fn write_number<P: Ports>(ports: &mut P, n: u64) -> Result<(), Failed>
 
 /// Numbers in decimal, each after a space.
 fn write_numbers<P: Ports>(ports: &mut P, numbers: &[u64]) -> Result<(), Failed>
-    ensures written { Written 1 (flat_map number_word numbers.now) result (P.world ports.old) (P.world ports.new) }
-    ensures others { Touches 1 (P.world ports.old) (P.world ports.new) }
+    ensures written { Written OUTPUT (flat_map number_word numbers.now) result (P.world ports.old) (P.world ports.new) }
+    ensures others { Touches OUTPUT (P.world ports.old) (P.world ports.new) }
 {
     for n in numbers {
         write_number(ports, *n)?;
@@ -39,8 +40,8 @@ fn write_numbers<P: Ports>(ports: &mut P, numbers: &[u64]) -> Result<(), Failed>
 /// A line of words and numbers.
 fn write_line<P: Ports>(ports: &mut P, words: &str, numbers: &[u64]) -> Result<(), Failed>
     requires { 0 < length words.now }
-    ensures written { Written 1 (line_of words.now numbers.now) result (P.world ports.old) (P.world ports.new) }
-    ensures others { Touches 1 (P.world ports.old) (P.world ports.new) }
+    ensures written { Written OUTPUT (line_of words.now numbers.now) result (P.world ports.old) (P.world ports.new) }
+    ensures others { Touches OUTPUT (P.world ports.old) (P.world ports.new) }
 {
     write_all(ports, Port::Output, words.as_bytes())?;
     write_numbers(ports, numbers)?;
@@ -51,8 +52,8 @@ fn write_line<P: Ports>(ports: &mut P, words: &str, numbers: &[u64]) -> Result<(
 fn write_piece<P: Ports>(ports: &mut P, bytes: &[u8]) -> Result<(), Failed>
     requires some { 0 < length bytes.now }
     requires few { length bytes.now ≤ PIECE }
-    ensures written { Written 1 (encode_lower bytes.now) result (P.world ports.old) (P.world ports.new) }
-    ensures others { Touches 1 (P.world ports.old) (P.world ports.new) }
+    ensures written { Written OUTPUT (encode_lower bytes.now) result (P.world ports.old) (P.world ports.new) }
+    ensures others { Touches OUTPUT (P.world ports.old) (P.world ports.new) }
 {
     let mut room = [0u8; 2 * PIECE];
     let text: &mut [u8] = &mut room[..2 * bytes.len()];
@@ -62,8 +63,8 @@ fn write_piece<P: Ports>(ports: &mut P, bytes: &[u8]) -> Result<(), Failed>
 
 /// Any number of bytes, in hexadecimal.
 fn write_hex<P: Ports>(ports: &mut P, bytes: &[u8]) -> Result<(), Failed>
-    ensures written { Written 1 (encode_lower bytes.now) result (P.world ports.old) (P.world ports.new) }
-    ensures others { Touches 1 (P.world ports.old) (P.world ports.new) }
+    ensures written { Written OUTPUT (encode_lower bytes.now) result (P.world ports.old) (P.world ports.new) }
+    ensures others { Touches OUTPUT (P.world ports.old) (P.world ports.new) }
 {
     let mut at = 0;
     'pieces: while at < bytes.len() {
@@ -76,8 +77,8 @@ fn write_hex<P: Ports>(ports: &mut P, bytes: &[u8]) -> Result<(), Failed>
 
 /// A block in hexadecimal, and a newline.
 fn write_block<P: Ports>(ports: &mut P, block: &[u8]) -> Result<(), Failed>
-    ensures written { Written 1 (block_line block.now) result (P.world ports.old) (P.world ports.new) }
-    ensures others { Touches 1 (P.world ports.old) (P.world ports.new) }
+    ensures written { Written OUTPUT (block_line block.now) result (P.world ports.old) (P.world ports.new) }
+    ensures others { Touches OUTPUT (P.world ports.old) (P.world ports.new) }
 {
     write_hex(ports, block)?;
     write_all(ports, Port::Output, b"\n")
@@ -85,8 +86,8 @@ fn write_block<P: Ports>(ports: &mut P, block: &[u8]) -> Result<(), Failed>
 
 /// The lines of blocks.
 fn write_blocks<P: Ports>(ports: &mut P, blocks: &[Vec<u8>]) -> Result<(), Failed>
-    ensures written { Written 1 (flat_map block_line (map (λ b. b.items) blocks.now)) result (P.world ports.old) (P.world ports.new) }
-    ensures others { Touches 1 (P.world ports.old) (P.world ports.new) }
+    ensures written { Written OUTPUT (flat_map block_line (map (λ b. b.items) blocks.now)) result (P.world ports.old) (P.world ports.new) }
+    ensures others { Touches OUTPUT (P.world ports.old) (P.world ports.new) }
 {
     for block in blocks {
         write_block(ports, block)?;
@@ -96,8 +97,8 @@ fn write_blocks<P: Ports>(ports: &mut P, blocks: &[Vec<u8>]) -> Result<(), Faile
 
 /// The number of blocks, and the lines of them.
 fn write_listing<P: Ports>(ports: &mut P, listing: &Listing) -> Result<(), Failed>
-    ensures written { Written 1 (text (Verdict.Listed listing.now)) result (P.world ports.old) (P.world ports.new) }
-    ensures others { Touches 1 (P.world ports.old) (P.world ports.new) }
+    ensures written { Written OUTPUT (text (Verdict.Listed listing.now)) result (P.world ports.old) (P.world ports.new) }
+    ensures others { Touches OUTPUT (P.world ports.old) (P.world ports.new) }
 {
     write_line(ports, "blocks", &[listing.len() as u64])?;
     write_blocks(ports, listing.blocks())
@@ -112,8 +113,8 @@ fn write_listing<P: Ports>(ports: &mut P, listing: &Listing) -> Result<(), Faile
 ///
 /// `Failed` exactly where the count of Output rose; then Output took a proper front of the text.
 pub fn write_verdict<P: Ports>(ports: &mut P, verdict: &Verdict) -> Result<(), Failed>
-    ensures written { Written 1 (text verdict.now) result (P.world ports.old) (P.world ports.new) }
-    ensures others { Touches 1 (P.world ports.old) (P.world ports.new) }
+    ensures written { Written OUTPUT (text verdict.now) result (P.world ports.old) (P.world ports.new) }
+    ensures others { Touches OUTPUT (P.world ports.old) (P.world ports.new) }
 {
     match verdict {
         Verdict::Listed(listing) => write_listing(ports, listing),

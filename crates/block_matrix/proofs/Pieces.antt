@@ -5,6 +5,7 @@ use Rattle.std.specs.Option.{option_map}
 use Rattle.std.proofs.Math.Seq.{take-add}
 use Rattle.std.proofs.lemmas.List.{take_all, drop_all, length-take-le, length-drop}
 use Rattle.pir_ports.specs.World.{Cell, World}
+use Rattle.pir_ports.specs.Number.{DATABASE}
 use Rattle.pir_ports.specs.Moves.{Hands, took, counted, Rose}
 use Rattle.pir_ports.specs.Whole.{Reads, IsFront, Ends, FailsAfter}
 use Rattle.pir_ports.proofs.Cells.{reads_more, took-took}
@@ -17,18 +18,18 @@ whole_again len all bytes same size =
     ap (λ (l : List ℕ). take len (all ++ l)) rest ∙ ap (take len) (append-nil all) ∙ take_all len all (omega (arith, same))
 
 module _ (n : ℕ) (read before after : List ℕ) (w v u : World) (kept : take (length read) before ≡ read) (still : take (length read) after ≡ take (length read) before)
-    (same : length after ≡ length before) (so_far : Reads 2 read w v) (hands : Hands 2 n (drop (length read) before) (drop (length read) after) v u) where
+    (same : length after ≡ length before) (so_far : Reads DATABASE read w v) (hands : Hands DATABASE n (drop (length read) before) (drop (length read) after) v u) where
   -- n bytes more are read, behind those that were
-  pub reads_piece : Reads 2 (take (length read + n) after) w u
+  pub reads_piece : Reads DATABASE (take (length read + n) after) w u
   reads_piece =
       let rests : length (drop (length read) after) ≡ length (drop (length read) before) = omega (arith, length-drop (length read) after, length-drop (length read) before, same) in
-      subst (λ (l : List ℕ). Reads 2 l w u) (ap (λ (l : List ℕ). l ++ take n (drop (length read) after)) (sym (still ∙ kept)) ∙ sym (take-add (length read) n after))
+      subst (λ (l : List ℕ). Reads DATABASE l w u) (ap (λ (l : List ℕ). l ++ take n (drop (length read) after)) (sym (still ∙ kept)) ∙ sym (take-add (length read) n after))
       (reads_more 2 n read (drop (length read) before) (drop (length read) after) w v u rests so_far hands)
 
   -- as many bytes as there was room for
-  pub reads_full : n ≡ length (drop (length read) before) → Reads 2 after w u
+  pub reads_full : n ≡ length (drop (length read) before) → Reads DATABASE after w u
   reads_full full =
-      subst (λ (l : List ℕ). Reads 2 l w u) (take_all (length read + n) after (omega (arith, full, length-drop (length read) before, same))) reads_piece
+      subst (λ (l : List ℕ). Reads DATABASE l w u) (take_all (length read + n) after (omega (arith, full, length-drop (length read) before, same))) reads_piece
 
 -- what was read is as long as what was held: it is all of that
 all_read : (n : ℕ) (first read : List ℕ) (o o1 : Option (List ℕ)) → o1 ≡ option_map (drop (length first)) o → IfSome o (IsFront first) → IfSome o (IsFront read) → length read ≡ length first + n
@@ -40,14 +41,14 @@ all_read n first read (Some h) o1 is a b size ends =
 
 -- the port ended within a piece
 pub reads_ended : (most n : ℕ) (read before after : List ℕ) (w v u : World) → take (length read) before ≡ read → take (length read) after ≡ take (length read) before → length after ≡ length before → length before ≤ most
-    → Reads 2 read w v → Ends 2 n (drop (length read) before) (drop (length read) after) v u → ReadsUpTo most (take (length read + n) after) w u
+    → Reads DATABASE read w v → Ends DATABASE n (drop (length read) before) (drop (length read) after) v u → ReadsUpTo most (take (length read + n) after) w u
 reads_ended most n read before after w v u kept still same few so_far ends =
     let reads = reads_piece n read before after w v u kept still same so_far ends.hands in
     let size : length (take (length read + n) after) ≡ length read + n = length-take-le (length read + n) after (omega (arith, ends.fewer, length-drop (length read) before, same)) in
     record {
       reads = reads;
       within = omega (arith, size, ends.fewer, length-drop (length read) before, few);
-      ended = λ _. all_read n read (take (length read + n) after) (w.at 2).holds (v.at 2).holds (ap (λ (c : Cell). c.holds) so_far.cell) so_far.told reads.told size ends.all;
+      ended = λ _. all_read n read (take (length read + n) after) (w.at DATABASE).holds (v.at DATABASE).holds (ap (λ (c : Cell). c.holds) so_far.cell) so_far.told reads.told size ends.all;
     }
 
 -- more was held than was read
@@ -58,10 +59,10 @@ held_more n read (Some h) o1 is a more =
     omega (arith, left, a.there, length-drop (length read) h)
 
 -- a call on the port failed within a piece
-pub reads_failed : (read : List ℕ) (w v u : World) → Reads 2 read w v → FailsAfter 2 v u → FailsAfter 2 w u
+pub reads_failed : (read : List ℕ) (w v u : World) → Reads DATABASE read w v → FailsAfter DATABASE v u → FailsAfter DATABASE w u
 reads_failed read w v u so_far fails = record {
   n = length read + fails.n;
-  cell = fails.cell ∙ ap (λ (c : Cell). counted (u.at 2).faults (took fails.n c)) so_far.cell ∙ ap (counted (u.at 2).faults) (took-took fails.n (length read) (w.at 2));
-  held = held_more fails.n read (w.at 2).holds (v.at 2).holds (ap (λ (c : Cell). c.holds) so_far.cell) so_far.told fails.held;
-  rose = subst (λ (f : ℕ). Rose f (u.at 2).faults) (ap (λ (c : Cell). c.faults) so_far.cell) fails.rose;
+  cell = fails.cell ∙ ap (λ (c : Cell). counted (u.at DATABASE).faults (took fails.n c)) so_far.cell ∙ ap (counted (u.at DATABASE).faults) (took-took fails.n (length read) (w.at DATABASE));
+  held = held_more fails.n read (w.at DATABASE).holds (v.at DATABASE).holds (ap (λ (c : Cell). c.holds) so_far.cell) so_far.told fails.held;
+  rose = subst (λ (f : ℕ). Rose f (u.at DATABASE).faults) (ap (λ (c : Cell). c.faults) so_far.cell) fails.rose;
 }

@@ -2,6 +2,7 @@
 use Rattle.std.specs.Prelude.{◌≡◌, ℕ, ◌+◌, ◌<◌, ◌≤◌, List, [], length, take, IfSome, Vec, Result, Ok, Err}
 use Rattle.std.specs.declared.alloc.Global.{Global}
 use Rattle.pir_ports.specs.World.{World}
+use Rattle.pir_ports.specs.Number.{DATABASE}
 use Rattle.pir_ports.specs.Moves.{took}
 use Rattle.pir_ports.specs.Whole.{Reads, FailsAfter}
 use Rattle.block_matrix.specs.Database.{Database, limit}
@@ -25,45 +26,45 @@ Lengthens most old new (Err Memory) = Unit {0}
 
 -- the port was read to its end, or so many bytes of it
 pub record ReadsUpTo (most : ℕ) (read : List ℕ) (old new : World) : Type 0 where
-  pub reads : Reads 2 read old new
+  pub reads : Reads DATABASE read old new
   pub within : length read ≤ most
-  pub ended : length read < most → IfSome (old.at 2).holds (λ h. read ≡ h)
+  pub ended : length read < most → IfSome (old.at DATABASE).holds (λ h. read ≡ h)
 
 -- at most so many bytes were taken from the port, which is otherwise as it was
 pub record Stopped (most : ℕ) (old new : World) : Type 0 where
   pub n : ℕ
   pub few : n ≤ most
-  pub cell : new.at 2 ≡ took n (old.at 2)
+  pub cell : new.at DATABASE ≡ took n (old.at DATABASE)
 
 -- the port was read, or a call on it failed, or memory ran out
 abbrev pub ReadsOr : ℕ → Result (Vec ℕ Global) LoadFault → World → World → Type 0
 ReadsOr most (Ok bytes) old new = ReadsUpTo most bytes.items old new
 ReadsOr most (Err EmptyFile) old new = ⊥
 ReadsOr most (Err (TooBig n)) old new = ⊥
-ReadsOr most (Err ReadFault) old new = FailsAfter 2 old new
+ReadsOr most (Err ReadFault) old new = FailsAfter DATABASE old new
 ReadsOr most (Err Memory) old new = Stopped most old new
 
 -- the port was read to its end: its bytes are the file of the database
 pub record Holds (width : ℕ) (m : Database) (old new : World) : Type 0 where
   pub read : List ℕ
-  pub cell : new.at 2 ≡ took (length read) (old.at 2)
+  pub cell : new.at DATABASE ≡ took (length read) (old.at DATABASE)
   pub file : IsFileOf width read m
-  pub all : IfSome (old.at 2).holds (λ h. read ≡ h)
+  pub all : IfSome (old.at DATABASE).holds (λ h. read ≡ h)
 
 -- the port held no bytes, and nothing changed
 pub record HoldsNone (old new : World) : Type 0 where
-  pub cell : new.at 2 ≡ old.at 2
-  pub none : IfSome (old.at 2).holds (λ h. h ≡ [])
+  pub cell : new.at DATABASE ≡ old.at DATABASE
+  pub none : IfSome (old.at DATABASE).holds (λ h. h ≡ [])
 
 -- the port held more bytes than a database of that width may have, and one more of them was taken
 pub record HoldsMore (width : ℕ) (old new : World) : Type 0 where
-  pub cell : new.at 2 ≡ took (limit width + 1) (old.at 2)
-  pub more : IfSome (old.at 2).holds (λ h. limit width < length h)
+  pub cell : new.at DATABASE ≡ took (limit width + 1) (old.at DATABASE)
+  pub more : IfSome (old.at DATABASE).holds (λ h. limit width < length h)
 
 -- the database in the file, or why there is none
 abbrev pub Loads : ℕ → Result Database LoadFault → World → World → Type 0
 Loads width (Ok m) old new = Holds width m old new
 Loads width (Err EmptyFile) old new = HoldsNone old new
 Loads width (Err (TooBig most)) old new = (most ≡ limit width) × HoldsMore width old new
-Loads width (Err ReadFault) old new = FailsAfter 2 old new
+Loads width (Err ReadFault) old new = FailsAfter DATABASE old new
 Loads width (Err Memory) old new = Stopped (limit width + 1) old new

@@ -1,5 +1,6 @@
 //! Reads a database from its file.
 ghost use Rattle.std.specs.Prelude.{◌≡◌, ◌+◌, ◌<◌, ◌≤◌, ◌^◌, length, take, drop, vec_len};
+ghost use Rattle.pir_ports.specs.Number.{DATABASE};
 ghost use Rattle.pir_ports.specs.Moves.{Touches};
 ghost use Rattle.pir_ports.specs.Whole.{Fills};
 ghost use Rattle.block_matrix.specs.Database.{limit};
@@ -40,8 +41,8 @@ fn lengthen(bytes: &mut Vec<u8>, most: usize) -> Result<(), LoadFault>
 fn fill_rest<P: Ports>(ports: &mut P, bytes: &mut [u8], filled: usize) -> Filled
     requires { filled < length bytes.old }
     ensures kept { take filled bytes.new ≡ take filled bytes.old }
-    ensures rest { Fills 2 result (drop filled bytes.old) (drop filled bytes.new) (P.world ports.old) (P.world ports.new) }
-    ensures others { Touches 2 (P.world ports.old) (P.world ports.new) }
+    ensures rest { Fills DATABASE result (drop filled bytes.old) (drop filled bytes.new) (P.world ports.old) (P.world ports.new) }
+    ensures others { Touches DATABASE (P.world ports.old) (P.world ports.new) }
 {
     read_exactly(ports, Port::Database, &mut bytes[filled..])
 }
@@ -57,7 +58,7 @@ fn front(mut bytes: Vec<u8>, filled: usize) -> Vec<u8>
 /// Reads Database to its end, but at most so many bytes.
 fn read_up_to<P: Ports>(alloc: Global, ports: &mut P, most: usize) -> Result<Vec<u8>, LoadFault>
     ensures read { ReadsOr most result (P.world ports.old) (P.world ports.new) }
-    ensures others { Touches 2 (P.world ports.old) (P.world ports.new) }
+    ensures others { Touches DATABASE (P.world ports.old) (P.world ports.new) }
 {
     let mut bytes = Vec::new(alloc);
     'pieces: while bytes.len() < most {
@@ -85,7 +86,7 @@ pub fn load<P: Ports>(alloc: Global, ports: &mut P, width: u32) -> Result<Matrix
     requires some { 1 ≤ width }
     requires few { width ≤ 2 ^ 16 }
     ensures loads { Loads width result (P.world ports.old) (P.world ports.new) }
-    ensures others { Touches 2 (P.world ports.old) (P.world ports.new) }
+    ensures others { Touches DATABASE (P.world ports.old) (P.world ports.new) }
 {
     let most = most_bytes(width) + 1;
     let bytes = read_up_to(alloc, ports, most as usize)?;

@@ -1,9 +1,12 @@
 -- What a fetch does.
 use Rattle.std.specs.Prelude.{ℕ, ◌≡◌, ◌≢◌, ◌+◌, ◌<◌, ◌≤◌, ◌⊎◌, ◌++◌, ◌∷◌, List, [], length, drop, Option, None, Result, Ok, Err, slice_index_or}
 use Rattle.pir_ports.specs.World.{World}
+use Rattle.pir_ports.specs.Number.{COINS, link}
 use Rattle.pir_ports.specs.Moves.{Touches}
 use Rattle.pir_ports.specs.Whole.{FailsAfter}
 use Rattle.pir_ports.specs.Each.{Each}
+use Rattle.pir_ports.specs.Touched.{One, From, TouchesOnly}
+use Rattle.wire_frames.specs.Sizes.{answer_len}
 use Rattle.wire_frames.specs.Session.{Transcript}
 use Rattle.block_decoder.specs.Verdict.{IsVerdict}
 use Rattle.block_decoder.specs.declared.verdict.Verdict.{Verdict}
@@ -20,11 +23,11 @@ use Rattle.fetch_client.specs.Honest.{FindsHonestBlock}
 pub record AsksNext (p : FetchPlan) (address coins : List ℕ) (before after : Transcript) (old new : World) : Type 0 where
   pub answer : Option (List ℕ)
   pub session : after ≡ record before { records = before.records ++ answer ∷ [] }
-  pub asked : Asked address (sent p coins (length before.records + 1)) (24 + p.s) answer (old.at (257 + length before.records)) (new.at (257 + length before.records))
+  pub asked : Asked address (sent p coins (length before.records + 1)) (answer_len p.s) answer (old.at ((link 1) + length before.records)) (new.at ((link 1) + length before.records))
 
 -- each of the first n servers was asked, by its address, and the session has its record
 abbrev pub AskedEach : FetchPlan → List (List ℕ) → List ℕ → ℕ → Transcript → World → World → Type 0
-AskedEach p addresses coins n session old new = Each (λ i. Asked (slice_index_or addresses i []) (sent p coins (i + 1)) (24 + p.s) (slice_index_or session.records i None)) 257 n old new
+AskedEach p addresses coins n session old new = Each (λ i. Asked (slice_index_or addresses i []) (sent p coins (i + 1)) (answer_len p.s) (slice_index_or session.records i None)) (link 1) n old new
 
 -- every server was asked, with these coins, and this is the session
 pub record AsksAll (p : FetchPlan) (addresses : List (List ℕ)) (coins : List ℕ) (session : Transcript) (old new : World) : Type 0 where
@@ -34,14 +37,14 @@ pub record AsksAll (p : FetchPlan) (addresses : List (List ℕ)) (coins : List �
 
 -- these coins were taken, and every server was asked with them, in this session
 pub record AsksWith (p : FetchPlan) (addresses : List (List ℕ)) (coins : List ℕ) (session : Transcript) (old new : World) : Type 0 where
-  pub tossed : Tossed (need p) coins (old.at 3) (new.at 3)
+  pub tossed : Tossed (need p) coins (old.at COINS) (new.at COINS)
   pub asked : AsksAll p addresses coins session old new
 
 -- what taking the coins and asking every server answers, and what it did then. Without the coins no server is asked
 abbrev pub AsksServers : FetchPlan → List (List ℕ) → Result (Unit {0}) FetchFault → List ℕ → Transcript → World → World → Type 0
 AsksServers p addresses (Ok _) coins session old new = AsksWith p addresses coins session old new
-AsksServers p addresses (Err CoinsFault) coins session old new = FailsAfter 3 old new × Touches 3 old new
-AsksServers p addresses (Err (CoinsEnded taken)) coins session old new = RunsOut (need p) taken (old.at 3) (new.at 3) × Touches 3 old new
+AsksServers p addresses (Err CoinsFault) coins session old new = FailsAfter COINS old new × Touches COINS old new
+AsksServers p addresses (Err (CoinsEnded taken)) coins session old new = RunsOut (need p) taken (old.at COINS) (new.at COINS) × Touches COINS old new
 AsksServers p addresses (Err Memory) coins session old new = ⊥
 
 -- every server was asked, with some coins and in some session
@@ -60,12 +63,10 @@ pub record Concludes (p : FetchPlan) (addresses : List (List ℕ)) (session : Tr
 -- what a fetch answers, and what it did then. Without the coins no server is asked
 abbrev pub Fetches : FetchPlan → List (List ℕ) → Result (Transcript × Verdict) FetchFault → World → World → Type 0
 Fetches p addresses (Ok both) old new = Concludes p addresses both.0 both.1 old new
-Fetches p addresses (Err CoinsFault) old new = FailsAfter 3 old new × Touches 3 old new
-Fetches p addresses (Err (CoinsEnded taken)) old new = RunsOut (need p) taken (old.at 3) (new.at 3) × Touches 3 old new
+Fetches p addresses (Err CoinsFault) old new = FailsAfter COINS old new × Touches COINS old new
+Fetches p addresses (Err (CoinsEnded taken)) old new = RunsOut (need p) taken (old.at COINS) (new.at COINS) × Touches COINS old new
 Fetches p addresses (Err Memory) old new = (new ≡ old) ⊎ AsksSome p addresses old new
 
--- no port but Coins and the first n links is touched, no guest comes or goes, and no child is started
-pub record TouchesLinks (n : ℕ) (old new : World) : Type 0 where
-  pub others : (q : ℕ) → q < 1024 → q ≢ 3 → (257 ≤ q → q < 257 + n → ⊥) → new.at q ≡ old.at q
-  pub crowd : new.crowd ≡ old.crowd
-  pub started : new.started ≡ old.started
+-- Coins and the first n links alone are touched
+abbrev pub TouchesLinks : ℕ → World → World → Type 0
+TouchesLinks n old new = TouchesOnly (One COINS ∷ From (link 1) n ∷ []) old new

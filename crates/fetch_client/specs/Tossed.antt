@@ -1,6 +1,7 @@
 -- The coins of a fetch.
 use Rattle.std.specs.Prelude.{◌≡◌, ℕ, ◌<◌, List, length, take, All, IfSome, Result, Ok, Err}
 use Rattle.pir_ports.specs.World.{Cell, World}
+use Rattle.pir_ports.specs.Number.{COINS}
 use Rattle.pir_ports.specs.Moves.{took}
 use Rattle.pir_ports.specs.Whole.{FailsAfter}
 use Rattle.fetch_client.specs.declared.plan.FetchFault.{FetchFault}
@@ -21,7 +22,7 @@ pub record RunsOut (need taken : ℕ) (old new : Cell) : Type 0 where
 
 -- what taking so many coins from Coins answers
 abbrev pub TakesCoins : ℕ → Result (Unit {0}) FetchFault → List ℕ → World → World → Type 0
-TakesCoins need (Ok _) coins old new = Tossed need coins (old.at 3) (new.at 3)
-TakesCoins need (Err CoinsFault) coins old new = FailsAfter 3 old new
-TakesCoins need (Err (CoinsEnded taken)) coins old new = RunsOut need taken (old.at 3) (new.at 3)
+TakesCoins need (Ok _) coins old new = Tossed need coins (old.at COINS) (new.at COINS)
+TakesCoins need (Err CoinsFault) coins old new = FailsAfter COINS old new
+TakesCoins need (Err (CoinsEnded taken)) coins old new = RunsOut need taken (old.at COINS) (new.at COINS)
 TakesCoins need (Err Memory) coins old new = ⊥

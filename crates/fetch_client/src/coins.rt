@@ -1,6 +1,7 @@
 //! The random bytes.
 
 ghost use Rattle.std.specs.Prelude.{◌≡◌, ◌<◌, ◌≤◌, length};
+ghost use Rattle.pir_ports.specs.Number.{COINS};
 ghost use Rattle.pir_ports.specs.Moves.{Touches};
 ghost use Rattle.fetch_client.specs.Sent.{session_number};
 ghost use Rattle.fetch_client.specs.Tossed.{TakesCoins};
@@ -17,7 +18,7 @@ use pir_ports::{Filled, Port, Ports, read_exactly};
 pub(crate) fn take_coins<P: Ports>(ports: &mut P, coins: &mut [u8]) -> Result<(), FetchFault>
     requires { 0 < length coins.old }
     ensures taken { TakesCoins (length coins.old) result coins.new (P.world ports.old) (P.world ports.new) }
-    ensures others { Touches 3 (P.world ports.old) (P.world ports.new) }
+    ensures others { Touches COINS (P.world ports.old) (P.world ports.new) }
 {
     match read_exactly(ports, Port::Coins, coins) {
         Filled::Full => Ok(()),

@@ -1,6 +1,7 @@
 //! One fetch.
 
 ghost use Rattle.std.specs.Prelude.{◌≡◌, ◌≤◌, ◌+◌, ◌*◌, length, map, string_bytes, IfOk, drop, vec_len, []};
+ghost use Rattle.wire_frames.specs.Sizes.{answer_len};
 ghost use Rattle.wire_frames.specs.Answer.{answers};
 ghost use Rattle.block_decoder.specs.Choices.{binomial};
 ghost use Rattle.fetch_client.specs.Plan.{IsPlan, params_of, need};
@@ -11,14 +12,14 @@ ghost use Rattle.fetch_client.specs.Fetched.{AsksServers, Fetches, TouchesLinks}
 
 use crate::coins::{session_number_of, take_coins};
 use crate::laws::honest_block_is_found;
-use crate::links::{HEADER_LEN, ask_all};
+use crate::links::ask_all;
 use crate::plan::{FetchFault, FetchPlan};
 use block_decoder::{Verdict, judge};
 use pir_ports::Ports;
 use std::alloc::{AllocError, Global};
 use std::sync::ledger::Ledger;
 use uni_poly::steps::Steps;
-use wire_frames::Session;
+use wire_frames::{FRAME_HEADER_LEN, Session, answer_len};
 
 // The memory that a fetch takes before anything is touched: a session with no record yet, and room for the coins, for one
 // query and for one answer.
@@ -34,14 +35,14 @@ fn room_for(alloc: Global, plan: &FetchPlan) -> Result<Room, AllocError>
     requires { IsPlan plan.now }
     ensures session { IfOk result (λ room. room.session ≡ record { params = params_of plan.now 0; records = [] }) }
     ensures coins { IfOk result (λ room. vec_len room.coins ≡ need plan.now) }
-    ensures frame { IfOk result (λ room. vec_len room.frame ≡ 24 + payload_size (params_of plan.now 0)) }
-    ensures answer { IfOk result (λ room. vec_len room.answer ≡ 24 + plan.now.s) }
+    ensures frame { IfOk result (λ room. vec_len room.frame ≡ FRAME_HEADER_LEN + payload_size (params_of plan.now 0)) }
+    ensures answer { IfOk result (λ room. vec_len room.answer ≡ answer_len plan.now.s) }
 {
     Ok(Room {
         session: Session::new(alloc, plan.params())?,
         coins: vec![in alloc; 0; plan.coins_len()]?,
-        frame: vec![in alloc; 0; HEADER_LEN + plan.payload_len()]?,
-        answer: vec![in alloc; 0; HEADER_LEN + plan.s as usize]?,
+        frame: vec![in alloc; 0; FRAME_HEADER_LEN + plan.payload_len()]?,
+        answer: vec![in alloc; 0; answer_len(plan.s)]?,
     })
 }
 
@@ -62,8 +63,8 @@ fn ask_servers<P: Ports>(
     requires plan { IsPlan plan.now }
     requires addresses { length addresses.now ≡ plan.now.n }
     requires coins { length coins.old ≡ need plan.now }
-    requires frame { length frame.old ≡ 24 + payload_size (params_of plan.now 0) }
-    requires answer { length answer.old ≡ 24 + plan.now.s }
+    requires frame { length frame.old ≡ FRAME_HEADER_LEN + payload_size (params_of plan.now 0) }
+    requires answer { length answer.old ≡ answer_len plan.now.s }
     requires session { session.old ≡ record { params = params_of plan.now 0; records = [] } }
     ensures asked { AsksServers plan.now (map string_bytes addresses.now) result coins.new session.new (P.world ports.old) (P.world ports.new) }
     ensures others { TouchesLinks plan.now.n (P.world ports.old) (P.world ports.new) }
@@ -107,7 +108,7 @@ fn conclude<C: Ledger>(
 /// All memory but that for judging is taken first. Then the coins are taken: 8 bytes for the number of the session, and for
 /// the queries `r * t`, which is `t` for each row, or in the XOR scheme `(n - 1) * ceil(r / 8)`, a bitmap for each server but
 /// the last. Then each server in turn is sent its query, whose payload has r bytes or, in the XOR scheme, `ceil(r / 8)`; and
-/// up to `24 + s` bytes of its answer are taken. A server whose link fails has no record; none is left out, and no byte that
+/// of its answer as many bytes as a whole one has are taken. A server whose link fails has no record; none is left out, and no byte that
 /// is sent depends on an answer.
 ///
 /// # Errors

@@ -2,8 +2,10 @@
 
 ghost use Rattle.std.specs.Prelude.{◌≡◌, ◌<◌, ◌≤◌, ◌+◌, [], length, map, take, string_bytes, IfSome};
 ghost use Rattle.std.specs.Option.{option_map};
+ghost use Rattle.pir_ports.specs.Number.{link};
 ghost use Rattle.pir_ports.specs.Moves.{Touches};
 ghost use Rattle.pir_ports.specs.Each.{TouchesRange};
+ghost use Rattle.wire_frames.specs.Sizes.{answer_len};
 ghost use Rattle.wire_frames.specs.Header.{query_header};
 ghost use Rattle.fetch_client.specs.Plan.{IsPlan, params_of, query_coins, need};
 ghost use Rattle.fetch_client.specs.Sent.{header_to, payload_size, payload_to, sent, session_number};
@@ -15,17 +17,14 @@ use crate::plan::FetchPlan;
 use chor_xor::bitmap_into;
 use pir_ports::{Filled, Port, Ports, read_exactly, write_all};
 use shamir_share::query_into;
-use wire_frames::{QueryHeader, Session, XOR, write_query_header};
-
-// How many bytes stand before the payload of a query and of an answer.
-pub(crate) const HEADER_LEN: usize = 24;
+use wire_frames::{FRAME_HEADER_LEN, QueryHeader, Session, XOR, write_query_header};
 
 /// Writes the header of the query to server `index`.
 fn write_header(plan: &FetchPlan, coins: &[u8], index: u8, out: &mut [u8])
     requires plan { IsPlan plan.now }
     requires coins { length coins.now ≡ need plan.now }
     requires index { 1 ≤ index }
-    requires room { length out.old ≡ 24 }
+    requires room { length out.old ≡ FRAME_HEADER_LEN }
     ensures { out.new ≡ query_header (header_to plan.now coins.now index) }
 {
     let header = QueryHeader {
@@ -35,7 +34,7 @@ fn write_header(plan: &FetchPlan, coins: &[u8], index: u8, out: &mut [u8])
         r: plan.r,
         s: plan.s,
     };
-    let mut bytes = [0; HEADER_LEN];
+    let mut bytes = [0; FRAME_HEADER_LEN];
     write_query_header(&header, &mut bytes);
     out.copy_from_slice(&bytes);
 }
@@ -64,10 +63,10 @@ fn write_frame(plan: &FetchPlan, coins: &[u8], index: u8, frame: &mut [u8])
     requires coins { length coins.now ≡ need plan.now }
     requires first { 1 ≤ index }
     requires last { index ≤ plan.now.n }
-    requires room { length frame.old ≡ 24 + payload_size (params_of plan.now 0) }
+    requires room { length frame.old ≡ FRAME_HEADER_LEN + payload_size (params_of plan.now 0) }
     ensures { frame.new ≡ sent plan.now coins.now index }
 {
-    let (header, payload) = frame.split_at_mut(HEADER_LEN);
+    let (header, payload) = frame.split_at_mut(FRAME_HEADER_LEN);
     write_header(plan, coins, index, header);
     write_payload(plan, &coins[8..], index, payload);
 }
@@ -84,8 +83,8 @@ fn ask<P: Ports>(
     requires frame { 0 < length frame.now }
     requires answer { 0 < length answer.old }
     ensures fits { IfSome result (λ n. n ≤ length answer.new) }
-    ensures asked { Asked address.now frame.now (length answer.old) (option_map (λ n. take n answer.new) result) ((P.world ports.old).at (256 + index)) ((P.world ports.new).at (256 + index)) }
-    ensures others { Touches (256 + index) (P.world ports.old) (P.world ports.new) }
+    ensures asked { Asked address.now frame.now (length answer.old) (option_map (λ n. take n answer.new) result) ((P.world ports.old).at (link index)) ((P.world ports.new).at (link index)) }
+    ensures others { Touches (link index) (P.world ports.old) (P.world ports.new) }
 {
     let link = Port::Link(index);
     let Ok(()) = ports.open(link, address) else {
@@ -113,12 +112,12 @@ fn ask_next<P: Ports>(
 )
     requires plan { IsPlan plan.now }
     requires coins { length coins.now ≡ need plan.now }
-    requires frame { length frame.old ≡ 24 + payload_size (params_of plan.now 0) }
-    requires answer { length answer.old ≡ 24 + plan.now.s }
+    requires frame { length frame.old ≡ FRAME_HEADER_LEN + payload_size (params_of plan.now 0) }
+    requires answer { length answer.old ≡ answer_len plan.now.s }
     requires params { session.old.params ≡ params_of plan.now (session_number coins.now) }
     requires few { length session.old.records < plan.now.n }
     ensures asked { AsksNext plan.now address.now coins.now session.old session.new (P.world ports.old) (P.world ports.new) }
-    ensures others { Touches (257 + length session.old.records) (P.world ports.old) (P.world ports.new) }
+    ensures others { Touches ((link 1) + length session.old.records) (P.world ports.old) (P.world ports.new) }
 {
     let index = session.record_count() as u8 + 1;
     write_frame(plan, coins, index, frame);
@@ -142,14 +141,14 @@ pub(crate) fn ask_all<P: Ports>(
     requires plan { IsPlan plan.now }
     requires coins { length coins.now ≡ need plan.now }
     requires addresses { length addresses.now ≡ plan.now.n }
-    requires frame { length frame.old ≡ 24 + payload_size (params_of plan.now 0) }
-    requires answer { length answer.old ≡ 24 + plan.now.s }
+    requires frame { length frame.old ≡ FRAME_HEADER_LEN + payload_size (params_of plan.now 0) }
+    requires answer { length answer.old ≡ answer_len plan.now.s }
     requires params { session.old.params ≡ params_of plan.now (session_number coins.now) }
     requires fresh { session.old.records ≡ [] }
     ensures params { session.new.params ≡ session.old.params }
     ensures whole { length session.new.records ≡ plan.now.n }
     ensures links { AskedEach plan.now (map string_bytes addresses.now) coins.now plan.now.n session.new (P.world ports.old) (P.world ports.new) }
-    ensures others { TouchesRange 257 plan.now.n (P.world ports.old) (P.world ports.new) }
+    ensures others { TouchesRange (link 1) plan.now.n (P.world ports.old) (P.world ports.new) }
 {
     'links: for address in addresses {
         ask_next(plan, coins, address, ports, frame, answer, session);

@@ -5,6 +5,7 @@ use Rattle.std.specs.Option.{option_map}
 use Rattle.std.proofs.lemmas.Bool.{cases_eq}
 use Rattle.std.proofs.lemmas.List.{append-nil, drop-drop, get_or-drop, get_or_push, get_or_append_left, length_push}
 use Rattle.pir_ports.specs.World.{Cell, Crowd, World, answers, answered}
+use Rattle.pir_ports.specs.Number.{GUEST}
 use Rattle.pir_ports.specs.Moves.{Touches}
 use Rattle.pir_ports.specs.Guests.{Meets}
 use Rattle.pir_ports.specs.Serving.{Gives, ServesOne, Serving, Served}
@@ -16,7 +17,7 @@ answers_push (x ∷ xs) y left a = refl
 
 module _ (F : List ℕ → List ℕ → ℕ → ℕ → Type 0) where
   -- before the first guest nobody was served
-  serving_none : (gs others : List (List ℕ)) (earlier before : List ℕ) (w : World) → w.crowd.guests ≡ Some gs → answered w ≡ Some others → w.crowd.since ≡ Some earlier → (w.at 6).accepted ≡ Some before
+  serving_none : (gs others : List (List ℕ)) (earlier before : List ℕ) (w : World) → w.crowd.guests ≡ Some gs → answered w ≡ Some others → w.crowd.since ≡ Some earlier → (w.at GUEST).accepted ≡ Some before
       → Serving F gs others earlier 0 w
   serving_none gs others earlier before w told answer since accepted = record {
     outs = [];
@@ -35,7 +36,7 @@ module _ (F : List ℕ → List ℕ → ℕ → ℕ → Type 0) where
   -- what is done to other ports serves nobody
   serving_still : (gs others : List (List ℕ)) (earlier : List ℕ) (j p : ℕ) (w v : World) → Serving F gs others earlier j w → Touches p w v → 6 ≢ p → Serving F gs others earlier j v
   serving_still gs others earlier j p w v s touch ne =
-      let cell : v.at 6 ≡ w.at 6 = touch.others 6 (omega arith) ne in
+      let cell : v.at GUEST ≡ w.at GUEST = touch.others 6 (omega arith) ne in
       record {
         outs = s.outs;
         counts = s.counts;
@@ -51,16 +52,16 @@ module _ (F : List ℕ → List ℕ → ℕ → ℕ → Type 0) where
       }
 
   -- one more guest is met, and served
-  serving_more : (gs others : List (List ℕ)) (earlier : List ℕ) (j : ℕ) (w v u : World) → Serving F gs others earlier j w → Meets w v → Touches 6 v u → ServesOne F (v.at 6) (u.at 6) → Serving F gs others earlier (j + 1) u
+  serving_more : (gs others : List (List ℕ)) (earlier : List ℕ) (j : ℕ) (w v u : World) → Serving F gs others earlier j w → Meets w v → Touches GUEST v u → ServesOne F (v.at GUEST) (u.at GUEST) → Serving F gs others earlier (j + 1) u
   serving_more gs others earlier j w v u s meets touch serves =
-      let first = subst (λ (o : Option (List (List ℕ))). IfSome o (λ l. (0 < length l) × ((v.at 6).holds ≡ Some (get_or l 0 [])))) s.guests meets.first in
+      let first = subst (λ (o : Option (List (List ℕ))). IfSome o (λ l. (0 < length l) × ((v.at GUEST).holds ≡ Some (get_or l 0 [])))) s.guests meets.first in
       let guest : List ℕ = get_or gs j [] in
-      let holds : (v.at 6).holds ≡ Some guest = first.1 ∙ ap (λ (h : List ℕ). Some h) (get_or-drop j gs 0 [] ∙ ap (λ (k : ℕ). get_or gs k []) (let e : j + 0 ≡ j = omega arith in e)) in
-      let empty : (v.at 6).accepted ≡ Some [] = meets.accepted ∙ ap (λ (o : Option (List ℕ)). option_map (λ a. []) o) s.accepted in
-      let given : Gives F guest (v.at 6) (u.at 6) = serves.told guest holds empty in
+      let holds : (v.at GUEST).holds ≡ Some guest = first.1 ∙ ap (λ (h : List ℕ). Some h) (get_or-drop j gs 0 [] ∙ ap (λ (k : ℕ). get_or gs k []) (let e : j + 0 ≡ j = omega arith in e)) in
+      let empty : (v.at GUEST).accepted ≡ Some [] = meets.accepted ∙ ap (λ (o : Option (List ℕ)). option_map (λ a. []) o) s.accepted in
+      let given : Gives F guest (v.at GUEST) (u.at GUEST) = serves.told guest holds empty in
       let out : List ℕ = given.out in
-      let count : ℕ = (w.at 6).faults in
-      let last : ℕ = (u.at 6).faults in
+      let count : ℕ = (w.at GUEST).faults in
+      let last : ℕ = (u.at GUEST).faults in
       let since : u.crowd.since ≡ Some ((earlier ++ s.counts) ++ count ∷ []) = ap (λ (c : Crowd). c.since) touch.crowd ∙ meets.since ∙ ap (λ (o : Option (List ℕ)). option_map (λ l. l ++ count ∷ []) o) s.since in
       let gone : u.crowd.gone ≡ Some (others ++ s.outs) = ap (λ (c : Crowd). c.gone) touch.crowd ∙ meets.gone ∙ s.answers in
       let counts : List ℕ = s.counts ++ count ∷ [] in
@@ -105,7 +106,7 @@ module _ (F : List ℕ → List ℕ → ℕ → ℕ → Type 0) where
   }
 
   -- one more guest is met, and served
-  pub served_more : (j : ℕ) (w v m u : World) → Served F j w v → Meets v m → Touches 6 m u → ServesOne F (m.at 6) (u.at 6) → Served F (j + 1) w u
+  pub served_more : (j : ℕ) (w v m u : World) → Served F j w v → Meets v m → Touches GUEST m u → ServesOne F (m.at GUEST) (u.at GUEST) → Served F (j + 1) w u
   served_more j w v m u s meets touch serves = record {
     told = λ gs others earlier before a b c d. serving_more gs others earlier j v m u (s.told gs others earlier before a b c d) meets touch serves;
   }

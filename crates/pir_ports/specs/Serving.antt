@@ -1,6 +1,7 @@
 -- A server's guests, one after the other.
 use Rattle.std.specs.Prelude.{ℕ, ◌+◌, ◌<◌, ◌≤◌, ◌≡◌, List, [], ◌∷◌, ◌++◌, length, drop, get_or, Some}
 use Rattle.pir_ports.specs.World.{Cell, World, answered}
+use Rattle.pir_ports.specs.Number.{GUEST}
 
 -- a guest with these bytes was given some, by F: of its bytes, of what it was given, and of the count of Guest as it
 -- came in and at its end
@@ -23,12 +24,12 @@ pub record Serving (F : List ℕ → List ℕ → ℕ → ℕ → Type 0) (gs ot
   pub guests : w.crowd.guests ≡ Some (drop j gs)
   pub answers : answered w ≡ Some (others ++ outs)
   pub since : w.crowd.since ≡ Some (earlier ++ counts)
-  pub accepted : (w.at 6).accepted ≡ Some present
+  pub accepted : (w.at GUEST).accepted ≡ Some present
   pub outs_size : length outs ≡ j
   pub counts_size : length counts ≡ j
-  pub each : (i : ℕ) → i < j → F (get_or gs i []) (get_or outs i []) (get_or counts i 0) (get_or (counts ++ (w.at 6).faults ∷ []) (i + 1) 0)
+  pub each : (i : ℕ) → i < j → F (get_or gs i []) (get_or outs i []) (get_or counts i 0) (get_or (counts ++ (w.at GUEST).faults ∷ []) (i + 1) 0)
 
 -- j guests were served, each by F, where the guests are told
 pub record Served (F : List ℕ → List ℕ → ℕ → ℕ → Type 0) (j : ℕ) (old new : World) : Type 0 where
   pub told : (gs others : List (List ℕ)) (earlier before : List ℕ) → old.crowd.guests ≡ Some gs → answered old ≡ Some others
-      → old.crowd.since ≡ Some earlier → (old.at 6).accepted ≡ Some before → Serving F gs others earlier j new
+      → old.crowd.since ≡ Some earlier → (old.at GUEST).accepted ≡ Some before → Serving F gs others earlier j new

@@ -2,7 +2,7 @@
 ghost use Rattle.std.specs.Prelude.{◌≡◌, ◌≢◌, ◌<◌, ◌≤◌, ◌+◌, ◌-◌, ◌^◌, ◌↔◌, ℕ, [], Some, length, map, string_bytes, take, slice_get, Contains, IfOk, IfSome, OnOk, OnErr, IsErr, IsTrue, ◌⊎◌};
 ghost use Rattle.std.specs.Option.{option_copied};
 ghost use Rattle.pir_ports.specs.World.{answered};
-ghost use Rattle.pir_ports.specs.Number.{number};
+ghost use Rattle.pir_ports.specs.Number.{number, DOOR, GUEST, child};
 ghost use Rattle.pir_ports.specs.Moves.{Touches, Hands, Fails, gave, named};
 ghost use Rattle.pir_ports.specs.Guests.{Meets};
 ghost use Rattle.pir_ports.specs.Children.{Starts};
@@ -130,7 +130,7 @@ impl MemPorts {
     ///
     /// `AllocError` if memory is short; nothing is changed then.
     pub fn room(&mut self, _alloc: Global, p: Port, n: usize) -> Result<(), AllocError>
-        requires guests { number p ≢ 6 }
+        requires guests { number p ≢ GUEST }
         ensures ok { OnOk result (self.new ≡ changed (number p) (with_room n) self.old) }
         ensures told { (world_of self.new).at (number p) ≡ (world_of self.old).at (number p) }
         ensures others { Touches (number p) (world_of self.old) (world_of self.new) }
@@ -275,8 +275,8 @@ impl Ports for MemPorts {
 
     fn next_guest(&mut self) -> Result<(), Failed>
         ensures ok { OnOk result (Meets (world_of self.old) (world_of self.new)) }
-        ensures failed { OnErr result (Fails 5 (world_of self.old) (world_of self.new)) }
-        ensures others { OnErr result (Touches 5 (world_of self.old) (world_of self.new)) }
+        ensures failed { OnErr result (Fails DOOR (world_of self.old) (world_of self.new)) }
+        ensures others { OnErr result (Touches DOOR (world_of self.old) (world_of self.new)) }
 
         // It fails exactly where it is due to fail or no guest is left.
         ensures exactly { IsErr result ↔ (IsDue self.old ⊎ (self.old.waiting ≡ [])) }
@@ -300,15 +300,15 @@ impl Ports for MemPorts {
     fn start_child(&mut self, i: u8, words: &[String]) -> Result<(), Failed>
         ensures ok { OnOk result
             (Starts (map string_bytes words.now) (world_of self.old) (world_of self.new)) }
-        ensures failed { OnErr result (Fails (512 + i) (world_of self.old) (world_of self.new)) }
-        ensures others { OnErr result (Touches (512 + i) (world_of self.old) (world_of self.new)) }
+        ensures failed { OnErr result (Fails (child i) (world_of self.old) (world_of self.new)) }
+        ensures others { OnErr result (Touches (child i) (world_of self.old) (world_of self.new)) }
 
         // It fails exactly where it is due to fail or there is no room for the words.
         ensures exactly { IsErr result
             ↔ (IsDue self.old ⊎ ¬ CanKeepStart (map string_bytes words.now) self.old.log) }
         ensures kept { OnOk result (CanKeepStart (map string_bytes words.now) self.old.log) }
         ensures starts { OnOk result (self.new ≡ begun (map string_bytes words.now) (called self.old)) }
-        ensures counts { OnErr result (self.new ≡ changed (512 + i) fault (called self.old)) }
+        ensures counts { OnErr result (self.new ≡ changed (child i) fault (called self.old)) }
     {
         if is_due(&mut self.calls, &self.fail) || !self.names.can_keep_start(words) {
             let child = &mut self.cells[Port::Child(i).number()];

@@ -5,6 +5,7 @@ use Rattle.std.proofs.lemmas.List.FromFn.{map-range_with_len_more}
 use Rattle.std.proofs.lemmas.Simd.{map-map}
 use Rattle.std.proofs.lemmas.List.{map-append, take_all, length-map}
 use Rattle.pir_ports.specs.World.{World}
+use Rattle.pir_ports.specs.Number.{child}
 use Rattle.pir_ports.specs.Moves.{Fails, Touches}
 use Rattle.pir_tool.specs.DemoOrder.{address_from}
 use Rattle.pir_tool.specs.DemoOutcome.{StartsAll, StartsSome}
@@ -18,7 +19,7 @@ address_next f port i xs x so_far next =
 -- a child could not be started after those before it
 pub starts_some : {X : Type 0} (f : X → List (List ℕ)) (xs : List X) (i k : ℕ) (w v u : World) → i < length xs → k ≡ 512 + (i + 1) → StartsAll (map f (take i xs)) w v → Fails k v u → Touches k v u → StartsSome (map f xs) w u
 starts_some f xs i k w v u lt is all fails touch =
-    let at : k ≡ 513 + i = omega (arith, is) in
+    let at : k ≡ (child 1) + i = omega (arith, is) in
     record {
       before = i;
       fewer = omega (arith, lt, length-map xs f);

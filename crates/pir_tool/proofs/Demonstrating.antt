@@ -6,6 +6,7 @@ use Rattle.std.proofs.lemmas.List.{length-map}
 use Rattle.std.proofs.lemmas.List.FromFn.{length-map-range_with_len}
 use Rattle.std.proofs.lemmas.Simd.{map-map}
 use Rattle.pir_ports.specs.World.{Cell, World}
+use Rattle.pir_ports.specs.Number.{COINS, link, child}
 use Rattle.pir_ports.specs.Moves.{Rose, gave, named}
 use Rattle.pir_ports.proofs.Ranges.{each_within}
 use Rattle.wire_frames.specs.Session.{Transcript}
@@ -72,14 +73,14 @@ demonstrates o addresses lists status w v u at words starts ends others = demons
 }
 
 -- no port is touched before the fetch
-module _ (o : FetchOrder) (w v z : World) (same : (q : ℕ) → q < 1024 → v.at q ≡ w.at q) (fits : 257 + o.plan.n ≤ 1024) where
+module _ (o : FetchOrder) (w v z : World) (same : (q : ℕ) → q < 1024 → v.at q ≡ w.at q) (fits : (link 1) + o.plan.n ≤ 1024) where
   in_session_before : (coins : List ℕ) (session : Transcript) → InSession o coins session v z → InSession o coins session w z
   in_session_before coins session s = record {
-    tossed = subst (λ (c : Cell). Tossed (need o.plan) coins (named o.coins c) (z.at 3)) (same 3 (lit< tt)) s.tossed;
+    tossed = subst (λ (c : Cell). Tossed (need o.plan) coins (named o.coins c) (z.at COINS)) (same 3 (lit< tt)) s.tossed;
     asked = record {
       params = s.asked.params;
       whole = s.asked.whole;
-      links = each_within _ 257 o.plan.n w v z z (λ i l. same (257 + i) (omega arith)) (λ i l. refl) s.asked.links;
+      links = each_within _ (link 1) o.plan.n w v z z (λ i l. same ((link 1) + i) (omega arith)) (λ i l. refl) s.asked.links;
     };
   }
 
@@ -104,15 +105,15 @@ module _ (o : DemoOrder) (old new : World) (few : o.servers < 256) (none : NoneR
   started : StartsSome (words_of_children o) old new → ⊥
   started s =
       let fewer : s.before < 255 = omega (arith, s.fewer, length-map-range_with_len (λ i. words_to_serve o.database o.width (address_from o.port i)) 1 o.servers, few) in
-      ready (513 + s.before) (omega arith) (omega (arith, fewer)) (subst (λ (c : Cell). Rose c.faults (new.at (513 + s.before)).faults) (s.starts.ports (513 + s.before) (omega (arith, fewer))) s.fails.rose)
+      ready ((child 1) + s.before) (omega arith) (omega (arith, fewer)) (subst (λ (c : Cell). Rose c.faults (new.at ((child 1) + s.before)).faults) (s.starts.ports ((child 1) + s.before) (omega (arith, fewer))) s.fails.rose)
 
   none_after : (v : World) → ((q : ℕ) → q < 1024 → v.at q ≡ old.at q) → NoneRose v new
   none_after v same = λ p l rose. none p l (subst (λ (c : Cell). Rose c.faults (new.at p).faults) (same p (omega (arith, l))) rose)
 
-  told_after : (v : World) (held : List ℕ) → ((q : ℕ) → q < 1024 → v.at q ≡ old.at q) → (old.at 3).holds ≡ Some held → (v.at 3).holds ≡ Some held
+  told_after : (v : World) (held : List ℕ) → ((q : ℕ) → q < 1024 → v.at q ≡ old.at q) → (old.at COINS).holds ≡ Some held → (v.at COINS).holds ≡ Some held
   told_after v held same told = ap (λ (c : Cell). c.holds) (same 3 (lit< tt)) ∙ told
 
-  module _ (held : List ℕ) (told : (old.at 3).holds ≡ Some held) where
+  module _ (held : List ℕ) (told : (old.at COINS).holds ≡ Some held) where
     reports : (status : Status) → need (plan_of o) ≤ length held → Demonstrated o status old new → DemoReported o status old new ⊎ (status ≡ Memory)
     reports status enough d =
         let same = d.starts.ports in

@@ -2,9 +2,11 @@
 use Rattle.std.proofs.Common.{◌≡◌, ◌≢◌, ◌∙◌, inl, inr, ℕ, ◌+◌, ◌<◌, ◌≤◌, List, [], ◌∷◌, length, take, slice_index_or, refl, lit<, sym, ap, subst, arith}
 use Rattle.std.specs.Prelude.{Option, Some, None, IfSome, unwrap_or}
 use Rattle.pir_ports.specs.World.{Cell, World}
+use Rattle.pir_ports.specs.Number.{COINS, RECORD, link}
 use Rattle.pir_ports.specs.Moves.{Rose, Touches, took, gave, named, counted}
 use Rattle.pir_ports.proofs.Ranges.{each_within}
 use Rattle.pir_ports.proofs.Carried.{fails_writing_before}
+use Rattle.wire_frames.specs.Sizes.{answer_len}
 use Rattle.wire_frames.specs.Session.{Transcript, session_bytes}
 use Rattle.block_decoder.specs.declared.verdict.Verdict.{Verdict}
 use Rattle.block_decoder.specs.declared.verdict.Verdict.TheVariants.{Listed as IsListed, TooFew as IsTooFew, TooWeak as IsTooWeak}
@@ -34,12 +36,12 @@ order_is o is = ap (λ (n : ℕ). record {
 }) (sym is)
 
 -- every server was asked after Coins was opened, and before other ports were touched
-pub asked_within : (o : FetchOrder) (coins : List ℕ) (session : Transcript) (w v u z : World) → 257 + o.plan.n ≤ 1024 → v.at 3 ≡ named o.coins (w.at 3) → Touches 3 w v
+pub asked_within : (o : FetchOrder) (coins : List ℕ) (session : Transcript) (w v u z : World) → (link 1) + o.plan.n ≤ 1024 → v.at COINS ≡ named o.coins (w.at COINS) → Touches COINS w v
     → AsksWith o.plan o.addresses coins session v u → TouchesFiles u z → InSession o coins session w z
 asked_within o coins session w v u z fits is_open touch asks files =
     let p = o.plan in
     let t = asks.tossed in
-    let still : z.at 3 ≡ u.at 3 = files.others 3 (omega arith) (λ e. omega (arith, e)) (λ e. omega (arith, e)) in
+    let still : z.at COINS ≡ u.at COINS = files.others 3 (omega arith) (λ e. omega (arith, e)) (λ e. omega (arith, e)) in
     record {
       tossed = record {
         size = t.size;
@@ -50,28 +52,28 @@ asked_within o coins session w v u z fits is_open touch asks files =
       asked = record {
         params = asks.asked.params;
         whole = asks.asked.whole;
-        links = each_within (λ (i : ℕ). Asked (slice_index_or o.addresses i []) (sent p coins (i + 1)) (24 + p.s) (slice_index_or session.records i None)) 257 p.n w v u z
-            (λ i l. touch.others (257 + i) (omega arith) (λ e. omega (arith, e)))
-            (λ i l. files.others (257 + i) (omega arith) (λ e. omega (arith, e)) (λ e. omega (arith, e))) asks.asked.links;
+        links = each_within (λ (i : ℕ). Asked (slice_index_or o.addresses i []) (sent p coins (i + 1)) (answer_len p.s) (slice_index_or session.records i None)) (link 1) p.n w v u z
+            (λ i l. touch.others ((link 1) + i) (omega arith) (λ e. omega (arith, e)))
+            (λ i l. files.others ((link 1) + i) (omega arith) (λ e. omega (arith, e)) (λ e. omega (arith, e))) asks.asked.links;
       };
     }
 
 -- a record counts from before, where the port wasn't touched before it
-pub recorded_before : (keep : Option (List ℕ)) (session : Transcript) (w u z : World) → u.at 4 ≡ w.at 4 → Recorded keep session u z → Recorded keep session w z
+pub recorded_before : (keep : Option (List ℕ)) (session : Transcript) (w u z : World) → u.at RECORD ≡ w.at RECORD → Recorded keep session u z → Recorded keep session w z
 recorded_before None session w u z still kept = kept ∙ still
 recorded_before (Some name) session w u z still kept = record { file = kept.file; cell = kept.cell ∙ ap (λ (c : Cell). gave (session_bytes session) (named name c)) still }
 
 -- and so does one that was cut short
-unrecorded_before : (keep : Option (List ℕ)) (session : Transcript) (w u z : World) → u.at 4 ≡ w.at 4 → Unrecorded keep session u z → Unrecorded keep session w z
+unrecorded_before : (keep : Option (List ℕ)) (session : Transcript) (w u z : World) → u.at RECORD ≡ w.at RECORD → Unrecorded keep session u z → Unrecorded keep session w z
 unrecorded_before None session w u z still cut = cut
 unrecorded_before (Some name) session w u z still cut = record {
   n = cut.n;
   proper = cut.proper;
   cell = elim cut.cell [
-    | inl a ↦ inl (a ∙ ap (counted (z.at 4).faults) still)
-    | inr b ↦ inr (b ∙ ap (λ (c : Cell). counted (z.at 4).faults (gave (take cut.n (session_bytes session)) (named name c))) still)
+    | inl a ↦ inl (a ∙ ap (counted (z.at RECORD).faults) still)
+    | inr b ↦ inr (b ∙ ap (λ (c : Cell). counted (z.at RECORD).faults (gave (take cut.n (session_bytes session)) (named name c))) still)
   ];
-  rose = subst (λ (c : Cell). Rose c.faults (z.at 4).faults) still cut.rose;
+  rose = subst (λ (c : Cell). Rose c.faults (z.at RECORD).faults) still cut.rose;
 }
 
 -- a fetch that reports a verdict ends with its status
@@ -83,7 +85,7 @@ ends_as o (IsTooFew k h) w z said = said
 ends_as o (IsTooWeak k t h) w z said = said
 
 -- Coins was opened, every server was asked, and the session was reported
-pub ends_with_report : (o : FetchOrder) (session : Transcript) (verdict : Verdict) (status : Status) (w v u z : World) → 257 + o.plan.n ≤ 1024 → v.at 3 ≡ named o.coins (w.at 3) → Touches 3 w v
+pub ends_with_report : (o : FetchOrder) (session : Transcript) (verdict : Verdict) (status : Status) (w v u z : World) → (link 1) + o.plan.n ≤ 1024 → v.at COINS ≡ named o.coins (w.at COINS) → Touches COINS w v
     → Concludes o.plan o.addresses session verdict v u → TouchesLinks o.plan.n v u → Reports o.keep session verdict status u z → TouchesFiles u z → FetchEnds o status w z
 ends_with_report o session verdict status w v u z fits is_open touch fetched links reports files = elim reports [
   | inl told ↦ elim told.1 [
@@ -127,5 +129,5 @@ ends_with_report o session verdict status w v u z fits is_open touch fetched lin
       found = fetched.found;
     }
 
-    still : (q : ℕ) → q < 256 → q ≢ 3 → u.at q ≡ w.at q
+    still : (q : ℕ) → q < 256 → q ≢ COINS → u.at q ≡ w.at q
     still q l ne = links.others q (omega arith) ne (λ lo hi. omega (arith, lo, l)) ∙ touch.others q (omega arith) ne

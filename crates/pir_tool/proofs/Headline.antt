@@ -3,6 +3,7 @@ use Rattle.std.proofs.Common.{◌≡◌, ◌⊎◌, inl, inr, ℕ, ◌<◌, ◌�
 use Rattle.std.specs.Prelude.{Option, Some, None}
 use Rattle.std.proofs.lemmas.List.{length-take}
 use Rattle.pir_ports.specs.World.{World}
+use Rattle.pir_ports.specs.Number.{INPUT, COINS}
 use Rattle.wire_frames.specs.Session.{Transcript, IsSession}
 use Rattle.wire_frames.proofs.OneSession.{one_session}
 use Rattle.block_decoder.specs.Verdict.{IsVerdict}
@@ -18,9 +19,9 @@ use Rattle.pir_tool.specs.FetchOrder.{FetchOrder}
 use Rattle.pir_tool.specs.FetchOutcome.{FetchEnds, FetchReported, Unrecorded}
 
 -- the verdict reported is that of the session
-answered_by : (name : List ℕ) (status : Status) (old new : World) (bytes : List ℕ) (session : Transcript) → (old.at 0).holds ≡ Some bytes → IsSession bytes session → Reported name status old new → Answered session status old new
+answered_by : (name : List ℕ) (status : Status) (old new : World) (bytes : List ℕ) (session : Transcript) → (old.at INPUT).holds ≡ Some bytes → IsSession bytes session → Reported name status old new → Answered session status old new
 answered_by name status old new bytes session told whole said =
-    let judged = at_told (Judged said.verdict) (old.at 0).holds bytes told said.judged in
+    let judged = at_told (Judged said.verdict) (old.at INPUT).holds bytes told said.judged in
     record {
       verdict = said.verdict;
       judged = subst (λ (t : Transcript). IsVerdict t said.verdict) (one_session bytes judged.session session judged.whole whole) judged.judged;
@@ -29,7 +30,7 @@ answered_by name status old new bytes session told whole said =
     }
 
 -- where there is a session, its verdict is reported
-pub answered : (name : List ℕ) (status : Status) (old new : World) (bytes : List ℕ) (session : Transcript) → (old.at 0).holds ≡ Some bytes → IsSession bytes session → NoneRose old new
+pub answered : (name : List ℕ) (status : Status) (old new : World) (bytes : List ℕ) (session : Transcript) → (old.at INPUT).holds ≡ Some bytes → IsSession bytes session → NoneRose old new
     → ReplayEnds name status old new → Answered session status old new ⊎ (status ≡ Memory)
 answered name One old new bytes session told whole none said = inl (answered_by name One old new bytes session told whole said)
 answered name Usage old new bytes session told whole none said = absurd said
@@ -43,17 +44,17 @@ answered name (BadInput EmptyFile) old new bytes session told whole none said = 
 answered name (BadInput (TooBig limit)) old new bytes session told whole none said = absurd said
 answered name DoorFault old new bytes session told whole none said = absurd said
 answered name ChildFault old new bytes session told whole none said = absurd said
-answered name (BadInput (Session place)) old new bytes session told whole none said = absurd ((at_told (NoSession place) (old.at 0).holds bytes told said.none).none session whole)
+answered name (BadInput (Session place)) old new bytes session told whole none said = absurd ((at_told (NoSession place) (old.at INPUT).holds bytes told said.none).none session whole)
 answered name (BadInput (CoinsEnded taken)) old new bytes session told whole none said = absurd said
 answered name Memory old new bytes session told whole none said = inr refl
 
 -- nothing is reported where there is no session
-no_report : (name : List ℕ) (status : Status) (old new : World) (bytes : List ℕ) → (old.at 0).holds ≡ Some bytes → ((session : Transcript) → IsSession bytes session → ⊥) → Reported name status old new → ⊥
+no_report : (name : List ℕ) (status : Status) (old new : World) (bytes : List ℕ) → (old.at INPUT).holds ≡ Some bytes → ((session : Transcript) → IsSession bytes session → ⊥) → Reported name status old new → ⊥
 no_report name status old new bytes told nothing said =
-    let judged = at_told (Judged said.verdict) (old.at 0).holds bytes told said.judged in nothing judged.session judged.whole
+    let judged = at_told (Judged said.verdict) (old.at INPUT).holds bytes told said.judged in nothing judged.session judged.whole
 
 -- where there is no session, that is said
-pub refused : (name : List ℕ) (status : Status) (old new : World) (bytes : List ℕ) → (old.at 0).holds ≡ Some bytes → ((session : Transcript) → IsSession bytes session → ⊥) → NoneRose old new
+pub refused : (name : List ℕ) (status : Status) (old new : World) (bytes : List ℕ) → (old.at INPUT).holds ≡ Some bytes → ((session : Transcript) → IsSession bytes session → ⊥) → NoneRose old new
     → ReplayEnds name status old new → ((place : ℕ) × (status ≡ BadInput (Session place)) × NoSession place bytes) ⊎ (status ≡ Memory)
 refused name One old new bytes told nothing none said = absurd (no_report name One old new bytes told nothing said)
 refused name Usage old new bytes told nothing none said = absurd said
@@ -67,7 +68,7 @@ refused name (BadInput EmptyFile) old new bytes told nothing none said = absurd 
 refused name (BadInput (TooBig limit)) old new bytes told nothing none said = absurd said
 refused name DoorFault old new bytes told nothing none said = absurd said
 refused name ChildFault old new bytes told nothing none said = absurd said
-refused name (BadInput (Session place)) old new bytes told nothing none said = inl (place, refl, at_told (NoSession place) (old.at 0).holds bytes told said.none)
+refused name (BadInput (Session place)) old new bytes told nothing none said = inl (place, refl, at_told (NoSession place) (old.at INPUT).holds bytes told said.none)
 refused name (BadInput (CoinsEnded taken)) old new bytes told nothing none said = absurd said
 refused name Memory old new bytes told nothing none said = inr refl
 
@@ -77,7 +78,7 @@ unrecorded_rose None session old new none cut = cut
 unrecorded_rose (Some name) session old new none cut = none 4 (lit< tt) cut.rose
 
 -- where there are coins enough, the verdict is reported
-pub reported : (o : FetchOrder) (status : Status) (old new : World) (held : List ℕ) → (old.at 3).holds ≡ Some held → need o.plan ≤ length held → NoneRose old new
+pub reported : (o : FetchOrder) (status : Status) (old new : World) (held : List ℕ) → (old.at COINS).holds ≡ Some held → need o.plan ≤ length held → NoneRose old new
     → FetchEnds o status old new → FetchReported o status old new ⊎ (status ≡ Memory)
 reported o One old new held told enough none said = inl said
 reported o Usage old new held told enough none said = absurd said
@@ -93,19 +94,19 @@ reported o DoorFault old new held told enough none said = absurd said
 reported o ChildFault old new held told enough none said = absurd said
 reported o (BadInput (Session place)) old new held told enough none said = absurd said
 reported o (BadInput (CoinsEnded taken)) old new held told enough none said =
-    let all = at_told (λ (h : List ℕ). length h ≡ taken) (old.at 3).holds held told said.short.all in
+    let all = at_told (λ (h : List ℕ). length h ≡ taken) (old.at COINS).holds held told said.short.all in
     absurd (omega (arith, all, said.short.fewer, enough))
 reported o Memory old new held told enough none said = inr refl
 
 -- no server is asked where there are too few coins
-no_coins : (o : FetchOrder) (status : Status) (old new : World) (held : List ℕ) → (old.at 3).holds ≡ Some held → length held < need o.plan → FetchReported o status old new → ⊥
+no_coins : (o : FetchOrder) (status : Status) (old new : World) (held : List ℕ) → (old.at COINS).holds ≡ Some held → length held < need o.plan → FetchReported o status old new → ⊥
 no_coins o status old new held told few said =
     let tossed = said.settled.fetched.tossed in
-    let coins = at_told (λ (h : List ℕ). said.settled.coins ≡ take (need o.plan) h) (old.at 3).holds held told tossed.told in
+    let coins = at_told (λ (h : List ℕ). said.settled.coins ≡ take (need o.plan) h) (old.at COINS).holds held told tossed.told in
     omega (arith, tossed.size, ap length coins, length-take (need o.plan) held, few)
 
 -- where there are fewer, that is said
-pub too_few : (o : FetchOrder) (status : Status) (old new : World) (held : List ℕ) → (old.at 3).holds ≡ Some held → length held < need o.plan → NoneRose old new
+pub too_few : (o : FetchOrder) (status : Status) (old new : World) (held : List ℕ) → (old.at COINS).holds ≡ Some held → length held < need o.plan → NoneRose old new
     → FetchEnds o status old new → (status ≡ BadInput (CoinsEnded (length held))) ⊎ (status ≡ Memory)
 too_few o One old new held told few none said = absurd (no_coins o One old new held told few said)
 too_few o Usage old new held told few none said = absurd said
@@ -121,5 +122,5 @@ too_few o DoorFault old new held told few none said = absurd said
 too_few o ChildFault old new held told few none said = absurd said
 too_few o (BadInput (Session place)) old new held told few none said = absurd said
 too_few o (BadInput (CoinsEnded taken)) old new held told few none said =
-    inl (ap (λ (n : ℕ). BadInput (CoinsEnded n)) (sym (at_told (λ (h : List ℕ). length h ≡ taken) (old.at 3).holds held told said.short.all)))
+    inl (ap (λ (n : ℕ). BadInput (CoinsEnded n)) (sym (at_told (λ (h : List ℕ). length h ≡ taken) (old.at COINS).holds held told said.short.all)))
 too_few o Memory old new held told few none said = inr refl

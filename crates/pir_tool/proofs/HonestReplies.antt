@@ -5,6 +5,7 @@ use Rattle.std.proofs.Math.Seq.{take-append_seam, drop-append_seam}
 use Rattle.std.proofs.lemmas.Bool.{false≢true}
 use Rattle.std.proofs.lemmas.List.{take_all}
 use Rattle.gf256.specs.Product.{IsMatrix}
+use Rattle.wire_frames.specs.declared.sizes.TheConstants.{FRAME_HEADER_LEN}
 use Rattle.shamir_share.specs.Query.{query}
 use Rattle.chor_xor.specs.Bitmap.{bitmap, has_unused, size_of}
 use Rattle.wire_frames.specs.declared.header.QueryHeader.{QueryHeader}
@@ -48,17 +49,17 @@ module _ (p : FetchPlan) (within : p.block < p.r) (coins : List ℕ) (i : ℕ) (
   abbrev asked_for : List ℕ
   asked_for = payload_to params (drop 8 coins) p.block i
 
-  front : take 24 (sent p coins i) ≡ query_header header
+  front : take FRAME_HEADER_LEN (sent p coins i) ≡ query_header header
   unfolding sent
   front = take-append_seam (query_header header) asked_for
 
-  rest : drop 24 (sent p coins i) ≡ asked_for
+  rest : drop FRAME_HEADER_LEN (sent p coins i) ≡ asked_for
   unfolding sent
   rest = drop-append_seam (query_header header) asked_for
 
-  size : length (sent p coins i) ≡ 24 + query_size params
+  size : length (sent p coins i) ≡ FRAME_HEADER_LEN + query_size params
   unfolding sent
-  size = length-append (query_header header) asked_for ∙ ap (λ n. 24 + n) (length-payload_to params (drop 8 coins) p.block i)
+  size = length-append (query_header header) asked_for ∙ ap (λ n. FRAME_HEADER_LEN + n) (length-payload_to params (drop 8 coins) p.block i)
 
   abbrev service : Service
   service = service_with p matrix workers
@@ -93,12 +94,12 @@ module _ (p : FetchPlan) (within : p.block < p.r) (coins : List ℕ) (i : ℕ) (
   unfolding answer honest_answer
   answer_is = refl
 
-  frame_is : answer_frame service.scheme service.database (take 24 (sent p coins i)) (payload service (sent p coins i)) ≡ frame_of p coins matrix i
+  frame_is : answer_frame service.scheme service.database (take FRAME_HEADER_LEN (sent p coins i)) (payload service (sent p coins i)) ≡ frame_of p coins matrix i
   unfolding honest_frame
   frame_is = ap₂ (answer_frame service.scheme service.database) front query_is ∙ ap (λ (l : List ℕ). answer_to (query_header header) 0 ++ l) answer_is
 
   -- another header has the same bytes, but is of another query: there is none
-  no_other : (other : QueryHeader) → IsQueryHeader (take 24 (sent p coins i)) other → (other.scheme ≡ p.scheme) × IsShaped service other
+  no_other : (other : QueryHeader) → IsQueryHeader (take FRAME_HEADER_LEN (sent p coins i)) other → (other.scheme ≡ p.scheme) × IsShaped service other
   no_other other h =
       let same : query_header other ≡ query_header header = sym h.spelled ∙ front in
       (same_scheme other header h.range is_query same, record { rows = same_rows other header h.range is_query same ∙ sym is.rows; width = same_width other header h.range is_query same })

@@ -1,6 +1,7 @@
 -- What a run says of a workload.
 use Rattle.std.proofs.Common.{◌≡◌, ◌⊎◌, inl, inr, refl}
 use Rattle.pir_ports.specs.World.{World}
+use Rattle.pir_ports.specs.Number.{OUTPUT}
 use Rattle.pir_tool.specs.Told.{DidRise}
 use Rattle.pir_tool.specs.SelfrunOutcome.{SelfrunEnds, SelfrunReported}
 use Rattle.pir_tool.specs.declared.workload.Workload.{Workload}
@@ -8,7 +9,7 @@ use Rattle.pir_tool.specs.declared.status.Status.{Status}
 use Rattle.pir_tool.specs.declared.status.Status.TheVariants.{One, Usage, NoBlock, Several, TooFew, TooWeak, ReadFault, WriteFault, BadInput, DoorFault, ChildFault, Memory}
 
 -- where no call on Output failed, the verdict is reported
-pub selfrun_reported : (w : Workload) (status : Status) (old new : World) → (DidRise 1 old new → ⊥) → SelfrunEnds w status old new → SelfrunReported w status old new ⊎ (status ≡ Memory)
+pub selfrun_reported : (w : Workload) (status : Status) (old new : World) → (DidRise OUTPUT old new → ⊥) → SelfrunEnds w status old new → SelfrunReported w status old new ⊎ (status ≡ Memory)
 selfrun_reported w One old new none said = inl said
 selfrun_reported w Usage old new none said = absurd said
 selfrun_reported w NoBlock old new none said = inl said

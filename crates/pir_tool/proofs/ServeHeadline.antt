@@ -2,6 +2,7 @@
 use Rattle.std.proofs.Common.{◌≡◌, ◌⊎◌, inl, inr, ℕ, ◌<◌, ◌≤◌, List, [], length, refl, ap, arith, lit<}
 use Rattle.std.specs.Prelude.{Some}
 use Rattle.pir_ports.specs.World.{World}
+use Rattle.pir_ports.specs.Number.{DATABASE}
 use Rattle.block_matrix.specs.Database.{limit}
 use Rattle.replay.proofs.Readings.{at_told}
 use Rattle.pir_tool.specs.Told.{NoneRoseButGuests}
@@ -17,7 +18,7 @@ door_rose : (o : ServeOrder) (old new : World) → NoneRoseButGuests old new →
 door_rose o old new none (inl shut) = none 5 (lit< tt) (omega arith) shut.rose
 door_rose o old new none (inr dry) = none 5 (lit< tt) (omega arith) dry.rose
 
-module _ (o : ServeOrder) (old new : World) (none : NoneRoseButGuests old new) (bytes : List ℕ) (held : (old.at 2).holds ≡ Some bytes) where
+module _ (o : ServeOrder) (old new : World) (none : NoneRoseButGuests old new) (bytes : List ℕ) (held : (old.at DATABASE).holds ≡ Some bytes) where
   -- a database is served
   pub served : (status : Status) → 0 < length bytes → length bytes ≤ limit o.width → ServeEnds o status old new → ((status ≡ One) × ServedAll o old new) ⊎ (status ≡ Memory)
   served One some few said = inl (refl, said)
@@ -30,10 +31,10 @@ module _ (o : ServeOrder) (old new : World) (none : NoneRoseButGuests old new) (
   served WriteFault some few said = absurd (none 1 (lit< tt) (omega arith) said.written.rose)
   served (BadInput (Session place)) some few said = absurd said
   served (BadInput EmptyFile) some few said =
-      let empty = at_told (λ (h : List ℕ). h ≡ []) (old.at 2).holds bytes held said.0.none in
+      let empty = at_told (λ (h : List ℕ). h ≡ []) (old.at DATABASE).holds bytes held said.0.none in
       absurd (omega (arith, ap length empty, some))
   served (BadInput (TooBig most)) some few said =
-      let more = at_told (λ (h : List ℕ). most < length h) (old.at 2).holds bytes held said.0.more in
+      let more = at_told (λ (h : List ℕ). most < length h) (old.at DATABASE).holds bytes held said.0.more in
       absurd (omega (arith, more, said.0.limit_is, few))
   served (BadInput (CoinsEnded taken)) some few said = absurd said
   served DoorFault some few said = absurd (door_rose o old new none said)
@@ -43,7 +44,7 @@ module _ (o : ServeOrder) (old new : World) (none : NoneRoseButGuests old new) (
   -- what was loaded is what Database held
   is_loaded : (width : ℕ) (name : List ℕ) (database : _) → Loaded name width database old new → (0 < length bytes) × (length bytes ≤ limit width)
   is_loaded width name database l =
-      let same = at_told (λ (h : List ℕ). l.read ≡ h) (old.at 2).holds bytes held l.all in
+      let same = at_told (λ (h : List ℕ). l.read ≡ h) (old.at DATABASE).holds bytes held l.all in
       let some = l.file.some in
       let few = l.file.few in
       (omega (arith, ap length same, some), omega (arith, ap length same, few))
@@ -61,7 +62,7 @@ module _ (o : ServeOrder) (old new : World) (none : NoneRoseButGuests old new) (
   empty_file (BadInput (Session place)) size said = absurd said
   empty_file (BadInput EmptyFile) size said = inl refl
   empty_file (BadInput (TooBig most)) size said =
-      let more = at_told (λ (h : List ℕ). most < length h) (old.at 2).holds bytes held said.0.more in
+      let more = at_told (λ (h : List ℕ). most < length h) (old.at DATABASE).holds bytes held said.0.more in
       absurd (omega (arith, more, size))
   empty_file (BadInput (CoinsEnded taken)) size said = absurd said
   empty_file DoorFault size said = absurd (door_rose o old new none said)
@@ -80,7 +81,7 @@ module _ (o : ServeOrder) (old new : World) (none : NoneRoseButGuests old new) (
   too_big WriteFault more said = absurd (none 1 (lit< tt) (omega arith) said.written.rose)
   too_big (BadInput (Session place)) more said = absurd said
   too_big (BadInput EmptyFile) more said =
-      let empty = at_told (λ (h : List ℕ). h ≡ []) (old.at 2).holds bytes held said.0.none in
+      let empty = at_told (λ (h : List ℕ). h ≡ []) (old.at DATABASE).holds bytes held said.0.none in
       absurd (omega (arith, ap length empty, more))
   too_big (BadInput (TooBig most)) more said = inl (ap (λ (n : ℕ). BadInput (TooBig n)) said.0.limit_is)
   too_big (BadInput (CoinsEnded taken)) more said = absurd said

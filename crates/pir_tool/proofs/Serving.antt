@@ -2,6 +2,7 @@
 use Rattle.std.proofs.Common.{◌≡◌, ℕ, ◌+◌, ◌-◌, ◌^◌, ◌<◌, ◌≤◌, min, List, sym, ◌∙◌, ap, ap₂, subst, arith}
 use Rattle.std.specs.Prelude.{Ok, Err}
 use Rattle.pir_ports.specs.World.{Cell, World, answers}
+use Rattle.pir_ports.specs.Number.{OUTPUT, DATABASE, DOOR, GUEST}
 use Rattle.pir_ports.specs.Moves.{Rose, Touches, Fails, named, counted, gave}
 use Rattle.pir_ports.proofs.Carried.{fails_writing_before}
 use Rattle.pir_ports.specs.Guests.{Meets}
@@ -25,8 +26,8 @@ guests_none service w = served_none (IsServed service) w
 
 -- what the guests so far were given, where the count of Guest hasn't risen; it is no less than it was
 pub record Replying (service : Service) (n : ℕ) (w v : World) : Type 0 where
-  pub least : min (w.at 6).faults (2 ^ 64 - 1) ≤ (v.at 6).faults
-  pub replied : (DidRise 6 w v → ⊥) → RepliesToGuests service n w v
+  pub least : min (w.at GUEST).faults (2 ^ 64 - 1) ≤ (v.at GUEST).faults
+  pub replied : (DidRise GUEST w v → ⊥) → RepliesToGuests service n w v
 
 -- before the first guest
 pub replying_none : (service : Service) (w : World) → Replying service 0 w w
@@ -36,18 +37,18 @@ replying_none service w = record {
 }
 
 -- one guest more, which was given its whole reply
-replying_answered : (service : Service) (met : Met) (n : ℕ) (w v m u : World) → Replying service n w v → Meets v m → Touches 6 m u → Answered service met m u → Replying service (n + 1) w u
+replying_answered : (service : Service) (met : Met) (n : ℕ) (w v m u : World) → Replying service n w v → Meets v m → Touches GUEST m u → Answered service met m u → Replying service (n + 1) w u
 replying_answered service met n w v m u r meets touch a =
-    let same : (u.at 6).faults ≡ (v.at 6).faults = ap (λ (c : Cell). c.faults) a.cell ∙ meets.faults in
+    let same : (u.at GUEST).faults ≡ (v.at GUEST).faults = ap (λ (c : Cell). c.faults) a.cell ∙ meets.faults in
     record {
       least = let least = r.least in omega (arith, same);
-      replied = λ stayed. served_more (λ guest out before after. HasReply service guest out) n w v m u (r.replied (λ rose. stayed (subst (λ (k : ℕ). Rose (w.at 6).faults k) (sym same) rose))) meets touch (replies_one service met m u a);
+      replied = λ stayed. served_more (λ guest out before after. HasReply service guest out) n w v m u (r.replied (λ rose. stayed (subst (λ (k : ℕ). Rose (w.at GUEST).faults k) (sym same) rose))) meets touch (replies_one service met m u a);
     }
 
 -- one guest more, on which a call failed
 replying_broken : (service : Service) (n : ℕ) (w v m u : World) → Replying service n w v → Meets v m → Broke service m u → Replying service (n + 1) w u
 replying_broken service n w v m u r meets b =
-    let same : (m.at 6).faults ≡ (v.at 6).faults = meets.faults in
+    let same : (m.at GUEST).faults ≡ (v.at GUEST).faults = meets.faults in
     let rose = b.rose in
     let least = r.least in
     record {
@@ -56,7 +57,7 @@ replying_broken service n w v m u r meets b =
     }
 
 -- whatever it was met with
-pub replying_more : (service now : Service) (n : ℕ) (met : Met) (w v m u : World) → now ≡ service → Replying service n w v → Meets v m → Touches 6 m u → Attends now met m u → Replying service (n + 1) w u
+pub replying_more : (service now : Service) (n : ℕ) (met : Met) (w v m u : World) → now ≡ service → Replying service n w v → Meets v m → Touches GUEST m u → Attends now met m u → Replying service (n + 1) w u
 replying_more service now n met w v m u same r meets touch attends = by met (subst (λ (d : Service). Attends d met m u) same attends)
   where
     by : (met : Met) → Attends service met m u → Replying service (n + 1) w u
@@ -66,39 +67,41 @@ replying_more service now n met w v m u same r meets touch attends = by met (sub
     by GuestFault a = replying_broken service n w v m u r meets a
 
 -- one guest more
-pub guests_more : (service now : Service) (n : ℕ) (met : Met) (w v m u : World) → now ≡ service → ServesGuests service n w v → Meets v m → Touches 6 m u → Attends now met m u → ServesGuests service (n + 1) w u
+pub guests_more : (service now : Service) (n : ℕ) (met : Met) (w v m u : World) → now ≡ service → ServesGuests service n w v → Meets v m → Touches GUEST m u → Attends now met m u → ServesGuests service (n + 1) w u
 guests_more service now n met w v m u same s meets touch attends = served_more (IsServed service) n w v m u s meets touch (serves_one service met m u (subst (λ (d : Service). Attends d met m u) same attends))
 
 -- Door and Guest alone are touched by one guest more
-pub guests_touch : (w v m u : World) → TouchesGuests w v → Meets v m → Touches 6 m u → TouchesGuests w u
+pub guests_touch : (w v m u : World) → TouchesGuests w v → Meets v m → Touches GUEST m u → TouchesGuests w u
 guests_touch w v m u s meets touch = record {
   others = λ q l ne5 ne6. touch.others q l ne6 ∙ meets.others q l ne6 ∙ s.others q l ne5 ne6;
+  crowd = tt;
   started = touch.started ∙ meets.started ∙ s.started;
 }
 
 -- Door stays
-pub guests_door : (w v m u : World) → v.at 5 ≡ w.at 5 → Meets v m → Touches 6 m u → u.at 5 ≡ w.at 5
+pub guests_door : (w v m u : World) → v.at DOOR ≡ w.at DOOR → Meets v m → Touches GUEST m u → u.at DOOR ≡ w.at DOOR
 guests_door w v m u same meets touch = touch.others 5 (omega arith) (omega arith) ∙ meets.others 5 (omega arith) (omega arith) ∙ same
 
 -- no further guest comes in
-pub guests_dry : (service : Service) (n served : ℕ) (w v u : World) → served < n → v.at 5 ≡ w.at 5 → ServesGuests service served w v → Fails 5 v u → Touches 5 v u → RunsDry service n w u
+pub guests_dry : (service : Service) (n served : ℕ) (w v u : World) → served < n → v.at DOOR ≡ w.at DOOR → ServesGuests service served w v → Fails DOOR v u → Touches DOOR v u → RunsDry service n w u
 guests_dry service n served w v u fewer same s fails touch = record {
   served = served;
   fewer = fewer;
   guests = served_still (IsServed service) served 5 w v u s touch (omega arith);
-  door = fails.cell ∙ ap (counted (u.at 5).faults) same;
-  rose = subst (λ (c : Cell). Rose c.faults (u.at 5).faults) same fails.rose;
+  door = fails.cell ∙ ap (counted (u.at DOOR).faults) same;
+  rose = subst (λ (c : Cell). Rose c.faults (u.at DOOR).faults) same fails.rose;
 }
 
-pub guests_dry_touch : (w v u : World) → TouchesGuests w v → Touches 5 v u → TouchesGuests w u
+pub guests_dry_touch : (w v u : World) → TouchesGuests w v → Touches DOOR v u → TouchesGuests w u
 guests_dry_touch w v u s touch = record {
   others = λ q l ne5 ne6. touch.others q l ne5 ∙ s.others q l ne5 ne6;
+  crowd = tt;
   started = touch.started ∙ s.started;
 }
 
 -- a world with the same guests, and the same of the one that is in
 module _ (F : List ℕ → List ℕ → ℕ → ℕ → Type 0) where
-  same_guests : (n : ℕ) (w u x : World) → u.crowd ≡ w.crowd → u.at 6 ≡ w.at 6 → IsServing F n u x → IsServing F n w x
+  same_guests : (n : ℕ) (w u x : World) → u.crowd ≡ w.crowd → u.at GUEST ≡ w.at GUEST → IsServing F n u x → IsServing F n w x
   same_guests n w u x crowd guest s = record {
     told = λ gs others earlier before a b c d.
         s.told gs others earlier before
@@ -108,25 +111,25 @@ module _ (F : List ℕ → List ℕ → ℕ → ℕ → Type 0) where
         (ap (λ (k : Cell). k.accepted) guest ∙ d);
   }
 
-served_from : (service : Service) (n : ℕ) (w u x : World) → u.crowd ≡ w.crowd → u.at 6 ≡ w.at 6 → ServesGuests service n u x → ServesGuests service n w x
+served_from : (service : Service) (n : ℕ) (w u x : World) → u.crowd ≡ w.crowd → u.at GUEST ≡ w.at GUEST → ServesGuests service n u x → ServesGuests service n w x
 served_from service = same_guests (IsServed service)
 
-replied_from : (service : Service) (n : ℕ) (w u x : World) → u.crowd ≡ w.crowd → u.at 6 ≡ w.at 6 → RepliesToGuests service n u x → RepliesToGuests service n w x
+replied_from : (service : Service) (n : ℕ) (w u x : World) → u.crowd ≡ w.crowd → u.at GUEST ≡ w.at GUEST → RepliesToGuests service n u x → RepliesToGuests service n w x
 replied_from service = same_guests (λ guest out before after. HasReply service guest out)
 
 -- the database is loaded, which later calls leave alone
-loaded_still : (name : List ℕ) (width : ℕ) (database : Database) (w v u : World) → Loaded name width database w v → u.at 2 ≡ v.at 2 → Loaded name width database w u
+loaded_still : (name : List ℕ) (width : ℕ) (database : Database) (w v u : World) → Loaded name width database w v → u.at DATABASE ≡ v.at DATABASE → Loaded name width database w u
 loaded_still name width database w v u l same = record { read = l.read; cell = same ∙ l.cell; file = l.file; all = l.all }
 
 -- the desk is open
-module _ (o : ServeOrder) (service : Service) (w v : World) (opens : OpensDesk o.database o.width o.scheme o.workers (Ok service) w v) (touch : Touches 2 w v) where
+module _ (o : ServeOrder) (service : Service) (w v : World) (opens : OpensDesk o.database o.width o.scheme o.workers (Ok service) w v) (touch : Touches DATABASE w v) where
   abbrev database : Database
   database = service.database
 
   service_is : service ≡ record { database = database; scheme = o.scheme; workers = o.workers }
   service_is = ap₂ (λ (s k : ℕ). record { database = database; scheme = s; workers = k }) opens.0 opens.1
 
-  door_is : v.at 5 ≡ w.at 5
+  door_is : v.at DOOR ≡ w.at DOOR
   door_is = touch.others 5 (omega arith) (omega arith)
 
   nobody : (u : World) → TouchesDoor v u → Nobody w u
@@ -143,8 +146,8 @@ module _ (o : ServeOrder) (service : Service) (w v : World) (opens : OpensDesk o
   cannot_listen u l t = record {
     database = database;
     loaded = loaded_after u t;
-    door = l.door ∙ ap (counted (u.at 5).faults) door_is;
-    rose = subst (λ (c : Cell). Rose c.faults (u.at 5).faults) door_is l.rose;
+    door = l.door ∙ ap (counted (u.at DOOR).faults) door_is;
+    rose = subst (λ (c : Cell). Rose c.faults (u.at DOOR).faults) door_is l.rose;
     output = l.output ∙ touch.others 1 (omega arith) (omega arith);
     nobody = nobody u t;
   }
@@ -161,7 +164,7 @@ module _ (o : ServeOrder) (service : Service) (w v : World) (opens : OpensDesk o
 
   -- guests can come in
   module _ (u x : World) (l : Listens o.listen (Ok tt) v u) (t : TouchesDoor v u) (g : TouchesGuests u x) where
-    output_is : x.at 1 ≡ gave ready (w.at 1)
+    output_is : x.at OUTPUT ≡ gave ready (w.at OUTPUT)
     output_is = g.others 1 (omega arith) (omega arith) (omega arith) ∙ l.written ∙ ap (gave ready) (touch.others 1 (omega arith) (omega arith))
 
     loaded_at_end : Loaded o.database o.width database w x
@@ -170,11 +173,11 @@ module _ (o : ServeOrder) (service : Service) (w v : World) (opens : OpensDesk o
     guests_from : (n : ℕ) → ServesGuests service n u x → ServesGuests (service_of o database) n w x
     guests_from n s = subst (λ (d : Service). ServesGuests d n w x) service_is (let none = nobody u t in served_from service n w u x none.crowd none.guest s)
 
-    door_opened : u.at 5 ≡ named o.listen (w.at 5)
+    door_opened : u.at DOOR ≡ named o.listen (w.at DOOR)
     door_opened = l.door ∙ ap (named o.listen) door_is
 
     -- all guests were served
-    pub served_all : ServesGuests service o.guests u x → ((DidRise 6 u x → ⊥) → RepliesToGuests service o.guests u x) → x.at 5 ≡ u.at 5 → ServedAll o w x
+    pub served_all : ServesGuests service o.guests u x → ((DidRise GUEST u x → ⊥) → RepliesToGuests service o.guests u x) → x.at DOOR ≡ u.at DOOR → ServedAll o w x
     served_all s r same = record {
       database = database;
       loaded = loaded_at_end;
@@ -184,7 +187,7 @@ module _ (o : ServeOrder) (service : Service) (w v : World) (opens : OpensDesk o
       replied = λ stayed.
           let none = nobody u t in
           subst (λ (d : Service). RepliesToGuests d o.guests w x) service_is
-          (replied_from service o.guests w u x none.crowd none.guest (r (λ rose. stayed (subst (λ (c : Cell). Rose c.faults (x.at 6).faults) none.guest rose))));
+          (replied_from service o.guests w u x none.crowd none.guest (r (λ rose. stayed (subst (λ (c : Cell). Rose c.faults (x.at GUEST).faults) none.guest rose))));
     }
 
     -- no further guest came in
@@ -192,8 +195,8 @@ module _ (o : ServeOrder) (service : Service) (w v : World) (opens : OpensDesk o
     no_further_guest dry = record {
       database = database;
       loaded = loaded_at_end;
-      door = dry.door ∙ ap (counted (x.at 5).faults) door_opened;
-      rose = subst (λ (c : Cell). Rose c.faults (x.at 5).faults) door_opened dry.rose;
+      door = dry.door ∙ ap (counted (x.at DOOR).faults) door_opened;
+      rose = subst (λ (c : Cell). Rose c.faults (x.at DOOR).faults) door_opened dry.rose;
       written = output_is;
       served = dry.served;
       fewer = dry.fewer;
@@ -204,5 +207,6 @@ module _ (o : ServeOrder) (service : Service) (w v : World) (opens : OpensDesk o
     pub server_touches : TouchesServer w x
     server_touches = record {
       others = λ q b n1 n2 n5 n6. g.others q b n5 n6 ∙ t.others q b n1 n5 ∙ touch.others q b n2;
+      crowd = tt;
       started = g.started ∙ t.started ∙ touch.started;
     }

@@ -1,7 +1,9 @@
 -- What `demo` does to the outside, by the status that it ends with.
 use Rattle.std.specs.Prelude.{◌≡◌, ◌⊎◌, ℕ, ◌+◌, ◌<◌, List, length, take, ◌++◌}
 use Rattle.std.specs.Option.{option_map}
+use Rattle.pir_ports.specs.declared.port.TheConstants.{PORT_COUNT}
 use Rattle.pir_ports.specs.World.{World}
+use Rattle.pir_ports.specs.Number.{child}
 use Rattle.pir_ports.specs.Moves.{Fails, Touches}
 use Rattle.pir_tool.specs.DemoOrder.{DemoOrder, fetch_from_children, words_of_children}
 use Rattle.pir_tool.specs.FetchOutcome.{FetchOutcome, FetchReported}
@@ -11,7 +13,7 @@ use Rattle.pir_tool.specs.declared.status.Status.TheVariants.{ChildFault, Memory
 -- children were started with these lists of words, the last that are told of, and nothing else changed
 pub record StartsAll (lists : List (List (List ℕ))) (old new : World) : Type 0 where
   pub started : new.started ≡ option_map (λ starts. starts ++ lists) old.started
-  pub ports : (q : ℕ) → q < 1024 → new.at q ≡ old.at q
+  pub ports : (q : ℕ) → q < PORT_COUNT → new.at q ≡ old.at q
   pub crowd : new.crowd ≡ old.crowd
 
 -- the children before one were started, and then that one could not be: its port counts the failed call, and nothing else
@@ -21,8 +23,8 @@ pub record StartsSome (lists : List (List (List ℕ))) (old new : World) : Type 
   pub fewer : before < length lists
   pub between : World
   pub starts : StartsAll (take before lists) old between
-  pub fails : Fails (513 + before) between new
-  pub others : Touches (513 + before) between new
+  pub fails : Fails ((child 1) + before) between new
+  pub others : Touches ((child 1) + before) between new
 
 -- all children were started, and then a fetch from them ended with this status
 pub record Demonstrated (o : DemoOrder) (status : Status) (old new : World) : Type 0 where

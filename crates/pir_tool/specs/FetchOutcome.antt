@@ -1,8 +1,10 @@
 -- What `fetch` does to the outside, by the status that it ends with.
-use Rattle.std.specs.Prelude.{◌≡◌, ◌≢◌, ◌⊎◌, ℕ, ◌+◌, ◌<◌, ◌≤◌, List, drop, Option, Some, None, Result, Ok, Err}
+use Rattle.std.specs.Prelude.{◌≡◌, ◌⊎◌, ℕ, ◌+◌, ◌<◌, ◌≤◌, List, drop, Option, Some, None, Result, Ok, Err, [], ◌∷◌}
 use Rattle.pir_ports.specs.World.{World}
+use Rattle.pir_ports.specs.Number.{OUTPUT, COINS, RECORD, link}
 use Rattle.pir_ports.specs.Moves.{Touches, gave, named}
 use Rattle.pir_ports.specs.Whole.{FailsWithin}
+use Rattle.pir_ports.specs.Touched.{One, From, TouchesOnly}
 use Rattle.wire_frames.specs.Session.{Transcript, IsSession, session_bytes}
 use Rattle.block_decoder.specs.Verdict.{IsVerdict}
 use Rattle.block_decoder.specs.Text.{text}
@@ -21,7 +23,7 @@ use Rattle.pir_tool.specs.declared.status.Bad.TheVariants.{Session, EmptyFile, T
 
 -- Coins was opened by its name and gave these coins, and every server was asked with them, in this session
 pub record InSession (o : FetchOrder) (coins : List ℕ) (session : Transcript) (old new : World) : Type 0 where
-  pub tossed : Tossed (need o.plan) coins (named o.coins (old.at 3)) (new.at 3)
+  pub tossed : Tossed (need o.plan) coins (named o.coins (old.at COINS)) (new.at COINS)
   pub asked : AsksAll o.plan o.addresses coins session old new
 
 -- every server was asked in this session, and this is its verdict, which has the block of honest servers
@@ -34,17 +36,17 @@ pub record Settled (o : FetchOrder) (session : Transcript) (verdict : Verdict) (
 -- Record was opened by this name, and has taken the file of the session
 pub record IsRecorded (name : List ℕ) (session : Transcript) (old new : World) : Type 0 where
   pub file : IsSession (session_bytes session) session
-  pub cell : new.at 4 ≡ gave (session_bytes session) (named name (old.at 4))
+  pub cell : new.at RECORD ≡ gave (session_bytes session) (named name (old.at RECORD))
 
 -- the session is recorded by the name that is given, where one is
 abbrev pub Recorded : Option (List ℕ) → Transcript → World → World → Type 0
-Recorded None session old new = new.at 4 ≡ old.at 4
+Recorded None session old new = new.at RECORD ≡ old.at RECORD
 Recorded (Some name) session old new = IsRecorded name session old new
 
 -- the session can't be recorded by the name that is given
 abbrev pub Unrecorded : Option (List ℕ) → Transcript → World → World → Type 0
 Unrecorded None session old new = ⊥
-Unrecorded (Some name) session old new = Unwritten 4 name (session_bytes session) old new
+Unrecorded (Some name) session old new = Unwritten RECORD name (session_bytes session) old new
 
 -- the verdict on the session is written whole, after the record of the session
 pub record FetchReported (o : FetchOrder) (status : Status) (old new : World) : Type 0 where
@@ -53,7 +55,7 @@ pub record FetchReported (o : FetchOrder) (status : Status) (old new : World) : 
   pub settled : Settled o session verdict old new
   pub status_is : status ≡ status_of verdict
   pub recorded : Recorded o.keep session old new
-  pub written : new.at 1 ≡ gave (text verdict) (old.at 1)
+  pub written : new.at OUTPUT ≡ gave (text verdict) (old.at OUTPUT)
 
 -- the session can't be recorded, and Output is left alone; or it is, and Output has taken a proper front of the verdict's
 -- text
@@ -61,17 +63,17 @@ pub record FetchCutShort (o : FetchOrder) (old new : World) : Type 0 where
   pub session : Transcript
   pub verdict : Verdict
   pub settled : Settled o session verdict old new
-  pub cut : (Unrecorded o.keep session old new × (new.at 1 ≡ old.at 1)) ⊎ (Recorded o.keep session old new × FailsWithin 1 (text verdict) old new)
+  pub cut : (Unrecorded o.keep session old new × (new.at OUTPUT ≡ old.at OUTPUT)) ⊎ (Recorded o.keep session old new × FailsWithin OUTPUT (text verdict) old new)
 
 -- the coins can't be read, and no server was asked
 pub record FetchUnreadable (o : FetchOrder) (old new : World) : Type 0 where
-  pub unread : Unread 3 o.coins old new
-  pub others : Touches 3 old new
+  pub unread : Unread COINS o.coins old new
+  pub others : Touches COINS old new
 
 -- there are too few coins, and no server was asked
 pub record FetchRefused (o : FetchOrder) (taken : ℕ) (old new : World) : Type 0 where
-  pub short : RunsOut (need o.plan) taken (named o.coins (old.at 3)) (new.at 3)
-  pub others : Touches 3 old new
+  pub short : RunsOut (need o.plan) taken (named o.coins (old.at COINS)) (new.at COINS)
+  pub others : Touches COINS old new
 
 -- every server was asked, in some session
 pub record AskedInVain (o : FetchOrder) (old new : World) : Type 0 where
@@ -81,9 +83,9 @@ pub record AskedInVain (o : FetchOrder) (old new : World) : Type 0 where
 
 -- memory ran out before a server was asked, or when all were; nothing is recorded or written
 pub record FetchUnfinished (o : FetchOrder) (old new : World) : Type 0 where
-  pub part : ((new.at 3 ≡ named o.coins (old.at 3)) × Touches 3 old new) ⊎ AskedInVain o old new
-  pub kept : new.at 4 ≡ old.at 4
-  pub output : new.at 1 ≡ old.at 1
+  pub part : ((new.at COINS ≡ named o.coins (old.at COINS)) × Touches COINS old new) ⊎ AskedInVain o old new
+  pub kept : new.at RECORD ≡ old.at RECORD
+  pub output : new.at OUTPUT ≡ old.at OUTPUT
 
 -- what `fetch` did, by its status
 abbrev pub FetchEnds : FetchOrder → Status → World → World → Type 0
@@ -99,12 +101,9 @@ FetchEnds o ChildFault old new = ⊥
 FetchEnds o Memory old new = FetchUnfinished o old new
 FetchEnds o status old new = FetchReported o status old new
 
--- no port is touched but Output, Coins, Record and the links to so many servers, no guest comes or goes, and no child is
--- started
-pub record TouchesFetch (n : ℕ) (old new : World) : Type 0 where
-  pub others : (q : ℕ) → q < 1024 → q ≢ 1 → q ≢ 3 → q ≢ 4 → (257 ≤ q → q < 257 + n → ⊥) → new.at q ≡ old.at q
-  pub crowd : new.crowd ≡ old.crowd
-  pub started : new.started ≡ old.started
+-- Output, Coins, Record and the links to so many servers alone are touched
+abbrev pub TouchesFetch : ℕ → World → World → Type 0
+TouchesFetch n old new = TouchesOnly (One OUTPUT ∷ One COINS ∷ One RECORD ∷ From (link 1) n ∷ []) old new
 
 -- what `fetch` did, and that it did no more
 pub record FetchOutcome (o : FetchOrder) (status : Status) (old new : World) : Type 0 where
@@ -116,12 +115,10 @@ abbrev pub Keeps : Option (List ℕ) → Transcript → Result (Unit {0}) Failed
 Keeps keep session (Ok _) old new = Recorded keep session old new
 Keeps keep session (Err _) old new = Unrecorded keep session old new
 
--- no port but Output and Record is touched, no guest comes or goes, and no child is started
-pub record TouchesFiles (old new : World) : Type 0 where
-  pub others : (q : ℕ) → q < 1024 → q ≢ 1 → q ≢ 4 → new.at q ≡ old.at q
-  pub crowd : new.crowd ≡ old.crowd
-  pub started : new.started ≡ old.started
+-- Output and Record alone are touched
+abbrev pub TouchesFiles : World → World → Type 0
+TouchesFiles old new = TouchesOnly (One OUTPUT ∷ One RECORD ∷ []) old new
 
 -- the session is recorded and its verdict written; or one of them was cut short, and nothing was written after it
 abbrev pub Reports : Option (List ℕ) → Transcript → Verdict → Status → World → World → Type 0
-Reports keep session verdict status old new = (Recorded keep session old new × Told verdict status old new) ⊎ (Unrecorded keep session old new × (status ≡ WriteFault) × (new.at 1 ≡ old.at 1))
+Reports keep session verdict status old new = (Recorded keep session old new × Told verdict status old new) ⊎ (Unrecorded keep session old new × (status ≡ WriteFault) × (new.at OUTPUT ≡ old.at OUTPUT))

@@ -1,7 +1,9 @@
 -- What `replay FILE` does to the outside, by the status that it ends with.
-use Rattle.std.specs.Prelude.{◌≡◌, ◌≢◌, ℕ, ◌<◌, List, IfSome}
+use Rattle.std.specs.Prelude.{◌≡◌, ℕ, ◌<◌, List, IfSome, [], ◌∷◌}
 use Rattle.pir_ports.specs.World.{World}
+use Rattle.pir_ports.specs.Number.{INPUT, OUTPUT}
 use Rattle.pir_ports.specs.Moves.{took, gave, named}
+use Rattle.pir_ports.specs.Touched.{One, TouchesOnly}
 use Rattle.pir_ports.specs.Whole.{FailsWithin}
 use Rattle.wire_frames.specs.Session.{Transcript}
 use Rattle.block_decoder.specs.Verdict.{IsVerdict}
@@ -17,38 +19,38 @@ use Rattle.pir_tool.specs.declared.status.Bad.TheVariants.{Session, EmptyFile, T
 -- Input was opened under this name, and some of its bytes were taken
 pub record Opened (name : List ℕ) (old new : World) : Type 0 where
   pub n : ℕ
-  pub input : new.at 0 ≡ took n (named name (old.at 0))
+  pub input : new.at INPUT ≡ took n (named name (old.at INPUT))
 
 -- the verdict on what Input held is written whole, and nothing else
 pub record Reported (name : List ℕ) (status : Status) (old new : World) : Type 0 where
   pub verdict : Verdict
   pub status_is : status ≡ status_of verdict
   pub read : Opened name old new
-  pub judged : IfSome (old.at 0).holds (Judged verdict)
-  pub written : new.at 1 ≡ gave (text verdict) (old.at 1)
+  pub judged : IfSome (old.at INPUT).holds (Judged verdict)
+  pub written : new.at OUTPUT ≡ gave (text verdict) (old.at OUTPUT)
 
 -- a call on Output failed, which has taken a proper front of the verdict's text
 pub record CutShort (name : List ℕ) (old new : World) : Type 0 where
   pub verdict : Verdict
   pub read : Opened name old new
-  pub judged : IfSome (old.at 0).holds (Judged verdict)
-  pub written : FailsWithin 1 (text verdict) old new
+  pub judged : IfSome (old.at INPUT).holds (Judged verdict)
+  pub written : FailsWithin OUTPUT (text verdict) old new
 
 -- Input holds no session, and nothing is written
 pub record Refused (name : List ℕ) (place : ℕ) (old new : World) : Type 0 where
   pub read : Opened name old new
-  pub none : IfSome (old.at 0).holds (NoSession place)
-  pub output : new.at 1 ≡ old.at 1
+  pub none : IfSome (old.at INPUT).holds (NoSession place)
+  pub output : new.at OUTPUT ≡ old.at OUTPUT
 
 -- Input can't be read, and nothing is written
 pub record Unreadable (name : List ℕ) (old new : World) : Type 0 where
-  pub input : Unread 0 name old new
-  pub output : new.at 1 ≡ old.at 1
+  pub input : Unread INPUT name old new
+  pub output : new.at OUTPUT ≡ old.at OUTPUT
 
 -- memory ran out before anything was written
 pub record Unfinished (name : List ℕ) (old new : World) : Type 0 where
   pub read : Opened name old new
-  pub output : new.at 1 ≡ old.at 1
+  pub output : new.at OUTPUT ≡ old.at OUTPUT
 
 -- what `replay FILE` did, by its status
 abbrev pub ReplayEnds : List ℕ → Status → World → World → Type 0
@@ -64,11 +66,9 @@ ReplayEnds name ChildFault old new = ⊥
 ReplayEnds name Memory old new = Unfinished name old new
 ReplayEnds name status old new = Reported name status old new
 
--- no port but Input and Output is touched, no guest comes or goes, and no child is started
-pub record TouchesStreams (old new : World) : Type 0 where
-  pub others : (q : ℕ) → q < 1024 → q ≢ 0 → q ≢ 1 → new.at q ≡ old.at q
-  pub crowd : new.crowd ≡ old.crowd
-  pub started : new.started ≡ old.started
+-- Input and Output alone are touched
+abbrev pub TouchesStreams : World → World → Type 0
+TouchesStreams old new = TouchesOnly (One INPUT ∷ One OUTPUT ∷ []) old new
 
 -- what `replay FILE` did, and that it did no more
 pub record ReplayOutcome (name : List ℕ) (status : Status) (old new : World) : Type 0 where
@@ -80,4 +80,4 @@ pub record Answered (session : Transcript) (status : Status) (old new : World) :
   pub verdict : Verdict
   pub judged : IsVerdict session verdict
   pub status_is : status ≡ status_of verdict
-  pub written : new.at 1 ≡ gave (text verdict) (old.at 1)
+  pub written : new.at OUTPUT ≡ gave (text verdict) (old.at OUTPUT)

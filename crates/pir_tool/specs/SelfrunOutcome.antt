@@ -2,6 +2,7 @@
 use Rattle.std.specs.Prelude.{◌≡◌, ℕ, ◌+◌, ◌*◌, ◌<◌, ◌≤◌, List, [], ◌∷◌, ◌++◌, Contains, codes, decimal}
 use Rattle.std.specs.List.{concat}
 use Rattle.pir_ports.specs.World.{World}
+use Rattle.pir_ports.specs.Number.{OUTPUT}
 use Rattle.pir_ports.specs.Moves.{Touches, gave}
 use Rattle.pir_ports.specs.Whole.{FailsWithin}
 use Rattle.column_lists.specs.Numbers.{cost}
@@ -60,13 +61,13 @@ pub record SelfrunReported (w : Workload) (status : Status) (old new : World) : 
   pub verdict : Verdict
   pub judged : IsVerdictOn w verdict
   pub status_is : status ≡ status_of verdict
-  pub written : new.at 1 ≡ gave (report_of w verdict) (old.at 1)
+  pub written : new.at OUTPUT ≡ gave (report_of w verdict) (old.at OUTPUT)
 
 -- a call on Output failed, which has taken a proper front of that
 pub record SelfrunCutShort (w : Workload) (old new : World) : Type 0 where
   pub verdict : Verdict
   pub judged : IsVerdictOn w verdict
-  pub written : FailsWithin 1 (report_of w verdict) old new
+  pub written : FailsWithin OUTPUT (report_of w verdict) old new
 
 -- what `selfrun` did, by its status
 abbrev pub SelfrunEnds : Workload → Status → World → World → Type 0
@@ -82,4 +83,4 @@ SelfrunEnds w status old new = ⊥
 -- what `selfrun` did, and that it did no more
 pub record SelfrunOutcome (w : Workload) (status : Status) (old new : World) : Type 0 where
   pub ends : SelfrunEnds w status old new
-  pub others : Touches 1 old new
+  pub others : Touches OUTPUT old new

@@ -1,8 +1,10 @@
 -- What `serve` does to the outside, by the status that it ends with.
-use Rattle.std.specs.Prelude.{◌≡◌, ◌≢◌, ◌⊎◌, ℕ, ◌<◌}
+use Rattle.std.specs.Prelude.{◌≡◌, ◌⊎◌, ℕ, ◌<◌, [], ◌∷◌}
 use Rattle.pir_ports.specs.World.{World}
+use Rattle.pir_ports.specs.Number.{OUTPUT, DATABASE, DOOR, GUEST}
 use Rattle.pir_ports.specs.Moves.{Touches, gave, named, counted}
 use Rattle.pir_ports.specs.Whole.{FailsWithin}
+use Rattle.pir_ports.specs.Touched.{One, Crowd, TouchesOnly}
 use Rattle.block_matrix.specs.Database.{Database}
 use Rattle.pir_tool.specs.Told.{DidRise, Unread}
 use Rattle.pir_tool.specs.ServeOrder.{ServeOrder, service_of}
@@ -13,7 +15,7 @@ use Rattle.pir_tool.specs.declared.status.Bad.TheVariants.{EmptyFile, TooBig}
 
 -- nobody came in
 pub record Nobody (old new : World) : Type 0 where
-  pub guest : new.at 6 ≡ old.at 6
+  pub guest : new.at GUEST ≡ old.at GUEST
   pub crowd : new.crowd ≡ old.crowd
 
 -- the database was loaded, guests could come in and that is written whole, and all of them were served. Where no call on a
@@ -21,18 +23,18 @@ pub record Nobody (old new : World) : Type 0 where
 pub record ServedAll (o : ServeOrder) (old new : World) : Type 0 where
   pub database : Database
   pub loaded : Loaded o.database o.width database old new
-  pub door : new.at 5 ≡ named o.listen (old.at 5)
-  pub written : new.at 1 ≡ gave ready (old.at 1)
+  pub door : new.at DOOR ≡ named o.listen (old.at DOOR)
+  pub written : new.at OUTPUT ≡ gave ready (old.at OUTPUT)
   pub guests : ServesGuests (service_of o database) o.guests old new
-  pub replied : (DidRise 6 old new → ⊥) → RepliesToGuests (service_of o database) o.guests old new
+  pub replied : (DidRise GUEST old new → ⊥) → RepliesToGuests (service_of o database) o.guests old new
 
 -- the same, but when some guests were served no further one came in
 pub record NoFurtherGuest (o : ServeOrder) (old new : World) : Type 0 where
   pub database : Database
   pub loaded : Loaded o.database o.width database old new
-  pub door : new.at 5 ≡ counted (new.at 5).faults (named o.listen (old.at 5))
-  pub rose : DidRise 5 old new
-  pub written : new.at 1 ≡ gave ready (old.at 1)
+  pub door : new.at DOOR ≡ counted (new.at DOOR).faults (named o.listen (old.at DOOR))
+  pub rose : DidRise DOOR old new
+  pub written : new.at OUTPUT ≡ gave ready (old.at OUTPUT)
   pub served : ℕ
   pub fewer : served < o.guests
   pub guests : ServesGuests (service_of o database) served old new
@@ -41,34 +43,33 @@ pub record NoFurtherGuest (o : ServeOrder) (old new : World) : Type 0 where
 pub record CannotListen (o : ServeOrder) (old new : World) : Type 0 where
   pub database : Database
   pub loaded : Loaded o.database o.width database old new
-  pub door : new.at 5 ≡ counted (new.at 5).faults (old.at 5)
-  pub rose : DidRise 5 old new
-  pub output : new.at 1 ≡ old.at 1
+  pub door : new.at DOOR ≡ counted (new.at DOOR).faults (old.at DOOR)
+  pub rose : DidRise DOOR old new
+  pub output : new.at OUTPUT ≡ old.at OUTPUT
   pub nobody : Nobody old new
 
 -- the database was loaded and guests could come in, but Output has taken only a front of what says so: nobody came in
 pub record CannotSayReady (o : ServeOrder) (old new : World) : Type 0 where
   pub database : Database
   pub loaded : Loaded o.database o.width database old new
-  pub door : new.at 5 ≡ named o.listen (old.at 5)
-  pub written : FailsWithin 1 ready old new
+  pub door : new.at DOOR ≡ named o.listen (old.at DOOR)
+  pub written : FailsWithin OUTPUT ready old new
   pub nobody : Nobody old new
 
 -- what `serve` did, by its status
 abbrev pub ServeEnds : ServeOrder → Status → World → World → Type 0
 ServeEnds o One old new = ServedAll o old new
-ServeEnds o ReadFault old new = Unread 2 o.database old new × Touches 2 old new
+ServeEnds o ReadFault old new = Unread DATABASE o.database old new × Touches DATABASE old new
 ServeEnds o WriteFault old new = CannotSayReady o old new
-ServeEnds o (BadInput EmptyFile) old new = HasNoBytes o.database old new × Touches 2 old new
-ServeEnds o (BadInput (TooBig most)) old new = HasTooMany o.database o.width most old new × Touches 2 old new
+ServeEnds o (BadInput EmptyFile) old new = HasNoBytes o.database old new × Touches DATABASE old new
+ServeEnds o (BadInput (TooBig most)) old new = HasTooMany o.database o.width most old new × Touches DATABASE old new
 ServeEnds o DoorFault old new = CannotListen o old new ⊎ NoFurtherGuest o old new
-ServeEnds o Memory old new = HasBegun o.database old new × Touches 2 old new
+ServeEnds o Memory old new = HasBegun o.database old new × Touches DATABASE old new
 ServeEnds o status old new = ⊥
 
--- no port is touched but Output, Database, Door and Guest, and no child is started
-pub record TouchesServer (old new : World) : Type 0 where
-  pub others : (q : ℕ) → q < 1024 → q ≢ 1 → q ≢ 2 → q ≢ 5 → q ≢ 6 → new.at q ≡ old.at q
-  pub started : new.started ≡ old.started
+-- Output, Database, Door and Guest alone are touched, and guests come and go
+abbrev pub TouchesServer : World → World → Type 0
+TouchesServer old new = TouchesOnly (One OUTPUT ∷ One DATABASE ∷ One DOOR ∷ One GUEST ∷ Crowd ∷ []) old new
 
 -- what `serve` did, and that it did no more
 pub record ServeOutcome (o : ServeOrder) (status : Status) (old new : World) : Type 0 where

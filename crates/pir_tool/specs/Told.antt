@@ -1,6 +1,7 @@
 -- What a run may say of any port.
 use Rattle.std.specs.Prelude.{◌≡◌, ◌≢◌, ◌⊎◌, ℕ, ◌<◌, ◌≤◌, List, length, take}
 use Rattle.pir_ports.specs.World.{World}
+use Rattle.pir_ports.specs.Number.{OUTPUT, GUEST}
 use Rattle.pir_ports.specs.Moves.{Rose, took, gave, named, counted}
 use Rattle.pir_ports.specs.Whole.{FailsWithin}
 use Rattle.block_decoder.specs.Text.{text}
@@ -19,7 +20,7 @@ NoneRose old new = (p : ℕ) → p < 256 → DidRise p old new → ⊥
 
 -- no call failed, but maybe on the guest that was in
 abbrev pub NoneRoseButGuests : World → World → Type 0
-NoneRoseButGuests old new = (p : ℕ) → p < 256 → p ≢ 6 → DidRise p old new → ⊥
+NoneRoseButGuests old new = (p : ℕ) → p < 256 → p ≢ GUEST → DidRise p old new → ⊥
 
 -- no start of a child failed
 abbrev pub NoChildRose : World → World → Type 0
@@ -41,4 +42,4 @@ pub record Unwritten (p : ℕ) (name bytes : List ℕ) (old new : World) : Type 
 
 -- the text of the verdict is written whole, and the status is its own; or a call on Output failed
 abbrev pub Told : Verdict → Status → World → World → Type 0
-Told verdict status old new = ((status ≡ status_of verdict) × (new.at 1 ≡ gave (text verdict) (old.at 1))) ⊎ ((status ≡ WriteFault) × FailsWithin 1 (text verdict) old new)
+Told verdict status old new = ((status ≡ status_of verdict) × (new.at OUTPUT ≡ gave (text verdict) (old.at OUTPUT))) ⊎ ((status ≡ WriteFault) × FailsWithin OUTPUT (text verdict) old new)

@@ -2,6 +2,7 @@
 
 ghost use Rattle.std.specs.Prelude.{◌≡◌, ◌<◌, length, map, string_bytes};
 ghost use Rattle.std.specs.Option.{option_copied};
+ghost use Rattle.pir_ports.specs.Number.{RECORD};
 ghost use Rattle.pir_ports.specs.Moves.{Touches};
 ghost use Rattle.wire_frames.specs.Session.{Transcript};
 ghost use Rattle.fetch_client.specs.Plan.{IsPlan};
@@ -46,7 +47,7 @@ fn record_session<P: Ports>(
 ) -> Result<(), Failed>
     requires { length session.now.records ≡ session.now.params.n }
     ensures keeps { Keeps (option_copied keep.entry) session.now result (P.world ports.old) (P.world ports.new) }
-    ensures others { Touches 4 (P.world ports.old) (P.world ports.new) }
+    ensures others { Touches RECORD (P.world ports.old) (P.world ports.new) }
 {
     let Some(name) = keep else {
         return Ok(());

@@ -1,6 +1,7 @@
 //! The command `replay`.
 
 ghost use Rattle.std.specs.Prelude.{◌≡◌, ◌<◌};
+ghost use Rattle.pir_ports.specs.Number.{INPUT};
 ghost use Rattle.pir_ports.specs.Moves.{Touches};
 ghost use Rattle.replay.specs.Replayed.{Judged, ReadTo};
 ghost use Rattle.pir_tool.specs.ReplayOutcome.{ReplayEnds, ReplayOutcome, TouchesStreams};
@@ -23,7 +24,7 @@ fn replay_once<C: Ledger, P: Ports>(
 ) -> Result<Verdict, ReplayFault>
     requires blank { (blank.name ≡ C.name) × (blank.parts ≡ C.parts) × (0 < blank.parts) }
     ensures replayed { ReadTo Judged result (P.world ports.old) (P.world ports.new) }
-    ensures others { Touches 0 (P.world ports.old) (P.world ports.new) }
+    ensures others { Touches INPUT (P.world ports.old) (P.world ports.new) }
 {
     let mut cols: Steps<C> = Steps::new(blank);
     replay(alloc, ports, &mut cols)

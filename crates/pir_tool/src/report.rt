@@ -1,6 +1,7 @@
 //! The verdict, told.
 
 ghost use Rattle.std.specs.Prelude.{◌≡◌};
+ghost use Rattle.pir_ports.specs.Number.{OUTPUT};
 ghost use Rattle.pir_ports.specs.Moves.{Touches};
 ghost use Rattle.pir_tool.specs.Table.{status_of};
 ghost use Rattle.pir_tool.specs.Told.{Told};
@@ -31,7 +32,7 @@ pub(crate) fn status_by(verdict: &Verdict) -> Status
 /// Writes the text of the verdict to Output.
 pub(crate) fn report<P: Ports>(ports: &mut P, verdict: &Verdict) -> Status
     ensures told { Told verdict.now result (P.world ports.old) (P.world ports.new) }
-    ensures others { Touches 1 (P.world ports.old) (P.world ports.new) }
+    ensures others { Touches OUTPUT (P.world ports.old) (P.world ports.new) }
 {
     match write_verdict(ports, verdict) {
         Ok(()) => status_by(verdict),

@@ -2,6 +2,7 @@
 
 ghost use Rattle.std.specs.Prelude.{◌≡◌, ◌*◌, ◌<◌, ◌≤◌, ◌++◌, string_bytes, IfOk};
 ghost use Rattle.std.specs.List.{concat};
+ghost use Rattle.pir_ports.specs.Number.{OUTPUT};
 ghost use Rattle.pir_ports.specs.Moves.{Touches};
 ghost use Rattle.pir_ports.specs.Written.{Written};
 ghost use Rattle.column_lists.specs.Numbers.{cost};
@@ -107,8 +108,8 @@ fn format_ending(alloc: Global, load: &Workload, verdict: &Verdict) -> Result<St
 
 /// Writes the text of the verdict, and then the ending.
 fn write_report<P: Ports>(ports: &mut P, verdict: &Verdict, ending: &str) -> Result<(), Failed>
-    ensures written { Written 1 (text verdict.now ++ ending.now) result (P.world ports.old) (P.world ports.new) }
-    ensures others { Touches 1 (P.world ports.old) (P.world ports.new) }
+    ensures written { Written OUTPUT (text verdict.now ++ ending.now) result (P.world ports.old) (P.world ports.new) }
+    ensures others { Touches OUTPUT (P.world ports.old) (P.world ports.new) }
 {
     write_verdict(ports, verdict)?;
     if ending.is_empty() {
@@ -130,7 +131,7 @@ pub(crate) fn run_workload<R: Threads + Sync, P: Ports>(
     requires some { 1 ≤ workers }
     requires few { workers ≤ 16 }
     ensures ends { SelfrunEnds load.now result (P.world ports.old) (P.world ports.new) }
-    ensures others { Touches 1 (P.world ports.old) (P.world ports.new) }
+    ensures others { Touches OUTPUT (P.world ports.old) (P.world ports.new) }
 {
     let Ok(verdict) = judge_once::<Brand, R>(rt, alloc, Blank::new(1), load, workers) else {
         return Status::Memory;

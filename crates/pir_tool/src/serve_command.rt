@@ -1,6 +1,7 @@
 //! The command `serve`.
 
 ghost use Rattle.std.specs.Prelude.{◌≡◌, ◌⊎◌, ◌≤◌, ◌<◌, OnOk, OnErr};
+ghost use Rattle.pir_ports.specs.Number.{DATABASE, DOOR, GUEST};
 ghost use Rattle.pir_ports.specs.Moves.{Touches};
 ghost use Rattle.pir_tool.specs.Told.{DidRise};
 ghost use Rattle.pir_tool.specs.ServeSteps.{OpensDesk, Listens, ServesGuests, RepliesToGuests, RunsDry, TouchesGuests, TouchesDoor};
@@ -44,7 +45,7 @@ fn open_desk<P: Ports>(
     requires some { 1 ≤ workers }
     requires few { workers ≤ 16 }
     ensures opens { OpensDesk database.now width scheme workers result (P.world ports.old) (P.world ports.new) }
-    ensures others { Touches 2 (P.world ports.old) (P.world ports.new) }
+    ensures others { Touches DATABASE (P.world ports.old) (P.world ports.new) }
 {
     let Ok(()) = ports.open(Port::Database, database) else {
         return Err(Status::ReadFault);
@@ -92,8 +93,8 @@ fn serve_guests<R: Threads + Sync, P: Ports>(
     ports: &mut P,
 ) -> Result<(), Failed>
     ensures ok { OnOk result (ServesGuests desk.old guests (P.world ports.old) (P.world ports.new)) }
-    ensures replied { OnOk result ((DidRise 6 (P.world ports.old) (P.world ports.new) → ⊥) → RepliesToGuests desk.old guests (P.world ports.old) (P.world ports.new)) }
-    ensures door { OnOk result ((P.world ports.new).at 5 ≡ (P.world ports.old).at 5) }
+    ensures replied { OnOk result ((DidRise GUEST (P.world ports.old) (P.world ports.new) → ⊥) → RepliesToGuests desk.old guests (P.world ports.old) (P.world ports.new)) }
+    ensures door { OnOk result ((P.world ports.new).at DOOR ≡ (P.world ports.old).at DOOR) }
     ensures failed { OnErr result (RunsDry desk.old guests (P.world ports.old) (P.world ports.new)) }
     ensures others { TouchesGuests (P.world ports.old) (P.world ports.new) }
 {

@@ -1,6 +1,7 @@
 -- What reading a recorded session to its end, and judging it, gives.
 use Rattle.std.specs.Prelude.{◌≤◌, ◌+◌, ◌*◌, length, Some, ◌≡◌, ℕ, List, IfSome, Result, Ok, Err}
 use Rattle.pir_ports.specs.World.{World}
+use Rattle.pir_ports.specs.Number.{INPUT}
 use Rattle.pir_ports.specs.Moves.{took}
 use Rattle.pir_ports.specs.Whole.{FailsAfter}
 use Rattle.wire_frames.specs.Session.{Transcript, IsSession}
@@ -36,10 +37,10 @@ pub record Took (p : ℕ) (old new : World) : Type 0 where
 
 -- Input was read: what it held is P of the result; or it is no session; or a call on Input failed; or memory ran out
 abbrev pub ReadTo : {T : Type 0} → (T → List ℕ → Type 0) → Result T ReplayFault → World → World → Type 0
-ReadTo P (Ok x) old new = Took 0 old new × IfSome (old.at 0).holds (P x)
-ReadTo P (Err (BadSession place)) old new = Took 0 old new × IfSome (old.at 0).holds (NoSession place)
-ReadTo P (Err ReadFault) old new = FailsAfter 0 old new
-ReadTo P (Err Memory) old new = Took 0 old new
+ReadTo P (Ok x) old new = Took INPUT old new × IfSome (old.at INPUT).holds (P x)
+ReadTo P (Err (BadSession place)) old new = Took INPUT old new × IfSome (old.at INPUT).holds (NoSession place)
+ReadTo P (Err ReadFault) old new = FailsAfter INPUT old new
+ReadTo P (Err Memory) old new = Took INPUT old new
 
 -- one more piece was read
 abbrev pub Fed : Reading → List ℕ → Result (Unit {0}) ReplayFault → Reading → Type 0
@@ -51,5 +52,5 @@ Fed old piece (Err Memory) new = Feeds old piece (Err NoMemory) new
 -- where Input held a session, no more steps were taken than its width times the number of choices of t + 1 of its
 -- usable answers
 abbrev pub StepsWithin : ℕ → ℕ → World → Type 0
-StepsWithin before now world = (bytes : List ℕ) (session : Transcript) → (world.at 0).holds ≡ Some bytes → IsSession bytes session
+StepsWithin before now world = (bytes : List ℕ) (session : Transcript) → (world.at INPUT).holds ≡ Some bytes → IsSession bytes session
     → now ≤ before + session.params.s * binomial (length (answers session)) (session.params.t + 1)

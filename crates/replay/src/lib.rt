@@ -8,6 +8,7 @@
 #![tactic(auto)]
 
 ghost use Rattle.std.specs.Prelude.{◌≡◌, ◌<◌, length, vec_len, IfOk};
+ghost use Rattle.pir_ports.specs.Number.{INPUT};
 ghost use Rattle.pir_ports.specs.Moves.{Touches};
 ghost use Rattle.wire_frames.specs.Session.{IsSession};
 ghost use Rattle.wire_frames.specs.Reading.{Feeds};
@@ -58,7 +59,7 @@ fn read_pieces<P: Ports>(
     requires { 0 < length buffer.old }
     ensures read { ReadTo IsFileOf result (P.world ports.old) (P.world ports.new) }
     ensures all { IfOk result (λ session. length session.records ≡ session.params.n) }
-    ensures others { Touches 0 (P.world ports.old) (P.world ports.new) }
+    ensures others { Touches INPUT (P.world ports.old) (P.world ports.new) }
 {
     let mut reader = SessionReader::new();
     'pieces: loop {
@@ -98,7 +99,7 @@ pub fn replay<C: Ledger, P: Ports>(
     cols: &mut Steps<C>,
 ) -> Result<Verdict, ReplayFault>
     ensures replayed { ReadTo Judged result (P.world ports.old) (P.world ports.new) }
-    ensures others { Touches 0 (P.world ports.old) (P.world ports.new) }
+    ensures others { Touches INPUT (P.world ports.old) (P.world ports.new) }
     ensures cols { StepsWithin cols.old cols.new (P.world ports.old) }
 {
     let Ok(mut buffer) = piece_buffer(alloc) else {

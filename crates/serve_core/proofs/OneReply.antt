@@ -1,6 +1,7 @@
 -- The bytes of a guest ask for one reply alone.
 use Rattle.std.proofs.Common.{◌≡◌, true, false, inl, inr, ℕ, ◌≤◌, List, length, take, drop, get_or, refl, sym, ◌∙◌, ap, arith}
 use Rattle.std.proofs.lemmas.Bool.{false≢true}
+use Rattle.wire_frames.specs.declared.sizes.TheConstants.{FRAME_HEADER_LEN}
 use Rattle.wire_frames.specs.declared.header.QueryHeader.{QueryHeader}
 use Rattle.wire_frames.specs.Header.{answer_to, query_header}
 use Rattle.wire_frames.specs.Query.{IsQueryHeader}
@@ -32,8 +33,8 @@ shaped service q p same is = record { rows = same.rows ∙ is.rows; width = same
 -- a query that suits isn't refused by its header
 suits_or_refused : (service : Service) (bytes : List ℕ) (status : ℕ) → Suits service bytes → RefusedByHeader service bytes status → ⊥
 suits_or_refused service bytes status s (inl a) = a.1.none s.query s.asks.header
-suits_or_refused service bytes status s (inr (inl a)) = a.1.other ((alike (take 24 bytes) a.1.query s.query a.1.asks.header s.asks.header).scheme ∙ s.scheme)
-suits_or_refused service bytes status s (inr (inr a)) = a.1.other (shaped service a.1.query s.query (alike (take 24 bytes) a.1.query s.query a.1.asks.header s.asks.header) s.shape)
+suits_or_refused service bytes status s (inr (inl a)) = a.1.other ((alike (take FRAME_HEADER_LEN bytes) a.1.query s.query a.1.asks.header s.asks.header).scheme ∙ s.scheme)
+suits_or_refused service bytes status s (inr (inr a)) = a.1.other (shaped service a.1.query s.query (alike (take FRAME_HEADER_LEN bytes) a.1.query s.query a.1.asks.header s.asks.header) s.shape)
 
 -- one whose payload sets no unused bit isn't refused by its payload
 unused_or_not : (service : Service) (bytes : List ℕ) → IsWholeWith false service bytes → IsWholeWith true service bytes → ⊥
@@ -45,7 +46,7 @@ good_or_refused service bytes status good (inl by_header) = suits_or_refused ser
 good_or_refused service bytes status good (inr by_payload) = unused_or_not service bytes good by_payload.1
 
 -- what is refused has a whole header
-refused_whole : (service : Service) (bytes : List ℕ) (status : ℕ) → RefusedByHeader service bytes status → 24 ≤ length bytes
+refused_whole : (service : Service) (bytes : List ℕ) (status : ℕ) → RefusedByHeader service bytes status → FRAME_HEADER_LEN ≤ length bytes
 refused_whole service bytes status (inl a) = a.1.whole
 refused_whole service bytes status (inr (inl a)) = a.1.asks.whole
 refused_whole service bytes status (inr (inr a)) = a.1.asks.whole
@@ -70,8 +71,8 @@ one_status service bytes j k (inr (inl a)) (inl b) = absurd (b.1.none a.1.query 
 one_status service bytes j k (inr (inr a)) (inl b) = absurd (b.1.none a.1.query a.1.asks.header)
 one_status service bytes j k (inr (inl a)) (inr (inl b)) = a.0 ∙ sym b.0
 one_status service bytes j k (inr (inr a)) (inr (inr b)) = a.0 ∙ sym b.0
-one_status service bytes j k (inr (inl a)) (inr (inr b)) = absurd (a.1.other ((alike (take 24 bytes) a.1.query b.1.query a.1.asks.header b.1.asks.header).scheme ∙ b.1.scheme))
-one_status service bytes j k (inr (inr a)) (inr (inl b)) = absurd (b.1.other ((alike (take 24 bytes) b.1.query a.1.query b.1.asks.header a.1.asks.header).scheme ∙ a.1.scheme))
+one_status service bytes j k (inr (inl a)) (inr (inr b)) = absurd (a.1.other ((alike (take FRAME_HEADER_LEN bytes) a.1.query b.1.query a.1.asks.header b.1.asks.header).scheme ∙ b.1.scheme))
+one_status service bytes j k (inr (inr a)) (inr (inl b)) = absurd (b.1.other ((alike (take FRAME_HEADER_LEN bytes) b.1.query a.1.query b.1.asks.header a.1.asks.header).scheme ∙ a.1.scheme))
 
 -- and so is a query
 one_refusal : (service : Service) (bytes : List ℕ) (j k : ℕ) → Refuses service bytes j → Refuses service bytes k → j ≡ k
@@ -87,7 +88,7 @@ one_reply service bytes Served (Refused k) f g a b = absurd (good_or_refused ser
 one_reply service bytes Served Gone f g a b = absurd (whole_or_cut service bytes a.0.whole b.0)
 one_reply service bytes Served GuestFault f g a b = absurd b
 one_reply service bytes (Refused j) Served f g a b = absurd (good_or_refused service bytes j b.0 a.0)
-one_reply service bytes (Refused j) (Refused k) f g a b = let e = one_refusal service bytes j k a.0 b.0 in (ap Refused e, a.1 ∙ ap (answer_to (take 24 bytes)) e ∙ sym b.1)
+one_reply service bytes (Refused j) (Refused k) f g a b = let e = one_refusal service bytes j k a.0 b.0 in (ap Refused e, a.1 ∙ ap (answer_to (take FRAME_HEADER_LEN bytes)) e ∙ sym b.1)
 one_reply service bytes (Refused j) Gone f g a b = absurd (cut_or_refused service bytes j b.0 a.0)
 one_reply service bytes (Refused j) GuestFault f g a b = absurd b
 one_reply service bytes Gone Served f g a b = absurd (whole_or_cut service bytes b.0.whole a.0)

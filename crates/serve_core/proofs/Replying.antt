@@ -4,10 +4,12 @@ use Rattle.std.specs.Prelude.{Option, Some, None, IfSome, Ok, Err, Bool, true, f
 use Rattle.std.specs.Option.{option_map}
 use Rattle.std.proofs.lemmas.List.{take_all, length-drop}
 use Rattle.pir_ports.specs.World.{World}
+use Rattle.pir_ports.specs.Number.{GUEST}
 use Rattle.pir_ports.specs.Moves.{Rose, Came, Hands, took, gave, counted}
 use Rattle.pir_ports.specs.Whole.{Ends, FailsShort, FailsWithin}
 use Rattle.pir_ports.proofs.Cells.{took-took}
 use Rattle.pir_ports.proofs.Pieces.{gave_none}
+use Rattle.wire_frames.specs.declared.sizes.TheConstants.{FRAME_HEADER_LEN}
 use Rattle.wire_frames.specs.declared.header.QueryHeader.{QueryHeader}
 use Rattle.wire_frames.specs.Header.{answer_to}
 use Rattle.wire_frames.specs.Query.{IsQueryHeader}
@@ -31,24 +33,24 @@ pub frame_is : (scheme : ℕ) (database : Database) (header query front rest : L
 frame_is scheme database header query front rest a b = ap₂ (λ (x y : List ℕ). x ++ y) a b
 
 -- a frame was given, behind the bytes that its reply takes
-module _ (service : Service) (want : Met) (n : ℕ) (frame : List ℕ) (w x u : World) (taken : x.at 6 ≡ took n (w.at 6)) (replies : (h : List ℕ) → (w.at 6).holds ≡ Some h → IsReply service want n frame h) where
+module _ (service : Service) (want : Met) (n : ℕ) (frame : List ℕ) (w x u : World) (taken : x.at GUEST ≡ took n (w.at GUEST)) (replies : (h : List ℕ) → (w.at GUEST).holds ≡ Some h → IsReply service want n frame h) where
   -- whole
-  gave_whole : u.at 6 ≡ gave frame (x.at 6) → Answered service want w u
+  gave_whole : u.at GUEST ≡ gave frame (x.at GUEST) → Answered service want w u
   gave_whole given = record {
     n = n;
     frame = frame;
     cell = given ∙ ap (gave frame) taken;
-    told = told_by (IsReply service want n frame) (w.at 6).holds replies;
+    told = told_by (IsReply service want n frame) (w.at GUEST).holds replies;
   }
 
   -- up to a call that failed
-  gave_front : ((h : List ℕ) → (w.at 6).holds ≡ Some h → MayTake service n h) → FailsWithin 6 frame x u → Broke service w u
+  gave_front : ((h : List ℕ) → (w.at GUEST).holds ≡ Some h → MayTake service n h) → FailsWithin GUEST frame x u → Broke service w u
   gave_front may f = record {
     n = n;
     given = take f.n frame;
-    cell = f.cell ∙ ap (λ c. counted (u.at 6).faults (gave (take f.n frame) c)) taken;
-    rose = subst (λ k. Rose k (u.at 6).faults) (ap (λ c. c.faults) taken) f.rose;
-    told = told_by (IsBroken service n (take f.n frame)) (w.at 6).holds
+    cell = f.cell ∙ ap (λ c. counted (u.at GUEST).faults (gave (take f.n frame) c)) taken;
+    rose = subst (λ k. Rose k (u.at GUEST).faults) (ap (λ c. c.faults) taken) f.rose;
+    told = told_by (IsBroken service n (take f.n frame)) (w.at GUEST).holds
         (λ h e. record {
           takes = may h e;
           there = (replies h e).there;
@@ -57,13 +59,13 @@ module _ (service : Service) (want : Met) (n : ℕ) (frame : List ℕ) (w x u : 
   }
 
 -- the guest failed before its header was whole
-pub breaks_first : (service : Service) (w v : World) → FailsShort 6 24 w v → Broke service w v
+pub breaks_first : (service : Service) (w v : World) → FailsShort GUEST FRAME_HEADER_LEN w v → Broke service w v
 breaks_first service w v f = record {
   n = f.after.n;
   given = [];
-  cell = f.after.cell ∙ ap (counted (v.at 6).faults) (sym (gave_none (took f.after.n (w.at 6))));
+  cell = f.after.cell ∙ ap (counted (v.at GUEST).faults) (sym (gave_none (took f.after.n (w.at GUEST))));
   rose = f.after.rose;
-  told = told_by (IsBroken service f.after.n []) (w.at 6).holds
+  told = told_by (IsBroken service f.after.n []) (w.at GUEST).holds
       (λ h e. record {
         takes = inl (let l = f.fewer in omega arith);
         there = subst (λ o. IfSome o (λ h. f.after.n ≤ length h)) e f.after.held;
@@ -72,12 +74,12 @@ breaks_first service w v f = record {
 }
 
 -- the guest ended before its header was whole
-pub ends_first : (service : Service) (n : ℕ) (before after : List ℕ) (w v : World) → length before ≡ 24 → Ends 6 n before after w v → Answered service Gone w v
+pub ends_first : (service : Service) (n : ℕ) (before after : List ℕ) (w v : World) → length before ≡ FRAME_HEADER_LEN → Ends GUEST n before after w v → Answered service Gone w v
 ends_first service n before after w v size ends = record {
   n = n;
   frame = [];
-  cell = ends.hands.cell ∙ sym (gave_none (took n (w.at 6)));
-  told = told_by (IsReply service Gone n []) (w.at 6).holds
+  cell = ends.hands.cell ∙ sym (gave_none (took n (w.at GUEST)));
+  told = told_by (IsReply service Gone n []) (w.at GUEST).holds
       (λ h e.
       let all : length h ≡ n = subst (λ o. IfSome o (λ h. length h ≡ n)) e ends.all in
       let fewer = ends.fewer in
@@ -89,15 +91,15 @@ ends_first service n before after w v size ends = record {
 }
 
 -- the header was taken
-module _ (service : Service) (before header : List ℕ) (w v : World) (size : length header ≡ 24) (hands : Hands 6 24 before header w v) where
-  module _ (h : List ℕ) (e : (w.at 6).holds ≡ Some h) where
-    came : Came 24 before header h
-    came = subst (λ o. IfSome o (Came 24 before header)) e hands.told
+module _ (service : Service) (before header : List ℕ) (w v : World) (size : length header ≡ FRAME_HEADER_LEN) (hands : Hands GUEST FRAME_HEADER_LEN before header w v) where
+  module _ (h : List ℕ) (e : (w.at GUEST).holds ≡ Some h) where
+    came : Came FRAME_HEADER_LEN before header h
+    came = subst (λ o. IfSome o (Came FRAME_HEADER_LEN before header)) e hands.told
 
-    header_is : header ≡ take 24 h
+    header_is : header ≡ take FRAME_HEADER_LEN h
     header_is = sym (take_all 24 header (omega (arith, size))) ∙ came.bytes
 
-    left : (v.at 6).holds ≡ Some (drop 24 h)
+    left : (v.at GUEST).holds ≡ Some (drop FRAME_HEADER_LEN h)
     left = ap (λ c. c.holds) hands.cell ∙ ap (λ o. option_map (drop 24) o) e
 
     asks : (query : QueryHeader) → IsQueryHeader header query → Asks h query
@@ -119,7 +121,7 @@ module _ (service : Service) (before header : List ℕ) (w v : World) (size : le
     suits judged = record { query = judged.0; asks = asks judged.0 judged.1.is; scheme = judged.1.scheme; shape = judged.2 }
 
   -- the count of failed calls is as it was
-  count : (v.at 6).faults ≡ (w.at 6).faults
+  count : (v.at GUEST).faults ≡ (w.at GUEST).faults
   count = ap (λ c. c.faults) hands.cell
 
   -- a refusal of the header
@@ -138,23 +140,23 @@ module _ (service : Service) (before header : List ℕ) (w v : World) (size : le
       many : length takes.before ≡ size_is
       many = takes.full ∙ takes.size
 
-      all_taken : x.at 6 ≡ took (24 + size_is) (w.at 6)
-      all_taken = takes.hands.cell ∙ ap (took (length takes.before)) hands.cell ∙ took-took (length takes.before) 24 (w.at 6) ∙ ap (λ n. took (24 + n) (w.at 6)) many
+      all_taken : x.at GUEST ≡ took (FRAME_HEADER_LEN + size_is) (w.at GUEST)
+      all_taken = takes.hands.cell ∙ ap (took (length takes.before)) hands.cell ∙ took-took (length takes.before) 24 (w.at GUEST) ∙ ap (λ n. took (FRAME_HEADER_LEN + n) (w.at GUEST)) many
 
-      module _ (h : List ℕ) (e : (w.at 6).holds ≡ Some h) where
-        second : Came (length takes.before) takes.before query (drop 24 h)
+      module _ (h : List ℕ) (e : (w.at GUEST).holds ≡ Some h) where
+        second : Came (length takes.before) takes.before query (drop FRAME_HEADER_LEN h)
         second = subst (λ o. IfSome o (Came (length takes.before) takes.before query)) (left h e) takes.hands.told
 
         query_is : query ≡ payload service h
-        query_is = sym (take_all (length takes.before) query (omega (arith, takes.full))) ∙ second.bytes ∙ ap (λ n. take n (drop 24 h)) many
+        query_is = sym (take_all (length takes.before) query (omega (arith, takes.full))) ∙ second.bytes ∙ ap (λ n. take n (drop FRAME_HEADER_LEN h)) many
 
-        enough : 24 + size_is ≤ length h
-        enough = omega (arith, second.there, many, length-drop 24 h, (came h e).there)
+        enough : FRAME_HEADER_LEN + size_is ≤ length h
+        enough = omega (arith, second.there, many, length-drop FRAME_HEADER_LEN h, (came h e).there)
 
         whole_with : IsWholeWith unused service h
         whole_with = record { whole = record { suits = suits h e judged; enough = enough }; unused_is = subst (λ q. sets_unused service.scheme service.database q ≡ unused) query_is takes.unused_is }
 
-        may_take : MayTake service (24 + size_is) h
+        may_take : MayTake service (FRAME_HEADER_LEN + size_is) h
         may_take = inr (suits h e judged, omega arith)
 
     -- the payload is good
@@ -162,20 +164,20 @@ module _ (service : Service) (before header : List ℕ) (w v : World) (size : le
       abbrev frame : List ℕ
       frame = answer_frame service.scheme service.database header query
 
-      served : (h : List ℕ) → (w.at 6).holds ≡ Some h → IsReply service Served (24 + size_is) frame h
+      served : (h : List ℕ) → (w.at GUEST).holds ≡ Some h → IsReply service Served (FRAME_HEADER_LEN + size_is) frame h
       served h e = record {
-        replies = (whole_with false query x takes h e, ap (λ l. answer_frame service.scheme service.database l query) (header_is h e) ∙ ap (answer_frame service.scheme service.database (take 24 h)) (query_is false query x takes h e));
+        replies = (whole_with false query x takes h e, ap (λ l. answer_frame service.scheme service.database l query) (header_is h e) ∙ ap (answer_frame service.scheme service.database (take FRAME_HEADER_LEN h)) (query_is false query x takes h e));
         takes = refl;
         there = enough false query x takes h e;
       }
 
       finishes : (met : Met) (u : World) → Gives Served frame met x u → Attends service met w u
-      finishes met u (inl given) = subst (λ m. Attends service m w u) (sym given.0) (gave_whole service Served (24 + size_is) frame w x u (all_taken false query x takes) served given.1)
-      finishes met u (inr failed) = subst (λ m. Attends service m w u) (sym failed.0) (gave_front service Served (24 + size_is) frame w x u (all_taken false query x takes) served (may_take false query x takes) failed.1)
+      finishes met u (inl given) = subst (λ m. Attends service m w u) (sym given.0) (gave_whole service Served (FRAME_HEADER_LEN + size_is) frame w x u (all_taken false query x takes) served given.1)
+      finishes met u (inr failed) = subst (λ m. Attends service m w u) (sym failed.0) (gave_front service Served (FRAME_HEADER_LEN + size_is) frame w x u (all_taken false query x takes) served (may_take false query x takes) failed.1)
 
     -- the payload sets an unused bit
     module _ (query : List ℕ) (x : World) (takes : TakesPayload true service.scheme service.database query v x) where
-      declined : (h : List ℕ) → (w.at 6).holds ≡ Some h → IsReply service (IsRefused 1) (24 + size_is) (answer_to header 1) h
+      declined : (h : List ℕ) → (w.at GUEST).holds ≡ Some h → IsReply service (IsRefused 1) (FRAME_HEADER_LEN + size_is) (answer_to header 1) h
       declined h e = record {
         replies = (inr (refl, whole_with true query x takes h e), ap (λ l. answer_to l 1) (header_is h e));
         takes = inr ((refl, whole_with true query x takes h e), refl);
@@ -183,21 +185,21 @@ module _ (service : Service) (before header : List ℕ) (w v : World) (size : le
       }
 
       declines : (met : Met) (u : World) → Gives (IsRefused 1) (answer_to header 1) met x u → Attends service met w u
-      declines met u (inl given) = subst (λ m. Attends service m w u) (sym given.0) (gave_whole service (IsRefused 1) (24 + size_is) (answer_to header 1) w x u (all_taken true query x takes) declined given.1)
-      declines met u (inr failed) = subst (λ m. Attends service m w u) (sym failed.0) (gave_front service (IsRefused 1) (24 + size_is) (answer_to header 1) w x u (all_taken true query x takes) declined (may_take true query x takes) failed.1)
+      declines met u (inl given) = subst (λ m. Attends service m w u) (sym given.0) (gave_whole service (IsRefused 1) (FRAME_HEADER_LEN + size_is) (answer_to header 1) w x u (all_taken true query x takes) declined given.1)
+      declines met u (inr failed) = subst (λ m. Attends service m w u) (sym failed.0) (gave_front service (IsRefused 1) (FRAME_HEADER_LEN + size_is) (answer_to header 1) w x u (all_taken true query x takes) declined (may_take true query x takes) failed.1)
 
     -- the guest ended before its payload was whole
     stops : (u : World) → Stops service.scheme service.database v u → Answered service Gone w u
     stops u s = record {
-      n = 24 + s.n;
+      n = FRAME_HEADER_LEN + s.n;
       frame = [];
-      cell = s.ends.hands.cell ∙ ap (took s.n) hands.cell ∙ took-took s.n 24 (w.at 6) ∙ sym (gave_none (took (24 + s.n) (w.at 6)));
-      told = told_by (IsReply service Gone (24 + s.n) []) (w.at 6).holds
+      cell = s.ends.hands.cell ∙ ap (took s.n) hands.cell ∙ took-took s.n 24 (w.at GUEST) ∙ sym (gave_none (took (FRAME_HEADER_LEN + s.n) (w.at GUEST)));
+      told = told_by (IsReply service Gone (FRAME_HEADER_LEN + s.n) []) (w.at GUEST).holds
           (λ h e.
-          let all : length (drop 24 h) ≡ s.n = subst (λ o. IfSome o (λ h. length h ≡ s.n)) (left h e) s.ends.all in
+          let all : length (drop FRAME_HEADER_LEN h) ≡ s.n = subst (λ o. IfSome o (λ h. length h ≡ s.n)) (left h e) s.ends.all in
           let fewer = s.ends.fewer in
           let whole = (came h e).there in
-          let rest = length-drop 24 h in
+          let rest = length-drop FRAME_HEADER_LEN h in
           record {
             replies = (inr (suits h e judged, omega (arith, all, fewer, whole, rest, s.size)), refl);
             takes = omega (arith, all, whole, rest);
@@ -206,18 +208,18 @@ module _ (service : Service) (before header : List ℕ) (w v : World) (size : le
     }
 
     -- the guest failed before its payload was whole
-    breaks : (u : World) → FailsShort 6 size_is v u → Broke service w u
+    breaks : (u : World) → FailsShort GUEST size_is v u → Broke service w u
     breaks u f = record {
-      n = 24 + f.after.n;
+      n = FRAME_HEADER_LEN + f.after.n;
       given = [];
-      cell = f.after.cell ∙ ap (λ c. counted (u.at 6).faults (took f.after.n c)) hands.cell ∙ ap (counted (u.at 6).faults) (took-took f.after.n 24 (w.at 6) ∙ sym (gave_none (took (24 + f.after.n) (w.at 6))));
-      rose = subst (λ k. Rose k (u.at 6).faults) count f.after.rose;
-      told = told_by (IsBroken service (24 + f.after.n) []) (w.at 6).holds
+      cell = f.after.cell ∙ ap (λ c. counted (u.at GUEST).faults (took f.after.n c)) hands.cell ∙ ap (counted (u.at GUEST).faults) (took-took f.after.n 24 (w.at GUEST) ∙ sym (gave_none (took (FRAME_HEADER_LEN + f.after.n) (w.at GUEST))));
+      rose = subst (λ k. Rose k (u.at GUEST).faults) count f.after.rose;
+      told = told_by (IsBroken service (FRAME_HEADER_LEN + f.after.n) []) (w.at GUEST).holds
           (λ h e.
-          let held : f.after.n ≤ length (drop 24 h) = subst (λ o. IfSome o (λ h. f.after.n ≤ length h)) (left h e) f.after.held in
+          let held : f.after.n ≤ length (drop FRAME_HEADER_LEN h) = subst (λ o. IfSome o (λ h. f.after.n ≤ length h)) (left h e) f.after.held in
           record {
             takes = inr (suits h e judged, let l = f.fewer in omega arith);
-            there = omega (arith, held, length-drop 24 h, (came h e).there);
+            there = omega (arith, held, length-drop FRAME_HEADER_LEN h, (came h e).there);
             gives = inl refl;
           });
     }

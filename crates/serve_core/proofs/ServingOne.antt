@@ -3,6 +3,7 @@ use Rattle.std.proofs.Common.{inl, inr, ℕ, List, ◌++◌, ◌∙◌, ap, subs
 use Rattle.std.specs.Prelude.{Option, IfSome}
 use Rattle.std.specs.Option.{option_map}
 use Rattle.pir_ports.specs.World.{Cell, World}
+use Rattle.pir_ports.specs.Number.{GUEST}
 use Rattle.pir_ports.specs.Serving.{ServesOne}
 use Rattle.serve_core.specs.Service.{Service}
 use Rattle.serve_core.specs.Attended.{IsReply, Answered, IsBroken, Broke, Attends, HasReply, IsServed}
@@ -10,7 +11,7 @@ use Rattle.serve_core.specs.declared.met.Met.{Met}
 use Rattle.serve_core.specs.declared.met.Met.TheVariants.{Served, Refused, Gone, GuestFault}
 
 -- the guest had its whole reply
-serves_whole : (service : Service) (met : Met) (w v : World) → Answered service met w v → ServesOne (IsServed service) (w.at 6) (v.at 6)
+serves_whole : (service : Service) (met : Met) (w v : World) → Answered service met w v → ServesOne (IsServed service) (w.at GUEST) (v.at GUEST)
 serves_whole service met w v a = record {
   told = λ guest holds accepted.
       let reply = subst (λ (o : Option (List ℕ)). IfSome o (IsReply service met a.n a.frame)) holds a.told in
@@ -22,7 +23,7 @@ serves_whole service met w v a = record {
 }
 
 -- a call on the guest failed
-serves_broken : (service : Service) (w v : World) → Broke service w v → ServesOne (IsServed service) (w.at 6) (v.at 6)
+serves_broken : (service : Service) (w v : World) → Broke service w v → ServesOne (IsServed service) (w.at GUEST) (v.at GUEST)
 serves_broken service w v b = record {
   told = λ guest holds accepted.
       let broken = subst (λ (o : Option (List ℕ)). IfSome o (IsBroken service b.n b.given)) holds b.told in
@@ -34,14 +35,14 @@ serves_broken service w v b = record {
 }
 
 -- whatever the guest was met with
-pub serves_one : (service : Service) (met : Met) (w v : World) → Attends service met w v → ServesOne (IsServed service) (w.at 6) (v.at 6)
+pub serves_one : (service : Service) (met : Met) (w v : World) → Attends service met w v → ServesOne (IsServed service) (w.at GUEST) (v.at GUEST)
 serves_one service Served w v a = serves_whole service Served w v a
 serves_one service (Refused status) w v a = serves_whole service (Refused status) w v a
 serves_one service Gone w v a = serves_whole service Gone w v a
 serves_one service GuestFault w v a = serves_broken service w v a
 
 -- where no call failed, it was given its whole reply
-pub replies_one : (service : Service) (met : Met) (w v : World) → Answered service met w v → ServesOne (λ guest out before after. HasReply service guest out) (w.at 6) (v.at 6)
+pub replies_one : (service : Service) (met : Met) (w v : World) → Answered service met w v → ServesOne (λ guest out before after. HasReply service guest out) (w.at GUEST) (v.at GUEST)
 replies_one service met w v a = record {
   told = λ guest holds accepted.
       let reply = subst (λ (o : Option (List ℕ)). IfSome o (IsReply service met a.n a.frame)) holds a.told in

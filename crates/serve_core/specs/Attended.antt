@@ -1,7 +1,9 @@
 -- What a server does with the guest that is in.
 use Rattle.std.specs.Prelude.{◌≡◌, ◌⊎◌, ℕ, ◌+◌, ◌<◌, ◌≤◌, List, [], length, take, IfSome}
 use Rattle.pir_ports.specs.World.{World}
+use Rattle.pir_ports.specs.Number.{GUEST}
 use Rattle.pir_ports.specs.Moves.{Rose, took, gave, counted}
+use Rattle.wire_frames.specs.declared.sizes.TheConstants.{FRAME_HEADER_LEN}
 use Rattle.serve_core.specs.Service.{Service}
 use Rattle.serve_core.specs.Reply.{Replies, Suits, Takes, payload_size}
 use Rattle.serve_core.specs.declared.met.Met.{Met}
@@ -17,8 +19,8 @@ pub record IsReply (service : Service) (met : Met) (n : ℕ) (frame bytes : List
 pub record Answered (service : Service) (met : Met) (old new : World) : Type 0 where
   pub n : ℕ
   pub frame : List ℕ
-  pub cell : new.at 6 ≡ gave frame (took n (old.at 6))
-  pub told : IfSome (old.at 6).holds (IsReply service met n frame)
+  pub cell : new.at GUEST ≡ gave frame (took n (old.at GUEST))
+  pub told : IfSome (old.at GUEST).holds (IsReply service met n frame)
 
 -- a front of the reply to these bytes: nothing, or n bytes of its frame
 pub record IsFrontOfReply (service : Service) (front bytes : List ℕ) : Type 0 where
@@ -31,7 +33,7 @@ pub record IsFrontOfReply (service : Service) (front bytes : List ℕ) : Type 0 
 
 -- no more was taken than a header, and the payload of one that suits
 abbrev pub MayTake : Service → ℕ → List ℕ → Type 0
-MayTake service n bytes = (n ≤ 24) ⊎ (Suits service bytes × (n ≤ 24 + payload_size service.scheme service.database))
+MayTake service n bytes = (n ≤ FRAME_HEADER_LEN) ⊎ (Suits service bytes × (n ≤ FRAME_HEADER_LEN + payload_size service.scheme service.database))
 
 -- what was taken and given before a call on the guest failed
 pub record IsBroken (service : Service) (n : ℕ) (given bytes : List ℕ) : Type 0 where
@@ -43,9 +45,9 @@ pub record IsBroken (service : Service) (n : ℕ) (given bytes : List ℕ) : Typ
 pub record Broke (service : Service) (old new : World) : Type 0 where
   pub n : ℕ
   pub given : List ℕ
-  pub cell : new.at 6 ≡ counted (new.at 6).faults (gave given (took n (old.at 6)))
-  pub rose : Rose (old.at 6).faults (new.at 6).faults
-  pub told : IfSome (old.at 6).holds (IsBroken service n given)
+  pub cell : new.at GUEST ≡ counted (new.at GUEST).faults (gave given (took n (old.at GUEST)))
+  pub rose : Rose (old.at GUEST).faults (new.at GUEST).faults
+  pub told : IfSome (old.at GUEST).holds (IsBroken service n given)
 
 -- what was done with the guest, by what it was met with
 abbrev pub Attends : Service → Met → World → World → Type 0

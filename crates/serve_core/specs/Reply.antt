@@ -2,6 +2,7 @@
 -- (Goldberg 2007), and 2 the XOR scheme (Chor, Goldreich, Kushilevitz and Sudan 1995).
 use Rattle.std.specs.Prelude.{◌≡◌, ◌≢◌, ◌⊎◌, ℕ, ◌+◌, ◌<◌, ◌≤◌, Bool, true, false, ◌==◌, ◌&&◌, if◌then◌else◌, List, [], ◌++◌, length, take, drop}
 use Rattle.gf256.specs.Product.{product}
+use Rattle.wire_frames.specs.declared.sizes.TheConstants.{FRAME_HEADER_LEN}
 use Rattle.wire_frames.specs.declared.header.QueryHeader.{QueryHeader}
 use Rattle.wire_frames.specs.Header.{answer_to}
 use Rattle.wire_frames.specs.Query.{IsQueryHeader}
@@ -14,8 +15,8 @@ use Rattle.serve_core.specs.declared.met.Met.TheVariants.{Served, Refused, Gone,
 
 -- the first 24 bytes are the header of this query
 pub record Asks (bytes : List ℕ) (query : QueryHeader) : Type 0 where
-  pub whole : 24 ≤ length bytes
-  pub header : IsQueryHeader (take 24 bytes) query
+  pub whole : FRAME_HEADER_LEN ≤ length bytes
+  pub header : IsQueryHeader (take FRAME_HEADER_LEN bytes) query
 
 -- the query is for a database of this shape
 pub record IsShaped (service : Service) (query : QueryHeader) : Type 0 where
@@ -24,8 +25,8 @@ pub record IsShaped (service : Service) (query : QueryHeader) : Type 0 where
 
 -- the first 24 bytes are no header of a query
 pub record Malformed (bytes : List ℕ) : Type 0 where
-  pub whole : 24 ≤ length bytes
-  pub none : (query : QueryHeader) → IsQueryHeader (take 24 bytes) query → ⊥
+  pub whole : FRAME_HEADER_LEN ≤ length bytes
+  pub none : (query : QueryHeader) → IsQueryHeader (take FRAME_HEADER_LEN bytes) query → ⊥
 
 -- they are that of a query of another scheme
 pub record OtherScheme (service : Service) (bytes : List ℕ) : Type 0 where
@@ -57,7 +58,7 @@ payload_size scheme database = if scheme == 2 then size_of (length database.rows
 
 -- the payload of a query, behind the header
 abbrev pub payload : Service → List ℕ → List ℕ
-payload service bytes = take (payload_size service.scheme service.database) (drop 24 bytes)
+payload service bytes = take (payload_size service.scheme service.database) (drop FRAME_HEADER_LEN bytes)
 
 -- a payload of the XOR scheme sets a bit past those of the rows
 unfoldable pub sets_unused : ℕ → Database → List ℕ → Bool
@@ -74,7 +75,7 @@ answer_frame scheme database header query = answer_to header 0 ++ answer scheme 
 -- the bytes are a whole query that suits
 pub record IsWhole (service : Service) (bytes : List ℕ) : Type 0 where
   pub suits : Suits service bytes
-  pub enough : 24 + payload_size service.scheme service.database ≤ length bytes
+  pub enough : FRAME_HEADER_LEN + payload_size service.scheme service.database ≤ length bytes
 
 -- they are one whose payload sets an unused bit or none, as this says
 pub record IsWholeWith (unused : Bool) (service : Service) (bytes : List ℕ) : Type 0 where
@@ -91,12 +92,12 @@ Refuses service bytes status = RefusedByHeader service bytes status ⊎ RefusedB
 
 -- the bytes end before the query does
 abbrev pub IsCut : Service → List ℕ → Type 0
-IsCut service bytes = (length bytes < 24) ⊎ (Suits service bytes × (length bytes < 24 + payload_size service.scheme service.database))
+IsCut service bytes = (length bytes < FRAME_HEADER_LEN) ⊎ (Suits service bytes × (length bytes < FRAME_HEADER_LEN + payload_size service.scheme service.database))
 
 -- the reply to a guest with these bytes: what it is met with, and the frame
 abbrev pub Replies : Service → List ℕ → Met → List ℕ → Type 0
-Replies service bytes Served frame = IsWholeWith false service bytes × (frame ≡ answer_frame service.scheme service.database (take 24 bytes) (payload service bytes))
-Replies service bytes (Refused status) frame = Refuses service bytes status × (frame ≡ answer_to (take 24 bytes) status)
+Replies service bytes Served frame = IsWholeWith false service bytes × (frame ≡ answer_frame service.scheme service.database (take FRAME_HEADER_LEN bytes) (payload service bytes))
+Replies service bytes (Refused status) frame = Refuses service bytes status × (frame ≡ answer_to (take FRAME_HEADER_LEN bytes) status)
 Replies service bytes Gone frame = IsCut service bytes × (frame ≡ [])
 Replies service bytes GuestFault frame = ⊥
 
@@ -107,7 +108,7 @@ AsksForOneReply service bytes = (met other : Met) (frame out : List ℕ) → Rep
 -- the reply takes so many of the guest's bytes: the whole query where its payload is judged, and only the header where that
 -- is refused
 abbrev pub Takes : Service → List ℕ → Met → ℕ → Type 0
-Takes service bytes Served n = n ≡ 24 + payload_size service.scheme service.database
-Takes service bytes (Refused status) n = (RefusedByHeader service bytes status × (n ≡ 24)) ⊎ (RefusedByPayload service bytes status × (n ≡ 24 + payload_size service.scheme service.database))
+Takes service bytes Served n = n ≡ FRAME_HEADER_LEN + payload_size service.scheme service.database
+Takes service bytes (Refused status) n = (RefusedByHeader service bytes status × (n ≡ FRAME_HEADER_LEN)) ⊎ (RefusedByPayload service bytes status × (n ≡ FRAME_HEADER_LEN + payload_size service.scheme service.database))
 Takes service bytes Gone n = n ≡ length bytes
 Takes service bytes GuestFault n = ⊥

@@ -1,6 +1,7 @@
 -- The steps of a reply: the header is judged, the payload is taken, the frame is given.
 use Rattle.std.specs.Prelude.{◌≡◌, ◌≢◌, ◌⊎◌, ℕ, Bool, true, false, List, length, Result, Ok, Err}
 use Rattle.pir_ports.specs.World.{World}
+use Rattle.pir_ports.specs.Number.{GUEST}
 use Rattle.pir_ports.specs.Moves.{Hands, gave}
 use Rattle.pir_ports.specs.Whole.{Ends, FailsShort, FailsWithin}
 use Rattle.wire_frames.specs.declared.header.QueryHeader.{QueryHeader}
@@ -34,13 +35,13 @@ Judges service header (Err OtherShape) = (query : QueryHeader) × IsOfScheme ser
 
 -- the guest was given the frame, and is met with `met`; or a call failed when it had taken a proper front of the frame
 abbrev pub Gives : Met → List ℕ → Met → World → World → Type 0
-Gives met frame result old new = ((result ≡ met) × (new.at 6 ≡ gave frame (old.at 6))) ⊎ ((result ≡ GuestFault) × FailsWithin 6 frame old new)
+Gives met frame result old new = ((result ≡ met) × (new.at GUEST ≡ gave frame (old.at GUEST))) ⊎ ((result ≡ GuestFault) × FailsWithin GUEST frame old new)
 
 -- the payload of a query was taken whole, and it sets an unused bit or none, as this says
 pub record TakesPayload (unused : Bool) (scheme : ℕ) (database : Database) (query : List ℕ) (old new : World) : Type 0 where
   pub before : List ℕ
   pub size : length query ≡ payload_size scheme database
-  pub hands : Hands 6 (length before) before query old new
+  pub hands : Hands GUEST (length before) before query old new
   pub full : length before ≡ length query
   pub unused_is : sets_unused scheme database query ≡ unused
 
@@ -64,11 +65,11 @@ pub record Stops (scheme : ℕ) (database : Database) (old new : World) : Type 0
   pub before : List ℕ
   pub after : List ℕ
   pub size : length before ≡ payload_size scheme database
-  pub ends : Ends 6 n before after old new
+  pub ends : Ends GUEST n before after old new
 
 -- what is done once the header suits
 abbrev pub Answers : ℕ → Database → List ℕ → Met → World → World → Type 0
 Answers scheme database header met old new = Finishes scheme database header met old new
     ⊎ Declines scheme database header met old new
     ⊎ ((met ≡ Gone) × Stops scheme database old new)
-    ⊎ ((met ≡ GuestFault) × FailsShort 6 (payload_size scheme database) old new)
+    ⊎ ((met ≡ GuestFault) × FailsShort GUEST (payload_size scheme database) old new)

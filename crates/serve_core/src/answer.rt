@@ -1,6 +1,8 @@
 //! The answer to a query whose header suits.
 ghost use Rattle.std.specs.Prelude.{◌≡◌, ◌≤◌, ◌<◌, ◌+◌, ◌*◌, length, vec_len, IfOk};
+ghost use Rattle.pir_ports.specs.Number.{GUEST};
 ghost use Rattle.pir_ports.specs.Moves.{Touches};
+ghost use Rattle.wire_frames.specs.Sizes.{answer_len};
 ghost use Rattle.wire_frames.specs.Header.{answer_to};
 ghost use Rattle.serve_core.specs.Reply.{answer, answer_frame, payload_size, sets_unused};
 ghost use Rattle.serve_core.specs.Stages.{Answers, Gives, status_of};
@@ -14,10 +16,7 @@ use pir_ports::{Failed, Filled, Port, Ports, read_exactly, write_all};
 use server_product::{Gate, product_into};
 use std::alloc::{AllocError, Global};
 use std::thread::Threads;
-use wire_frames::{XOR, write_answer_header};
-
-/// How many bytes stand before the payload of a query and of an answer.
-pub(crate) const HEADER_LEN: usize = 24;
+use wire_frames::{FRAME_HEADER_LEN, XOR, write_answer_header};
 
 /// How many bytes the payload of a query has.
 #[tactic(auto, unfolding(crate::specs::Reply::payload_size))]
@@ -53,12 +52,12 @@ impl Room {
         requires workers { workers ≤ 16 }
         ensures query { IfOk result (λ room. vec_len room.query ≡ query_len) }
         ensures scratch { IfOk result (λ room. vec_len room.scratch ≡ workers * width) }
-        ensures frame { IfOk result (λ room. vec_len room.frame ≡ 24 + width) }
+        ensures frame { IfOk result (λ room. vec_len room.frame ≡ answer_len width) }
     {
         Ok(Room {
             query: vec![in alloc; 0; query_len]?,
             scratch: vec![in alloc; 0; workers * width]?,
-            frame: vec![in alloc; 0; HEADER_LEN + width]?,
+            frame: vec![in alloc; 0; FRAME_HEADER_LEN + width]?,
         })
     }
 }
@@ -67,7 +66,7 @@ impl Room {
 pub(crate) fn give<P: Ports>(ports: &mut P, frame: &[u8], met: Met) -> Met
     requires { 0 < length frame.now }
     ensures gives { Gives met frame.now result (P.world ports.old) (P.world ports.new) }
-    ensures others { Touches 6 (P.world ports.old) (P.world ports.new) }
+    ensures others { Touches GUEST (P.world ports.old) (P.world ports.new) }
 {
     match write_all(ports, Port::Guest, frame) {
         Ok(()) => met,
@@ -76,12 +75,12 @@ pub(crate) fn give<P: Ports>(ports: &mut P, frame: &[u8], met: Met) -> Met
 }
 
 /// Gives the guest the frame of a refusal: the header of its status, and nothing behind it.
-pub(crate) fn refuse<P: Ports>(ports: &mut P, header: &[u8; 24], refusal: Refusal) -> Met
+pub(crate) fn refuse<P: Ports>(ports: &mut P, header: &[u8; FRAME_HEADER_LEN], refusal: Refusal) -> Met
     ensures gives { Gives (Refused (status_of refusal)) (answer_to header.now (status_of refusal)) result (P.world ports.old) (P.world ports.new) }
-    ensures others { Touches 6 (P.world ports.old) (P.world ports.new) }
+    ensures others { Touches GUEST (P.world ports.old) (P.world ports.new) }
 {
     let status = refusal.status();
-    let mut frame = [0; HEADER_LEN];
+    let mut frame = [0; FRAME_HEADER_LEN];
     write_answer_header(header, status, &mut frame);
     give(ports, &frame, Met::Refused(status))
 }
@@ -128,7 +127,7 @@ fn write_frame<R: Threads + Sync, G: Gate + Sync>(
     matrix: &Matrix,
     scheme: u8,
     workers: u8,
-    header: &[u8; 24],
+    header: &[u8; FRAME_HEADER_LEN],
     query: &[u8],
     scratch: &mut [u8],
     gate: &G,
@@ -138,13 +137,13 @@ fn write_frame<R: Threads + Sync, G: Gate + Sync>(
     requires few { workers ≤ 16 }
     requires query { length query.now ≡ payload_size scheme matrix.now }
     requires scratch { length scratch.old ≡ workers * matrix.now.width }
-    requires frame { length frame.old ≡ 24 + matrix.now.width }
+    requires frame { length frame.old ≡ answer_len matrix.now.width }
     ensures frame { frame.new ≡ answer_frame scheme matrix.now header.now query.now }
     ensures scratch { length scratch.new ≡ length scratch.old }
 {
-    let mut head = [0; HEADER_LEN];
+    let mut head = [0; FRAME_HEADER_LEN];
     write_answer_header(header, 0, &mut head);
-    let (front, payload) = frame.split_at_mut(HEADER_LEN);
+    let (front, payload) = frame.split_at_mut(FRAME_HEADER_LEN);
     front.copy_from_slice(&head);
     write_payload(rt, matrix, scheme, workers, query, scratch, gate, payload);
 }
@@ -155,7 +154,7 @@ pub(crate) fn answer_query<R: Threads + Sync, G: Gate + Sync, P: Ports>(
     matrix: &Matrix,
     scheme: u8,
     workers: u8,
-    header: &[u8; 24],
+    header: &[u8; FRAME_HEADER_LEN],
     room: &mut Room,
     ports: &mut P,
     gate: &G,
@@ -164,12 +163,12 @@ pub(crate) fn answer_query<R: Threads + Sync, G: Gate + Sync, P: Ports>(
     requires few { workers ≤ 16 }
     requires query { vec_len room.old.query ≡ payload_size scheme matrix.now }
     requires scratch { vec_len room.old.scratch ≡ workers * matrix.now.width }
-    requires frame { vec_len room.old.frame ≡ 24 + matrix.now.width }
+    requires frame { vec_len room.old.frame ≡ answer_len matrix.now.width }
     ensures query { vec_len room.new.query ≡ vec_len room.old.query }
     ensures scratch { vec_len room.new.scratch ≡ vec_len room.old.scratch }
     ensures frame { vec_len room.new.frame ≡ vec_len room.old.frame }
     ensures answers { Answers scheme matrix.now header.now result (P.world ports.old) (P.world ports.new) }
-    ensures others { Touches 6 (P.world ports.old) (P.world ports.new) }
+    ensures others { Touches GUEST (P.world ports.old) (P.world ports.new) }
 {
     // A query has a byte at least, since a database has a row.
     let some = query_len(matrix, scheme) >= 1;

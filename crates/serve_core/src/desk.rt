@@ -1,6 +1,8 @@
 //! The desk at which guests are served: the database, and room for a query and its answer.
 ghost use Rattle.std.specs.Prelude.{◌≡◌, ◌⊎◌, ◌≤◌, ◌+◌, ◌*◌, length, IfOk, vec_len};
+ghost use Rattle.pir_ports.specs.Number.{GUEST};
 ghost use Rattle.pir_ports.specs.Moves.{Touches};
+ghost use Rattle.wire_frames.specs.Sizes.{answer_len};
 ghost use Rattle.serve_core.specs.Service.{Service};
 ghost use Rattle.serve_core.specs.Stages.{Answers};
 
@@ -12,6 +14,7 @@ use server_product::Gate;
 use std::alloc::{AllocError, Global};
 use std::marker::Model;
 use std::thread::Threads;
+use wire_frames::FRAME_HEADER_LEN;
 
 /// A database with all that it takes to serve it: room for the payload of a query, for the sums of each worker and for the
 /// frame of an answer. Contracts see the database, the scheme and the number of workers.
@@ -33,6 +36,7 @@ pub struct Desk {
 
 impl Model for Desk {
     ghost use Rattle.std.specs.Prelude.{◌≡◌, ◌+◌, ◌*◌, ◌≤◌, vec_len, length};
+    ghost use Rattle.wire_frames.specs.Sizes.{answer_len};
     ghost use Rattle.serve_core.specs.Service.{Service};
     ghost use Rattle.serve_core.specs.Reply.{payload_size};
 
@@ -46,14 +50,14 @@ impl Model for Desk {
 
     ghost invariant = { λ d. (vec_len d.room.query ≡ payload_size d.scheme d.matrix)
         × (vec_len d.room.scratch ≡ d.workers * d.matrix.width)
-        × (vec_len d.room.frame ≡ 24 + d.matrix.width)
+        × (vec_len d.room.frame ≡ answer_len d.matrix.width)
         × (1 ≤ d.workers) × (d.workers ≤ 16) };
 }
 
 impl Desk {
     /// Opens a desk for a database and a scheme, 1 for Shamir's sharing and 2 for the XOR scheme, with from 1 to 16 workers
     /// to sum the rows. It takes all the memory that serving takes: the payload of a query, which has a byte for each row
-    /// or, in the XOR scheme, for each eight rows; a row for each worker and one more, and 24 bytes. The database is
+    /// or, in the XOR scheme, for each eight rows; a row for each worker; and a whole answer. The database is
     /// dropped where that isn't found.
     ///
     /// # Errors
@@ -101,12 +105,12 @@ impl Desk {
     pub(crate) fn answer<R: Threads + Sync, G: Gate + Sync, P: Ports>(
         &mut self,
         rt: &R,
-        header: &[u8; 24],
+        header: &[u8; FRAME_HEADER_LEN],
         ports: &mut P,
         gate: &G,
     ) -> Met
         ensures answers { Answers self.old.scheme self.old.database header.now result (P.world ports.old) (P.world ports.new) }
-        ensures others { Touches 6 (P.world ports.old) (P.world ports.new) }
+        ensures others { Touches GUEST (P.world ports.old) (P.world ports.new) }
         ensures kept { self.new ≡ self.old }
     {
         answer_query(

@@ -3,7 +3,7 @@ ghost use Rattle.std.specs.Prelude.{◌≡◌};
 ghost use Rattle.serve_core.specs.Stages.{Judges, status_of};
 
 use crate::desk::Desk;
-use wire_frames::read_query_header;
+use wire_frames::{FRAME_HEADER_LEN, read_query_header};
 
 /// Why a query is refused.
 #[derive(Clone, Copy, Debug, PartialEq, Eq)]
@@ -31,7 +31,7 @@ impl Refusal {
 
 /// Whether the desk answers the query with this header. That it is malformed goes before its scheme, and its scheme
 /// before its shape.
-pub(crate) fn judge_header(desk: &Desk, header: &[u8; 24]) -> Result<(), Refusal>
+pub(crate) fn judge_header(desk: &Desk, header: &[u8; FRAME_HEADER_LEN]) -> Result<(), Refusal>
     ensures { Judges desk.now header.now result }
 {
     let Ok(query) = read_query_header(header) else {

@@ -1,19 +1,21 @@
 //! Serves the guest that is in.
 ghost use Rattle.std.specs.Prelude.{◌≡◌};
+ghost use Rattle.pir_ports.specs.Number.{GUEST};
 ghost use Rattle.pir_ports.specs.Moves.{Touches};
 ghost use Rattle.serve_core.specs.Attended.{Attends};
 
-use crate::answer::{HEADER_LEN, refuse};
+use crate::answer::refuse;
 use crate::desk::Desk;
 use crate::header::judge_header;
 use crate::met::Met;
 use pir_ports::{Filled, Port, Ports, read_exactly};
 use server_product::Gate;
 use std::thread::Threads;
+use wire_frames::FRAME_HEADER_LEN;
 
 /// Serves the guest that is in, and says how it was met.
 ///
-/// 24 bytes are taken. They are refused where they are no header of a query (status 1), one of another scheme (3), or one
+/// The bytes of a header are taken. They are refused where they are no header of a query (status 1), one of another scheme (3), or one
 /// for a database of another shape (2), and nothing more is taken then. Else the payload is taken, and the answer is given,
 /// in one piece as far as the guest takes it: the header of status 0, and the answer to the payload.
 ///
@@ -30,10 +32,10 @@ pub fn serve_one<R: Threads + Sync, G: Gate + Sync, P: Ports>(
     gate: &G,
 ) -> Met
     ensures attends { Attends desk.old result (P.world ports.old) (P.world ports.new) }
-    ensures others { Touches 6 (P.world ports.old) (P.world ports.new) }
+    ensures others { Touches GUEST (P.world ports.old) (P.world ports.new) }
     ensures kept { desk.new ≡ desk.old }
 {
-    let mut header = [0; HEADER_LEN];
+    let mut header = [0; FRAME_HEADER_LEN];
     match read_exactly(ports, Port::Guest, &mut header) {
         Filled::Full => {}
         Filled::Ended(_) => return Met::Gone,

@@ -2,6 +2,7 @@
 use Rattle.std.proofs.Common.{◌≡◌, ℕ, ◌+◌, ◌-◌, ◌<◌, ◌≤◌, List, [], ◌++◌, length, take, drop, min, sym, subst, ap, ◌∙◌, arith, append_assoc, length-append}
 use Rattle.std.specs.Prelude.{Result, Err}
 use Rattle.std.proofs.lemmas.List.{length-take, take-append-drop, take_all, take_rest}
+use Rattle.wire_frames.specs.declared.sizes.TheConstants.{SESSION_HEADER_LEN}
 use Rattle.wire_frames.specs.declared.session.SessionParams.{SessionParams}
 use Rattle.wire_frames.specs.Form.{Starts, Reads}
 use Rattle.wire_frames.specs.Layout.{IsHeader}
@@ -21,7 +22,7 @@ header_behind = record {
 
 -- A PIECE OF A HEADER: as many bytes of it as the header still lacks
 pub record IsHeaderPiece (old piece : List ℕ) (count : ℕ) (head : List ℕ) : Type 0 where
-  pub short : length old < 28
+  pub short : length old < SESSION_HEADER_LEN
   pub right : Starts IsHeader old
   pub count_is : count ≡ min (28 - length old) (length piece)
   pub head_is : head ≡ old ++ take count piece
@@ -45,7 +46,7 @@ piece_refuses old piece count before head read place t e is_before h within =
 
 -- it is right, and not yet whole
 pub piece_goes_on : (old piece : List ℕ) (count : ℕ) (head read : List ℕ) (place : ℕ) → IsHeaderPiece old piece count head → read ≡ head → Reads IsHeader read (Err place)
-    → length head ≤ place → (head ≡ old ++ piece) × (length head < 28) × Starts IsHeader head
+    → length head ≤ place → (head ≡ old ++ piece) × (length head < SESSION_HEADER_LEN) × Starts IsHeader head
 piece_goes_on old piece count head read place t e h all =
     let reads = reads_same head read (Err place) e h in
     let goes = head_goes_on 28 head place header_behind.sized reads.0 all reads.1 in

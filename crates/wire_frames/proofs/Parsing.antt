@@ -4,6 +4,7 @@ use Rattle.std.specs.Prelude.{Option, Some, None}
 use Rattle.std.specs.Int.{bytes_high_first}
 use Rattle.std.proofs.Math.Seq.{take-append_seam, drop-append_seam}
 use Rattle.std.proofs.lemmas.List.Elements.{All-head, All-tail}
+use Rattle.wire_frames.specs.declared.sizes.TheConstants.{SESSION_HEADER_LEN}
 use Rattle.wire_frames.specs.declared.session.SessionParams.{SessionParams}
 use Rattle.wire_frames.specs.Layout.{record_header}
 use Rattle.wire_frames.specs.Limits.{IsInRange}
@@ -29,7 +30,7 @@ same_numbers : (p q : SessionParams) → p.scheme ≡ q.scheme → p.t ≡ q.t �
 same_numbers p q scheme t h n session r s = cc
 
 -- a header has 28 bytes
-pub length-header : (p : SessionParams) → length (header_bytes p) ≡ 28
+pub length-header : (p : SessionParams) → length (header_bytes p) ≡ SESSION_HEADER_LEN
 length-header p = refl
 
 -- the numbers of a session are told by its header

@@ -1,5 +1,7 @@
 -- The usable answers of a session.
 use Rattle.std.specs.Prelude.{ℕ, ◌+◌, List, [], ◌∷◌, length, take, drop, Option, Some, None, ◌==◌, ◌&&◌, if◌then◌else◌, bytes_eq}
+use Rattle.wire_frames.specs.Sizes.{answer_len}
+use Rattle.wire_frames.specs.declared.sizes.TheConstants.{FRAME_HEADER_LEN}
 use Rattle.wire_frames.specs.declared.header.QueryHeader.{QueryHeader}
 use Rattle.wire_frames.specs.declared.session.SessionParams.{SessionParams}
 use Rattle.wire_frames.specs.Header.{answer_header}
@@ -8,7 +10,7 @@ use Rattle.wire_frames.specs.Session.{Transcript}
 -- the payload, where the bytes are an answer of status 0 to the query with this header: the header of that
 -- answer, and exactly s bytes
 abbrev pub usable : List ℕ → QueryHeader → Option (List ℕ)
-usable bytes q = if bytes_eq (take 24 bytes) (answer_header q 0) && (length bytes == 24 + q.s) then Some (drop 24 bytes) else None
+usable bytes q = if bytes_eq (take FRAME_HEADER_LEN bytes) (answer_header q 0) && (length bytes == answer_len q.s) then Some (drop FRAME_HEADER_LEN bytes) else None
 
 -- what one server answered: its index, and its payload
 pub record Answer : Type 0 where

@@ -2,6 +2,7 @@
 use Rattle.std.specs.Prelude.{◌≡◌, ℕ, ◌^◌, ◌/◌, ◌<◌, ◌≤◌, ◌==◌, if◌then◌else◌, List, min}
 use Rattle.std.specs.Int.{bytes_high_first}
 use Rattle.wire_frames.specs.declared.TheConstants.{MOST_SERVERS, MOST_WIDTH, MOST_CELLS}
+use Rattle.wire_frames.specs.declared.scheme.TheConstants.{XOR}
 use Rattle.wire_frames.specs.declared.field.Number.{Number}
 
 -- a range of numbers that has some, and none of more bytes than the field has
@@ -22,7 +23,7 @@ width_field rows = record { width = 4; least = 1; most = min MOST_WIDTH (MOST_CE
 
 -- the most servers there may be, where there are at least so many: in the XOR scheme no more
 abbrev pub most_servers : ℕ → ℕ → ℕ
-most_servers scheme least = if scheme == 2 then least else MOST_SERVERS
+most_servers scheme least = if scheme == XOR then least else MOST_SERVERS
 
 -- such a number of servers
 abbrev pub servers_field : ℕ → ℕ → Number

@@ -1,4 +1,6 @@
 pub mod Limits
+pub mod Sizes
+pub mod Scheme
 pub mod Header
 pub mod Records
 pub mod Session

@@ -1,6 +1,7 @@
 -- The ranges of the numbers in frames and session files. They are widened here, and nowhere else.
 use Rattle.std.specs.Prelude.{ℕ, ◌+◌, ◌*◌, ◌^◌, ◌<◌, ◌≤◌, ◌≡◌, ◌⊎◌}
 use Rattle.wire_frames.specs.declared.TheConstants.{MOST_DEGREE, MOST_SERVERS, MOST_ROWS, MOST_WIDTH, MOST_CELLS}
+use Rattle.wire_frames.specs.declared.scheme.TheConstants.{SHAMIR, XOR}
 use Rattle.wire_frames.specs.declared.header.QueryHeader.{QueryHeader}
 use Rattle.wire_frames.specs.declared.session.SessionParams.{SessionParams}
 
@@ -12,25 +13,25 @@ pub record IsShape (r s : ℕ) : Type 0 where
   pub few_bytes : s ≤ MOST_WIDTH
   pub few_cells : r * s ≤ MOST_CELLS
 
--- the numbers that a session may have: scheme 1 or 2, with 1 <= t < h <= n; in scheme 2, the XOR scheme, all servers have to
+-- the numbers that a session may have: a scheme, with 1 <= t < h <= n; in the XOR scheme all servers have to
 -- answer, and all of them but one learn nothing
 pub record IsInRange (p : SessionParams) : Type 0 where
-  pub scheme : (p.scheme ≡ 1) ⊎ (p.scheme ≡ 2)
+  pub scheme : (p.scheme ≡ SHAMIR) ⊎ (p.scheme ≡ XOR)
   pub private : 1 ≤ p.t
   pub few_private : p.t ≤ MOST_DEGREE
   pub agreement : p.t < p.h
   pub few_agree : p.h ≤ MOST_SERVERS
   pub servers : p.h ≤ p.n
   pub few_servers : p.n ≤ MOST_SERVERS
-  pub all_agree : p.scheme ≡ 2 → p.h ≡ p.t + 1
-  pub all_answer : p.scheme ≡ 2 → p.n ≡ p.h
+  pub all_agree : p.scheme ≡ XOR → p.h ≡ p.t + 1
+  pub all_answer : p.scheme ≡ XOR → p.n ≡ p.h
   pub session : p.session < 2 ^ 64
   pub shape : IsShape p.r p.s
 
--- the numbers that a query may have: scheme 1 or 2, and an index that is not 0
+-- the numbers that a query may have: a scheme, and an index that is not 0
 pub record IsQuery (q : QueryHeader) : Type 0 where
-  pub some_scheme : 1 ≤ q.scheme
-  pub two_schemes : q.scheme ≤ 2
+  pub some_scheme : SHAMIR ≤ q.scheme
+  pub two_schemes : q.scheme ≤ XOR
   pub some_index : 1 ≤ q.index
   pub few_indices : q.index ≤ 255
   pub session : q.session < 2 ^ 64

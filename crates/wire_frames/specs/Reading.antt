@@ -1,5 +1,6 @@
 -- What a reader of a session has seen, and what each call makes of it.
 use Rattle.std.specs.Prelude.{◌≡◌, ℕ, ◌<◌, ◌≤◌, List, ◌++◌, length, Result, Ok, Err}
+use Rattle.wire_frames.specs.declared.sizes.TheConstants.{SESSION_HEADER_LEN}
 use Rattle.wire_frames.specs.Session.{Transcript, IsSession}
 use Rattle.wire_frames.specs.Beginning.{Begins, IsPlace}
 use Rattle.wire_frames.specs.declared.reader.FeedFault.{FeedFault}
@@ -16,7 +17,7 @@ abbrev pub Feeds : Reading → List ℕ → Result (Unit {0}) FeedFault → Read
 Feeds (Refused place) piece result new = (result ≡ Err (BadSession place)) × (new ≡ Refused place)
 Feeds (SoFar bytes) piece (Ok _) new = Begins (bytes ++ piece) × (new ≡ SoFar (bytes ++ piece))
 Feeds (SoFar bytes) piece (Err (BadSession place)) new = IsPlace (bytes ++ piece) place × (place < length (bytes ++ piece)) × (new ≡ Refused place)
-Feeds (SoFar bytes) piece (Err Memory) new = (new ≡ SoFar bytes) × (length bytes < 28) × (28 ≤ length (bytes ++ piece))
+Feeds (SoFar bytes) piece (Err Memory) new = (new ≡ SoFar bytes) × (length bytes < SESSION_HEADER_LEN) × (SESSION_HEADER_LEN ≤ length (bytes ++ piece))
 
 -- what `end` answers
 abbrev pub Ends : Reading → Result Transcript SessionFault → Type 0

@@ -1,5 +1,7 @@
 -- The records of a session as they come in pieces.
 use Rattle.std.specs.Prelude.{◌≡◌, ℕ, ◌+◌, ◌*◌, ◌<◌, ◌≤◌, ◌⊎◌, List, [], ◌++◌, length, take, Some, Result, Ok, Err, All}
+use Rattle.wire_frames.specs.Sizes.{answer_len}
+use Rattle.wire_frames.specs.declared.sizes.TheConstants.{RECORD_HEADER_LEN}
 use Rattle.wire_frames.specs.declared.records_reader.RecordsReader.{RecordsReader}
 use Rattle.wire_frames.specs.Form.{Starts}
 use Rattle.wire_frames.specs.Layout.{IsRecordHeader, record_header}
@@ -14,24 +16,24 @@ bytes_so_far r = session_bytes (record { params = r.params; records = r.records.
 pub record IsSteady (r : RecordsReader) : Type 0 where
   pub range : IsInRange r.params
   pub few : length r.records.closed ≤ r.params.n
-  pub fits : All (Fits (24 + r.params.s)) r.records.closed
+  pub fits : All (Fits (answer_len r.params.s)) r.records.closed
   pub below : All (λ b. b < 256) r.records.current
   pub record_room : r.params.n ≤ length r.records.closed + r.records.record_room
-  pub byte_room : r.params.n * (24 + r.params.s) ≤ length r.records.closed * (24 + r.params.s) + (length r.records.current + r.records.byte_room)
+  pub byte_room : r.params.n * (answer_len r.params.s) ≤ length r.records.closed * (answer_len r.params.s) + (length r.records.current + r.records.byte_room)
 
 -- less than the header of the next record has come, or all records have
 pub record IsInHeader (r : RecordsReader) : Type 0 where
   pub none_left : r.left ≡ 0
   pub none_begun : r.records.current ≡ []
-  pub short : length r.head < 6
-  pub right : length r.records.closed < r.params.n → Starts (IsRecordHeader (1 + length r.records.closed) (24 + r.params.s)) r.head
+  pub short : length r.head < RECORD_HEADER_LEN
+  pub right : length r.records.closed < r.params.n → Starts (IsRecordHeader (1 + length r.records.closed) (answer_len r.params.s)) r.head
   pub nothing : length r.records.closed ≡ r.params.n → r.head ≡ []
 
 -- the header of the next record has come, and so many of its bytes are left
 pub record IsInBytes (r : RecordsReader) : Type 0 where
   pub header : r.head ≡ record_header (1 + length r.records.closed) (Some (length r.records.current + r.left))
   pub few : length r.records.closed < r.params.n
-  pub most : length r.records.current + r.left ≤ 24 + r.params.s
+  pub most : length r.records.current + r.left ≤ answer_len r.params.s
 
 -- a reader between two pieces
 pub record IsOpen (r : RecordsReader) : Type 0 where

@@ -1,6 +1,7 @@
 -- A session file: what a client asked for, and the bytes that each server answered.
 use Rattle.std.specs.Prelude.{◌≡◌, ℕ, ◌+◌, ◌*◌, ◌<◌, ◌≤◌, List, [], ◌∷◌, ◌++◌, length, codes, Option, Some, None, All, IfSome}
 use Rattle.std.specs.Int.{bytes_high_first}
+use Rattle.wire_frames.specs.Sizes.{answer_len}
 use Rattle.wire_frames.specs.declared.session.SessionParams.{SessionParams}
 use Rattle.wire_frames.specs.Limits.{IsInRange}
 use Rattle.wire_frames.specs.Records.{Kept}
@@ -36,14 +37,14 @@ Fits most x = IfSome x (λ bytes. (length bytes ≤ most) × All (λ b. b < 256)
 pub record IsSession (bytes : List ℕ) (t : Transcript) : Type 0 where
   pub range : IsInRange t.params
   pub all : length t.records ≡ t.params.n
-  pub fits : All (Fits (24 + t.params.s)) t.records
+  pub fits : All (Fits (answer_len t.params.s)) t.records
   pub spelled : bytes ≡ session_bytes t
 
 -- the records of a session so far: none is begun, and there is room for all that may come
 pub record IsUnderWay (p : SessionParams) (k : Kept) : Type 0 where
   pub range : IsInRange p
   pub few : length k.closed ≤ p.n
-  pub fits : All (Fits (24 + p.s)) k.closed
+  pub fits : All (Fits (answer_len p.s)) k.closed
   pub none_begun : k.current ≡ []
   pub record_room : p.n ≤ length k.closed + k.record_room
-  pub byte_room : p.n * (24 + p.s) ≤ length k.closed * (24 + p.s) + k.byte_room
+  pub byte_room : p.n * (answer_len p.s) ≤ length k.closed * (answer_len p.s) + k.byte_room

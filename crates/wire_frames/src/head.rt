@@ -1,12 +1,13 @@
 //! The first bytes of something that comes in pieces.
 ghost use Rattle.std.specs.Prelude.{◌≡◌, ◌≤◌, ◌-◌, ◌++◌, [], length, take, min};
 
+use crate::sizes::SESSION_HEADER_LEN;
 use std::marker::Model;
 
 /// The bytes so far of a header, which is read once they are enough.
 #[derive(Drop)]
 pub(crate) struct Head {
-    bytes: [u8; 28],
+    bytes: [u8; SESSION_HEADER_LEN],
     len: usize,
 }
 
@@ -17,7 +18,7 @@ impl Model for Head {
 
     ghost view = { λ h. take h.len h.bytes };
 
-    ghost invariant = { λ h. h.len ≤ 28 };
+    ghost invariant = { λ h. h.len ≤ SESSION_HEADER_LEN };
 }
 
 impl Head {
@@ -26,7 +27,7 @@ impl Head {
         ensures { result ≡ [] }
     {
         Head {
-            bytes: [0; 28],
+            bytes: [0; SESSION_HEADER_LEN],
             len: 0,
         }
     }
@@ -47,7 +48,7 @@ impl Head {
 
     /// Takes bytes from the front of the piece until there are `size`, and says how many it took.
     pub(crate) fn fill(&mut self, piece: &[u8], size: usize) -> usize
-        requires { size ≤ 28 }
+        requires { size ≤ SESSION_HEADER_LEN }
         ensures count { result ≡ min (size - length self.old) (length piece.now) }
         ensures bytes { self.new ≡ self.old ++ take result piece.now }
     {

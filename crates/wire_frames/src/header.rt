@@ -1,9 +1,10 @@
-//! The 24 bytes that begin a query and an answer.
+//! The bytes that begin a query and an answer.
 ghost use Rattle.std.specs.Prelude.{◌≡◌};
 ghost use Rattle.std.specs.Int.{bytes_high_first};
 ghost use Rattle.wire_frames.specs.Header.{frame_header, query_header, answer_header, answer_to};
 ghost use Rattle.wire_frames.specs.Limits.{IsQuery};
 
+use crate::sizes::FRAME_HEADER_LEN;
 use byteorder::{BigEndian, ByteOrder};
 
 /// The version of queries, answers and sessions.
@@ -31,10 +32,10 @@ pub struct QueryHeader {
 }
 
 /// The header of a frame, with its letters and its byte at place 7.
-fn frame_header(magic: u32, query: &QueryHeader, seventh: u8) -> [u8; 24]
+fn frame_header(magic: u32, query: &QueryHeader, seventh: u8) -> [u8; FRAME_HEADER_LEN]
     ensures { result ≡ frame_header (bytes_high_first 4 magic) query.now seventh }
 {
-    let mut header = [0; 24];
+    let mut header = [0; FRAME_HEADER_LEN];
     header[..4].copy_from_slice(&magic.to_be_bytes());
     header[4] = VERSION;
     header[5] = query.scheme;
@@ -47,26 +48,26 @@ fn frame_header(magic: u32, query: &QueryHeader, seventh: u8) -> [u8; 24]
 }
 
 /// The header of the answer with this status to a query with this header.
-pub fn answer_header(query: &QueryHeader, status: u8) -> [u8; 24]
+pub fn answer_header(query: &QueryHeader, status: u8) -> [u8; FRAME_HEADER_LEN]
     ensures { result ≡ answer_header query.now status }
 {
     frame_header(ANSWER_MAGIC, query, status)
 }
 
-/// Writes the 24 bytes that begin a query: `PIRQ`, version 1, the scheme, the index, 0, the session, the rows and the
+/// Writes the bytes that begin a query: `PIRQ`, version 1, the scheme, the index, 0, the session, the rows and the
 /// width. The header's numbers must be in their ranges: scheme 1 or 2, an index that is not 0, from 1 to `MOST_ROWS` rows
 /// of from 1 to `MOST_WIDTH` bytes, of at most `MOST_CELLS` bytes together. It takes no memory.
-pub fn write_query_header(header: &QueryHeader, out: &mut [u8; 24])
+pub fn write_query_header(header: &QueryHeader, out: &mut [u8; FRAME_HEADER_LEN])
     requires { IsQuery header.now }
     ensures { out.new ≡ query_header header.now }
 {
     *out = frame_header(QUERY_MAGIC, header, 0);
 }
 
-/// Writes the 24 bytes that begin the answer with this status to a query: `PIRA`, version 1, the query's scheme and
+/// Writes the bytes that begin the answer with this status to a query: `PIRA`, version 1, the query's scheme and
 /// index, the status, and the query's session, rows and width. The query's bytes are taken as they came, whether they are
 /// the header of a query or not. It takes no memory.
-pub fn write_answer_header(query: &[u8; 24], status: u8, out: &mut [u8; 24])
+pub fn write_answer_header(query: &[u8; FRAME_HEADER_LEN], status: u8, out: &mut [u8; FRAME_HEADER_LEN])
     ensures { out.new ≡ answer_to query.now status }
 {
     *out = *query;

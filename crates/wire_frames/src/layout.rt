@@ -19,8 +19,9 @@
 //! |---|---|---|
 //! | 0 | index | that of the record, from 1 |
 //! | 1 | present | 0 or 1 |
-//! | 2..5 | length | at most 24 + s, and 0 where present is 0 |
+//! | 2..5 | length | at most that of an answer, and 0 where present is 0 |
 ghost use Rattle.std.specs.Prelude.{◌≡◌, ◌≤◌, ◌<◌, ◌^◌, length};
+ghost use Rattle.wire_frames.specs.declared.sizes.TheConstants.{SESSION_HEADER_LEN, RECORD_HEADER_LEN};
 ghost use Rattle.wire_frames.specs.Field.{servers_field, width_field};
 ghost use Rattle.wire_frames.specs.Form.{Reads};
 ghost use Rattle.wire_frames.specs.Layout.{IsHeader, IsRecordHeader};
@@ -29,12 +30,6 @@ use crate::field::{Number, number_at};
 use crate::header::VERSION;
 use crate::session::SessionParams;
 use crate::{MOST_CELLS, MOST_DEGREE, MOST_ROWS, MOST_SERVERS, MOST_WIDTH, SHAMIR, XOR};
-
-/// How many bytes the header of a session has.
-pub(crate) const HEADER_LEN: usize = 28;
-
-/// How many bytes stand before those of a record.
-pub(crate) const RECORD_HEADER_LEN: usize = 6;
 
 /// `PIRS`
 pub(crate) const SESSION_MAGIC: u32 = 0x5049_5253;
@@ -141,7 +136,7 @@ fn servers_field(scheme: u64, least: u64) -> Number
 
 /// The numbers that the header of a session spells, or the place up to which the bytes begin one.
 pub(crate) fn read_header(bytes: &[u8]) -> Result<SessionParams, usize>
-    requires { length bytes.now ≤ HEADER_LEN }
+    requires { length bytes.now ≤ SESSION_HEADER_LEN }
     ensures { Reads IsHeader bytes.now result }
 {
     number_at(bytes, 0, MAGIC)?;

@@ -19,14 +19,16 @@ mod records;
 mod records_reader;
 mod scheme;
 mod session;
+mod sizes;
 mod write;
 
 pub use answer::usable_answer;
 pub use header::{QueryHeader, write_answer_header, write_query_header};
 pub use query::{Field, FrameFault, read_query_header};
 pub use reader::{BadSession, FeedFault, SessionReader};
-pub use scheme::{SHAMIR, XOR};
+pub use scheme::{SHAMIR, Scheme, XOR};
 pub use session::{Session, SessionParams};
+pub use sizes::{FRAME_HEADER_LEN, RECORD_HEADER_LEN, SESSION_HEADER_LEN, answer_len};
 pub use write::write_session;
 
 /// The greatest degree of a query's polynomials, so how many servers together may learn nothing.

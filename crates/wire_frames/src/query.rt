@@ -17,6 +17,7 @@ ghost use Rattle.wire_frames.specs.Query.{first_place, ReadsField, ReadsQuery};
 use crate::field::{Number, number_at};
 use crate::header::{QUERY_MAGIC, QueryHeader};
 use crate::layout::{ROWS, SCHEME, VERSION_FIELD, width_field};
+use crate::sizes::FRAME_HEADER_LEN;
 use byteorder::{BigEndian, ByteOrder};
 use thiserror::Error;
 
@@ -105,7 +106,7 @@ fn read_field(bytes: &[u8], field: Field, number: Number) -> Result<u64, FrameFa
 /// `FrameFault` exactly where the bytes are no header of a query. A number of more bytes than one is right up to a byte as
 /// long as some number in its range begins with the bytes up to there: 2^20 + 1 rows are wrong at their last byte, 2^21
 /// rows at their second. The bytes of the session are never wrong.
-pub fn read_query_header(bytes: &[u8; 24]) -> Result<QueryHeader, FrameFault>
+pub fn read_query_header(bytes: &[u8; FRAME_HEADER_LEN]) -> Result<QueryHeader, FrameFault>
     ensures { ReadsQuery bytes.now result }
 {
     read_field(bytes, Field::Magic, MAGIC)?;

@@ -6,7 +6,8 @@ ghost use Rattle.wire_frames.specs.Reading.{SoFar, Feeds, Ends};
 ghost use Rattle.wire_frames.specs.SessionReader.{IsRight, FeedsState, FeedsHeader};
 
 use crate::head::Head;
-use crate::layout::{HEADER_LEN, read_header};
+use crate::layout::read_header;
+use crate::sizes::SESSION_HEADER_LEN;
 use crate::records_reader::RecordsReader;
 use crate::session::Session;
 use std::alloc::Global;
@@ -99,7 +100,7 @@ impl SessionReader {
     ///
     /// `BadSession` comes in the first call after which the bytes so far begin no session, with the
     /// length of their longest prefix that does, and again in each call from then on. `Memory` comes
-    /// only in the call that brings byte 28, and leaves the reader as it was before that call.
+    /// only in the call that brings the last byte of the header, and leaves the reader as it was before that call.
     pub fn feed(&mut self, alloc: Global, piece: &[u8]) -> Result<(), FeedFault>
         ensures { Feeds self.old piece.now result self.new }
     {
@@ -158,12 +159,12 @@ impl State {
 /// Takes a piece while the header of the session comes. The memory for all records is taken with
 /// its last byte.
 fn feed_header(alloc: Global, head: &mut Head, piece: &[u8]) -> Result<Option<RecordsReader>, Stop>
-    requires short { length head.old < HEADER_LEN }
+    requires short { length head.old < SESSION_HEADER_LEN }
     requires right { Starts IsHeader head.old }
     ensures { FeedsHeader head.old piece.now result head.new }
 {
     let before = head.len();
-    let count = head.fill(piece, HEADER_LEN);
+    let count = head.fill(piece, SESSION_HEADER_LEN);
     match read_header(head.as_slice()) {
         Ok(params) => {
             let Ok(mut records) = RecordsReader::new(alloc, params) else {

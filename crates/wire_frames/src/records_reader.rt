@@ -1,13 +1,15 @@
 //! Reads the records of a session piece by piece.
 ghost use Rattle.std.specs.Prelude.{◌≡◌, ◌+◌, ◌<◌, [], length, IfOk, OnOk, MatchOption, Ok};
+ghost use Rattle.wire_frames.specs.Sizes.{answer_len};
 ghost use Rattle.wire_frames.specs.Layout.{IsRecordHeader};
 ghost use Rattle.wire_frames.specs.Limits.{IsInRange};
 ghost use Rattle.wire_frames.specs.Session.{Transcript, IsSession, header_bytes};
 ghost use Rattle.wire_frames.specs.RecordsReader.{IsOpen, IsSteady, IsInHeader, IsInBytes, Advances, FeedsOn, bytes_so_far};
 
 use crate::head::Head;
-use crate::layout::{RECORD_HEADER_LEN, read_record_header};
+use crate::layout::read_record_header;
 use crate::records::Records;
+use crate::sizes::{RECORD_HEADER_LEN, answer_len};
 use crate::session::{Session, SessionParams};
 use std::alloc::{AllocError, Global};
 
@@ -30,7 +32,7 @@ impl RecordsReader {
         ensures bytes { IfOk result (λ r. bytes_so_far r ≡ header_bytes params) }
     {
         let servers = usize::from(params.n);
-        let records = Records::with_room(alloc, servers, servers * (24 + params.s as usize))?;
+        let records = Records::with_room(alloc, servers, servers * answer_len(params.s))?;
         Ok(RecordsReader {
             params,
             records,
@@ -94,7 +96,7 @@ impl RecordsReader {
         let before = self.head.len();
         let count = self.head.fill(piece, RECORD_HEADER_LEN);
         let index = self.records.len() as u8 + 1;
-        match read_record_header(self.head.as_slice(), index, 24 + self.params.s) {
+        match read_record_header(self.head.as_slice(), index, answer_len(self.params.s) as u32) {
             Ok(len) => self.begin(len),
             Err(place) => {
                 if place < self.head.len() {
@@ -111,7 +113,7 @@ impl RecordsReader {
         requires few { length self.old.records.closed < self.old.params.n }
         requires none_left { self.old.left ≡ 0 }
         requires none_begun { self.old.records.current ≡ [] }
-        requires header { IsRecordHeader (1 + length self.old.records.closed) (24 + self.old.params.s) self.old.head len }
+        requires header { IsRecordHeader (1 + length self.old.records.closed) (answer_len self.old.params.s) self.old.head len }
         ensures open { IsOpen self.new }
         ensures bytes { bytes_so_far self.new ≡ bytes_so_far self.old }
     {

@@ -1,7 +1,47 @@
-//! The numbers of the schemes.
+//! The schemes, and their numbers in frames, sessions and words.
+ghost use Rattle.std.specs.Prelude.{◌≡◌, ◌≤◌, ◌<◌};
+ghost use Rattle.wire_frames.specs.Scheme.{scheme_of, payload_len};
 
-/// Shamir's sharing (Goldberg 2007).
+/// The number of Shamir's sharing (Goldberg 2007).
 pub const SHAMIR: u8 = 1;
 
-/// The XOR scheme (Chor, Goldreich, Kushilevitz and Sudan 1995).
+/// The number of the XOR scheme (Chor, Goldreich, Kushilevitz and Sudan 1995).
 pub const XOR: u8 = 2;
+
+/// A way to ask servers for a row. All that differs between the schemes is told apart by it.
+#[derive(Clone, Copy, Debug, PartialEq, Eq)]
+pub enum Scheme {
+    /// Shamir's sharing (Goldberg 2007).
+    Shamir,
+    /// The XOR scheme (Chor, Goldreich, Kushilevitz and Sudan 1995).
+    Xor,
+}
+
+impl Scheme {
+    /// The scheme that a number stands for: [`XOR`], or else Shamir's. The numbers of frames, sessions and words are
+    /// those two alone.
+    #[tactic(auto, unfolding(crate::specs::Scheme::scheme_of))]
+    pub fn of(number: u8) -> Scheme
+        ensures { result ≡ scheme_of number }
+    {
+        if number == XOR {
+            Scheme::Xor
+        } else {
+            Scheme::Shamir
+        }
+    }
+
+    /// How many bytes the payload of a query has, for a database of so many rows: one for each row or, in the XOR scheme, a
+    /// bit for each row.
+    pub fn payload_len(self, rows: u32) -> usize
+        ensures is { result ≡ payload_len self rows }
+        ensures some { 0 < rows → 0 < result }
+        ensures few { result ≤ rows }
+    {
+        let rows = rows as usize;
+        match self {
+            Scheme::Shamir => rows,
+            Scheme::Xor => rows.div_ceil(8),
+        }
+    }
+}

@@ -1,10 +1,12 @@
 //! A session: what was asked, and the bytes that each server answered.
 ghost use Rattle.std.specs.Prelude.{◌≡◌, ◌≤◌, ◌<◌, ◌+◌, ◌-◌, ◌++◌, ◌∷◌, [], length, All, IfSome, IfOk, slice_index_or};
 ghost use Rattle.std.specs.Option.{option_copied};
+ghost use Rattle.wire_frames.specs.Sizes.{answer_len};
 ghost use Rattle.wire_frames.specs.Limits.{IsInRange};
 ghost use Rattle.wire_frames.specs.Session.{Fits, IsUnderWay};
 
 use crate::records::Records;
+use crate::sizes::answer_len;
 use std::alloc::{AllocError, Global};
 use std::marker::Model;
 
@@ -45,13 +47,13 @@ impl Model for Session {
 }
 
 impl Session {
-    /// A session with no record yet. The memory for all `n` records, of at most `24 + s` bytes each, is taken here, and
+    /// A session with no record yet. The memory for all `n` records, of at most [`answer_len`] bytes each, is taken here, and
     /// want of it is the only error.
     pub fn new(alloc: Global, params: SessionParams) -> Result<Session, AllocError>
         requires { IsInRange params }
         ensures { IfOk result (λ t. t ≡ record { params = params; records = [] }) }
     {
-        let most = usize::from(params.n) * (24 + params.s as usize);
+        let most = usize::from(params.n) * answer_len(params.s);
         let records = Records::with_room(alloc, usize::from(params.n), most)?;
         Ok(Session { params, records })
     }
@@ -72,11 +74,11 @@ impl Session {
         self.params.session = session;
     }
 
-    /// Adds the record of the next server: the bytes that it answered, at most `24 + s` of them, or `None` where a call
+    /// Adds the record of the next server: the bytes that it answered, at most [`answer_len`] of them, or `None` where a call
     /// failed. An answer of no bytes is present too. It takes no memory.
     pub fn push_record(&mut self, bytes: Option<&[u8]>)
         requires few { length self.old.records < self.old.params.n }
-        requires fits { IfSome (option_copied bytes) (λ b. length b ≤ 24 + self.old.params.s) }
+        requires fits { IfSome (option_copied bytes) (λ b. length b ≤ answer_len self.old.params.s) }
         ensures { self.new ≡ record self.old { records = self.old.records ++ option_copied bytes.entry ∷ [] } }
     {
         match bytes {
@@ -88,7 +90,7 @@ impl Session {
     /// Adds a record that is present.
     fn push_present(&mut self, bytes: &[u8])
         requires few { length self.old.records < self.old.params.n }
-        requires fits { length bytes.now ≤ 24 + self.old.params.s }
+        requires fits { length bytes.now ≤ answer_len self.old.params.s }
         ensures { self.new ≡ record self.old { records = self.old.records ++ Some bytes.now ∷ [] } }
     {
         self.records.extend(bytes);
@@ -108,7 +110,7 @@ impl Session {
     pub fn record_count(&self) -> u32
         ensures count { result ≡ length self.now.records }
         ensures few { length self.now.records ≤ self.now.params.n }
-        ensures fits { All (Fits (24 + self.now.params.s)) self.now.records }
+        ensures fits { All (Fits (answer_len self.now.params.s)) self.now.records }
     {
         self.records.len() as u32
     }

@@ -1,6 +1,7 @@
 //! Writes the file of a session, in pieces, with no memory taken.
 ghost use Rattle.std.specs.Prelude.{◌≡◌, ◌<◌, ◌^◌, length, IfSome};
 ghost use Rattle.std.specs.Option.{option_copied};
+ghost use Rattle.pir_ports.specs.Number.{RECORD};
 ghost use Rattle.pir_ports.specs.Moves.{Touches};
 ghost use Rattle.pir_ports.specs.Written.{Written};
 ghost use Rattle.wire_frames.specs.Layout.{record_header};
@@ -8,16 +9,17 @@ ghost use Rattle.wire_frames.specs.Limits.{IsInRange};
 ghost use Rattle.wire_frames.specs.Session.{IsSession, header_bytes, record_bytes, records_bytes, session_bytes};
 
 use crate::header::VERSION;
-use crate::layout::{HEADER_LEN, RECORD_HEADER_LEN, SESSION_MAGIC};
+use crate::layout::SESSION_MAGIC;
 use crate::session::{Session, SessionParams};
+use crate::sizes::{RECORD_HEADER_LEN, SESSION_HEADER_LEN};
 use byteorder::{BigEndian, ByteOrder};
 use pir_ports::{Failed, Port, Ports, write_all};
 
 /// The header of a session with these numbers.
-fn header_of(params: &SessionParams) -> [u8; HEADER_LEN]
+fn header_of(params: &SessionParams) -> [u8; SESSION_HEADER_LEN]
     ensures { result ≡ header_bytes params.now }
 {
-    let mut header = [0; HEADER_LEN];
+    let mut header = [0; SESSION_HEADER_LEN];
     header[..4].copy_from_slice(&SESSION_MAGIC.to_be_bytes());
     header[4] = VERSION;
     header[5] = params.scheme;
@@ -46,8 +48,8 @@ fn record_header_of(index: u8, len: Option<u32>) -> [u8; RECORD_HEADER_LEN]
 /// Writes the record of one server to Record: the bytes that it answered, or `None` where a call failed.
 fn write_record<P: Ports>(ports: &mut P, index: u8, bytes: Option<&[u8]>) -> Result<(), Failed>
     requires { IfSome (option_copied bytes) (λ b. length b < 2 ^ 32) }
-    ensures written { Written 4 (record_bytes index (option_copied bytes.entry)) result (P.world ports.old) (P.world ports.new) }
-    ensures others { Touches 4 (P.world ports.old) (P.world ports.new) }
+    ensures written { Written RECORD (record_bytes index (option_copied bytes.entry)) result (P.world ports.old) (P.world ports.new) }
+    ensures others { Touches RECORD (P.world ports.old) (P.world ports.new) }
 {
     match bytes {
         Some(bytes) => write_present(ports, index, bytes),
@@ -58,8 +60,8 @@ fn write_record<P: Ports>(ports: &mut P, index: u8, bytes: Option<&[u8]>) -> Res
 /// Writes a record that is present.
 fn write_present<P: Ports>(ports: &mut P, index: u8, bytes: &[u8]) -> Result<(), Failed>
     requires { length bytes.now < 2 ^ 32 }
-    ensures written { Written 4 (record_bytes index (Some bytes.now)) result (P.world ports.old) (P.world ports.new) }
-    ensures others { Touches 4 (P.world ports.old) (P.world ports.new) }
+    ensures written { Written RECORD (record_bytes index (Some bytes.now)) result (P.world ports.old) (P.world ports.new) }
+    ensures others { Touches RECORD (P.world ports.old) (P.world ports.new) }
 {
     let header = record_header_of(index, Some(bytes.len() as u32));
     write_all(ports, Port::Record, &header)?;
@@ -72,8 +74,8 @@ fn write_present<P: Ports>(ports: &mut P, index: u8, bytes: &[u8]) -> Result<(),
 /// Writes the records of the session to Record.
 fn write_records<P: Ports>(ports: &mut P, session: &Session) -> Result<(), Failed>
     requires { IsInRange session.now.params }
-    ensures written { Written 4 (records_bytes 1 session.now.records) result (P.world ports.old) (P.world ports.new) }
-    ensures others { Touches 4 (P.world ports.old) (P.world ports.new) }
+    ensures written { Written RECORD (records_bytes 1 session.now.records) result (P.world ports.old) (P.world ports.new) }
+    ensures others { Touches RECORD (P.world ports.old) (P.world ports.new) }
 {
     for i in 0..session.record_count() {
         write_record(ports, i as u8 + 1, session.record_at(i + 1))?;
@@ -91,9 +93,9 @@ fn write_records<P: Ports>(ports: &mut P, session: &Session) -> Result<(), Faile
 /// `Failed` exactly where the count of Record rose; then Record took a proper front of the file.
 pub fn write_session<P: Ports>(ports: &mut P, session: &Session) -> Result<(), Failed>
     requires { length session.now.records ≡ session.now.params.n }
-    ensures written { Written 4 (session_bytes session.now) result (P.world ports.old) (P.world ports.new) }
+    ensures written { Written RECORD (session_bytes session.now) result (P.world ports.old) (P.world ports.new) }
     ensures file { IsSession (session_bytes session.now) session.now }
-    ensures others { Touches 4 (P.world ports.old) (P.world ports.new) }
+    ensures others { Touches RECORD (P.world ports.old) (P.world ports.new) }
 {
     let whole = session.record_count() == u32::from(session.n());
     prove!(whole);

@@ -1,4 +1,5 @@
 use Rattle.std.proofs.Common.{◌+◌, arith}
+use Rattle.wire_frames.specs.Sizes.{answer_len}
 use Rattle.block_decoder.proofs.OneBlock.{close_verdict_is_listed}
 use Rattle.block_decoder.proofs.UsableAnswers.{columns-answers, bytes_from_fits}
 use Rattle.block_decoder.proofs.laws.close_session_is_listed.Goals as goal
@@ -8,5 +9,5 @@ returns c =
     let session = c.args.session.now in
     let range = c.params.ensures.range in
     let servers = range.few_servers in
-    let columns = columns-answers session (omega (arith, c.record_count.ensures.few, servers)) (bytes_from_fits (24 + session.params.s) session.records c.record_count.ensures.fits) in
+    let columns = columns-answers session (omega (arith, c.record_count.ensures.few, servers)) (bytes_from_fits (answer_len session.params.s) session.records c.record_count.ensures.fits) in
     close_verdict_is_listed session c.args.verdict.now range columns c.requires.enough c.requires.close c.requires.verdict

@@ -4,6 +4,7 @@ use Rattle.std.specs.declared.alloc.Global.{Global}
 use Rattle.std.proofs.lemmas.List.{take_all}
 use Rattle.std.proofs.lemmas.List.Folds.{flat_map-map}
 use Rattle.std.proofs.lemmas.Result.{err_from_is_err_and}
+use Rattle.pir_ports.specs.Number.{OUTPUT}
 use Rattle.pir_ports.specs.Moves.{gave}
 use Rattle.pir_ports.proofs.Cells.{gave-gave, touches_more}
 use Rattle.pir_ports.proofs.Pieces.{written_cut}
@@ -17,8 +18,8 @@ loop-block-preserved g c =
     let more = flat_map-take_more (λ (b : Vec ℕ Global). block_line b.items) c.args.blocks.now c.loop-block.block-index c.block-item.result c.loop-block-test.true in
     record {
       so_far = c.in_ok-write_block.ensures.written ∙ ap (gave _) c.loop-block.invariant.so_far ∙ gave-gave _ _ _
-          ∙ ap (λ l. gave (flat_map (λ (b : Vec ℕ Global). block_line b.items) (take c.loop-block.block-index c.args.blocks.now) ++ l) ((g.P.Ports.world c.args.ports.now).at 1)) item
-          ∙ ap (λ l. gave l ((g.P.Ports.world c.args.ports.now).at 1)) (sym more);
+          ∙ ap (λ l. gave (flat_map (λ (b : Vec ℕ Global). block_line b.items) (take c.loop-block.block-index c.args.blocks.now) ++ l) ((g.P.Ports.world c.args.ports.now).at OUTPUT)) item
+          ∙ ap (λ l. gave l ((g.P.Ports.world c.args.ports.now).at OUTPUT)) (sym more);
       others = touches_more _ _ _ _ c.loop-block.invariant.others c.write_block.ensures.others;
     }
 
@@ -34,4 +35,4 @@ pub returns-clause-written : goal.returns-clause-written
 returns-clause-written g c =
     let all = take_all c.loop-block.block-index c.args.blocks.now c.loop-block-test.false in
     let whole = flat_map-map block_line (λ (b : Vec ℕ Global). b.items) c.args.blocks.now in
-    c.loop-block.invariant.so_far ∙ ap (λ l. gave l ((g.P.Ports.world c.args.ports.now).at 1)) (ap (flat_map (λ (b : Vec ℕ Global). block_line b.items)) all ∙ sym whole)
+    c.loop-block.invariant.so_far ∙ ap (λ l. gave l ((g.P.Ports.world c.args.ports.now).at OUTPUT)) (ap (flat_map (λ (b : Vec ℕ Global). block_line b.items)) all ∙ sym whole)

@@ -4,6 +4,7 @@ use Rattle.pir_ports.specs.Moves.{gave}
 use Rattle.pir_ports.proofs.Cells.{gave-gave, touches_more}
 use Rattle.pir_ports.proofs.Pieces.{gave_none, written_cut}
 use Rattle.std.proofs.lemmas.Result.{err_from_is_err_and}
+use Rattle.pir_ports.specs.Number.{OUTPUT}
 use Rattle.block_decoder.proofs.HexText.{encode_lower-nil, encode_lower-take, encode_lower-pieces}
 use Rattle.block_decoder.proofs.write.write_hex.Goals as goal
 
@@ -12,7 +13,7 @@ pieces-init g c =
     let world = g.P.Ports.world c.args.ports.now in
     record {
       within = omega arith;
-      so_far = sym (ap (λ l. gave l (world.at 1)) encode_lower-nil ∙ gave_none (world.at 1));
+      so_far = sym (ap (λ l. gave l (world.at OUTPUT)) encode_lower-nil ∙ gave_none (world.at OUTPUT));
       others = record { others = λ q lt ne. refl; crowd = refl; started = refl };
     }
 
@@ -34,6 +35,6 @@ pieces-preserved g c =
     record {
       within = omega arith;
       so_far = c.in_ok-write_piece.ensures.written ∙ ap (gave (encode_lower (take size (drop at bytes)))) c.pieces.invariant.so_far
-          ∙ gave-gave _ _ _ ∙ ap (λ l. gave l ((g.P.Ports.world c.args.ports.now).at 1)) (sym (encode_lower-take at size bytes) ∙ ap (λ n. encode_lower (take n bytes)) end);
+          ∙ gave-gave _ _ _ ∙ ap (λ l. gave l ((g.P.Ports.world c.args.ports.now).at OUTPUT)) (sym (encode_lower-take at size bytes) ∙ ap (λ n. encode_lower (take n bytes)) end);
       others = touches_more _ _ _ _ c.pieces.invariant.others c.write_piece.ensures.others;
     }

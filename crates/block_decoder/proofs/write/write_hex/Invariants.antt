@@ -1,4 +1,5 @@
 use Rattle.std.proofs.Common.{◌≡◌, ◌-◌, ◌≤◌, length, take}
+use Rattle.pir_ports.specs.Number.{OUTPUT}
 use Rattle.hex.specs.Hex.{encode_lower}
 use Rattle.pir_ports.specs.Moves.{Touches, gave}
 use Rattle.block_decoder.proofs.write.write_hex.Given as goal
@@ -6,8 +7,8 @@ use Rattle.block_decoder.proofs.write.write_hex.Given as goal
 abbrev pub invariant-pieces : goal.invariant-pieces
 invariant-pieces g l = record {
   within : l.at ≤ length l.bytes;
-  so_far : (g.P.Ports.world l.ports).at 1 ≡ gave (encode_lower (take l.at l.bytes)) ((g.P.Ports.world l.initial.ports).at 1);
-  others : Touches 1 (g.P.Ports.world l.initial.ports) (g.P.Ports.world l.ports);
+  so_far : (g.P.Ports.world l.ports).at OUTPUT ≡ gave (encode_lower (take l.at l.bytes)) ((g.P.Ports.world l.initial.ports).at OUTPUT);
+  others : Touches OUTPUT (g.P.Ports.world l.initial.ports) (g.P.Ports.world l.ports);
 }
 
 abbrev pub decreases-pieces : goal.decreases-pieces

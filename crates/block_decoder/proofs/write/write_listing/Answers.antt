@@ -1,5 +1,6 @@
 use Rattle.std.proofs.Common.{◌∙◌, ap, subst, [], ◌∷◌, List, ℕ, length}
 use Rattle.std.specs.Prelude.{flat_map}
+use Rattle.pir_ports.specs.Number.{OUTPUT}
 use Rattle.pir_ports.specs.Moves.{gave}
 use Rattle.pir_ports.specs.Written.{Written}
 use Rattle.pir_ports.proofs.Pieces.{written_next}
@@ -9,8 +10,8 @@ use Rattle.block_decoder.proofs.write.write_listing.Goals as goal
 pub returns-clause-written : goal.returns-clause-written
 returns-clause-written g c =
     let head = line_of (98 ∷ 108 ∷ 111 ∷ 99 ∷ 107 ∷ 115 ∷ []) in
-    let first = ap (λ n. gave (head (n ∷ [])) ((g.P.Ports.world c.args.ports.now).at 1)) c.len.ensures.count in
+    let first = ap (λ n. gave (head (n ∷ [])) ((g.P.Ports.world c.args.ports.now).at OUTPUT)) c.len.ensures.count in
     let before = g.P.Ports.world c.write_line.new.ports in
     let after = g.P.Ports.world c.write_blocks.new.ports in
-    let lines = subst (λ (bs : List (List ℕ)). Written 1 (flat_map block_line bs) c.write_blocks.result before after) c.blocks-2.ensures.all c.write_blocks.ensures.written in
+    let lines = subst (λ (bs : List (List ℕ)). Written OUTPUT (flat_map block_line bs) c.write_blocks.result before after) c.blocks-2.ensures.all c.write_blocks.ensures.written in
     written_next 1 (head (length c.args.listing.now ∷ [])) (flat_map block_line c.args.listing.now) c.write_blocks.result _ before after (c.in_ok-write_line.ensures.written ∙ first) lines

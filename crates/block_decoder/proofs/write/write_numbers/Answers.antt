@@ -1,5 +1,6 @@
 use Rattle.std.proofs.Common.{◌∙◌, ap, sym}
 use Rattle.std.proofs.lemmas.Result.{err_from_is_err_and}
+use Rattle.pir_ports.specs.Number.{OUTPUT}
 use Rattle.pir_ports.specs.Moves.{gave}
 use Rattle.pir_ports.proofs.Cells.{gave-gave, touches_more}
 use Rattle.pir_ports.proofs.Pieces.{written_cut}
@@ -10,7 +11,7 @@ use Rattle.block_decoder.proofs.write.write_numbers.Goals as goal
 pub loop-n-preserved : goal.loop-n-preserved
 loop-n-preserved g c = record {
   so_far = c.in_ok-write_number.ensures.written ∙ ap (gave _) c.loop-n.invariant.so_far ∙ gave-gave _ _ _
-      ∙ ap (λ l. gave l ((g.P.Ports.world c.args.ports.now).at 1)) (sym (flat_map-take_more number_word c.args.numbers.now c.loop-n.n-index 0 c.loop-n-test.true));
+      ∙ ap (λ l. gave l ((g.P.Ports.world c.args.ports.now).at OUTPUT)) (sym (flat_map-take_more number_word c.args.numbers.now c.loop-n.n-index 0 c.loop-n-test.true));
   others = touches_more _ _ _ _ c.loop-n.invariant.others c.write_number.ensures.others;
 }
 

@@ -1,4 +1,5 @@
 use Rattle.std.proofs.Common.{◌≡◌, ◌∙◌, ◌+◌, ℕ, List, length, take, drop, refl, sym, ap, subst, arith}
+use Rattle.pir_ports.specs.Number.{DATABASE}
 use Rattle.pir_ports.specs.Moves.{Hands}
 use Rattle.pir_ports.specs.Whole.{Reads, Ends}
 use Rattle.pir_ports.proofs.Cells.{touches_more}
@@ -16,11 +17,11 @@ pieces-preserved g c =
     let filled : c.len-filled.result ≡ length read = c.len-filled.ensures ∙ c.pieces.bytes.ok.0 in
     let kept : take (length read) before ≡ read = ap (take (length read)) c.deref_mut.ensures.value ∙ c.in_ok-lengthen.ensures.kept in
     let still : take (length read) after ≡ take (length read) before = subst (λ (k : ℕ). take k after ≡ take k before) filled c.in-Full.ensures.kept in
-    let hands = subst (λ (k : ℕ). Hands 2 (length (drop k before)) (drop k before) (drop k after) v u) filled c.in-Full.ensures.rest in
+    let hands = subst (λ (k : ℕ). Hands DATABASE (length (drop k before)) (drop k before) (drop k after) v u) filled c.in-Full.ensures.rest in
     let all = whole_again c.lengthen.new.bytes.len after c.lengthen.new.bytes.items (c.fill_rest.auto.bytes ∙ c.deref_mut.ensures.len) (sym c.lengthen.new.bytes.ok.0) in
     record {
       few = omega (arith, c.in_ok-lengthen.ensures.within, c.lengthen.new.bytes.ok.0);
-      so_far = subst (λ (l : List ℕ). Reads 2 l (g.P.Ports.world c.args.ports.now) u) (sym all) (reads_full _ read before after _ v u kept still c.fill_rest.auto.bytes c.pieces.invariant.so_far hands refl);
+      so_far = subst (λ (l : List ℕ). Reads DATABASE l (g.P.Ports.world c.args.ports.now) u) (sym all) (reads_full _ read before after _ v u kept still c.fill_rest.auto.bytes c.pieces.invariant.so_far hands refl);
       others = touches_more _ _ _ _ c.pieces.invariant.others c.fill_rest.ensures.others;
     }
 
@@ -34,7 +35,7 @@ returns-in-Ended-clause-read g c =
     let filled : c.len-filled.result ≡ length read = c.len-filled.ensures ∙ c.pieces.bytes.ok.0 in
     let kept : take (length read) before ≡ read = ap (take (length read)) c.deref_mut.ensures.value ∙ c.in_ok-lengthen.ensures.kept in
     let still : take (length read) after ≡ take (length read) before = subst (λ (k : ℕ). take k after ≡ take k before) filled c.in-Ended.ensures.kept in
-    let ends = subst (λ (k : ℕ). Ends 2 c.in-Ended.n (drop k before) (drop k after) v u) filled c.in-Ended.ensures.rest in
+    let ends = subst (λ (k : ℕ). Ends DATABASE c.in-Ended.n (drop k before) (drop k after) v u) filled c.in-Ended.ensures.rest in
     let all = whole_again c.lengthen.new.bytes.len after c.lengthen.new.bytes.items (c.fill_rest.auto.bytes ∙ c.deref_mut.ensures.len) (sym c.lengthen.new.bytes.ok.0) in
     let first : take (length read + c.in-Ended.n) after ≡ c.front.result.items =
     sym (c.front.ensures ∙ ap (take (c.len-filled.result + c.in-Ended.n)) all ∙ ap (λ (k : ℕ). take (k + c.in-Ended.n) after) filled) in

@@ -1,4 +1,5 @@
 use Rattle.std.proofs.Common.{◌-◌, ◌≤◌, vec_len}
+use Rattle.pir_ports.specs.Number.{DATABASE}
 use Rattle.pir_ports.specs.Moves.{Touches}
 use Rattle.pir_ports.specs.Whole.{Reads}
 use Rattle.block_matrix.proofs.file.read_up_to.Given as goal
@@ -6,8 +7,8 @@ use Rattle.block_matrix.proofs.file.read_up_to.Given as goal
 abbrev pub invariant-pieces : goal.invariant-pieces
 invariant-pieces g l = record {
   few : vec_len l.bytes ≤ l.most;
-  so_far : Reads 2 l.bytes.items (g.P.Ports.world l.initial.ports) (g.P.Ports.world l.ports);
-  others : Touches 2 (g.P.Ports.world l.initial.ports) (g.P.Ports.world l.ports);
+  so_far : Reads DATABASE l.bytes.items (g.P.Ports.world l.initial.ports) (g.P.Ports.world l.ports);
+  others : Touches DATABASE (g.P.Ports.world l.initial.ports) (g.P.Ports.world l.ports);
 }
 
 abbrev pub decreases-pieces : goal.decreases-pieces

@@ -1,4 +1,5 @@
 use Rattle.std.proofs.Common.{◌+◌, inl, inr}
+use Rattle.wire_frames.specs.Sizes.{answer_len}
 use Rattle.block_decoder.proofs.UsableAnswers.{bytes_from_fits}
 use Rattle.fetch_client.proofs.HonestVerdicts.{finds_in_shamir, finds_in_xor}
 use Rattle.fetch_client.proofs.laws.honest_block_is_found.Goals as goal
@@ -8,7 +9,7 @@ returns c =
     let session = c.args.session.now in
     let range = c.params.ensures.range in
     let few = c.record_count.ensures.few in
-    let bytes = bytes_from_fits (24 + session.params.s) session.records c.record_count.ensures.fits in
+    let bytes = bytes_from_fits (answer_len session.params.s) session.records c.record_count.ensures.fits in
     elim range.scheme [
       | inl one ↦ finds_in_shamir session c.args.coins.now c.args.block c.args.verdict.now range few bytes c.requires.coins c.requires.block c.requires.verdict one
       | inr two ↦ finds_in_xor session c.args.coins.now c.args.block c.args.verdict.now range few bytes c.requires.coins c.requires.block c.requires.verdict two

@@ -9,7 +9,7 @@ guests-init g c = record {
   served = guests_none c.args.desk.now (g.P.Ports.world c.args.ports.now);
   replying = replying_none c.args.desk.now (g.P.Ports.world c.args.ports.now);
   door = refl;
-  others = record { others = λ q l a b. refl; started = refl };
+  others = record { others = λ q l a b. refl; crowd = tt; started = refl };
 }
 
 pub guests-preserved : goal.guests-preserved

@@ -1,6 +1,7 @@
 use Rattle.std.proofs.Common.{◌∙◌, List, ℕ, length, ap, subst}
 use Rattle.std.specs.Prelude.{Some}
 use Rattle.std.proofs.lemmas.Result.{err_from_is_err_and}
+use Rattle.pir_ports.specs.Number.{RECORD}
 use Rattle.pir_ports.specs.Moves.{gave}
 use Rattle.pir_ports.specs.Whole.{FailsWithin}
 use Rattle.pir_ports.proofs.Pieces.{written_next, written_first, written_both}
@@ -13,7 +14,7 @@ returns-in_err-write_all-clause-written g c =
     let header = record_header c.args.index (Some (length c.args.bytes.now)) in
     let before = g.P.Ports.world c.args.ports.now in
     let after = g.P.Ports.world c.write_all.new.ports in
-    let cut = subst (λ (l : List ℕ). FailsWithin 4 l before after) c.record_header_of-header.ensures c.in_err-write_all.ensures.failed in
+    let cut = subst (λ (l : List ℕ). FailsWithin RECORD l before after) c.record_header_of-header.ensures c.in_err-write_all.ensures.failed in
     rw p.1 (written_first 4 header c.args.bytes.now before after cut)
 
 pub returns-clause-written : goal.returns-clause-written
@@ -23,5 +24,5 @@ returns-clause-written g c =
     let between = g.P.Ports.world c.write_all.new.ports in
     let after = g.P.Ports.world c.write_all-2.new.ports in
     written_next 4 header c.args.bytes.now c.write_all-2.result before between after
-    (c.in_ok-write_all.ensures.ok ∙ ap (λ (l : List ℕ). gave l (before.at 4)) c.record_header_of-header.ensures)
+    (c.in_ok-write_all.ensures.ok ∙ ap (λ (l : List ℕ). gave l (before.at RECORD)) c.record_header_of-header.ensures)
     (written_both 4 c.args.bytes.now c.write_all-2.result between after c.write_all-2.ensures.ok c.write_all-2.ensures.failed)

@@ -1,5 +1,6 @@
 use Rattle.std.proofs.Common.{◌∙◌, List, ℕ, ap, subst, refl}
 use Rattle.std.proofs.lemmas.Result.{err_from_is_err_and}
+use Rattle.pir_ports.specs.Number.{RECORD}
 use Rattle.pir_ports.specs.Moves.{gave}
 use Rattle.pir_ports.specs.Whole.{FailsWithin}
 use Rattle.pir_ports.proofs.Pieces.{written_next, written_first}
@@ -13,7 +14,7 @@ returns-in_err-write_all-clause-written g c =
     let is = c.header_of-header.ensures ∙ ap header_bytes c.params.ensures.value in
     let before = g.P.Ports.world c.args.ports.now in
     let after = g.P.Ports.world c.write_all.new.ports in
-    let cut = subst (λ (l : List ℕ). FailsWithin 4 l before after) is c.in_err-write_all.ensures.failed in
+    let cut = subst (λ (l : List ℕ). FailsWithin RECORD l before after) is c.in_err-write_all.ensures.failed in
     rw p.1 (written_first 4 (header_bytes session.params) (records_bytes 1 session.records) before after cut)
 
 pub returns-clause-written : goal.returns-clause-written
@@ -24,7 +25,7 @@ returns-clause-written g c =
     let between = g.P.Ports.world c.write_all.new.ports in
     let after = g.P.Ports.world c.write_records.new.ports in
     written_next 4 (header_bytes session.params) (records_bytes 1 session.records) c.write_records.result before between after
-    (c.in_ok-write_all.ensures.ok ∙ ap (λ (l : List ℕ). gave l (before.at 4)) is) c.write_records.ensures.written
+    (c.in_ok-write_all.ensures.ok ∙ ap (λ (l : List ℕ). gave l (before.at RECORD)) is) c.write_records.ensures.written
 
 pub returns-in_err-write_all-clause-file : goal.returns-in_err-write_all-clause-file
 returns-in_err-write_all-clause-file g c = record { range = c.params.ensures.range; all = c.requires; fits = c.record_count.ensures.fits; spelled = refl }

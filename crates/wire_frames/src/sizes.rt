@@ -1,0 +1,19 @@
+//! How many bytes the parts of frames and sessions have.
+ghost use Rattle.std.specs.Prelude.{◌≡◌};
+ghost use Rattle.wire_frames.specs.Sizes.{answer_len};
+
+/// How many bytes stand before the payload of a query and of an answer.
+pub const FRAME_HEADER_LEN: usize = 24;
+
+/// How many bytes the header of a session has.
+pub const SESSION_HEADER_LEN: usize = 28;
+
+/// How many bytes stand before those of a record in a session.
+pub const RECORD_HEADER_LEN: usize = 6;
+
+/// How many bytes the answer of status 0 has that holds a row of so many: the header, and the row.
+pub fn answer_len(width: u32) -> usize
+    ensures { result ≡ answer_len width }
+{
+    FRAME_HEADER_LEN + width as usize
+}
