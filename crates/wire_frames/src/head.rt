@@ -13,6 +13,7 @@ pub(crate) struct Head {
 
 impl Model for Head {
     ghost use Rattle.std.specs.Prelude.{List, ℕ, ◌≤◌, take};
+    ghost use Rattle.wire_frames.specs.declared.sizes.TheConstants.{SESSION_HEADER_LEN};
 
     ghost Value = { List ℕ };
 
