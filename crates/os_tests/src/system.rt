@@ -288,7 +288,6 @@ fn none_is_written<P: Ports>(ports: &mut P, all: &[Port]) -> bool {
 /// Whether nothing can be opened in a way that isn't the port's.
 fn none_is_opened<P: Ports>(ports: &mut P) -> bool {
     ports.open(Port::Output, "-").is_err()
-        && ports.open(Port::Guest, "-").is_err()
         && ports.open(Port::Door, "no port").is_err()
         && ports.open(Port::Link(1), "no port").is_err()
         && ports.open(Port::Child(1), "-").is_err()

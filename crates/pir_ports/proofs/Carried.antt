@@ -1,5 +1,5 @@
 -- What a call did to one port, carried over what others did before or after it and left that port as it was.
-use Rattle.std.proofs.Common.{◌≡◌, ℕ, List, ◌≤◌, take, length, ap, sym, subst, ◌∙◌}
+use Rattle.std.proofs.Common.{◌≡◌, ℕ, List, ◌≤◌, take, length, ap, sym, subst, ◌∙◌, ◌^◌, ◌-◌}
 use Rattle.std.specs.Prelude.{IfSome}
 use Rattle.pir_ports.specs.World.{Cell, World}
 use Rattle.pir_ports.specs.Moves.{Rose, took, gave, counted, Came, Hands, Fails}
@@ -20,6 +20,7 @@ module _ (p : ℕ) (w v u : World) (still : u.at p ≡ v.at p) where
   fails_after h = record {
     cell = still ∙ h.cell ∙ ap (λ (c : Cell). counted c.faults (w.at p)) (sym still);
     rose = subst (λ (c : Cell). Rose (w.at p).faults c.faults) (sym still) h.rose;
+    stops = subst (λ (c : Cell). c.faults ≤ 2 ^ 64 - 1) (sym still) h.stops;
   }
 
   pub fails_reading_after : FailsAfter p w v → FailsAfter p w u
@@ -64,6 +65,7 @@ module _ (p : ℕ) (w v u : World) (still : v.at p ≡ w.at p) where
   fails_before h = record {
     cell = h.cell ∙ ap (counted (u.at p).faults) still;
     rose = subst (λ (c : Cell). Rose c.faults (u.at p).faults) still h.rose;
+    stops = h.stops;
   }
 
   pub fails_reading_before : FailsAfter p v u → FailsAfter p w u

@@ -207,6 +207,7 @@ impl Ports for MemPorts {
     ghost world = { world_of };
 
     fn open(&mut self, p: Port, name: &str) -> Result<(), Failed>
+        requires named { number p ≢ GUEST }
         ensures ok { OnOk result ((world_of self.new).at (number p)
             ≡ named name.now ((world_of self.old).at (number p))) }
         ensures failed { OnErr result (Fails (number p) (world_of self.old) (world_of self.new)) }
