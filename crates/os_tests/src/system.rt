@@ -1,7 +1,8 @@
 //! The ports of the system on real files, sockets and children. What is done on ports stands in functions over any ports,
 //! so that a test has little of its own to prove.
 
-ghost use Rattle.std.specs.Prelude.{◌<◌, length};
+ghost use Rattle.std.specs.Prelude.{◌<◌, ◌≢◌, length};
+ghost use Rattle.pir_ports.specs.Number.{GUEST, number};
 
 use os_ports::OsPorts;
 use pir_ports::{Filled, Port, Ports, read_exactly, write_all};
@@ -21,7 +22,9 @@ fn records<P: Ports>(ports: &mut P, path: &str, text: &[u8]) -> bool
 }
 
 /// Whether the file holds `last` and no more, read as this port.
-fn reads_last<P: Ports>(ports: &mut P, port: Port, path: &str) -> bool {
+fn reads_last<P: Ports>(ports: &mut P, port: Port, path: &str) -> bool
+    requires { number port ≢ GUEST }
+{
     let mut text = [0; 4];
     ports.open(port, path).is_ok()
         && read_exactly(ports, port, &mut text) == Filled::Full
