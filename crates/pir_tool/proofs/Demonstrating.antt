@@ -6,7 +6,7 @@ use Rattle.std.proofs.lemmas.List.{length-map}
 use Rattle.std.proofs.lemmas.List.FromFn.{length-map-range_with_len}
 use Rattle.std.proofs.lemmas.Simd.{map-map}
 use Rattle.pir_ports.specs.World.{Cell, World}
-use Rattle.pir_ports.specs.Number.{COINS, link, child}
+use Rattle.pir_ports.specs.Number.{OUTPUT, COINS, link, child}
 use Rattle.pir_ports.specs.Moves.{Rose, gave, named}
 use Rattle.pir_ports.proofs.Ranges.{each_within}
 use Rattle.wire_frames.specs.Session.{Transcript}
@@ -17,11 +17,11 @@ use Rattle.pir_tool.specs.Told.{NoneRose, NoChildRose}
 use Rattle.pir_tool.specs.FetchOrder.{FetchOrder}
 use Rattle.pir_tool.specs.FetchOutcome.{InSession, FetchReported, FetchEnds, TouchesFetch}
 use Rattle.pir_tool.specs.DemoOrder.{DemoOrder, plan_of, address_from, addresses_from, words_to_serve, words_of_children, fetch_from_children}
-use Rattle.pir_tool.specs.DemoOutcome.{StartsAll, StartsSome, Demonstrated, DemoOutcome, DemoReported}
+use Rattle.pir_tool.specs.DemoOutcome.{StartsAll, StartsSome, Demonstrated, DemoOutcome, DemoPromise, DemoReported, files}
 use Rattle.pir_tool.specs.declared.status.Status.{Status}
 use Rattle.pir_tool.specs.declared.status.Status.TheVariants.{One, Usage, NoBlock, Several, TooFew, TooWeak, ReadFault, WriteFault, BadInput, DoorFault, ChildFault, Memory}
 use Rattle.pir_tool.specs.declared.status.Bad.TheVariants.{CoinsEnded}
-use Rattle.pir_tool.proofs.Headline.{reported, too_few}
+use Rattle.pir_tool.proofs.Headline.{fetch_promised}
 use Rattle.pir_tool.proofs.Fetching.{recorded_before}
 
 -- the addresses are as many as the children
@@ -100,15 +100,19 @@ module _ (o : FetchOrder) (w v z : World) (same : (q : ℕ) → q < 1024 → v.a
   }
 
 -- no call failed
-module _ (o : DemoOrder) (old new : World) (few : o.servers < 256) (none : NoneRose old new) (ready : NoChildRose old new) where
+module _ (o : DemoOrder) (old new : World) (few : o.servers < 256) (none : NoneRose files old new) (ready : NoChildRose o.servers old new) where
   -- so all children were started
   started : StartsSome (words_of_children o) old new → ⊥
   started s =
-      let fewer : s.before < 255 = omega (arith, s.fewer, length-map-range_with_len (λ i. words_to_serve o.database o.width (address_from o.port i)) 1 o.servers, few) in
-      ready ((child 1) + s.before) (omega arith) (omega (arith, fewer)) (subst (λ (c : Cell). Rose c.faults (new.at ((child 1) + s.before)).faults) (s.starts.ports ((child 1) + s.before) (omega (arith, fewer))) s.fails.rose)
+      let fewer : s.before < o.servers = omega (arith, s.fewer, length-map-range_with_len (λ i. words_to_serve o.database o.width (address_from o.port i)) 1 o.servers) in
+      ready s.before fewer (subst (λ (c : Cell). Rose c.faults (new.at ((child 1) + s.before)).faults) (s.starts.ports ((child 1) + s.before) (omega (arith, fewer, few))) s.fails.rose)
 
-  none_after : (v : World) → ((q : ℕ) → q < 1024 → v.at q ≡ old.at q) → NoneRose v new
-  none_after v same = λ p l rose. none p l (subst (λ (c : Cell). Rose c.faults (new.at p).faults) (same p (omega (arith, l))) rose)
+  none_after : (v : World) → ((q : ℕ) → q < 1024 → v.at q ≡ old.at q) → NoneRose files v new
+  none_after v same = (
+    λ rose. none.0 (subst (λ (c : Cell). Rose c.faults (new.at OUTPUT).faults) (same 1 (lit< tt)) rose),
+    λ rose. none.1.0 (subst (λ (c : Cell). Rose c.faults (new.at COINS).faults) (same 3 (lit< tt)) rose),
+    tt,
+  )
 
   told_after : (v : World) (held : List ℕ) → ((q : ℕ) → q < 1024 → v.at q ≡ old.at q) → (old.at COINS).holds ≡ Some held → (v.at COINS).holds ≡ Some held
   told_after v held same told = ap (λ (c : Cell). c.holds) (same 3 (lit< tt)) ∙ told
@@ -117,7 +121,7 @@ module _ (o : DemoOrder) (old new : World) (few : o.servers < 256) (none : NoneR
     reports : (status : Status) → need (plan_of o) ≤ length held → Demonstrated o status old new → DemoReported o status old new ⊎ (status ≡ Memory)
     reports status enough d =
         let same = d.starts.ports in
-        elim (reported (fetch_from_children o) status d.between new held (told_after d.between held same told) enough (none_after d.between same) d.fetched.ends) [
+        elim ((fetch_promised (fetch_from_children o) status d.between new d.fetched.ends).reported held (told_after d.between held same told) enough (none_after d.between same)) [
           | inl r ↦
               inl record {
                 started = d.fetched.others.started ∙ d.starts.started;
@@ -129,10 +133,10 @@ module _ (o : DemoOrder) (old new : World) (few : o.servers < 256) (none : NoneR
     lacks : (status : Status) → length held < need (plan_of o) → Demonstrated o status old new → (status ≡ BadInput (CoinsEnded (length held))) ⊎ (status ≡ Memory)
     lacks status short d =
         let same = d.starts.ports in
-        too_few (fetch_from_children o) status d.between new held (told_after d.between held same told) short (none_after d.between same) d.fetched.ends
+        (fetch_promised (fetch_from_children o) status d.between new d.fetched.ends).too_few_coins held (told_after d.between held same told) short (none_after d.between same)
 
     -- where there are coins enough, the verdict is reported
-    pub demo_reported : (status : Status) → need (plan_of o) ≤ length held → DemoOutcome o status old new → DemoReported o status old new ⊎ (status ≡ Memory)
+    demo_reported : (status : Status) → need (plan_of o) ≤ length held → DemoOutcome o status old new → DemoReported o status old new ⊎ (status ≡ Memory)
     demo_reported One enough d = reports One enough d
     demo_reported Usage enough d = reports Usage enough d
     demo_reported NoBlock enough d = reports NoBlock enough d
@@ -147,7 +151,7 @@ module _ (o : DemoOrder) (old new : World) (few : o.servers < 256) (none : NoneR
     demo_reported Memory enough d = inr refl
 
     -- where there are fewer, that is said
-    pub demo_too_few : (status : Status) → length held < need (plan_of o) → DemoOutcome o status old new → (status ≡ BadInput (CoinsEnded (length held))) ⊎ (status ≡ Memory)
+    demo_too_few : (status : Status) → length held < need (plan_of o) → DemoOutcome o status old new → (status ≡ BadInput (CoinsEnded (length held))) ⊎ (status ≡ Memory)
     demo_too_few One short d = lacks One short d
     demo_too_few Usage short d = lacks Usage short d
     demo_too_few NoBlock short d = lacks NoBlock short d
@@ -160,3 +164,10 @@ module _ (o : DemoOrder) (old new : World) (few : o.servers < 256) (none : NoneR
     demo_too_few DoorFault short d = lacks DoorFault short d
     demo_too_few ChildFault short d = absurd (started d)
     demo_too_few Memory short d = inr refl
+
+-- what is promised of `demo`
+pub demo_promised : (o : DemoOrder) (status : Status) (old new : World) → o.servers < 256 → DemoOutcome o status old new → DemoPromise o status old new
+demo_promised o status old new few said = record {
+  reported = λ held told enough none ready. demo_reported o old new few none ready held told status enough said;
+  too_few_coins = λ held told short none ready. demo_too_few o old new few none ready held told status short said;
+}

@@ -1,14 +1,17 @@
 -- What `demo` does to the outside, by the status that it ends with.
-use Rattle.std.specs.Prelude.{◌≡◌, ◌⊎◌, ℕ, ◌+◌, ◌<◌, List, length, take, ◌++◌}
+use Rattle.std.specs.Prelude.{◌≡◌, ◌⊎◌, ℕ, ◌+◌, ◌<◌, ◌≤◌, List, [], ◌∷◌, length, take, ◌++◌, Some}
 use Rattle.std.specs.Option.{option_map}
 use Rattle.pir_ports.specs.declared.port.TheConstants.{PORT_COUNT}
 use Rattle.pir_ports.specs.World.{World}
-use Rattle.pir_ports.specs.Number.{child}
+use Rattle.pir_ports.specs.Number.{OUTPUT, COINS, child}
 use Rattle.pir_ports.specs.Moves.{Fails, Touches}
-use Rattle.pir_tool.specs.DemoOrder.{DemoOrder, fetch_from_children, words_of_children}
+use Rattle.fetch_client.specs.Plan.{need}
+use Rattle.pir_tool.specs.Told.{NoneRose, NoChildRose}
+use Rattle.pir_tool.specs.DemoOrder.{DemoOrder, fetch_from_children, plan_of, words_of_children}
 use Rattle.pir_tool.specs.FetchOutcome.{FetchOutcome, FetchReported}
 use Rattle.pir_tool.specs.declared.status.Status.{Status}
-use Rattle.pir_tool.specs.declared.status.Status.TheVariants.{ChildFault, Memory}
+use Rattle.pir_tool.specs.declared.status.Status.TheVariants.{ChildFault, BadInput, Memory}
+use Rattle.pir_tool.specs.declared.status.Bad.TheVariants.{CoinsEnded}
 
 -- children were started with these lists of words, the last that are told of, and nothing else changed
 pub record StartsAll (lists : List (List (List ℕ))) (old new : World) : Type 0 where
@@ -23,8 +26,8 @@ pub record StartsSome (lists : List (List (List ℕ))) (old new : World) : Type 
   pub fewer : before < length lists
   pub between : World
   pub starts : StartsAll (take before lists) old between
-  pub fails : Fails ((child 1) + before) between new
-  pub others : Touches ((child 1) + before) between new
+  pub fails : Fails (child 1 + before) between new
+  pub others : Touches (child 1 + before) between new
 
 -- all children were started, and then a fetch from them ended with this status
 pub record Demonstrated (o : DemoOrder) (status : Status) (old new : World) : Type 0 where
@@ -43,3 +46,17 @@ DemoOutcome o status old new = Demonstrated o status old new
 pub record DemoReported (o : DemoOrder) (status : Status) (old new : World) : Type 0 where
   pub started : new.started ≡ option_map (λ starts. starts ++ words_of_children o) old.started
   pub reported : FetchReported (fetch_from_children o) status old new
+
+-- the ports that `demo` uses but the links and the children
+abbrev pub files : List ℕ
+files = OUTPUT ∷ COINS ∷ []
+
+-- what `demo` promises where no call failed but on links, but that memory may run out: where Coins holds enough, all children
+-- were started, each with its words, and the text of the verdict on the session with them is written whole; where it holds
+-- fewer, that is said, with their number
+pub record DemoPromise (o : DemoOrder) (status : Status) (old new : World) : Type 0 where
+  pub reported : (held : List ℕ) → (old.at COINS).holds ≡ Some held → need (plan_of o) ≤ length held
+      → NoneRose files old new → NoChildRose o.servers old new → DemoReported o status old new ⊎ (status ≡ Memory)
+  pub too_few_coins : (held : List ℕ) → (old.at COINS).holds ≡ Some held → length held < need (plan_of o)
+      → NoneRose files old new → NoChildRose o.servers old new
+      → (status ≡ BadInput (CoinsEnded (length held))) ⊎ (status ≡ Memory)

@@ -1,5 +1,5 @@
 -- What `fetch` does to the outside, by the status that it ends with.
-use Rattle.std.specs.Prelude.{◌≡◌, ◌⊎◌, ℕ, ◌+◌, ◌<◌, ◌≤◌, List, drop, Option, Some, None, Result, Ok, Err, [], ◌∷◌}
+use Rattle.std.specs.Prelude.{◌≡◌, ◌⊎◌, ℕ, ◌<◌, ◌≤◌, List, [], ◌∷◌, length, drop, Option, Some, None, Result, Ok, Err}
 use Rattle.pir_ports.specs.World.{World}
 use Rattle.pir_ports.specs.Number.{OUTPUT, COINS, RECORD, link}
 use Rattle.pir_ports.specs.Moves.{Touches, gave, named}
@@ -15,7 +15,7 @@ use Rattle.fetch_client.specs.Honest.{FindsHonestBlock}
 use Rattle.fetch_client.specs.Fetched.{AsksAll}
 use Rattle.pir_tool.specs.Table.{status_of}
 use Rattle.pir_ports.specs.declared.port.Failed.{Failed}
-use Rattle.pir_tool.specs.Told.{Told, Unread, Unwritten}
+use Rattle.pir_tool.specs.Told.{NoneRose, Told, Unread, Unwritten}
 use Rattle.pir_tool.specs.FetchOrder.{FetchOrder}
 use Rattle.pir_tool.specs.declared.status.Status.{Status}
 use Rattle.pir_tool.specs.declared.status.Status.TheVariants.{Usage, ReadFault, WriteFault, BadInput, DoorFault, ChildFault, Memory}
@@ -122,3 +122,20 @@ TouchesFiles old new = TouchesOnly (One OUTPUT ∷ One RECORD ∷ []) old new
 -- the session is recorded and its verdict written; or one of them was cut short, and nothing was written after it
 abbrev pub Reports : Option (List ℕ) → Transcript → Verdict → Status → World → World → Type 0
 Reports keep session verdict status old new = (Recorded keep session old new × Told verdict status old new) ⊎ (Unrecorded keep session old new × (status ≡ WriteFault) × (new.at OUTPUT ≡ old.at OUTPUT))
+
+-- the port of a record, where one is kept
+abbrev pub record_port : Option (List ℕ) → List ℕ
+record_port None = []
+record_port (Some name) = RECORD ∷ []
+
+-- the ports that `fetch` uses but the links
+abbrev pub files_of : FetchOrder → List ℕ
+files_of o = OUTPUT ∷ COINS ∷ record_port o.keep
+
+-- what `fetch` promises where no call failed but on links, but that memory may run out: where Coins holds enough, every server
+-- was asked, and the text of the session's verdict is written whole; where it holds fewer, that is said, with their number
+pub record FetchPromise (o : FetchOrder) (status : Status) (old new : World) : Type 0 where
+  pub reported : (held : List ℕ) → (old.at COINS).holds ≡ Some held → need o.plan ≤ length held
+      → NoneRose (files_of o) old new → FetchReported o status old new ⊎ (status ≡ Memory)
+  pub too_few_coins : (held : List ℕ) → (old.at COINS).holds ≡ Some held → length held < need o.plan
+      → NoneRose (files_of o) old new → (status ≡ BadInput (CoinsEnded (length held))) ⊎ (status ≡ Memory)

@@ -1,6 +1,7 @@
 -- What a run does to the outside, by the command that the words ask for and the status that it ends with.
-use Rattle.std.specs.Prelude.{◌≡◌, ◌⊎◌, ℕ, List, length, Option}
+use Rattle.std.specs.Prelude.{◌≡◌, ◌⊎◌, ℕ, List, length, Option, Some, None}
 use Rattle.pir_ports.specs.World.{World}
+use Rattle.pir_words.specs.Form.{asked_of}
 use Rattle.pir_words.specs.declared.asked.Asked.{Asked}
 use Rattle.pir_words.specs.declared.asked.Asked.TheVariants.{Replay, Fetch, Serve, Selfrun, Demo}
 use Rattle.pir_tool.specs.FetchOrder.{FetchOrder}
@@ -10,7 +11,7 @@ use Rattle.pir_tool.specs.ServeOutcome.{ServeOutcome}
 use Rattle.pir_tool.specs.SelfrunOutcome.{SelfrunOutcome}
 use Rattle.pir_tool.specs.DemoOutcome.{DemoOutcome}
 use Rattle.pir_tool.specs.declared.status.Status.{Status}
-use Rattle.pir_tool.specs.declared.status.Status.TheVariants.{Memory}
+use Rattle.pir_tool.specs.declared.status.Status.TheVariants.{Usage, Memory}
 
 -- what the words of `fetch` order
 abbrev pub order_of : ℕ → ℕ → ℕ → ℕ → ℕ → ℕ → List ℕ → Option (List ℕ) → List (List ℕ) → FetchOrder
@@ -49,3 +50,17 @@ IsToDemonstrate asked = ⊥
 -- memory ran out before the command, which nothing was touched for; or this is what the command did
 abbrev pub Runs : Asked → Status → World → World → Type 0
 Runs asked status old new = ((status ≡ Memory) × (new ≡ old)) ⊎ Outcome asked status old new
+
+-- the words ask for this command
+abbrev pub AskFor : List (List ℕ) → Asked → Type 0
+AskFor words asked = asked_of words ≡ Some asked
+
+-- words without a form, and they alone, are refused, unless memory runs out; then nothing was touched
+pub record RefusesWords (words : List (List ℕ)) (status : Status) (old new : World) : Type 0 where
+  pub formless : status ≡ Usage → asked_of words ≡ None
+  pub said : asked_of words ≡ None → (status ≡ Usage) ⊎ (status ≡ Memory)
+  pub untouched : asked_of words ≡ None → new ≡ old
+
+-- each command that the words ask for ends as it may, by its status
+abbrev pub EndsAsAsked : List (List ℕ) → Status → World → World → Type 0
+EndsAsAsked words status old new = (asked : Asked) → AskFor words asked → Runs asked status old new

@@ -1,17 +1,17 @@
 -- What `replay FILE` does to the outside, by the status that it ends with.
-use Rattle.std.specs.Prelude.{◌≡◌, ℕ, ◌<◌, List, IfSome, [], ◌∷◌}
+use Rattle.std.specs.Prelude.{◌≡◌, ◌⊎◌, ℕ, List, [], ◌∷◌, Some, IfSome}
 use Rattle.pir_ports.specs.World.{World}
 use Rattle.pir_ports.specs.Number.{INPUT, OUTPUT}
 use Rattle.pir_ports.specs.Moves.{took, gave, named}
 use Rattle.pir_ports.specs.Touched.{One, TouchesOnly}
 use Rattle.pir_ports.specs.Whole.{FailsWithin}
-use Rattle.wire_frames.specs.Session.{Transcript}
+use Rattle.wire_frames.specs.Session.{Transcript, IsSession}
 use Rattle.block_decoder.specs.Verdict.{IsVerdict}
 use Rattle.block_decoder.specs.Text.{text}
 use Rattle.block_decoder.specs.declared.verdict.Verdict.{Verdict}
 use Rattle.replay.specs.Replayed.{Judged, NoSession}
 use Rattle.pir_tool.specs.Table.{status_of}
-use Rattle.pir_tool.specs.Told.{Unread}
+use Rattle.pir_tool.specs.Told.{NoneRose, ToldWhole, Unread}
 use Rattle.pir_tool.specs.declared.status.Status.{Status}
 use Rattle.pir_tool.specs.declared.status.Status.TheVariants.{Usage, ReadFault, WriteFault, BadInput, DoorFault, ChildFault, Memory}
 use Rattle.pir_tool.specs.declared.status.Bad.TheVariants.{Session, EmptyFile, TooBig, CoinsEnded}
@@ -81,3 +81,18 @@ pub record Answered (session : Transcript) (status : Status) (old new : World) :
   pub judged : IsVerdict session verdict
   pub status_is : status ≡ status_of verdict
   pub written : new.at OUTPUT ≡ gave (text verdict) (old.at OUTPUT)
+
+-- the ports that `replay` uses
+abbrev pub streams : List ℕ
+streams = INPUT ∷ OUTPUT ∷ []
+
+-- what `replay` promises where no call failed, but that memory may run out: where Input holds a session, the text of its
+-- verdict is written whole, whichever verdict that is; where it holds none, that is said, with the place at which the bytes
+-- stop to begin one
+pub record ReplayPromise (status : Status) (old new : World) : Type 0 where
+  pub told : (bytes : List ℕ) (session : Transcript) (verdict : Verdict) → (old.at INPUT).holds ≡ Some bytes
+      → IsSession bytes session → IsVerdict session verdict → NoneRose streams old new
+      → ToldWhole verdict status old new ⊎ (status ≡ Memory)
+  pub refused : (bytes : List ℕ) → (old.at INPUT).holds ≡ Some bytes
+      → ((session : Transcript) → IsSession bytes session → ⊥) → NoneRose streams old new
+      → ((place : ℕ) × (status ≡ BadInput (Session place)) × NoSession place bytes) ⊎ (status ≡ Memory)

@@ -1,5 +1,5 @@
 -- What `selfrun` does to the outside, by the status that it ends with.
-use Rattle.std.specs.Prelude.{◌≡◌, ℕ, ◌+◌, ◌*◌, ◌<◌, ◌≤◌, List, [], ◌∷◌, ◌++◌, Contains, codes, decimal}
+use Rattle.std.specs.Prelude.{◌≡◌, ◌⊎◌, ℕ, ◌+◌, ◌*◌, ◌<◌, ◌≤◌, List, [], ◌∷◌, ◌++◌, Contains, codes, decimal}
 use Rattle.std.specs.List.{concat}
 use Rattle.pir_ports.specs.World.{World}
 use Rattle.pir_ports.specs.Number.{OUTPUT}
@@ -14,6 +14,7 @@ use Rattle.block_decoder.specs.declared.verdict.Verdict.TheVariants.{Listed}
 use Rattle.pir_words.specs.declared.asked.Asked.{Asked}
 use Rattle.pir_words.specs.declared.asked.Asked.TheVariants.{Selfrun}
 use Rattle.pir_tool.specs.Table.{status_of}
+use Rattle.pir_tool.specs.Told.{NoneRose}
 use Rattle.pir_tool.specs.Workload.{all_answers, asked_row, honest}
 use Rattle.pir_tool.specs.declared.workload.Workload.{Workload}
 use Rattle.pir_tool.specs.declared.status.Status.{Status}
@@ -84,3 +85,8 @@ SelfrunEnds w status old new = ⊥
 pub record SelfrunOutcome (w : Workload) (status : Status) (old new : World) : Type 0 where
   pub ends : SelfrunEnds w status old new
   pub others : Touches OUTPUT old new
+
+-- what `selfrun` promises where no call on Output failed, but that memory may run out: the text of the verdict on the workload is
+-- written whole, with the line of the numbers after a listing
+pub record SelfrunPromise (w : Workload) (status : Status) (old new : World) : Type 0 where
+  pub reported : NoneRose (OUTPUT ∷ []) old new → SelfrunReported w status old new ⊎ (status ≡ Memory)

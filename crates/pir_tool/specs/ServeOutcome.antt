@@ -1,12 +1,12 @@
 -- What `serve` does to the outside, by the status that it ends with.
-use Rattle.std.specs.Prelude.{◌≡◌, ◌⊎◌, ℕ, ◌<◌, [], ◌∷◌}
+use Rattle.std.specs.Prelude.{◌≡◌, ◌⊎◌, ℕ, ◌<◌, ◌≤◌, List, [], ◌∷◌, length, Some}
 use Rattle.pir_ports.specs.World.{World}
 use Rattle.pir_ports.specs.Number.{OUTPUT, DATABASE, DOOR, GUEST}
 use Rattle.pir_ports.specs.Moves.{Touches, gave, named, counted}
 use Rattle.pir_ports.specs.Whole.{FailsWithin}
 use Rattle.pir_ports.specs.Touched.{One, Crowd, TouchesOnly}
-use Rattle.block_matrix.specs.Database.{Database}
-use Rattle.pir_tool.specs.Told.{DidRise, Unread}
+use Rattle.block_matrix.specs.Database.{Database, limit}
+use Rattle.pir_tool.specs.Told.{DidRise, NoneRose, Unread}
 use Rattle.pir_tool.specs.ServeOrder.{ServeOrder, service_of}
 use Rattle.pir_tool.specs.ServeSteps.{ready, Loaded, HasNoBytes, HasTooMany, HasBegun, ServesGuests, RepliesToGuests}
 use Rattle.pir_tool.specs.declared.status.Status.{Status}
@@ -75,3 +75,17 @@ TouchesServer old new = TouchesOnly (One OUTPUT ∷ One DATABASE ∷ One DOOR �
 pub record ServeOutcome (o : ServeOrder) (status : Status) (old new : World) : Type 0 where
   pub ends : ServeEnds o status old new
   pub others : TouchesServer old new
+
+-- the ports that `serve` uses but that of its guests
+abbrev pub files : List ℕ
+files = OUTPUT ∷ DATABASE ∷ DOOR ∷ []
+
+-- what `serve` promises where no call failed but on guests, but that memory may run out: where Database holds a database,
+-- each guest was served; where it holds none, that is said
+pub record ServePromise (o : ServeOrder) (status : Status) (old new : World) : Type 0 where
+  pub served : (bytes : List ℕ) → (old.at DATABASE).holds ≡ Some bytes → 0 < length bytes → length bytes ≤ limit o.width
+      → NoneRose files old new → ((status ≡ One) × ServedAll o old new) ⊎ (status ≡ Memory)
+  pub empty_file : (old.at DATABASE).holds ≡ Some [] → NoneRose files old new
+      → (status ≡ BadInput EmptyFile) ⊎ (status ≡ Memory)
+  pub too_big : (bytes : List ℕ) → (old.at DATABASE).holds ≡ Some bytes → limit o.width < length bytes
+      → NoneRose files old new → (status ≡ BadInput (TooBig (limit o.width))) ⊎ (status ≡ Memory)
