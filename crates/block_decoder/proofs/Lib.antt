@@ -4,6 +4,8 @@ pub mod Columns
 pub mod Combination
 pub mod Ascending
 pub mod HexText
+pub mod Members
+pub mod OneVerdict
 pub mod Marks
 pub mod Places
 pub mod TextLines

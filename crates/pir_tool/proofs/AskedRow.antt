@@ -18,8 +18,8 @@ use Rattle.block_decoder.specs.declared.verdict.Verdict.{Verdict}
 use Rattle.fetch_client.proofs.HonestBlock.{AreProducts, honest_is_listed, honest_is_alone}
 use Rattle.pir_tool.specs.Stream.{key_by}
 use Rattle.pir_tool.specs.Workload.{IsWorkload, asked_block, database_of, coins_from, coins_of, honest, honest_payload, payload, all_answers}
+use Rattle.pir_tool.specs.declared.orders.Workload.{Workload}
 use Rattle.pir_tool.specs.SelfrunOutcome.{FindsAskedRow, IsVerdictOn}
-use Rattle.pir_tool.specs.declared.workload.Workload.{Workload}
 use Rattle.pir_tool.proofs.StreamBytes.{length-stream_bytes, small-stream_bytes}
 use Rattle.pir_tool.proofs.Workloads.{IsMatrix-database_of, length-all_answers, length-payload, payload-honest, payload-lie}
 

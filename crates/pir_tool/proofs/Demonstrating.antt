@@ -110,8 +110,7 @@ module _ (o : DemoOrder) (old new : World) (few : o.servers < 256) (none : NoneR
   none_after : (v : World) → ((q : ℕ) → q < 1024 → v.at q ≡ old.at q) → NoneRose files v new
   none_after v same = (
     λ rose. none.0 (subst (λ (c : Cell). Rose c.faults (new.at OUTPUT).faults) (same 1 (lit< tt)) rose),
-    λ rose. none.1.0 (subst (λ (c : Cell). Rose c.faults (new.at COINS).faults) (same 3 (lit< tt)) rose),
-    tt,
+    (λ rose. none.1.0 (subst (λ (c : Cell). Rose c.faults (new.at COINS).faults) (same 3 (lit< tt)) rose), tt),
   )
 
   told_after : (v : World) (held : List ℕ) → ((q : ℕ) → q < 1024 → v.at q ≡ old.at q) → (old.at COINS).holds ≡ Some held → (v.at COINS).holds ≡ Some held

@@ -5,6 +5,7 @@ use Rattle.std.proofs.lemmas.List.{length-take}
 use Rattle.pir_ports.specs.World.{World}
 use Rattle.pir_ports.specs.Number.{INPUT, OUTPUT, COINS}
 use Rattle.pir_ports.specs.Moves.{gave}
+use Rattle.wire_frames.specs.Limits.{IsInRange}
 use Rattle.wire_frames.specs.Session.{Transcript, IsSession}
 use Rattle.wire_frames.proofs.OneSession.{one_session}
 use Rattle.block_decoder.specs.Verdict.{IsVerdict}
@@ -78,9 +79,9 @@ refused name (BadInput (CoinsEnded taken)) old new bytes told nothing none said 
 refused name Memory old new bytes told nothing none said = inr refl
 
 -- where there is a session, the text of its verdict is written, whichever verdict that is
-told_by : (status : Status) (old new : World) (session : Transcript) (verdict : Verdict) → IsVerdict session verdict → Answered session status old new → ToldWhole verdict status old new
-told_by status old new session verdict judged said =
-    let same : said.verdict ≡ verdict = one_verdict session said.verdict verdict said.judged judged in
+told_by : (status : Status) (old new : World) (session : Transcript) (verdict : Verdict) → IsInRange session.params → IsVerdict session verdict → Answered session status old new → ToldWhole verdict status old new
+told_by status old new session verdict range judged said =
+    let same : said.verdict ≡ verdict = one_verdict session said.verdict verdict range said.judged judged in
     record {
       status_is = said.status_is ∙ ap status_of same;
       written = said.written ∙ ap (λ (v : Verdict). gave (text v) (old.at OUTPUT)) same;
@@ -90,7 +91,7 @@ told_by status old new session verdict judged said =
 pub replay_promised : (name : List ℕ) (status : Status) (old new : World) → ReplayEnds name status old new → ReplayPromise status old new
 replay_promised name status old new said = record {
   told = λ bytes session verdict told whole judged none. elim (answered name status old new bytes session told whole none said) [
-    | inl a ↦ inl (told_by status old new session verdict judged a)
+    | inl a ↦ inl (told_by status old new session verdict whole.range judged a)
     | inr m ↦ inr m
   ];
   refused = λ bytes told nothing none. refused name status old new bytes told nothing none said;

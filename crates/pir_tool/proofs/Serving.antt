@@ -122,7 +122,7 @@ loaded_still : (name : List ℕ) (width : ℕ) (database : Database) (w v u : Wo
 loaded_still name width database w v u l same = record { read = l.read; cell = same ∙ l.cell; file = l.file; all = l.all }
 
 -- the desk is open
-module _ (o : ServeOrder) (service : Service) (w v : World) (opens : OpensDesk o.database o.width o.scheme o.workers (Ok service) w v) (touch : Touches DATABASE w v) where
+module _ (o : ServeOrder) (service : Service) (w v : World) (opens : OpensDesk o (Ok service) w v) (touch : Touches DATABASE w v) where
   abbrev database : Database
   database = service.database
 

@@ -20,8 +20,8 @@ use Rattle.block_matrix.proofs.Counts.{length-filled_up}
 use Rattle.block_decoder.specs.Agreed.{answers_of}
 use Rattle.pir_tool.specs.Stream.{drawn, key_by, stream_bytes}
 use Rattle.pir_tool.specs.Workload.{asked_block, database_of, coins_of, lies_from, honest, honest_payload, lie, payload, all_answers}
+use Rattle.pir_tool.specs.declared.orders.Workload.{Workload}
 use Rattle.pir_tool.specs.Drawn.{IsDrawn}
-use Rattle.pir_tool.specs.declared.workload.Workload.{Workload}
 use Rattle.pir_tool.specs.declared.workload.Draw.{Draw}
 use Rattle.pir_tool.proofs.StreamBytes.{length-stream_bytes, small-stream_bytes, take-stream_bytes, drop-stream_bytes}
 

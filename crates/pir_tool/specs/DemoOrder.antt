@@ -1,6 +1,7 @@
 -- What the words of `demo` order.
 use Rattle.std.specs.Prelude.{ℕ, ◌+◌, List, [], ◌∷◌, ◌++◌, map, codes, decimal, None}
 use Rattle.std.specs.List.{range_with_len}
+use Rattle.wire_frames.specs.declared.scheme.TheConstants.{SHAMIR}
 use Rattle.fetch_client.specs.declared.plan.FetchPlan.{FetchPlan}
 use Rattle.pir_words.specs.declared.asked.Asked.{Asked}
 use Rattle.pir_words.specs.declared.asked.Asked.TheVariants.{Demo}
@@ -23,9 +24,13 @@ pub record DemoOrder : Type 0 where
 abbrev pub asked_to_demonstrate : DemoOrder → Asked
 asked_to_demonstrate o = Demo o.port o.database o.rows o.width o.block o.servers o.degree o.agree o.coins
 
--- the fetch is planned in Shamir's scheme
+-- a plan in Shamir's scheme
+abbrev pub plan_with : ℕ → ℕ → ℕ → ℕ → ℕ → ℕ → FetchPlan
+plan_with rows width block servers degree agree = record { scheme = SHAMIR; t = degree; h = agree; n = servers; r = rows; s = width; block = block }
+
+-- the plan of the fetch
 abbrev pub plan_of : DemoOrder → FetchPlan
-plan_of o = record { scheme = 1; t = o.degree; h = o.agree; n = o.servers; r = o.rows; s = o.width; block = o.block }
+plan_of o = plan_with o.rows o.width o.block o.servers o.degree o.agree
 
 -- the address of child i, counted from 1: on loopback, at the port that is greater by i
 unfoldable pub address_from : ℕ → ℕ → List ℕ

@@ -2,7 +2,7 @@
 use Rattle.std.specs.Prelude.{◌≡◌, ◌*◌}
 use Rattle.pir_tool.specs.Stream.{drawn}
 use Rattle.pir_tool.specs.Workload.{database_of, coins_of, lies_from}
-use Rattle.pir_tool.specs.declared.workload.Workload.{Workload}
+use Rattle.pir_tool.specs.declared.orders.Workload.{Workload}
 use Rattle.pir_tool.specs.declared.workload.Draw.{Draw}
 
 -- the database, the coins, and the lies one after another

@@ -14,4 +14,5 @@ pub mod Outcome
 pub mod Stream
 pub mod Workload
 pub mod Drawn
+pub mod SelfrunOrder
 pub mod SelfrunOutcome

@@ -30,23 +30,6 @@ Outcome (Serve scheme database width guests listen workers) status old new = Ser
 Outcome (Selfrun seed rows width servers degree agree liars workers) status old new = SelfrunOutcome (record { seed = seed; rows = rows; width = width; servers = servers; degree = degree; agree = agree; liars = liars }) status old new
 Outcome (Demo port database rows width block servers degree agree coins) status old new = DemoOutcome (record { port = port; database = database; rows = rows; width = width; block = block; servers = servers; degree = degree; agree = agree; coins = coins }) status old new
 
--- which command it is
-abbrev pub IsToFetch : Asked → Type 0
-IsToFetch (Fetch scheme rows width block degree agree coins keep addresses) = Unit {0}
-IsToFetch asked = ⊥
-
-abbrev pub IsToServe : Asked → Type 0
-IsToServe (Serve scheme database width guests listen workers) = Unit {0}
-IsToServe asked = ⊥
-
-abbrev pub IsToSelfrun : Asked → Type 0
-IsToSelfrun (Selfrun seed rows width servers degree agree liars workers) = Unit {0}
-IsToSelfrun asked = ⊥
-
-abbrev pub IsToDemonstrate : Asked → Type 0
-IsToDemonstrate (Demo port database rows width block servers degree agree coins) = Unit {0}
-IsToDemonstrate asked = ⊥
-
 -- memory ran out before the command, which nothing was touched for; or this is what the command did
 abbrev pub Runs : Asked → Status → World → World → Type 0
 Runs asked status old new = ((status ≡ Memory) × (new ≡ old)) ⊎ Outcome asked status old new

@@ -11,18 +11,12 @@ use Rattle.block_decoder.specs.Text.{text}
 use Rattle.block_decoder.specs.Verdict.{IsDecided}
 use Rattle.block_decoder.specs.declared.verdict.Verdict.{Verdict}
 use Rattle.block_decoder.specs.declared.verdict.Verdict.TheVariants.{Listed}
-use Rattle.pir_words.specs.declared.asked.Asked.{Asked}
-use Rattle.pir_words.specs.declared.asked.Asked.TheVariants.{Selfrun}
 use Rattle.pir_tool.specs.Table.{status_of}
 use Rattle.pir_tool.specs.Told.{NoneRose}
 use Rattle.pir_tool.specs.Workload.{all_answers, asked_row, honest}
-use Rattle.pir_tool.specs.declared.workload.Workload.{Workload}
+use Rattle.pir_tool.specs.declared.orders.Workload.{Workload}
 use Rattle.pir_tool.specs.declared.status.Status.{Status}
 use Rattle.pir_tool.specs.declared.status.Status.TheVariants.{One, NoBlock, Several, TooFew, TooWeak, WriteFault, Memory}
-
--- the command that orders it, with so many workers
-abbrev pub asked_to_selfrun : Workload → ℕ → Asked
-asked_to_selfrun w workers = Selfrun w.seed w.rows w.width w.servers w.degree w.agree w.liars workers
 
 -- where h servers or more are honest: where blocks are listed, the row that is asked for is among them, and where 2 h > n + t
 -- it is listed alone

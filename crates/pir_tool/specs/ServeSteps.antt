@@ -11,6 +11,7 @@ use Rattle.block_matrix.specs.Loaded.{IsFileOf}
 use Rattle.serve_core.specs.Service.{Service}
 use Rattle.serve_core.specs.Attended.{HasReply, IsServed}
 use Rattle.pir_tool.specs.Told.{DidRise, Unread}
+use Rattle.pir_tool.specs.ServeOrder.{ServeOrder}
 use Rattle.pir_tool.specs.declared.status.Status.{Status}
 use Rattle.pir_tool.specs.declared.status.Status.TheVariants.{ReadFault, WriteFault, BadInput, DoorFault, Memory}
 use Rattle.pir_tool.specs.declared.status.Bad.TheVariants.{EmptyFile, TooBig}
@@ -43,13 +44,13 @@ pub record HasBegun (name : List ℕ) (old new : World) : Type 0 where
   pub cell : new.at DATABASE ≡ took n (named name (old.at DATABASE))
 
 -- opening a desk: the database is loaded, or the run ends with this status
-abbrev pub OpensDesk : List ℕ → ℕ → ℕ → ℕ → Result Service Status → World → World → Type 0
-OpensDesk name width scheme workers (Ok service) old new = (service.scheme ≡ scheme) × (service.workers ≡ workers) × Loaded name width service.database old new
-OpensDesk name width scheme workers (Err ReadFault) old new = Unread DATABASE name old new
-OpensDesk name width scheme workers (Err (BadInput EmptyFile)) old new = HasNoBytes name old new
-OpensDesk name width scheme workers (Err (BadInput (TooBig most))) old new = HasTooMany name width most old new
-OpensDesk name width scheme workers (Err Memory) old new = HasBegun name old new
-OpensDesk name width scheme workers (Err status) old new = ⊥
+abbrev pub OpensDesk : ServeOrder → Result Service Status → World → World → Type 0
+OpensDesk o (Ok service) old new = (service.scheme ≡ o.scheme) × (service.workers ≡ o.workers) × Loaded o.database o.width service.database old new
+OpensDesk o (Err ReadFault) old new = Unread DATABASE o.database old new
+OpensDesk o (Err (BadInput EmptyFile)) old new = HasNoBytes o.database old new
+OpensDesk o (Err (BadInput (TooBig most))) old new = HasTooMany o.database o.width most old new
+OpensDesk o (Err Memory) old new = HasBegun o.database old new
+OpensDesk o (Err status) old new = ⊥
 
 -- Door was opened at this address, and that is written
 pub record IsOpen (address : List ℕ) (old new : World) : Type 0 where

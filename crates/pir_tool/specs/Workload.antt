@@ -5,13 +5,14 @@ use Rattle.gf256.specs.Product.{product}
 use Rattle.shamir_share.specs.Query.{query}
 use Rattle.wire_frames.specs.Answer.{Answer}
 use Rattle.wire_frames.specs.Limits.{IsInRange}
+use Rattle.pir_tool.specs.declared.orders.Workload.{Workload}
+use Rattle.wire_frames.specs.declared.scheme.TheConstants.{SHAMIR}
 use Rattle.block_matrix.specs.Database.{Database, database}
 use Rattle.pir_tool.specs.Stream.{drawn}
-use Rattle.pir_tool.specs.declared.workload.Workload.{Workload}
 
 -- its numbers are those of a session of Shamir's scheme, and of the servers some may lie
 pub record IsWorkload (w : Workload) : Type 0 where
-  pub numbers : IsInRange (record { scheme = 1; t = w.degree; h = w.agree; n = w.servers; session = 0; r = w.rows; s = w.width })
+  pub numbers : IsInRange (record { scheme = SHAMIR; t = w.degree; h = w.agree; n = w.servers; session = 0; r = w.rows; s = w.width })
   pub liars : w.liars ≤ w.servers
 
 -- the stream of the seed gives the database, then the 8 bytes of a session's number, then the coins, then the lies

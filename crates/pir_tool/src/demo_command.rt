@@ -6,24 +6,29 @@ ghost use Rattle.pir_tool.specs.DemoOrder.{address_from, addresses_from, plan_of
 ghost use Rattle.pir_tool.specs.DemoOutcome.{DemoOutcome, StartsAll, StartsSome};
 
 use crate::fetch_command::fetch_block;
+use crate::orders::{Demonstration, Fetching};
 use crate::status::Status;
 use fetch_client::FetchPlan;
 use pir_ports::{Failed, Ports};
 use std::alloc::{AllocError, Global};
 use wire_frames::SHAMIR;
 
-/// What is fetched, from which children, and with which coins.
-#[derive(Drop)]
-pub(crate) struct Demonstration<'a> {
-    pub(crate) port: u16,
-    pub(crate) database: &'a str,
-    pub(crate) rows: u32,
-    pub(crate) width: u32,
-    pub(crate) block: u32,
-    pub(crate) servers: u8,
-    pub(crate) degree: u8,
-    pub(crate) agree: u8,
-    pub(crate) coins: &'a str,
+impl<'a> Demonstration<'a> {
+    /// The plan of the fetch, in Shamir's scheme.
+    fn plan(&self) -> FetchPlan
+        ensures plan { result ≡ plan_of self.now }
+        ensures ranges { IsPlan result }
+    {
+        FetchPlan {
+            scheme: SHAMIR,
+            t: self.degree,
+            h: self.agree,
+            n: self.servers,
+            r: self.rows,
+            s: self.width,
+            block: self.block,
+        }
+    }
 }
 
 /// The address of child i, counted from 1.
@@ -117,9 +122,7 @@ fn start_children<P: Ports>(ports: &mut P, lists: &[Vec<String>]) -> Result<(), 
 /// Starts servers as children, each for one guest on loopback, and fetches a block from them, as `fetch` does, with no
 /// record. All texts are made before the first child is started.
 pub(crate) fn demonstrate<P: Ports>(alloc: Global, order: &Demonstration, ports: &mut P) -> Status
-    requires ports { order.now.port + order.now.servers < 65536 }
-    requires plan { IsPlan (plan_of (record { port = order.now.port; database = order.now.database.now; rows = order.now.rows; width = order.now.width; block = order.now.block; servers = order.now.servers; degree = order.now.degree; agree = order.now.agree; coins = order.now.coins.now })) }
-    ensures { DemoOutcome (record { port = order.now.port; database = order.now.database.now; rows = order.now.rows; width = order.now.width; block = order.now.block; servers = order.now.servers; degree = order.now.degree; agree = order.now.agree; coins = order.now.coins.now }) result (P.world ports.old) (P.world ports.new) }
+    ensures { DemoOutcome order.now result (P.world ports.old) (P.world ports.new) }
 {
     let Ok(addresses) = addresses_of_children(alloc, order.port, order.servers) else {
         return Status::Memory;
@@ -130,14 +133,11 @@ pub(crate) fn demonstrate<P: Ports>(alloc: Global, order: &Demonstration, ports:
     let Ok(()) = start_children(ports, &lists) else {
         return Status::ChildFault;
     };
-    let plan = FetchPlan {
-        scheme: SHAMIR,
-        t: order.degree,
-        h: order.agree,
-        n: order.servers,
-        r: order.rows,
-        s: order.width,
-        block: order.block,
+    let fetching = Fetching {
+        plan: order.plan(),
+        addresses: &addresses,
+        coins: order.coins,
+        record_name: None,
     };
-    fetch_block(alloc, &plan, &addresses, order.coins, None, ports)
+    fetch_block(alloc, &fetching, ports)
 }

@@ -7,9 +7,9 @@ ghost use Rattle.pir_ports.specs.Moves.{Touches};
 ghost use Rattle.wire_frames.specs.Session.{Transcript};
 ghost use Rattle.fetch_client.specs.Plan.{IsPlan};
 ghost use Rattle.fetch_client.specs.Fetched.{Fetches, TouchesLinks};
-ghost use Rattle.pir_tool.specs.FetchOrder.{FetchOrder};
 ghost use Rattle.pir_tool.specs.FetchOutcome.{FetchEnds, Keeps, Reports, TouchesFetch, TouchesFiles};
 
+use crate::orders::Fetching;
 use crate::report::report;
 use crate::status::{Bad, Status};
 use block_decoder::Verdict;
@@ -42,14 +42,14 @@ fn fetch_once<C: Ledger, P: Ports>(
 /// Records the session in the file of this name, where one is given.
 fn record_session<P: Ports>(
     ports: &mut P,
-    keep: Option<&str>,
+    record_name: Option<&str>,
     session: &Session,
 ) -> Result<(), Failed>
     requires { length session.now.records ≡ session.now.params.n }
-    ensures keeps { Keeps (option_copied keep.entry) session.now result (P.world ports.old) (P.world ports.new) }
+    ensures keeps { Keeps (option_copied record_name.entry) session.now result (P.world ports.old) (P.world ports.new) }
     ensures others { Touches RECORD (P.world ports.old) (P.world ports.new) }
 {
-    let Some(name) = keep else {
+    let Some(name) = record_name else {
         return Ok(());
     };
     ports.open(Port::Record, name)?;
@@ -59,40 +59,31 @@ fn record_session<P: Ports>(
 /// Records the session, and then writes the text of its verdict.
 fn report_session<P: Ports>(
     ports: &mut P,
-    keep: Option<&str>,
+    record_name: Option<&str>,
     session: &Session,
     verdict: &Verdict,
 ) -> Status
     requires { length session.now.records ≡ session.now.params.n }
-    ensures reports { Reports (option_copied keep.entry) session.now verdict.now result (P.world ports.old) (P.world ports.new) }
+    ensures reports { Reports (option_copied record_name.entry) session.now verdict.now result (P.world ports.old) (P.world ports.new) }
     ensures others { TouchesFiles (P.world ports.old) (P.world ports.new) }
 {
-    match record_session(ports, keep, session) {
+    match record_session(ports, record_name, session) {
         Ok(()) => report(ports, verdict),
         Err(Failed) => Status::WriteFault,
     }
 }
 
-/// Fetches a block: reads the coins from the file of this name, asks every server, records the session where a name for
-/// it is given, and writes the verdict's text.
-pub(crate) fn fetch_block<P: Ports>(
-    alloc: Global,
-    plan: &FetchPlan,
-    addresses: &[String],
-    coins: &str,
-    keep: Option<&str>,
-    ports: &mut P,
-) -> Status
-    requires plan { IsPlan plan.now }
-    requires addresses { length addresses.now ≡ plan.now.n }
-    ensures ends { FetchEnds (record { plan = plan.now; addresses = map string_bytes addresses.now; coins = coins.now; keep = option_copied keep.entry }) result (P.world ports.old) (P.world ports.new) }
-    ensures others { TouchesFetch plan.now.n (P.world ports.old) (P.world ports.new) }
+/// Fetches a block: reads the coins from their file, asks every server, records the session where a file for it is named,
+/// and writes the verdict's text.
+pub(crate) fn fetch_block<P: Ports>(alloc: Global, order: &Fetching, ports: &mut P) -> Status
+    ensures ends { FetchEnds order.now result (P.world ports.old) (P.world ports.new) }
+    ensures others { TouchesFetch order.now.plan.n (P.world ports.old) (P.world ports.new) }
 {
-    let Ok(()) = ports.open(Port::Coins, coins) else {
+    let Ok(()) = ports.open(Port::Coins, order.coins) else {
         return Status::ReadFault;
     };
-    match fetch_once::<Brand, P>(alloc, Blank::new(1), plan, addresses, ports) {
-        Ok((session, verdict)) => report_session(ports, keep, &session, &verdict),
+    match fetch_once::<Brand, P>(alloc, Blank::new(1), &order.plan, order.addresses, ports) {
+        Ok((session, verdict)) => report_session(ports, order.record_name, &session, &verdict),
         Err(FetchFault::CoinsFault) => Status::ReadFault,
         Err(FetchFault::CoinsEnded { taken }) => Status::BadInput(Bad::CoinsEnded { taken }),
         Err(FetchFault::Memory) => Status::Memory,

@@ -5,6 +5,7 @@ mod demo_command;
 mod fetch_command;
 pub mod laws;
 mod obey;
+mod orders;
 mod replay_command;
 mod report;
 mod selfrun_command;

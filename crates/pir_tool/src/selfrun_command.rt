@@ -11,9 +11,10 @@ ghost use Rattle.block_decoder.specs.Text.{text};
 ghost use Rattle.pir_tool.specs.Workload.{IsWorkload};
 ghost use Rattle.pir_tool.specs.SelfrunOutcome.{IsVerdictOn, words_of_servers, words_of_decoding, numbers_line, ending, SelfrunEnds};
 
+use crate::orders::{Selfrunning, Workload};
 use crate::report::status_by;
 use crate::status::Status;
-use crate::workload::{Workload, answer_all};
+use crate::workload::answer_all;
 use block_decoder::{Verdict, bound, decide, write_verdict};
 use column_lists::plan;
 use pir_ports::{Failed, Port, Ports, write_all};
@@ -28,16 +29,13 @@ fn judge_once<C: Ledger, R: Threads + Sync>(
     rt: &R,
     alloc: Global,
     blank: Blank,
-    load: &Workload,
-    workers: u8,
+    order: &Selfrunning,
 ) -> Result<Verdict, AllocError>
     requires blank { (blank.name ≡ C.name) × (blank.parts ≡ C.parts) × (0 < blank.parts) }
-    requires numbers { IsWorkload load.now }
-    requires some { 1 ≤ workers }
-    requires few { workers ≤ 16 }
-    ensures { IfOk result (IsVerdictOn load.now) }
+    ensures { IfOk result (IsVerdictOn order.now.load) }
 {
-    let answers = answer_all(rt, alloc, load, workers)?;
+    let load = &order.load;
+    let answers = answer_all(rt, alloc, load, order.workers)?;
     let mut cols: Steps<C> = Steps::new(blank);
     decide(
         alloc,
@@ -123,20 +121,16 @@ fn write_report<P: Ports>(ports: &mut P, verdict: &Verdict, ending: &str) -> Res
 pub(crate) fn run_workload<R: Threads + Sync, P: Ports>(
     rt: &R,
     alloc: Global,
-    load: &Workload,
-    workers: u8,
+    order: &Selfrunning,
     ports: &mut P,
 ) -> Status
-    requires numbers { IsWorkload load.now }
-    requires some { 1 ≤ workers }
-    requires few { workers ≤ 16 }
-    ensures ends { SelfrunEnds load.now result (P.world ports.old) (P.world ports.new) }
+    ensures ends { SelfrunEnds order.now.load result (P.world ports.old) (P.world ports.new) }
     ensures others { Touches OUTPUT (P.world ports.old) (P.world ports.new) }
 {
-    let Ok(verdict) = judge_once::<Brand, R>(rt, alloc, Blank::new(1), load, workers) else {
+    let Ok(verdict) = judge_once::<Brand, R>(rt, alloc, Blank::new(1), order) else {
         return Status::Memory;
     };
-    let Ok(ending) = format_ending(alloc, load, &verdict) else {
+    let Ok(ending) = format_ending(alloc, &order.load, &verdict) else {
         return Status::Memory;
     };
     match write_report(ports, &verdict, &ending) {

@@ -1,12 +1,13 @@
 //! The command `serve`.
 
-ghost use Rattle.std.specs.Prelude.{◌≡◌, ◌⊎◌, ◌≤◌, ◌<◌, OnOk, OnErr};
+ghost use Rattle.std.specs.Prelude.{◌≡◌, OnOk, OnErr};
 ghost use Rattle.pir_ports.specs.Number.{DATABASE, DOOR, GUEST};
 ghost use Rattle.pir_ports.specs.Moves.{Touches};
 ghost use Rattle.pir_tool.specs.Told.{DidRise};
 ghost use Rattle.pir_tool.specs.ServeSteps.{OpensDesk, Listens, ServesGuests, RepliesToGuests, RunsDry, TouchesGuests, TouchesDoor};
 ghost use Rattle.pir_tool.specs.ServeOutcome.{ServeEnds, TouchesServer};
 
+use crate::orders::Serving;
 use crate::status::{Bad, Status};
 use block_matrix::{LoadFault, load};
 use pir_ports::{Failed, Port, Ports, write_all};
@@ -15,49 +16,26 @@ use server_product::OpenGate;
 use std::alloc::{AllocError, Global};
 use std::thread::Threads;
 
-/// What is served, where, to how many guests, and by how many workers.
-#[derive(Drop)]
-pub(crate) struct Serving<'a> {
-    pub(crate) scheme: u8,
-    pub(crate) database: &'a str,
-    pub(crate) width: u32,
-    pub(crate) guests: u32,
-    pub(crate) listen: &'a str,
-    pub(crate) workers: u8,
-}
-
 /// Loads the database, and opens the desk at which it is served.
 ///
 /// # Errors
 ///
 /// The status that the run ends with.
-fn open_desk<P: Ports>(
-    alloc: Global,
-    database: &str,
-    width: u32,
-    scheme: u8,
-    workers: u8,
-    ports: &mut P,
-) -> Result<Desk, Status>
-    requires scheme { (scheme ≡ 1) ⊎ (scheme ≡ 2) }
-    requires some_width { 1 ≤ width }
-    requires few_width { width ≤ 65536 }
-    requires some { 1 ≤ workers }
-    requires few { workers ≤ 16 }
-    ensures opens { OpensDesk database.now width scheme workers result (P.world ports.old) (P.world ports.new) }
+fn open_desk<P: Ports>(alloc: Global, order: &Serving, ports: &mut P) -> Result<Desk, Status>
+    ensures opens { OpensDesk order.now result (P.world ports.old) (P.world ports.new) }
     ensures others { Touches DATABASE (P.world ports.old) (P.world ports.new) }
 {
-    let Ok(()) = ports.open(Port::Database, database) else {
+    let Ok(()) = ports.open(Port::Database, order.database) else {
         return Err(Status::ReadFault);
     };
-    let matrix = match load(alloc, ports, width) {
+    let matrix = match load(alloc, ports, order.width) {
         Ok(matrix) => matrix,
         Err(LoadFault::EmptyFile) => return Err(Status::BadInput(Bad::EmptyFile)),
         Err(LoadFault::TooBig { limit }) => return Err(Status::BadInput(Bad::TooBig { limit })),
         Err(LoadFault::ReadFault) => return Err(Status::ReadFault),
         Err(LoadFault::Memory) => return Err(Status::Memory),
     };
-    match Desk::open(alloc, matrix, scheme, workers) {
+    match Desk::open(alloc, matrix, order.scheme, order.workers) {
         Ok(desk) => Ok(desk),
         Err(AllocError) => Err(Status::Memory),
     }
@@ -114,23 +92,10 @@ pub(crate) fn serve_file<R: Threads + Sync, P: Ports>(
     order: &Serving,
     ports: &mut P,
 ) -> Status
-    requires scheme { (order.now.scheme ≡ 1) ⊎ (order.now.scheme ≡ 2) }
-    requires some_width { 1 ≤ order.now.width }
-    requires few_width { order.now.width ≤ 65536 }
-    requires some { 1 ≤ order.now.workers }
-    requires few { order.now.workers ≤ 16 }
-    ensures ends { ServeEnds (record { scheme = order.now.scheme; database = order.now.database.now; width = order.now.width; guests = order.now.guests; listen = order.now.listen.now; workers = order.now.workers }) result (P.world ports.old) (P.world ports.new) }
+    ensures ends { ServeEnds order.now result (P.world ports.old) (P.world ports.new) }
     ensures others { TouchesServer (P.world ports.old) (P.world ports.new) }
 {
-    let opened = open_desk(
-        alloc,
-        order.database,
-        order.width,
-        order.scheme,
-        order.workers,
-        ports,
-    );
-    let mut desk = match opened {
+    let mut desk = match open_desk(alloc, order, ports) {
         Ok(desk) => desk,
         Err(status) => return status,
     };

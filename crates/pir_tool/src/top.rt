@@ -10,10 +10,10 @@ ghost use Rattle.pir_tool.specs.FetchOrder.{FetchOrder, Orders};
 ghost use Rattle.pir_tool.specs.FetchOutcome.{FetchPromise};
 ghost use Rattle.pir_tool.specs.ServeOrder.{ServeOrder, asked_to_serve};
 ghost use Rattle.pir_tool.specs.ServeOutcome.{ServePromise};
-ghost use Rattle.pir_tool.specs.SelfrunOutcome.{SelfrunPromise, asked_to_selfrun};
+ghost use Rattle.pir_tool.specs.SelfrunOrder.{SelfrunOrder, asked_to_selfrun};
+ghost use Rattle.pir_tool.specs.SelfrunOutcome.{SelfrunPromise};
 ghost use Rattle.pir_tool.specs.DemoOrder.{DemoOrder, asked_to_demonstrate};
 ghost use Rattle.pir_tool.specs.DemoOutcome.{DemoPromise};
-ghost use Rattle.pir_tool.specs.declared.workload.Workload.{Workload};
 
 use crate::obey::obey;
 use crate::status::Status;
@@ -59,9 +59,8 @@ pub fn run<R: Threads + Sync, P: Ports>(
         → FetchPromise order result (P.world ports.old) (P.world ports.new) }
     ensures serve { (order : ServeOrder) → AskFor (map string_bytes words.now) (asked_to_serve order)
         → ServePromise order result (P.world ports.old) (P.world ports.new) }
-    ensures selfrun { (load : Workload) (workers : ℕ)
-        → AskFor (map string_bytes words.now) (asked_to_selfrun load workers)
-        → SelfrunPromise load result (P.world ports.old) (P.world ports.new) }
+    ensures selfrun { (order : SelfrunOrder) → AskFor (map string_bytes words.now) (asked_to_selfrun order)
+        → SelfrunPromise order.load result (P.world ports.old) (P.world ports.new) }
     ensures demo { (order : DemoOrder) → AskFor (map string_bytes words.now) (asked_to_demonstrate order)
         → DemoPromise order result (P.world ports.old) (P.world ports.new) }
 {

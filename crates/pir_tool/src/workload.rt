@@ -6,6 +6,7 @@ ghost use Rattle.block_decoder.specs.Agreed.{answers_of};
 ghost use Rattle.pir_tool.specs.Workload.{IsWorkload, all_answers, honest_payload, payload};
 ghost use Rattle.pir_tool.specs.Drawn.{IsDrawn};
 
+use crate::orders::Workload;
 use crate::stream::draw;
 use block_matrix::Matrix;
 use server_product::{OpenGate, product_into};
@@ -15,20 +16,6 @@ use std::thread::Threads;
 
 // How many bytes of the stream are the number of the session.
 const SESSION_LEN: usize = 8;
-
-/// The numbers of a workload. All that is drawn comes from the seed: a database of so many rows, each of so many bytes; the
-/// coins of a fetch of degree `degree` from that many servers, of which `agree` have to agree; and what `liars` of the
-/// servers, the last ones, answer. The block that is asked for is the seed modulo the number of rows.
-#[derive(Drop)]
-pub(crate) struct Workload {
-    pub(crate) seed: u64,
-    pub(crate) rows: u32,
-    pub(crate) width: u32,
-    pub(crate) servers: u8,
-    pub(crate) degree: u8,
-    pub(crate) agree: u8,
-    pub(crate) liars: u8,
-}
 
 /// What is drawn for a workload.
 #[derive(Drop)]

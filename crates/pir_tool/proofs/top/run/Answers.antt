@@ -38,11 +38,11 @@ returns-in-Ok-clause-serve g c = λ order command.
     serve_promised order c.obey.result old new outcome.ends
 
 pub returns-in-Ok-clause-selfrun : goal.returns-in-Ok-clause-selfrun
-returns-in-Ok-clause-selfrun g c = λ load workers command.
+returns-in-Ok-clause-selfrun g c = λ order command.
     let old = g.P.Ports.world c.args.ports.now in
     let new = g.P.Ports.world c.obey.new.ports in
     let outcome = subst (λ a. Outcome a c.obey.result old new) (one_command _ _ _ c.in-Ok.ensures.form command) c.obey.ensures in
-    selfrun_promised load c.obey.result old new outcome.ends
+    selfrun_promised order.load c.obey.result old new outcome.ends
 
 pub returns-in-Ok-clause-demo : goal.returns-in-Ok-clause-demo
 returns-in-Ok-clause-demo g c = λ order command.

@@ -1,0 +1,133 @@
+//! What each command is told to do, with the ranges of its values.
+
+use fetch_client::FetchPlan;
+use std::marker::Model;
+
+/// What is fetched, from which servers, with which coins, and in which file the session is recorded, if it is.
+#[derive(Drop)]
+pub(crate) struct Fetching<'a, 'b> {
+    pub(crate) plan: FetchPlan,
+    pub(crate) addresses: &'a [String],
+    pub(crate) coins: &'b str,
+    pub(crate) record_name: Option<&'b str>,
+}
+
+impl<'a, 'b> Model for Fetching<'a, 'b> {
+    ghost use Rattle.std.specs.Prelude.{◌≡◌, length, map, string_bytes};
+    ghost use Rattle.std.specs.Option.{option_copied};
+    ghost use Rattle.fetch_client.specs.Plan.{IsPlan};
+    ghost use Rattle.pir_tool.specs.FetchOrder.{FetchOrder};
+
+    ghost Value = { FetchOrder };
+
+    ghost view = { λ f. record {
+      plan = f.plan;
+      addresses = map string_bytes f.addresses.now;
+      coins = f.coins.now;
+      keep = option_copied f.record_name;
+    } };
+
+    ghost invariant = { λ f. IsPlan f.plan × (length f.addresses.now ≡ f.plan.n) };
+}
+
+/// What is served, where, to how many guests, and by how many workers.
+#[derive(Drop)]
+pub(crate) struct Serving<'a> {
+    pub(crate) scheme: u8,
+    pub(crate) database: &'a str,
+    pub(crate) width: u32,
+    pub(crate) guests: u32,
+    pub(crate) listen: &'a str,
+    pub(crate) workers: u8,
+}
+
+impl<'a> Model for Serving<'a> {
+    ghost use Rattle.std.specs.Prelude.{◌≡◌, ◌⊎◌, ◌≤◌};
+    ghost use Rattle.wire_frames.specs.declared.TheConstants.{MOST_WIDTH};
+    ghost use Rattle.wire_frames.specs.declared.scheme.TheConstants.{SHAMIR, XOR};
+    ghost use Rattle.pir_tool.specs.ServeOrder.{ServeOrder};
+
+    ghost Value = { ServeOrder };
+
+    ghost view = { λ s. record {
+      scheme = s.scheme;
+      database = s.database.now;
+      width = s.width;
+      guests = s.guests;
+      listen = s.listen.now;
+      workers = s.workers;
+    } };
+
+    ghost invariant = { λ s. ((s.scheme ≡ SHAMIR) ⊎ (s.scheme ≡ XOR)) × (1 ≤ s.width)
+        × (s.width ≤ MOST_WIDTH) × (1 ≤ s.workers) × (s.workers ≤ 16) };
+}
+
+/// What is fetched, from which children, and with which coins.
+#[derive(Drop)]
+pub(crate) struct Demonstration<'a> {
+    pub(crate) port: u16,
+    pub(crate) database: &'a str,
+    pub(crate) rows: u32,
+    pub(crate) width: u32,
+    pub(crate) block: u32,
+    pub(crate) servers: u8,
+    pub(crate) degree: u8,
+    pub(crate) agree: u8,
+    pub(crate) coins: &'a str,
+}
+
+impl<'a> Model for Demonstration<'a> {
+    ghost use Rattle.std.specs.Prelude.{◌+◌, ◌<◌};
+    ghost use Rattle.fetch_client.specs.Plan.{IsPlan};
+    ghost use Rattle.pir_tool.specs.DemoOrder.{DemoOrder, plan_with};
+
+    ghost Value = { DemoOrder };
+
+    ghost view = { λ d. record {
+      port = d.port;
+      database = d.database.now;
+      rows = d.rows;
+      width = d.width;
+      block = d.block;
+      servers = d.servers;
+      degree = d.degree;
+      agree = d.agree;
+      coins = d.coins.now;
+    } };
+
+    ghost invariant = { λ d. (d.port + d.servers < 65536)
+        × IsPlan (plan_with d.rows d.width d.block d.servers d.degree d.agree) };
+}
+
+/// The numbers of a workload. All that is drawn comes from the seed: a database of so many rows, each of so many bytes; the
+/// coins of a fetch of degree `degree` from that many servers, of which `agree` have to agree; and what `liars` of the
+/// servers, the last ones, answer. The block that is asked for is the seed modulo the number of rows.
+#[derive(Drop)]
+pub(crate) struct Workload {
+    pub(crate) seed: u64,
+    pub(crate) rows: u32,
+    pub(crate) width: u32,
+    pub(crate) servers: u8,
+    pub(crate) degree: u8,
+    pub(crate) agree: u8,
+    pub(crate) liars: u8,
+}
+
+/// A workload, and how many workers sum its rows.
+#[derive(Drop)]
+pub(crate) struct Selfrunning {
+    pub(crate) load: Workload,
+    pub(crate) workers: u8,
+}
+
+impl Model for Selfrunning {
+    ghost use Rattle.std.specs.Prelude.{◌≤◌};
+    ghost use Rattle.pir_tool.specs.SelfrunOrder.{SelfrunOrder};
+    ghost use Rattle.pir_tool.specs.Workload.{IsWorkload};
+
+    ghost Value = { SelfrunOrder };
+
+    ghost view = { λ s. record { load = s.load; workers = s.workers } };
+
+    ghost invariant = { λ s. IsWorkload s.load × (1 ≤ s.workers) × (s.workers ≤ 16) };
+}
