@@ -3,6 +3,9 @@ use Rattle.std.proofs.Common.{ℕ, ◌+◌, ◌<◌, ◌≤◌, List, [], ◌∷
 use Rattle.std.specs.Int.{bytes_high_first}
 use Rattle.wire_frames.specs.declared.TheConstants.{MOST_DEGREE, MOST_SERVERS}
 use Rattle.wire_frames.specs.declared.field.Number.{Number}
+use Rattle.wire_frames.specs.declared.header.TheConstants.{VERSION}
+use Rattle.wire_frames.specs.declared.layout.TheConstants.{SESSION_MAGIC}
+use Rattle.wire_frames.specs.declared.places.TheConstants.{SESSION_MAGIC_PLACE, SESSION_VERSION_PLACE, SESSION_SCHEME_PLACE, SESSION_DEGREE_PLACE, SESSION_AGREEMENT_PLACE, SESSION_SERVERS_PLACE, SESSION_ZERO_PLACE, SESSION_NUMBER_PLACE}
 use Rattle.wire_frames.specs.declared.session.SessionParams.{SessionParams}
 use Rattle.wire_frames.specs.Field.{IsNumber, most_servers, servers_field}
 use Rattle.wire_frames.specs.Form.{Starts}
@@ -37,10 +40,10 @@ abbrev pub at_scheme : List ℕ → SessionParams → Type 0
 at_scheme = Then scheme_field (λ scheme. at_t scheme)
 
 abbrev pub at_version : List ℕ → SessionParams → Type 0
-at_version = Then (only 1 1) (λ _. at_scheme)
+at_version = Then (only 1 VERSION) (λ _. at_scheme)
 
 abbrev pub at_magic : List ℕ → SessionParams → Type 0
-at_magic = Then (only 4 1346982483) (λ _. at_version)
+at_magic = Then (only 4 SESSION_MAGIC) (λ _. at_version)
 
 -- a header is a chain of fields
 pub header_into : (bytes : List ℕ) (p : SessionParams) → IsHeader bytes p → at_magic bytes p
@@ -53,8 +56,8 @@ header_into bytes p h =
     let h_on = field_then {next = λ h. at_n p.scheme p.t h} _ p (byte_is (p.t + 1) p.h (most_servers p.scheme (p.t + 1)) (omega (arith, range.agreement)) (at_most_servers p.scheme (p.t + 1) p.h range.all_agree range.few_agree) (omega (arith, few_servers p.scheme (p.t + 1) (omega (arith, range.few_private))))) n_on in
     let t_on = field_then {next = λ t. at_h p.scheme t} _ p (byte_is 1 p.t MOST_DEGREE range.private range.few_private (lit< tt)) h_on in
     let scheme_on = field_then {next = λ scheme. at_t scheme} _ p (byte_is 1 p.scheme 2 some_scheme.0 some_scheme.1 (lit< tt)) t_on in
-    let version_on = field_then {next = λ _. at_scheme} _ p (number_is 1 1 1 1 (omega arith) (omega arith)) scheme_on in
-    let whole = field_then {next = λ _. at_version} _ p (number_is 4 1346982483 1346982483 1346982483 (lit≤ tt) (lit≤ tt)) version_on in
+    let version_on = field_then {next = λ _. at_scheme} _ p (number_is 1 VERSION VERSION VERSION (omega arith) (omega arith)) scheme_on in
+    let whole = field_then {next = λ _. at_version} _ p (number_is 4 SESSION_MAGIC SESSION_MAGIC SESSION_MAGIC (lit≤ tt) (lit≤ tt)) version_on in
     subst (λ (l : List ℕ). at_magic l p) (sym h.spelled) whole
 
 -- the numbers in a chain of fields are those of a header
@@ -75,8 +78,8 @@ header_back bytes p magic =
     let h_is = joined t.rest h.front h.rest (h.number ∷ []) _ h.split (byte_front (t.number + 1) (most_servers scheme.number (t.number + 1)) h.number h.front most_agree h.field) n_is in
     let t_is = joined scheme.rest t.front t.rest (t.number ∷ []) _ t.split (byte_front 1 MOST_DEGREE t.number t.front (lit< tt) t.field) h_is in
     let scheme_is = joined version.rest scheme.front scheme.rest (scheme.number ∷ []) _ scheme.split (byte_front 1 2 scheme.number scheme.front (lit< tt) scheme.field) t_is in
-    let version_is = joined magic.rest version.front version.rest (bytes_high_first 1 1) _ version.split (only_front 1 1 version.number version.front version.field) scheme_is in
-    let whole = joined bytes magic.front magic.rest (bytes_high_first 4 1346982483) _ magic.split (only_front 4 1346982483 magic.number magic.front magic.field) version_is in
+    let version_is = joined magic.rest version.front version.rest (bytes_high_first 1 VERSION) _ version.split (only_front 1 VERSION version.number version.front version.field) scheme_is in
+    let whole = joined bytes magic.front magic.rest (bytes_high_first 4 SESSION_MAGIC) _ magic.split (only_front 4 SESSION_MAGIC magic.number magic.front magic.field) version_is in
     subst (IsHeader bytes) shaped.same (record {
       range = record {
         scheme = a_scheme scheme.number scheme.field.least scheme.field.most;
@@ -114,30 +117,30 @@ pub some_version : Starts at_version []
 some_version = some_spelling _ _ 1 (omega arith) (omega arith) some_scheme
 
 pub some_magic : Starts at_magic []
-some_magic = some_spelling _ _ 1346982483 (lit≤ tt) (lit≤ tt) some_version
+some_magic = some_spelling _ _ SESSION_MAGIC (lit≤ tt) (lit≤ tt) some_version
 
 -- THE STEPS of a reading of a header: each field that is read leads on to the next
-pub to_version : (bytes : List ℕ) (v : ℕ) → IsNumber (only 4 1346982483) (take 4 (drop 0 bytes)) v → Leads IsHeader at_version 4 bytes
-to_version bytes v h = leads-on (is_field 4 1346982483 1346982483 (lit≤ tt) (lit≤ tt) (lit< tt)) (leads-start bytes header_into header_back) h
+pub to_version : (bytes : List ℕ) (v : ℕ) → IsNumber (only 4 SESSION_MAGIC) (take 4 (drop SESSION_MAGIC_PLACE bytes)) v → Leads IsHeader at_version SESSION_VERSION_PLACE bytes
+to_version bytes v h = leads-on (is_field 4 SESSION_MAGIC SESSION_MAGIC (lit≤ tt) (lit≤ tt) (lit< tt)) (leads-start bytes header_into header_back) h
 
-pub to_scheme : {bytes : List ℕ} {v : ℕ} → Leads IsHeader at_version 4 bytes → IsNumber (only 1 1) (take 1 (drop 4 bytes)) v → Leads IsHeader at_scheme 5 bytes
-to_scheme leads h = leads-on (is_field 1 1 1 (lit≤ tt) (lit≤ tt) (lit< tt)) leads h
+pub to_scheme : {bytes : List ℕ} {v : ℕ} → Leads IsHeader at_version SESSION_VERSION_PLACE bytes → IsNumber (only 1 VERSION) (take 1 (drop SESSION_VERSION_PLACE bytes)) v → Leads IsHeader at_scheme SESSION_SCHEME_PLACE bytes
+to_scheme leads h = leads-on (is_field 1 VERSION VERSION (lit≤ tt) (lit≤ tt) (lit< tt)) leads h
 
-pub to_t : {bytes : List ℕ} {v : ℕ} → Leads IsHeader at_scheme 5 bytes → IsNumber scheme_field (take 1 (drop 5 bytes)) v → Leads IsHeader (at_t v) 6 bytes
+pub to_t : {bytes : List ℕ} {v : ℕ} → Leads IsHeader at_scheme SESSION_SCHEME_PLACE bytes → IsNumber scheme_field (take 1 (drop SESSION_SCHEME_PLACE bytes)) v → Leads IsHeader (at_t v) SESSION_DEGREE_PLACE bytes
 to_t leads h = leads-on (is_field 1 1 2 (lit≤ tt) (lit≤ tt) (lit< tt)) leads h
 
-pub to_h : {bytes : List ℕ} {scheme v : ℕ} → Leads IsHeader (at_t scheme) 6 bytes → IsNumber (record { width = 1; least = 1; most = MOST_DEGREE }) (take 1 (drop 6 bytes)) v
-    → Leads IsHeader (at_h scheme v) 7 bytes
+pub to_h : {bytes : List ℕ} {scheme v : ℕ} → Leads IsHeader (at_t scheme) SESSION_DEGREE_PLACE bytes → IsNumber (record { width = 1; least = 1; most = MOST_DEGREE }) (take 1 (drop SESSION_DEGREE_PLACE bytes)) v
+    → Leads IsHeader (at_h scheme v) SESSION_AGREEMENT_PLACE bytes
 to_h leads h = leads-on (is_field 1 1 MOST_DEGREE (lit≤ tt) (lit≤ tt) (lit< tt)) leads h
 
-pub to_n : {bytes : List ℕ} {scheme t v : ℕ} → t ≤ MOST_DEGREE → Leads IsHeader (at_h scheme t) 7 bytes → IsNumber (servers_field scheme (t + 1)) (take 1 (drop 7 bytes)) v
-    → Leads IsHeader (at_n scheme t v) 8 bytes
+pub to_n : {bytes : List ℕ} {scheme t v : ℕ} → t ≤ MOST_DEGREE → Leads IsHeader (at_h scheme t) SESSION_AGREEMENT_PLACE bytes → IsNumber (servers_field scheme (t + 1)) (take 1 (drop SESSION_AGREEMENT_PLACE bytes)) v
+    → Leads IsHeader (at_n scheme t v) SESSION_SERVERS_PLACE bytes
 to_n {bytes} {scheme} {t} {v} few leads h = leads-on (servers_are scheme (t + 1) (omega (arith, few))) leads h
 
-pub to_zero : {bytes : List ℕ} {scheme t h v : ℕ} → h ≤ MOST_SERVERS → Leads IsHeader (at_n scheme t h) 8 bytes → IsNumber (servers_field scheme h) (take 1 (drop 8 bytes)) v
-    → Leads IsHeader (at_zero scheme t h v) 9 bytes
+pub to_zero : {bytes : List ℕ} {scheme t h v : ℕ} → h ≤ MOST_SERVERS → Leads IsHeader (at_n scheme t h) SESSION_SERVERS_PLACE bytes → IsNumber (servers_field scheme h) (take 1 (drop SESSION_SERVERS_PLACE bytes)) v
+    → Leads IsHeader (at_zero scheme t h v) SESSION_ZERO_PLACE bytes
 to_zero {bytes} {scheme} {t} {h} {v} few leads is = leads-on (servers_are scheme h few) leads is
 
-pub to_session : {bytes : List ℕ} {scheme t h n v : ℕ} → Leads IsHeader (at_zero scheme t h n) 9 bytes → IsNumber (only 3 0) (take 3 (drop 9 bytes)) v
-    → Leads IsHeader (at_session (params_of scheme t h n)) 12 bytes
+pub to_session : {bytes : List ℕ} {scheme t h n v : ℕ} → Leads IsHeader (at_zero scheme t h n) SESSION_ZERO_PLACE bytes → IsNumber (only 3 0) (take 3 (drop SESSION_ZERO_PLACE bytes)) v
+    → Leads IsHeader (at_session (params_of scheme t h n)) SESSION_NUMBER_PLACE bytes
 to_session leads h = leads-on (is_field 3 0 0 (lit≤ tt) (lit≤ tt) (lit< tt)) leads h

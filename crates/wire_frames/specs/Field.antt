@@ -1,5 +1,5 @@
 -- A field of a frame: a number of so many bytes, highest first, in a range.
-use Rattle.std.specs.Prelude.{◌≡◌, ℕ, ◌^◌, ◌/◌, ◌<◌, ◌≤◌, ◌==◌, if◌then◌else◌, List, min}
+use Rattle.std.specs.Prelude.{◌≡◌, ℕ, ◌-◌, ◌^◌, ◌/◌, ◌<◌, ◌≤◌, ◌==◌, if◌then◌else◌, List, min}
 use Rattle.std.specs.Int.{bytes_high_first}
 use Rattle.wire_frames.specs.declared.TheConstants.{MOST_SERVERS, MOST_WIDTH, MOST_CELLS}
 use Rattle.wire_frames.specs.declared.scheme.TheConstants.{XOR}
@@ -16,6 +16,10 @@ pub record IsNumber (field : Number) (bytes : List ℕ) (value : ℕ) : Type 0 w
   pub least : field.least ≤ value
   pub most : value ≤ field.most
   pub spelled : bytes ≡ bytes_high_first field.width value
+
+-- the number of a session, which any eight bytes are
+abbrev pub session_field : Number
+session_field = record { width = 8; least = 0; most = 2 ^ 64 - 1 }
 
 -- the width of so many rows
 abbrev pub width_field : ℕ → Number

@@ -13,6 +13,7 @@ mod field;
 mod head;
 mod header;
 mod layout;
+mod places;
 mod query;
 mod reader;
 mod records;
