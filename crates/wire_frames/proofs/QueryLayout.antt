@@ -11,6 +11,7 @@ use Rattle.wire_frames.specs.declared.header.TheConstants.{VERSION, QUERY_MAGIC}
 use Rattle.wire_frames.specs.declared.places.TheConstants.{FRAME_MAGIC_PLACE, FRAME_VERSION_PLACE, FRAME_SCHEME_PLACE, FRAME_INDEX_PLACE, FRAME_STATUS_PLACE, FRAME_SESSION_PLACE}
 use Rattle.wire_frames.specs.declared.query.Field.{Field}
 use Rattle.wire_frames.specs.declared.query.FrameFault.{FrameFault}
+use Rattle.wire_frames.specs.declared.scheme.TheConstants.{SHAMIR, XOR}
 use Rattle.wire_frames.specs.Field.{IsNumber, session_field}
 use Rattle.wire_frames.specs.Form.{Starts, StopsWithin}
 use Rattle.wire_frames.specs.Query.{IsQueryHeader, ReadsField, ReadsQuery, first_place, end_place}
@@ -32,7 +33,7 @@ abbrev pub at_index : ℕ → List ℕ → QueryHeader → Type 0
 at_index scheme = Then (record { width = 1; least = 1; most = 255 }) (λ index. at_zero scheme index)
 
 abbrev pub at_scheme : List ℕ → QueryHeader → Type 0
-at_scheme = Then (record { width = 1; least = 1; most = 2 }) (λ scheme. at_index scheme)
+at_scheme = Then (record { width = 1; least = SHAMIR; most = XOR }) (λ scheme. at_index scheme)
 
 abbrev pub at_version : List ℕ → QueryHeader → Type 0
 at_version = Then (only 1 VERSION) (λ _. at_scheme)
@@ -47,7 +48,7 @@ query_into bytes q h =
     let session_on = shape_into (query_of q.scheme q.index) q.session q.r q.s range.session range.shape in
     let zero_on = field_then {next = λ _. at_session (query_of q.scheme q.index)} _ q (number_is 1 0 0 0 (omega arith) (omega arith)) session_on in
     let index_on = field_then {next = λ index. at_zero q.scheme index} _ q (byte_is 1 q.index 255 range.some_index range.few_indices (lit< tt)) zero_on in
-    let scheme_on = field_then {next = λ scheme. at_index scheme} _ q (byte_is 1 q.scheme 2 range.some_scheme range.two_schemes (lit< tt)) index_on in
+    let scheme_on = field_then {next = λ scheme. at_index scheme} _ q (byte_is SHAMIR q.scheme XOR range.some_scheme range.two_schemes (lit< tt)) index_on in
     let version_on = field_then {next = λ _. at_scheme} _ q (number_is 1 VERSION VERSION VERSION (omega arith) (omega arith)) scheme_on in
     let whole = field_then {next = λ _. at_version} _ q (number_is 4 QUERY_MAGIC QUERY_MAGIC QUERY_MAGIC (lit≤ tt) (lit≤ tt)) version_on in
     subst (λ (l : List ℕ). at_magic l q) (sym h.spelled) whole
@@ -62,7 +63,7 @@ query_back bytes q magic =
     let shaped = shape_back (query_of scheme.number index.number) zero.rest q zero.goes_on in
     let zero_is = joined index.rest zero.front zero.rest (bytes_high_first 1 0) _ zero.split (only_front 1 0 zero.number zero.front zero.field) shaped.spelled in
     let index_is = joined scheme.rest index.front index.rest (index.number ∷ []) _ index.split (byte_front 1 255 index.number index.front (lit< tt) index.field) zero_is in
-    let scheme_is = joined version.rest scheme.front scheme.rest (scheme.number ∷ []) _ scheme.split (byte_front 1 2 scheme.number scheme.front (lit< tt) scheme.field) index_is in
+    let scheme_is = joined version.rest scheme.front scheme.rest (scheme.number ∷ []) _ scheme.split (byte_front SHAMIR XOR scheme.number scheme.front (lit< tt) scheme.field) index_is in
     let version_is = joined magic.rest version.front version.rest (bytes_high_first 1 VERSION) _ version.split (only_front 1 VERSION version.number version.front version.field) scheme_is in
     let whole = joined bytes magic.front magic.rest (bytes_high_first 4 QUERY_MAGIC) _ magic.split (only_front 4 QUERY_MAGIC magic.number magic.front magic.field) version_is in
     subst (IsQueryHeader bytes) shaped.same (record {
@@ -85,7 +86,7 @@ pub some_index : (scheme : ℕ) → Starts (at_index scheme) []
 some_index scheme = some_spelling _ _ 1 (omega arith) (lit≤ tt) (some_zero scheme 1)
 
 pub some_scheme : Starts at_scheme []
-some_scheme = some_spelling _ _ 1 (omega arith) (lit≤ tt) (some_index 1)
+some_scheme = some_spelling _ _ SHAMIR (omega arith) (lit≤ tt) (some_index SHAMIR)
 
 pub some_version : Starts at_version []
 some_version = some_spelling _ _ 1 (omega arith) (omega arith) some_scheme
@@ -100,9 +101,9 @@ to_version leads h = leads-on (is_field 4 QUERY_MAGIC QUERY_MAGIC (lit≤ tt) (l
 pub to_scheme : {bytes : List ℕ} {v : ℕ} → Leads IsQueryHeader at_version FRAME_VERSION_PLACE bytes → IsNumber (only 1 VERSION) (take 1 (drop FRAME_VERSION_PLACE bytes)) v → Leads IsQueryHeader at_scheme FRAME_SCHEME_PLACE bytes
 to_scheme leads h = leads-on (is_field 1 VERSION VERSION (lit≤ tt) (lit≤ tt) (lit< tt)) leads h
 
-pub to_index : {bytes : List ℕ} {v : ℕ} → Leads IsQueryHeader at_scheme FRAME_SCHEME_PLACE bytes → IsNumber (record { width = 1; least = 1; most = 2 }) (take 1 (drop FRAME_SCHEME_PLACE bytes)) v
+pub to_index : {bytes : List ℕ} {v : ℕ} → Leads IsQueryHeader at_scheme FRAME_SCHEME_PLACE bytes → IsNumber (record { width = 1; least = SHAMIR; most = XOR }) (take 1 (drop FRAME_SCHEME_PLACE bytes)) v
     → Leads IsQueryHeader (at_index v) FRAME_INDEX_PLACE bytes
-to_index leads h = leads-on (is_field 1 1 2 (lit≤ tt) (lit≤ tt) (lit< tt)) leads h
+to_index leads h = leads-on (is_field 1 SHAMIR XOR (lit≤ tt) (lit≤ tt) (lit< tt)) leads h
 
 pub to_zero : {bytes : List ℕ} {scheme v : ℕ} → Leads IsQueryHeader (at_index scheme) FRAME_INDEX_PLACE bytes → IsNumber (record { width = 1; least = 1; most = 255 }) (take 1 (drop FRAME_INDEX_PLACE bytes)) v
     → Leads IsQueryHeader (at_zero scheme v) FRAME_STATUS_PLACE bytes

@@ -25,6 +25,7 @@ ghost use Rattle.wire_frames.specs.declared.sizes.TheConstants.{SESSION_HEADER_L
 ghost use Rattle.wire_frames.specs.Field.{servers_field, width_field};
 ghost use Rattle.wire_frames.specs.Form.{Reads};
 ghost use Rattle.wire_frames.specs.Layout.{IsHeader, IsRecordHeader};
+ghost use Rattle.wire_frames.specs.Scheme.{scheme_of};
 
 use crate::field::{Number, number_at};
 use crate::header::VERSION;
@@ -34,8 +35,9 @@ use crate::places::{
     SESSION_SCHEME_PLACE, SESSION_SERVERS_PLACE, SESSION_VERSION_PLACE, SESSION_WIDTH_PLACE,
     SESSION_ZERO_PLACE,
 };
+use crate::scheme::{SHAMIR, Scheme, XOR};
 use crate::session::SessionParams;
-use crate::{MOST_CELLS, MOST_DEGREE, MOST_ROWS, MOST_SERVERS, MOST_WIDTH, SHAMIR, XOR};
+use crate::{MOST_CELLS, MOST_DEGREE, MOST_ROWS, MOST_SERVERS, MOST_WIDTH};
 
 /// `PIRS`
 pub(crate) const SESSION_MAGIC: u32 = 0x5049_5253;
@@ -124,15 +126,14 @@ pub(crate) fn width_field(rows: u64) -> Number
     Number { most, ..WIDTH }
 }
 
-/// A number of servers from the least on, and in the XOR scheme no more: there all servers have to answer, and all of them
-/// but one learn nothing.
-fn servers_field(scheme: u64, least: u64) -> Number
-    ensures { result ≡ servers_field scheme least }
+/// A number of servers from the least on, and in the XOR scheme no more: there all servers have to
+/// answer, and all of them but one learn nothing.
+fn servers_field(scheme: u8, least: u64) -> Number
+    ensures { result ≡ servers_field (scheme_of scheme) least }
 {
-    let most = if scheme == u64::from(XOR) {
-        least
-    } else {
-        SERVERS.most
+    let most = match Scheme::of(scheme) {
+        Scheme::Shamir => SERVERS.most,
+        Scheme::Xor => least,
     };
     Number {
         least,
@@ -150,8 +151,8 @@ pub(crate) fn read_header(bytes: &[u8]) -> Result<SessionParams, usize>
     number_at(bytes, SESSION_VERSION_PLACE, VERSION_FIELD)?;
     let scheme = number_at(bytes, SESSION_SCHEME_PLACE, SCHEME)?;
     let t = number_at(bytes, SESSION_DEGREE_PLACE, DEGREE)?;
-    let h = number_at(bytes, SESSION_AGREEMENT_PLACE, servers_field(scheme, t + 1))?;
-    let n = number_at(bytes, SESSION_SERVERS_PLACE, servers_field(scheme, h))?;
+    let h = number_at(bytes, SESSION_AGREEMENT_PLACE, servers_field(scheme as u8, t + 1))?;
+    let n = number_at(bytes, SESSION_SERVERS_PLACE, servers_field(scheme as u8, h))?;
     number_at(bytes, SESSION_ZERO_PLACE, ZERO)?;
     let session = number_at(bytes, SESSION_NUMBER_PLACE, SESSION)?;
     let r = number_at(bytes, SESSION_ROWS_PLACE, ROWS)?;

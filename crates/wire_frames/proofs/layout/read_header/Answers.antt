@@ -1,3 +1,4 @@
+use Rattle.wire_frames.specs.Scheme.{scheme_of}
 use Rattle.wire_frames.specs.declared.places.TheConstants.{SESSION_AGREEMENT_PLACE, SESSION_SERVERS_PLACE, SESSION_WIDTH_PLACE}
 use Rattle.wire_frames.proofs.Chains.{leads-start, leads-stop, leads-done, no_more}
 use Rattle.wire_frames.proofs.FormLemmas.{reads-exit}
@@ -36,7 +37,7 @@ returns-in_err-h c =
     let version = to_scheme magic c.in_ok-number_at-2.ensures in
     let scheme = to_t version c.in_ok-scheme.ensures in
     let t = to_h scheme c.in_ok-t.ensures in
-    reads-exit c.from_residual-in_err-h.result _ c.from_residual-in_err-h.ensures.1 (leads-stop t (λ v _ most. some_n _ _ v (few_agree c.in_ok-scheme.scheme c.in_ok-t.t v c.in_ok-t.ensures.most most)) (stop_as c.servers_field.ensures c.in_err-h.ensures))
+    reads-exit c.from_residual-in_err-h.result _ c.from_residual-in_err-h.ensures.1 (leads-stop t (λ v _ most. some_n _ _ v (few_agree (scheme_of c.in_ok-scheme.scheme) c.in_ok-t.t v c.in_ok-t.ensures.most most)) (stop_as c.servers_field.ensures c.in_err-h.ensures))
 
 pub returns-in_err-n : goal.returns-in_err-n
 returns-in_err-n c =
@@ -56,7 +57,7 @@ returns-in_err-number_at-3 c =
     let t = to_h scheme c.in_ok-t.ensures in
     let agree = number_as SESSION_AGREEMENT_PLACE c.args.bytes.now c.servers_field.ensures c.in_ok-h.ensures in
     let h = to_n c.in_ok-t.ensures.most t agree in
-    let few = few_agree c.in_ok-scheme.scheme c.in_ok-t.t c.in_ok-h.h c.in_ok-t.ensures.most agree.most in
+    let few = few_agree (scheme_of c.in_ok-scheme.scheme) c.in_ok-t.t c.in_ok-h.h c.in_ok-t.ensures.most agree.most in
     let n = to_zero few h (number_as SESSION_SERVERS_PLACE c.args.bytes.now c.servers_field-2.ensures c.in_ok-n.ensures) in
     reads-exit c.from_residual-in_err-number_at-3.result _ c.from_residual-in_err-number_at-3.ensures.1 (leads-stop n (λ _ _ _. some_session _) c.in_err-number_at-3.ensures)
 
@@ -68,7 +69,7 @@ returns-in_err-session c =
     let t = to_h scheme c.in_ok-t.ensures in
     let agree = number_as SESSION_AGREEMENT_PLACE c.args.bytes.now c.servers_field.ensures c.in_ok-h.ensures in
     let h = to_n c.in_ok-t.ensures.most t agree in
-    let few = few_agree c.in_ok-scheme.scheme c.in_ok-t.t c.in_ok-h.h c.in_ok-t.ensures.most agree.most in
+    let few = few_agree (scheme_of c.in_ok-scheme.scheme) c.in_ok-t.t c.in_ok-h.h c.in_ok-t.ensures.most agree.most in
     let n = to_zero few h (number_as SESSION_SERVERS_PLACE c.args.bytes.now c.servers_field-2.ensures c.in_ok-n.ensures) in
     let zero = to_session n c.in_ok-number_at-3.ensures in
     reads-exit c.from_residual-in_err-session.result _ c.from_residual-in_err-session.ensures.1 (leads-stop zero (λ v _ _. some_r _) c.in_err-session.ensures)
@@ -81,7 +82,7 @@ returns-in_err-r c =
     let t = to_h scheme c.in_ok-t.ensures in
     let agree = number_as SESSION_AGREEMENT_PLACE c.args.bytes.now c.servers_field.ensures c.in_ok-h.ensures in
     let h = to_n c.in_ok-t.ensures.most t agree in
-    let few = few_agree c.in_ok-scheme.scheme c.in_ok-t.t c.in_ok-h.h c.in_ok-t.ensures.most agree.most in
+    let few = few_agree (scheme_of c.in_ok-scheme.scheme) c.in_ok-t.t c.in_ok-h.h c.in_ok-t.ensures.most agree.most in
     let n = to_zero few h (number_as SESSION_SERVERS_PLACE c.args.bytes.now c.servers_field-2.ensures c.in_ok-n.ensures) in
     let zero = to_session n c.in_ok-number_at-3.ensures in
     let session = to_r _ zero c.in_ok-session.ensures in
@@ -95,7 +96,7 @@ returns-in_err-s c =
     let t = to_h scheme c.in_ok-t.ensures in
     let agree = number_as SESSION_AGREEMENT_PLACE c.args.bytes.now c.servers_field.ensures c.in_ok-h.ensures in
     let h = to_n c.in_ok-t.ensures.most t agree in
-    let few = few_agree c.in_ok-scheme.scheme c.in_ok-t.t c.in_ok-h.h c.in_ok-t.ensures.most agree.most in
+    let few = few_agree (scheme_of c.in_ok-scheme.scheme) c.in_ok-t.t c.in_ok-h.h c.in_ok-t.ensures.most agree.most in
     let n = to_zero few h (number_as SESSION_SERVERS_PLACE c.args.bytes.now c.servers_field-2.ensures c.in_ok-n.ensures) in
     let zero = to_session n c.in_ok-number_at-3.ensures in
     let session = to_r _ zero c.in_ok-session.ensures in
@@ -110,7 +111,7 @@ returns c =
     let t = to_h scheme c.in_ok-t.ensures in
     let agree = number_as SESSION_AGREEMENT_PLACE c.args.bytes.now c.servers_field.ensures c.in_ok-h.ensures in
     let h = to_n c.in_ok-t.ensures.most t agree in
-    let few = few_agree c.in_ok-scheme.scheme c.in_ok-t.t c.in_ok-h.h c.in_ok-t.ensures.most agree.most in
+    let few = few_agree (scheme_of c.in_ok-scheme.scheme) c.in_ok-t.t c.in_ok-h.h c.in_ok-t.ensures.most agree.most in
     let n = to_zero few h (number_as SESSION_SERVERS_PLACE c.args.bytes.now c.servers_field-2.ensures c.in_ok-n.ensures) in
     let zero = to_session n c.in_ok-number_at-3.ensures in
     let session = to_r _ zero c.in_ok-session.ensures in
