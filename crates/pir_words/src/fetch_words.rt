@@ -12,7 +12,7 @@ use crate::text::Texts;
 use crate::values::{kept, owned, text_at, texts_at};
 use clap::ArgMatches;
 use std::alloc::Global;
-use wire_frames::{MOST_SERVERS, SHAMIR};
+use wire_frames::{LEAST_SERVERS, MOST_SERVERS, Scheme};
 
 /// The addresses, of no more servers than there may be.
 #[tactic(auto, unfolding(crate::specs::FetchForm::addresses_in))]
@@ -34,7 +34,7 @@ fn xor_sharing_at(matches: &ArgMatches, servers: u8) -> Option<Sharing>
     ensures { result ≡ xor_sharing_in servers (given matches.now) }
 {
     let given = text_at(matches, "degree").is_some() || text_at(matches, "agree").is_some();
-    if given || servers < 2 {
+    if given || servers < LEAST_SERVERS {
         return None;
     }
     Some(Sharing {
@@ -45,13 +45,12 @@ fn xor_sharing_at(matches: &ArgMatches, servers: u8) -> Option<Sharing>
 
 /// The degree and the agreement of `servers` servers in a scheme.
 #[tactic(auto, unfolding(crate::specs::FetchForm::fetch_sharing_in))]
-fn fetch_sharing_at(matches: &ArgMatches, scheme: u8, servers: u8) -> Option<Sharing>
+fn fetch_sharing_at(matches: &ArgMatches, scheme: Scheme, servers: u8) -> Option<Sharing>
     ensures { result ≡ fetch_sharing_in scheme servers (given matches.now) }
 {
-    if scheme == SHAMIR {
-        sharing_at(matches, servers)
-    } else {
-        xor_sharing_at(matches, servers)
+    match scheme {
+        Scheme::Shamir => sharing_at(matches, servers),
+        Scheme::Xor => xor_sharing_at(matches, servers),
     }
 }
 
@@ -79,7 +78,7 @@ pub fn read_fetch(alloc: Global, matches: &ArgMatches) -> Result<Asked, WordsFau
     let keep = kept(alloc, text_at(matches, "record"))?;
     let addresses = Texts::new(alloc, addresses).map_err(|_| WordsFault::Memory)?;
     Ok(Asked::Fetch {
-        scheme,
+        scheme: scheme.number(),
         rows: sizes.rows,
         width: sizes.width,
         block,

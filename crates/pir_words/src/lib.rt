@@ -40,12 +40,6 @@ use serve_words::read_serve;
 use std::alloc::Global;
 pub use text::{Text, Texts};
 
-/// The greatest number of guests that a server takes before it ends.
-pub const MOST_CONNS: u32 = 65535;
-
-/// The greatest number of workers of a server.
-pub const MOST_WORKERS: u8 = 16;
-
 /// The least port of a demonstration, whose servers listen at those that follow it.
 pub const LEAST_PORT: u16 = 1024;
 
@@ -120,11 +114,12 @@ fn read_matches(alloc: Global, matches: &ArgMatches) -> Result<Asked, WordsFault
 /// A number is one or more ASCII decimal digits, of a value below `2^64`: `002` is good, and `+2` is not. Any such number
 /// is a seed. The numbers R of rows and S of their bytes are at least 1 and at most
 /// [`MOST_ROWS`](wire_frames::MOST_ROWS) and [`MOST_WIDTH`](wire_frames::MOST_WIDTH), their product is at most
-/// [`MOST_CELLS`](wire_frames::MOST_CELLS), and the block B is below R. There are at least 2 servers and at most
-/// [`MOST_SERVERS`](wire_frames::MOST_SERVERS), as many as `--servers` says or addresses stand. Degree and agreement of N
+/// [`MOST_CELLS`](wire_frames::MOST_CELLS), and the block B is below R. There are at least [`LEAST_SERVERS`](wire_frames::LEAST_SERVERS) servers
+/// and at most [`MOST_SERVERS`](wire_frames::MOST_SERVERS), as many as `--servers` says or addresses stand. Degree and agreement of N
 /// servers have `1 <= T < H <= N`, and T is at most [`MOST_DEGREE`](wire_frames::MOST_DEGREE). In the XOR scheme neither
 /// may stand: the degree is N - 1 and the agreement N. At most all servers are liars. The number of guests is at least 1 and
-/// at most [`MOST_CONNS`], the number W of workers at least 1 and at most [`MOST_WORKERS`], and the port P at least
+/// at most [`MOST_GUESTS`](wire_frames::MOST_GUESTS), the number W of workers at least 1 and at most
+/// [`MOST_WORKERS`](wire_frames::MOST_WORKERS), and the port P at least
 /// [`LEAST_PORT`] and at most [`MOST_PORT`].
 ///
 /// # Errors

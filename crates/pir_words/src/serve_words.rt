@@ -4,13 +4,12 @@ ghost use Rattle.pir_words.specs.Numbers.{given};
 ghost use Rattle.pir_words.specs.ServeForm.{serve_of};
 ghost use Rattle.pir_words.specs.Form.{Answers};
 
-use crate::MOST_CONNS;
 use crate::asked::{Asked, WordsFault};
 use crate::ranges::{scheme_at, workers_at};
 use crate::values::{limited_at, owned, text_at};
 use clap::ArgMatches;
 use std::alloc::Global;
-use wire_frames::MOST_WIDTH;
+use wire_frames::{MOST_GUESTS, MOST_WIDTH};
 
 /// `serve` with its values, each in its range.
 #[tactic(auto, unfolding(crate::specs::ServeForm::serve_of))]
@@ -20,7 +19,7 @@ pub fn read_serve(alloc: Global, matches: &ArgMatches) -> Result<Asked, WordsFau
     let Some(width) = limited_at(matches, "width", 1, u64::from(MOST_WIDTH)) else {
         return Err(WordsFault::Usage);
     };
-    let Some(conns) = limited_at(matches, "conns", 1, u64::from(MOST_CONNS)) else {
+    let Some(conns) = limited_at(matches, "conns", 1, u64::from(MOST_GUESTS)) else {
         return Err(WordsFault::Usage);
     };
     let Some(scheme) = scheme_at(matches) else {
@@ -38,7 +37,7 @@ pub fn read_serve(alloc: Global, matches: &ArgMatches) -> Result<Asked, WordsFau
     let database = owned(alloc, database)?;
     let listen = owned(alloc, listen)?;
     Ok(Asked::Serve {
-        scheme,
+        scheme: scheme.number(),
         database,
         width: width as u32,
         conns: conns as u32,

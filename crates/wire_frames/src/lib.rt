@@ -33,6 +33,9 @@ pub use session::{Session, SessionParams};
 pub use sizes::{FRAME_HEADER_LEN, RECORD_HEADER_LEN, SESSION_HEADER_LEN, answer_len, query_len};
 pub use write::write_session;
 
+/// The least number of servers: one alone would learn the block.
+pub const LEAST_SERVERS: u8 = 2;
+
 /// The greatest number of servers. An index is one byte, so 255 is the end; the choices of answers that
 /// a verdict tries grow with it.
 pub const MOST_SERVERS: u8 = 8;
