@@ -16,10 +16,10 @@ use Rattle.pir_words.specs.declared.asked.Asked.TheVariants.{Replay, Fetch, Serv
 use Rattle.pir_words.specs.declared.asked.WordsFault.{WordsFault}
 use Rattle.pir_words.specs.declared.asked.WordsFault.TheVariants.{Usage, Memory}
 
--- an error of `clap` is want of memory
-abbrev pub is_memory : ErrorKind → Bool
-is_memory OutOfMemory = true
-is_memory _ = false
+-- what an error of `clap` comes to: want of memory, or else the words have no form
+abbrev pub fault_by : ErrorKind → WordsFault
+fault_by OutOfMemory = Memory
+fault_by _ = Usage
 
 -- the command of this name, with what the words give to its arguments
 unfoldable pub asked_by : Text → List Row → Option Asked

@@ -59,24 +59,16 @@ fn fetch_sharing_at(matches: &ArgMatches, scheme: Scheme, servers: u8) -> Option
 pub fn read_fetch(alloc: Global, matches: &ArgMatches) -> Result<Asked, WordsFault>
     ensures { Answers (fetch_of (given matches.now)) result }
 {
-    let Some(sizes) = sizes_at(matches) else {
-        return Err(WordsFault::Usage);
-    };
-    let Some(block) = block_at(matches, sizes.rows) else {
-        return Err(WordsFault::Usage);
-    };
-    let Some(scheme) = scheme_at(matches) else {
-        return Err(WordsFault::Usage);
-    };
-    let Some(addresses) = addresses_at(matches) else {
-        return Err(WordsFault::Usage);
-    };
-    let Some(sharing) = fetch_sharing_at(matches, scheme, addresses.len() as u8) else {
-        return Err(WordsFault::Usage);
-    };
+    let sizes = sizes_at(matches).ok_or(WordsFault::Usage)?;
+    let block = block_at(matches, sizes.rows).ok_or(WordsFault::Usage)?;
+    let scheme = scheme_at(matches).ok_or(WordsFault::Usage)?;
+    let addresses = addresses_at(matches).ok_or(WordsFault::Usage)?;
+    let sharing = fetch_sharing_at(matches, scheme, addresses.len() as u8).ok_or(
+        WordsFault::Usage,
+    )?;
     let coins = owned(alloc, coins_at(matches))?;
     let keep = kept(alloc, text_at(matches, "record"))?;
-    let addresses = Texts::new(alloc, addresses).map_err(|_| WordsFault::Memory)?;
+    let addresses = Texts::new(alloc, addresses)?;
     Ok(Asked::Fetch {
         scheme: scheme.number(),
         rows: sizes.rows,

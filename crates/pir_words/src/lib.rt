@@ -11,11 +11,11 @@
 //! in `command`, a form in `specs/` and a module that reads it, and an arm of `read_command`.
 #![tactic(auto)]
 
-ghost use Rattle.std.specs.Prelude.{◌≡◌, Bool, true, false, IfErr, IfOk, if◌then◌else◌, map, string_bytes};
-ghost use Rattle.clap.specs.Words.{kind_of, subcommand_of, subcommand_rows_of};
+ghost use Rattle.std.specs.Prelude.{◌≡◌, true, false, IfErr, IfOk, map, string_bytes};
+ghost use Rattle.clap.specs.Words.{subcommand_of, subcommand_rows_of};
 ghost use Rattle.pir_words.specs.Numbers.{given};
 ghost use Rattle.pir_words.specs.Command.{pir};
-ghost use Rattle.pir_words.specs.Form.{Answers, InRange, are_taken, asked_by, asked_in, asked_of, is_memory};
+ghost use Rattle.pir_words.specs.Form.{Answers, InRange, are_taken, asked_by, asked_in, asked_of};
 
 mod asked;
 mod command;
@@ -29,8 +29,7 @@ mod text;
 mod values;
 
 pub use asked::{Asked, WordsFault};
-use clap::error::ErrorKind;
-use clap::{ArgMatches, Error};
+use clap::ArgMatches;
 use command::pir_command;
 use demo_words::read_demo;
 use fetch_words::read_fetch;
@@ -46,30 +45,14 @@ pub const LEAST_PORT: u16 = 1024;
 /// The greatest port of a demonstration.
 pub const MOST_PORT: u16 = 65000;
 
-/// What a parse that doesn't end with matches comes to.
-fn fault_by(error: Error) -> WordsFault
-    ensures { result ≡ (if is_memory (kind_of error) then WordsFault.Memory else WordsFault.Usage) }
-{
-    match error.kind() {
-        ErrorKind::OutOfMemory => WordsFault::Memory,
-        _ => WordsFault::Usage,
-    }
-}
-
 /// The matches of the words, where they have some.
 fn parse<'a>(alloc: Global, words: &'a [String]) -> Result<ArgMatches<'a>, WordsFault>
     ensures taken { IfOk result (λ m. are_taken (map string_bytes words.entry.now) ≡ true) }
     ensures entered { IfOk result (λ m. subcommand_rows_of m ≡ subcommand_of pir (map string_bytes words.entry.now)) }
     ensures err { IfErr result (λ e. e ≡ WordsFault.Usage → are_taken (map string_bytes words.entry.now) ≡ false) }
 {
-    let command = match pir_command(alloc) {
-        Ok(command) => command,
-        Err(_) => return Err(WordsFault::Memory),
-    };
-    match command.try_get_matches_from(words) {
-        Ok(matches) => Ok(matches),
-        Err(error) => Err(fault_by(error)),
-    }
+    let command = pir_command(alloc)?;
+    Ok(command.try_get_matches_from(words)?)
 }
 
 /// The command of this name, with the values that the matches have for its arguments.
@@ -137,8 +120,6 @@ pub fn read_words(alloc: Global, words: &[String]) -> Result<Asked, WordsFault>
     ensures form { Answers (asked_of (map string_bytes words.now)) result }
     ensures ranges { IfOk result InRange }
 {
-    match parse(alloc, words) {
-        Ok(matches) => read_matches(alloc, &matches),
-        Err(fault) => Err(fault),
-    }
+    let matches = parse(alloc, words)?;
+    read_matches(alloc, &matches)
 }

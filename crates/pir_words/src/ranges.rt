@@ -7,7 +7,8 @@ ghost use Rattle.pir_words.specs.Ranges.{block_in, coins_in, scheme_in, scheme_n
 use crate::values::{limited_at, number_at, number_of, text_at};
 use clap::ArgMatches;
 use wire_frames::{
-    LEAST_SERVERS, MOST_CELLS, MOST_DEGREE, MOST_ROWS, MOST_SERVERS, MOST_WIDTH, MOST_WORKERS, Scheme,
+    LEAST_SERVERS, MOST_CELLS, MOST_DEGREE, MOST_ROWS, MOST_SERVERS, MOST_WIDTH, MOST_WORKERS,
+    Scheme,
 };
 
 /// The sizes of a database.
@@ -79,7 +80,12 @@ pub fn scheme_at(matches: &ArgMatches) -> Option<Scheme>
 pub fn servers_at(matches: &ArgMatches) -> Option<u8>
     ensures { result ≡ servers_in (given matches.now) }
 {
-    let servers = limited_at(matches, "servers", u64::from(LEAST_SERVERS), u64::from(MOST_SERVERS))?;
+    let servers = limited_at(
+        matches,
+        "servers",
+        u64::from(LEAST_SERVERS),
+        u64::from(MOST_SERVERS),
+    )?;
     Some(servers as u8)
 }
 

@@ -14,9 +14,7 @@ use std::alloc::Global;
 pub fn read_replay(alloc: Global, matches: &ArgMatches) -> Result<Asked, WordsFault>
     ensures { Answers (replay_of (given matches.now)) result }
 {
-    let Some(file) = text_at(matches, "file") else {
-        return Err(WordsFault::Usage);
-    };
+    let file = text_at(matches, "file").ok_or(WordsFault::Usage)?;
     let file = owned(alloc, file)?;
     Ok(Asked::Replay { file })
 }

@@ -74,7 +74,7 @@ pub fn owned(alloc: Global, text: &str) -> Result<Text, WordsFault>
     ensures ok { IfOk result (λ t. t ≡ text.now) }
     ensures err { IfErr result (λ e. e ≡ WordsFault.Memory) }
 {
-    Text::new(alloc, text).map_err(|_| WordsFault::Memory)
+    Ok(Text::new(alloc, text)?)
 }
 
 /// A copy of a word that may be left out.
