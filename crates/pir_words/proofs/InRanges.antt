@@ -95,20 +95,20 @@ serve_range : (m : List Row) (asked : Asked) → serve_of m ≡ Some asked → I
 unfolding serve_of
 serve_range m asked e =
     let width = value_of (limited (codes "width") 1 MOST_WIDTH m) _ asked e in
-    let conns = value_of (limited (codes "conns") 1 MOST_GUESTS m) _ asked width.2 in
-    let scheme = value_of (scheme_in m) _ asked conns.2 in
+    let guests = value_of (limited (codes "conns") 1 MOST_GUESTS m) _ asked width.2 in
+    let scheme = value_of (scheme_in m) _ asked guests.2 in
     let workers = value_of (workers_in m) _ asked scheme.2 in
     let database = value_of (first_of (codes "database") m) _ asked workers.2 in
     let listen = value_of (first_of (codes "listen") m) _ asked database.2 in
     let s = limited_range _ _ _ m _ width.1 in
-    let n = limited_range _ _ _ m _ conns.1 in
+    let n = limited_range _ _ _ m _ guests.1 in
     let w = workers_range m workers.0 workers.1 in
     subst InRange (some_is _ asked listen.2) (record {
       known = scheme_range scheme.0;
       some_bytes = s.0;
       few_bytes = s.1;
-      some_conns = n.0;
-      few_conns = n.1;
+      some_guests = n.0;
+      few_guests = n.1;
       some_workers = w.0;
       few_workers = w.1;
     })

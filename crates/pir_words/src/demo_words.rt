@@ -2,7 +2,7 @@
 
 ghost use Rattle.pir_words.specs.Numbers.{given};
 ghost use Rattle.pir_words.specs.DemoForm.{demo_of};
-ghost use Rattle.pir_words.specs.Form.{Answers};
+ghost use Rattle.pir_words.specs.Form.{IsReadAs};
 
 use crate::asked::{Asked, WordsFault};
 use crate::ranges::{block_at, coins_at, servers_at, sharing_at, sizes_at};
@@ -14,7 +14,7 @@ use std::alloc::Global;
 /// `demo` with its values, each in its range.
 #[tactic(auto, unfolding(crate::specs::DemoForm::demo_of))]
 pub fn read_demo(alloc: Global, matches: &ArgMatches) -> Result<Asked, WordsFault>
-    ensures { Answers (demo_of (given matches.now)) result }
+    ensures { IsReadAs (demo_of (given matches.now)) result }
 {
     let port = limited_at(matches, "port", u64::from(LEAST_PORT), u64::from(MOST_PORT)).ok_or(
         WordsFault::Usage,

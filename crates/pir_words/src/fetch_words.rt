@@ -4,12 +4,12 @@ ghost use Rattle.std.specs.Prelude.{◌≡◌, ◌≤◌, IfSome, length, map, o
 ghost use Rattle.wire_frames.specs.declared.TheConstants.{MOST_SERVERS};
 ghost use Rattle.pir_words.specs.Numbers.{given};
 ghost use Rattle.pir_words.specs.FetchForm.{addresses_in, fetch_of, fetch_sharing_in, xor_sharing_in};
-ghost use Rattle.pir_words.specs.Form.{Answers};
+ghost use Rattle.pir_words.specs.Form.{IsReadAs};
 
 use crate::asked::{Asked, WordsFault};
 use crate::ranges::{Sharing, block_at, coins_at, scheme_at, sharing_at, sizes_at};
 use crate::text::Texts;
-use crate::values::{kept, owned, text_at, texts_at};
+use crate::values::{owned, owned_if_given, text_at, texts_at};
 use clap::ArgMatches;
 use std::alloc::Global;
 use wire_frames::{LEAST_SERVERS, MOST_SERVERS, Scheme};
@@ -57,7 +57,7 @@ fn fetch_sharing_at(matches: &ArgMatches, scheme: Scheme, servers: u8) -> Option
 /// `fetch` with its values, each in its range.
 #[tactic(auto, unfolding(crate::specs::FetchForm::fetch_of))]
 pub fn read_fetch(alloc: Global, matches: &ArgMatches) -> Result<Asked, WordsFault>
-    ensures { Answers (fetch_of (given matches.now)) result }
+    ensures { IsReadAs (fetch_of (given matches.now)) result }
 {
     let sizes = sizes_at(matches).ok_or(WordsFault::Usage)?;
     let block = block_at(matches, sizes.rows).ok_or(WordsFault::Usage)?;
@@ -67,7 +67,7 @@ pub fn read_fetch(alloc: Global, matches: &ArgMatches) -> Result<Asked, WordsFau
         WordsFault::Usage,
     )?;
     let coins = owned(alloc, coins_at(matches))?;
-    let keep = kept(alloc, text_at(matches, "record"))?;
+    let keep = owned_if_given(alloc, text_at(matches, "record"))?;
     let addresses = Texts::new(alloc, addresses)?;
     Ok(Asked::Fetch {
         scheme: scheme.number(),

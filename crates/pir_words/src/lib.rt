@@ -15,7 +15,7 @@ ghost use Rattle.std.specs.Prelude.{◌≡◌, true, false, IfErr, IfOk, map, st
 ghost use Rattle.clap.specs.Words.{subcommand_of, subcommand_rows_of};
 ghost use Rattle.pir_words.specs.Numbers.{given};
 ghost use Rattle.pir_words.specs.Command.{pir};
-ghost use Rattle.pir_words.specs.Form.{Answers, InRange, are_taken, asked_by, asked_in, asked_of};
+ghost use Rattle.pir_words.specs.Form.{IsReadAs, InRange, are_taken, asked_by, asked_in, asked_of};
 
 mod asked;
 mod command;
@@ -58,7 +58,7 @@ fn parse<'a>(alloc: Global, words: &'a [String]) -> Result<ArgMatches<'a>, Words
 /// The command of this name, with the values that the matches have for its arguments.
 #[tactic(auto, unfolding(crate::specs::Form::asked_by))]
 fn read_command(alloc: Global, name: &str, matches: &ArgMatches) -> Result<Asked, WordsFault>
-    ensures { Answers (asked_by name.now (given matches.now)) result }
+    ensures { IsReadAs (asked_by name.now (given matches.now)) result }
 {
     match name {
         "replay" => read_replay(alloc, matches),
@@ -72,7 +72,7 @@ fn read_command(alloc: Global, name: &str, matches: &ArgMatches) -> Result<Asked
 
 /// The command that the matches ask for.
 fn read_matches(alloc: Global, matches: &ArgMatches) -> Result<Asked, WordsFault>
-    ensures { Answers (asked_in (subcommand_rows_of matches.now)) result }
+    ensures { IsReadAs (asked_in (subcommand_rows_of matches.now)) result }
 {
     match matches.subcommand() {
         Some((name, inner)) => read_command(alloc, name, inner),
@@ -117,7 +117,7 @@ fn read_matches(alloc: Global, matches: &ArgMatches) -> Result<Asked, WordsFault
 /// assert_eq!(file.as_str(), "-");
 /// ```
 pub fn read_words(alloc: Global, words: &[String]) -> Result<Asked, WordsFault>
-    ensures form { Answers (asked_of (map string_bytes words.now)) result }
+    ensures form { IsReadAs (asked_of (map string_bytes words.now)) result }
     ensures ranges { IfOk result InRange }
 {
     let matches = parse(alloc, words)?;

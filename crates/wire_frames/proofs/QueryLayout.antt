@@ -17,7 +17,7 @@ use Rattle.wire_frames.specs.Form.{Starts, StopsWithin}
 use Rattle.wire_frames.specs.Query.{IsQueryHeader, ReadsField, ReadsQuery, first_place, end_place}
 use Rattle.wire_frames.proofs.Chains.{Then, Leads, field_then, leads-start, leads-on, leads-stop, some_spelling}
 use Rattle.wire_frames.proofs.Digits.{IsByte, number, number_below, digits-number}
-use Rattle.wire_frames.proofs.FormLemmas.{starts-whole}
+use Rattle.wire_frames.proofs.Prefixes.{starts-whole}
 use Rattle.wire_frames.proofs.ShapeFields.{at_session, shape_into, shape_back, some_session}
 use Rattle.wire_frames.proofs.Spellings.{only, byte_is, number_is, byte_front, only_front, joined, is_field}
 

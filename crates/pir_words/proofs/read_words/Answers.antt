@@ -2,14 +2,14 @@ use Rattle.std.proofs.Common.{◌∙◌, List, map, string_bytes, sym}
 use Rattle.std.proofs.lemmas.Result.{err_from_is_err_and}
 use Rattle.std.specs.Prelude.{Result, Ok, Err, IfOk}
 use Rattle.clap.specs.Words.{Text, subcommand_rows_of}
-use Rattle.pir_words.specs.Form.{Answers, InRange, asked_of}
+use Rattle.pir_words.specs.Form.{IsReadAs, InRange, asked_of}
 use Rattle.pir_words.specs.declared.asked.Asked.{Asked}
 use Rattle.pir_words.specs.declared.asked.WordsFault.{WordsFault}
 use Rattle.pir_words.proofs.Entered.{taken, untaken}
 use Rattle.pir_words.proofs.InRanges.{asked_range}
 use Rattle.pir_words.proofs.read_words.Goals as goal
 
-in_range : (words : List Text) (r : Result Asked WordsFault) → Answers (asked_of words) r → IfOk r InRange
+in_range : (words : List Text) (r : Result Asked WordsFault) → IsReadAs (asked_of words) r → IfOk r InRange
 in_range words (Ok asked) h = asked_range words asked h
 in_range words (Err fault) h = tt
 

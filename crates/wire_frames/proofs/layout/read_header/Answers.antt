@@ -1,7 +1,7 @@
 use Rattle.wire_frames.specs.Scheme.{scheme_of}
 use Rattle.wire_frames.specs.declared.places.TheConstants.{SESSION_AGREEMENT_PLACE, SESSION_SERVERS_PLACE, SESSION_WIDTH_PLACE}
 use Rattle.wire_frames.proofs.Chains.{leads-start, leads-stop, leads-done, no_more}
-use Rattle.wire_frames.proofs.FormLemmas.{reads-exit}
+use Rattle.wire_frames.proofs.Prefixes.{reads-exit}
 use Rattle.wire_frames.proofs.Servers.{few_agree}
 use Rattle.wire_frames.proofs.SessionLayout.{header_into, header_back, to_version, to_scheme, to_t, to_h, to_n, to_zero, to_session, some_version, some_scheme, some_t, some_h, some_n, some_zero}
 use Rattle.wire_frames.proofs.ShapeFields.{some_session, some_r, some_s, to_r, to_s, to_end}
