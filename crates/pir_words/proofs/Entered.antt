@@ -4,7 +4,7 @@ use Rattle.std.specs.Prelude.{Result, Err, option_map}
 use Rattle.std.proofs.lemmas.Bool.{cond-false, cond-true}
 use Rattle.clap.specs.Words.{Row, Text, subcommand_of}
 use Rattle.pir_words.specs.Command.{pir}
-use Rattle.pir_words.specs.Form.{Answers, are_taken, asked_by, asked_in, asked_of}
+use Rattle.pir_words.specs.Form.{IsReadAs, are_taken, asked_by, asked_in, asked_of}
 use Rattle.pir_words.specs.declared.asked.Asked.{Asked}
 use Rattle.pir_words.specs.declared.asked.WordsFault.{WordsFault}
 use Rattle.pir_words.specs.declared.asked.WordsFault.TheVariants.{Usage, Memory}
@@ -25,14 +25,14 @@ module _ {X : Type 0} where
   asked_none (Some x) f e = cc
 
 -- words that `clap` doesn't take have no form
-pub untaken : (words : List Text) (fault : WordsFault) → (fault ≡ Usage → are_taken words ≡ false) → Answers (asked_of words) (Err fault)
+pub untaken : (words : List Text) (fault : WordsFault) → (fault ≡ Usage → are_taken words ≡ false) → IsReadAs (asked_of words) (Err fault)
 unfolding asked_of
 untaken words Usage h = cond-false (are_taken words) _ _ (h refl)
 untaken words Memory h = tt
 
 -- words that it takes ask for the command that it enters
 pub taken : (words : List Text) (entered : Option (Text × List Row)) (r : Result Asked WordsFault) → are_taken words ≡ true
-    → entered ≡ subcommand_of pir words → Answers (asked_in entered) r → Answers (asked_of words) r
+    → entered ≡ subcommand_of pir words → IsReadAs (asked_in entered) r → IsReadAs (asked_of words) r
 unfolding asked_of
 taken words entered r is_taken same h =
-    subst (λ o. Answers o r) (ap asked_in same ∙ sym (cond-true (are_taken words) _ _ is_taken)) h
+    subst (λ o. IsReadAs o r) (ap asked_in same ∙ sym (cond-true (are_taken words) _ _ is_taken)) h

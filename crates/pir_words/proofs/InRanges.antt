@@ -5,7 +5,11 @@ use Rattle.std.specs.Str.{bytes_eq}
 use Rattle.std.proofs.lemmas.Bool.{leb-true}
 use Rattle.clap.specs.Words.{Row, Text, all_of, first_of, subcommand_of}
 use Rattle.wire_frames.specs.Limits.{IsShape}
-use Rattle.wire_frames.specs.declared.TheConstants.{MOST_SERVERS, MOST_WIDTH}
+use Rattle.wire_frames.specs.declared.TheConstants.{LEAST_SERVERS, MOST_GUESTS, MOST_SERVERS, MOST_WIDTH}
+use Rattle.wire_frames.specs.declared.scheme.Scheme.{Scheme}
+use Rattle.wire_frames.specs.declared.scheme.Scheme.TheVariants.{Shamir, Xor}
+use Rattle.wire_frames.specs.declared.scheme.TheConstants.{XOR}
+use Rattle.wire_frames.specs.Scheme.{number_of}
 use Rattle.pir_words.specs.Numbers.{limited, number_in}
 use Rattle.pir_words.specs.Ranges.{FitsSession, block_in, scheme_in, servers_in, sharing_in, sizes_in, workers_in}
 use Rattle.pir_words.specs.ReplayForm.{replay_of}
@@ -15,7 +19,7 @@ use Rattle.pir_words.specs.SelfrunForm.{selfrun_of}
 use Rattle.pir_words.specs.DemoForm.{demo_of}
 use Rattle.pir_words.specs.Form.{InRange, are_taken, asked_by, asked_in, asked_of}
 use Rattle.pir_words.specs.Command.{pir}
-use Rattle.pir_words.specs.declared.TheConstants.{LEAST_PORT, MOST_CONNS, MOST_PORT}
+use Rattle.pir_words.specs.declared.TheConstants.{LEAST_PORT, MOST_PORT}
 use Rattle.pir_words.specs.declared.ranges.Sharing.{Sharing}
 use Rattle.pir_words.specs.declared.asked.Asked.{Asked}
 use Rattle.pir_words.specs.declared.asked.Asked.TheVariants.{Replay}
@@ -23,15 +27,15 @@ use Rattle.pir_words.proofs.Chains.{some_is, test_of, value_of}
 use Rattle.pir_words.proofs.ValuesInRange.{block_range, limited_range, number_range, scheme_range, servers_range, shamir_fits, sharing_range, sizes_range, workers_range}
 
 -- all of n servers, and all but one
-xor_range : (n : ℕ) (m : List Row) (sharing : Sharing) → xor_sharing_in n m ≡ Some sharing → (2 ≤ n) × (record { degree = n - 1; agree = n } ≡ sharing)
+xor_range : (n : ℕ) (m : List Row) (sharing : Sharing) → xor_sharing_in n m ≡ Some sharing → (LEAST_SERVERS ≤ n) × (record { degree = n - 1; agree = n } ≡ sharing)
 unfolding xor_sharing_in
 xor_range n m sharing e =
     let none = test_of (is_none (first_of (codes "degree") m) && is_none (first_of (codes "agree") m)) _ sharing e in
-    let two = test_of (nat_le 2 n) _ sharing none.1 in
-    (leb-true 2 n two.0, some_is _ sharing two.1)
+    let two = test_of (nat_le LEAST_SERVERS n) _ sharing none.1 in
+    (leb-true LEAST_SERVERS n two.0, some_is _ sharing two.1)
 
 -- with which a session of the XOR scheme may be
-xor_fits : (r s n : ℕ) → IsShape r s → 2 ≤ n → n ≤ MOST_SERVERS → FitsSession 2 (n - 1) n n r s
+xor_fits : (r s n : ℕ) → IsShape r s → LEAST_SERVERS ≤ n → n ≤ MOST_SERVERS → FitsSession XOR (n - 1) n n r s
 xor_fits r s n shape two few = record {
   scheme = inr refl;
   private = omega (arith, two);
@@ -47,15 +51,13 @@ xor_fits r s n shape two few = record {
 }
 
 -- a session may have the sharing of a fetch
-fetch_fits : (scheme n r s : ℕ) (m : List Row) (sharing : Sharing) → (scheme ≡ 1) ⊎ (scheme ≡ 2) → IsShape r s → n ≤ MOST_SERVERS → fetch_sharing_in scheme n m ≡ Some sharing
-    → FitsSession scheme sharing.degree sharing.agree n r s
+fetch_fits : (scheme : Scheme) (n r s : ℕ) (m : List Row) (sharing : Sharing) → IsShape r s → n ≤ MOST_SERVERS
+    → fetch_sharing_in scheme n m ≡ Some sharing → FitsSession (number_of scheme) sharing.degree sharing.agree n r s
 unfolding fetch_sharing_in
-fetch_fits scheme n r s m sharing (inl one) shape few e =
-    subst (λ k. fetch_sharing_in k n m ≡ Some sharing → FitsSession k sharing.degree sharing.agree n r s) (sym one)
-    (λ h. shamir_fits r s sharing.degree sharing.agree n shape (sharing_range n m sharing h) few) e
-fetch_fits scheme n r s m sharing (inr two) shape few e =
-    subst (λ k. fetch_sharing_in k n m ≡ Some sharing → FitsSession k sharing.degree sharing.agree n r s) (sym two)
-    (λ h. let all = xor_range n m sharing h in subst (λ (z : Sharing). FitsSession 2 z.degree z.agree n r s) all.1 (xor_fits r s n shape all.0 few)) e
+fetch_fits Shamir n r s m sharing shape few e = shamir_fits r s sharing.degree sharing.agree n shape (sharing_range n m sharing e) few
+fetch_fits Xor n r s m sharing shape few e =
+    let all = xor_range n m sharing e in
+    subst (λ (z : Sharing). FitsSession XOR z.degree z.agree n r s) all.1 (xor_fits r s n shape all.0 few)
 
 -- there are no more addresses than there may be
 pub addresses_range : (m : List Row) (addresses : List Text) → addresses_in m ≡ Some addresses → length addresses ≤ MOST_SERVERS
@@ -83,7 +85,7 @@ fetch_range m asked e =
     let n = length addresses.0 in
     let sharing = value_of (fetch_sharing_in scheme.0 n m) _ asked addresses.2 in
     subst InRange (some_is _ asked sharing.2) (record {
-      numbers = fetch_fits scheme.0 n sizes.0.rows sizes.0.width m sharing.0 (scheme_range m scheme.0 scheme.1)
+      numbers = fetch_fits scheme.0 n sizes.0.rows sizes.0.width m sharing.0
           (sizes_range m sizes.0 sizes.1) (addresses_range m addresses.0 addresses.1) sharing.1;
       block = block_range sizes.0.rows m block.0 block.1;
     })
@@ -93,20 +95,20 @@ serve_range : (m : List Row) (asked : Asked) → serve_of m ≡ Some asked → I
 unfolding serve_of
 serve_range m asked e =
     let width = value_of (limited (codes "width") 1 MOST_WIDTH m) _ asked e in
-    let conns = value_of (limited (codes "conns") 1 MOST_CONNS m) _ asked width.2 in
-    let scheme = value_of (scheme_in m) _ asked conns.2 in
+    let guests = value_of (limited (codes "conns") 1 MOST_GUESTS m) _ asked width.2 in
+    let scheme = value_of (scheme_in m) _ asked guests.2 in
     let workers = value_of (workers_in m) _ asked scheme.2 in
     let database = value_of (first_of (codes "database") m) _ asked workers.2 in
     let listen = value_of (first_of (codes "listen") m) _ asked database.2 in
     let s = limited_range _ _ _ m _ width.1 in
-    let n = limited_range _ _ _ m _ conns.1 in
+    let n = limited_range _ _ _ m _ guests.1 in
     let w = workers_range m workers.0 workers.1 in
     subst InRange (some_is _ asked listen.2) (record {
-      known = scheme_range m scheme.0 scheme.1;
+      known = scheme_range scheme.0;
       some_bytes = s.0;
       few_bytes = s.1;
-      some_conns = n.0;
-      few_conns = n.1;
+      some_guests = n.0;
+      few_guests = n.1;
       some_workers = w.0;
       few_workers = w.1;
     })

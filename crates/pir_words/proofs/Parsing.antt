@@ -1,5 +1,5 @@
 -- What a parse by `clap` says.
-use Rattle.std.proofs.Common.{◌≡◌, ◌∙◌, ◌⊎◌, inl, inr, true, false, [], ◌∷◌, length, cond, refl, sym, ap, arith}
+use Rattle.std.proofs.Common.{◌≡◌, ◌∙◌, ◌⊎◌, inl, inr, true, false, [], ◌∷◌, length, refl, sym, ap, arith}
 use Rattle.std.specs.Prelude.{◌==◌}
 use Rattle.std.proofs.lemmas.Bool.{ne_eqb}
 use Rattle.clap.specs.Words.{IsAmong, Kinds, is_simple, is_simple_and_free}
@@ -7,7 +7,7 @@ use Rattle.clap.specs.declared.error.kind.ErrorKind.{ErrorKind}
 use Rattle.clap.specs.declared.error.kind.ErrorKind.TheVariants.{OutOfMemory}
 use Rattle.clap.proofs.OnLiterals.{clap_on_literals}
 use Rattle.pir_words.specs.Command.{demo_app, fetch_app, pir, replay_app, selfrun_app, serve_app}
-use Rattle.pir_words.specs.Form.{is_memory}
+use Rattle.pir_words.specs.Form.{fault_by}
 use Rattle.pir_words.specs.declared.asked.WordsFault.{WordsFault}
 use Rattle.pir_words.specs.declared.asked.WordsFault.TheVariants.{Usage, Memory}
 
@@ -22,10 +22,10 @@ unfolding clap_on_literals pir replay_app fetch_app serve_app selfrun_app demo_a
 pir_is_free = refl
 
 -- an error that is no want of memory has a kind
-pub some_kind : (k : ErrorKind) (kinds : Kinds) (f : WordsFault) → f ≡ cond (is_memory k) Memory Usage → f ≡ Usage
+pub some_kind : (k : ErrorKind) (kinds : Kinds) (f : WordsFault) → f ≡ fault_by k → f ≡ Usage
     → (k ≡ OutOfMemory) ⊎ IsAmong k kinds → (length kinds == 0) ≡ false
 some_kind k kinds f is usage (inl e) =
-    let bad : Usage ≡ Memory = sym usage ∙ is ∙ ap (λ x. cond (is_memory x) Memory Usage) e in
+    let bad : Usage ≡ Memory = sym usage ∙ is ∙ ap fault_by e in
     cc
 some_kind k [] f is usage (inr h) = absurd h
 some_kind k (x ∷ xs) f is usage (inr h) = ne_eqb _ _ (λ e. omega arith)

@@ -7,10 +7,13 @@ use Rattle.std.specs.Str.Parse.{digits_value}
 use Rattle.std.proofs.lemmas.Bool.{and_parts, leb-true, ltb-true}
 use Rattle.clap.specs.Words.{Row, Text, first_of}
 use Rattle.wire_frames.specs.Limits.{IsShape}
-use Rattle.wire_frames.specs.declared.TheConstants.{MOST_DEGREE, MOST_SERVERS, MOST_ROWS, MOST_WIDTH, MOST_CELLS}
+use Rattle.wire_frames.specs.declared.TheConstants.{LEAST_SERVERS, MOST_DEGREE, MOST_SERVERS, MOST_ROWS, MOST_WIDTH, MOST_CELLS, MOST_WORKERS}
+use Rattle.wire_frames.specs.declared.scheme.Scheme.{Scheme}
+use Rattle.wire_frames.specs.declared.scheme.Scheme.TheVariants.{Shamir, Xor}
+use Rattle.wire_frames.specs.declared.scheme.TheConstants.{SHAMIR, XOR}
+use Rattle.wire_frames.specs.Scheme.{number_of}
 use Rattle.pir_words.specs.Numbers.{is_digit, limited, number, number_in}
-use Rattle.pir_words.specs.Ranges.{FitsSession, block_in, scheme_in, scheme_named, servers_in, sharing_in, sizes_in, workers_in}
-use Rattle.pir_words.specs.declared.TheConstants.{MOST_WORKERS}
+use Rattle.pir_words.specs.Ranges.{FitsSession, block_in, servers_in, sharing_in, sizes_in, workers_in}
 use Rattle.pir_words.specs.declared.ranges.Sizes.{Sizes}
 use Rattle.pir_words.specs.declared.ranges.Sharing.{Sharing}
 use Rattle.pir_words.proofs.Chains.{some_is, test_of, value_of}
@@ -65,20 +68,13 @@ block_range rows m block e =
     let tested = test_of (nat_lt given.0 rows) _ block given.2 in
     subst (λ b. b < rows) (some_is _ block tested.1) (ltb-true _ _ tested.0)
 
--- the scheme is one of the two
-pub scheme_range : (m : List Row) (scheme : ℕ) → scheme_in m ≡ Some scheme → (scheme ≡ 1) ⊎ (scheme ≡ 2)
-unfolding scheme_in scheme_named
-scheme_range m scheme e =
-    let name = unwrap_or (first_of (codes "scheme") m) (codes "shamir") in
-    by_name (bytes_eq name (codes "shamir")) (bytes_eq name (codes "xor")) e
-  where
-    by_name : (is_shamir is_xor : Bool) → (if is_shamir then Some 1 else (if is_xor then Some 2 else None)) ≡ Some scheme → (scheme ≡ 1) ⊎ (scheme ≡ 2)
-    by_name true is_xor h = inl (sym (some_is 1 scheme h))
-    by_name false true h = inr (sym (some_is 2 scheme h))
-    by_name false false h = cc
+-- a scheme's number is one of the two
+pub scheme_range : (scheme : Scheme) → (number_of scheme ≡ SHAMIR) ⊎ (number_of scheme ≡ XOR)
+scheme_range Shamir = inl refl
+scheme_range Xor = inr refl
 
 -- there are as many servers as there may be
-pub servers_range : (m : List Row) (n : ℕ) → servers_in m ≡ Some n → (2 ≤ n) × (n ≤ MOST_SERVERS)
+pub servers_range : (m : List Row) (n : ℕ) → servers_in m ≡ Some n → (LEAST_SERVERS ≤ n) × (n ≤ MOST_SERVERS)
 unfolding servers_in
 servers_range m n e = limited_range _ _ _ m n e
 
@@ -106,7 +102,7 @@ sharing_range n m sharing e =
     })
 
 -- with which a session of Shamir's scheme may be
-pub shamir_fits : (r s t h n : ℕ) → IsShape r s → IsSharing t h n → n ≤ MOST_SERVERS → FitsSession 1 t h n r s
+pub shamir_fits : (r s t h n : ℕ) → IsShape r s → IsSharing t h n → n ≤ MOST_SERVERS → FitsSession SHAMIR t h n r s
 shamir_fits r s t h n shape shares few = record {
   scheme = inl refl;
   private = shares.private;

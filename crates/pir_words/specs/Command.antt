@@ -37,16 +37,16 @@ fetch_app =
     let degree = with_option scheme (codes "degree") false in
     let agree = with_option degree (codes "agree") false in
     let coins = with_option agree (codes "coins") false in
-    let keep = with_option coins (codes "record") false in
-    with_rule keep (operands_rule (codes "addresses"))
+    let recorded = with_option coins (codes "record") false in
+    with_rule recorded (operands_rule (codes "addresses"))
 
 -- `serve --database FILE --width S --conns N --listen ADDR`
 unfoldable pub serve_app : App
 serve_app =
     let database = with_option (new_app (codes "serve")) (codes "database") true in
     let width = with_option database (codes "width") true in
-    let conns = with_option width (codes "conns") true in
-    let listen = with_option conns (codes "listen") true in
+    let guests = with_option width (codes "conns") true in
+    let listen = with_option guests (codes "listen") true in
     let scheme = with_option listen (codes "scheme") false in
     with_option scheme (codes "workers") false
 

@@ -5,6 +5,7 @@ use Rattle.pir_words.specs.Chain.{◌>>=◌}
 use Rattle.pir_words.specs.Numbers.{limited}
 use Rattle.pir_words.specs.Ranges.{block_in, coins_in, servers_in, sharing_in, sizes_in}
 use Rattle.pir_words.specs.FetchForm.{IsFetch}
+use Rattle.wire_frames.specs.declared.scheme.TheConstants.{SHAMIR}
 use Rattle.pir_words.specs.declared.TheConstants.{LEAST_PORT, MOST_PORT}
 use Rattle.pir_words.specs.declared.ranges.Sizes.{Sizes}
 use Rattle.pir_words.specs.declared.ranges.Sharing.{Sharing}
@@ -26,4 +27,4 @@ demo_of m = do
 pub record IsDemo (port r s b t h n : ℕ) : Type 0 where
   pub some_port : LEAST_PORT ≤ port
   pub few_ports : port ≤ MOST_PORT
-  pub fetch : IsFetch 1 r s b t h n
+  pub fetch : IsFetch SHAMIR r s b t h n

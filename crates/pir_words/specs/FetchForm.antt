@@ -1,7 +1,10 @@
 -- The form of `fetch`.
-use Rattle.std.specs.Prelude.{ℕ, ◌-◌, ◌<◌, ◌==◌, ◌&&◌, List, length, Option, Some, codes, if◌then◌else◌, is_none, nat_le}
+use Rattle.std.specs.Prelude.{ℕ, ◌-◌, ◌<◌, ◌&&◌, List, length, Option, Some, codes, is_none, nat_le}
 use Rattle.clap.specs.Words.{Row, Text, all_of, first_of}
-use Rattle.wire_frames.specs.declared.TheConstants.{MOST_SERVERS}
+use Rattle.wire_frames.specs.declared.TheConstants.{LEAST_SERVERS, MOST_SERVERS}
+use Rattle.wire_frames.specs.declared.scheme.Scheme.{Scheme}
+use Rattle.wire_frames.specs.declared.scheme.Scheme.TheVariants.{Shamir, Xor}
+use Rattle.wire_frames.specs.Scheme.{number_of}
 use Rattle.pir_words.specs.Chain.{◌>>=◌, ◌>>◌}
 use Rattle.pir_words.specs.Ranges.{FitsSession, block_in, coins_in, scheme_in, sharing_in, sizes_in}
 use Rattle.pir_words.specs.declared.ranges.Sizes.{Sizes}
@@ -16,17 +19,17 @@ addresses_in m = do
   nat_le (length addresses) MOST_SERVERS
   Some addresses
 
--- in the XOR scheme neither degree nor agreement is given: of n servers, at least two, all have to answer, and all but one
--- learn nothing
+-- in the XOR scheme neither degree nor agreement is given: of n servers all have to answer, and all but one learn nothing
 unfoldable pub xor_sharing_in : ℕ → List Row → Option Sharing
 xor_sharing_in n m = do
   is_none (first_of (codes "degree") m) && is_none (first_of (codes "agree") m)
-  nat_le 2 n
+  nat_le LEAST_SERVERS n
   Some (record { degree = n - 1; agree = n })
 
 -- the degree and the agreement of n servers in a scheme
-unfoldable pub fetch_sharing_in : ℕ → ℕ → List Row → Option Sharing
-fetch_sharing_in scheme n m = if scheme == 1 then sharing_in n m else xor_sharing_in n m
+unfoldable pub fetch_sharing_in : Scheme → ℕ → List Row → Option Sharing
+fetch_sharing_in Shamir n m = sharing_in n m
+fetch_sharing_in Xor n m = xor_sharing_in n m
 
 -- `fetch` with its values, each in its range
 unfoldable pub fetch_of : List Row → Option Asked
@@ -36,7 +39,7 @@ fetch_of m = do
   scheme ← scheme_in m
   addresses ← addresses_in m
   (sharing : Sharing) ← fetch_sharing_in scheme (length addresses) m
-  Some (Fetch scheme sizes.rows sizes.width block sharing.degree sharing.agree (coins_in m) (first_of (codes "record") m) addresses)
+  Some (Fetch (number_of scheme) sizes.rows sizes.width block sharing.degree sharing.agree (coins_in m) (first_of (codes "record") m) addresses)
 
 -- the values of `fetch` with n addresses are those of a session, and the block is one of the rows
 pub record IsFetch (scheme r s b t h n : ℕ) : Type 0 where

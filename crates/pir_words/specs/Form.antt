@@ -16,10 +16,10 @@ use Rattle.pir_words.specs.declared.asked.Asked.TheVariants.{Replay, Fetch, Serv
 use Rattle.pir_words.specs.declared.asked.WordsFault.{WordsFault}
 use Rattle.pir_words.specs.declared.asked.WordsFault.TheVariants.{Usage, Memory}
 
--- an error of `clap` is want of memory
-abbrev pub is_memory : ErrorKind → Bool
-is_memory OutOfMemory = true
-is_memory _ = false
+-- what an error of `clap` comes to: want of memory, or else the words have no form
+abbrev pub fault_by : ErrorKind → WordsFault
+fault_by OutOfMemory = Memory
+fault_by _ = Usage
 
 -- the command of this name, with what the words give to its arguments
 unfoldable pub asked_by : Text → List Row → Option Asked
@@ -46,16 +46,16 @@ asked_of words = do
   are_taken words
   asked_in (subcommand_of pir words)
 
--- the answer to words that ask for this command, or for none: exactly that, or want of memory
-abbrev pub Answers : Option Asked → Result Asked WordsFault → Type 0
-Answers wanted (Ok asked) = wanted ≡ Some asked
-Answers wanted (Err Usage) = wanted ≡ None
-Answers wanted (Err Memory) = Unit {0}
+-- what words that ask for this command, or for none, are read as: exactly that, or want of memory
+abbrev pub IsReadAs : Option Asked → Result Asked WordsFault → Type 0
+IsReadAs wanted (Ok asked) = wanted ≡ Some asked
+IsReadAs wanted (Err Usage) = wanted ≡ None
+IsReadAs wanted (Err Memory) = Unit {0}
 
 -- the values of a command are in their ranges
 abbrev pub InRange : Asked → Type 0
 InRange (Replay file) = Unit {0}
 InRange (Fetch scheme r s b t h coins keep addresses) = IsFetch scheme r s b t h (length addresses)
-InRange (Serve scheme database s conns listen workers) = IsServe scheme s conns workers
+InRange (Serve scheme database s guests listen workers) = IsServe scheme s guests workers
 InRange (Selfrun seed r s n t h v workers) = IsSelfrun seed r s n t h v workers
 InRange (Demo port database r s b n t h coins) = IsDemo port r s b t h n

@@ -3,10 +3,11 @@ use Rattle.std.specs.Prelude.{ℕ, ◌*◌, ◌&&◌, if◌then◌else◌, List,
 use Rattle.std.specs.Str.{bytes_eq}
 use Rattle.clap.specs.Words.{Row, Text, first_of}
 use Rattle.wire_frames.specs.Limits.{IsInRange}
-use Rattle.wire_frames.specs.declared.TheConstants.{MOST_DEGREE, MOST_SERVERS, MOST_ROWS, MOST_WIDTH, MOST_CELLS}
+use Rattle.wire_frames.specs.declared.TheConstants.{LEAST_SERVERS, MOST_DEGREE, MOST_SERVERS, MOST_ROWS, MOST_WIDTH, MOST_CELLS, MOST_WORKERS}
+use Rattle.wire_frames.specs.declared.scheme.Scheme.{Scheme}
+use Rattle.wire_frames.specs.declared.scheme.Scheme.TheVariants.{Shamir, Xor}
 use Rattle.pir_words.specs.Chain.{◌>>=◌, ◌>>◌}
 use Rattle.pir_words.specs.Numbers.{limited, number, number_in}
-use Rattle.pir_words.specs.declared.TheConstants.{MOST_WORKERS}
 use Rattle.pir_words.specs.declared.ranges.Sizes.{Sizes}
 use Rattle.pir_words.specs.declared.ranges.Sharing.{Sharing}
 
@@ -25,17 +26,18 @@ block_in rows m = do
   nat_lt block rows
   Some block
 
--- the number of a scheme by its name: Shamir's is 1, and the XOR scheme 2
-unfoldable pub scheme_named : Text → Option ℕ
-scheme_named name = if bytes_eq name (codes "shamir") then Some 1 else (if bytes_eq name (codes "xor") then Some 2 else None)
+-- the scheme of this name
+unfoldable pub scheme_named : Text → Option Scheme
+scheme_named name =
+    if bytes_eq name (codes "shamir") then Some Shamir else (if bytes_eq name (codes "xor") then Some Xor else None)
 
 -- the scheme, Shamir's where none is named
-unfoldable pub scheme_in : List Row → Option ℕ
+unfoldable pub scheme_in : List Row → Option Scheme
 scheme_in m = scheme_named (unwrap_or (first_of (codes "scheme") m) (codes "shamir"))
 
--- how many servers there are, at least two
+-- how many servers there are
 unfoldable pub servers_in : List Row → Option ℕ
-servers_in m = limited (codes "servers") 2 MOST_SERVERS m
+servers_in m = limited (codes "servers") LEAST_SERVERS MOST_SERVERS m
 
 -- the degree t and the agreement h of n servers, 1 <= t < h <= n
 unfoldable pub sharing_in : ℕ → List Row → Option Sharing

@@ -4,7 +4,8 @@ use Rattle.clap.specs.Words.{Row}
 use Rattle.pir_words.specs.Chain.{◌>>=◌}
 use Rattle.pir_words.specs.Numbers.{limited, number_in}
 use Rattle.pir_words.specs.Ranges.{FitsSession, servers_in, sharing_in, sizes_in, workers_in}
-use Rattle.pir_words.specs.declared.TheConstants.{MOST_WORKERS}
+use Rattle.wire_frames.specs.declared.TheConstants.{MOST_WORKERS}
+use Rattle.wire_frames.specs.declared.scheme.TheConstants.{SHAMIR}
 use Rattle.pir_words.specs.declared.ranges.Sizes.{Sizes}
 use Rattle.pir_words.specs.declared.ranges.Sharing.{Sharing}
 use Rattle.pir_words.specs.declared.asked.Asked.{Asked}
@@ -24,7 +25,7 @@ selfrun_of m = do
 -- the values of `selfrun` are those of a session of n servers in Shamir's scheme, of which v lie
 pub record IsSelfrun (seed r s n t h v workers : ℕ) : Type 0 where
   pub few_seeds : seed < 2 ^ 64
-  pub numbers : FitsSession 1 t h n r s
+  pub numbers : FitsSession SHAMIR t h n r s
   pub few_liars : v ≤ n
   pub some_workers : 1 ≤ workers
   pub few_workers : workers ≤ MOST_WORKERS

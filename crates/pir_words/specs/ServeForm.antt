@@ -1,11 +1,12 @@
 -- The form of `serve`.
 use Rattle.std.specs.Prelude.{ℕ, ◌≡◌, ◌⊎◌, ◌≤◌, List, Option, Some, codes}
 use Rattle.clap.specs.Words.{Row, first_of}
-use Rattle.wire_frames.specs.declared.TheConstants.{MOST_WIDTH}
+use Rattle.wire_frames.specs.declared.TheConstants.{MOST_GUESTS, MOST_WIDTH, MOST_WORKERS}
+use Rattle.wire_frames.specs.declared.scheme.TheConstants.{SHAMIR, XOR}
+use Rattle.wire_frames.specs.Scheme.{number_of}
 use Rattle.pir_words.specs.Chain.{◌>>=◌}
 use Rattle.pir_words.specs.Numbers.{limited}
 use Rattle.pir_words.specs.Ranges.{scheme_in, workers_in}
-use Rattle.pir_words.specs.declared.TheConstants.{MOST_CONNS, MOST_WORKERS}
 use Rattle.pir_words.specs.declared.asked.Asked.{Asked}
 use Rattle.pir_words.specs.declared.asked.Asked.TheVariants.{Serve}
 
@@ -13,19 +14,19 @@ use Rattle.pir_words.specs.declared.asked.Asked.TheVariants.{Serve}
 unfoldable pub serve_of : List Row → Option Asked
 serve_of m = do
   width ← limited (codes "width") 1 MOST_WIDTH m
-  conns ← limited (codes "conns") 1 MOST_CONNS m
+  guests ← limited (codes "conns") 1 MOST_GUESTS m
   scheme ← scheme_in m
   workers ← workers_in m
   database ← first_of (codes "database") m
   listen ← first_of (codes "listen") m
-  Some (Serve scheme database width conns listen workers)
+  Some (Serve (number_of scheme) database width guests listen workers)
 
 -- the ranges of the values of `serve`
-pub record IsServe (scheme s conns workers : ℕ) : Type 0 where
-  pub known : (scheme ≡ 1) ⊎ (scheme ≡ 2)
+pub record IsServe (scheme s guests workers : ℕ) : Type 0 where
+  pub known : (scheme ≡ SHAMIR) ⊎ (scheme ≡ XOR)
   pub some_bytes : 1 ≤ s
   pub few_bytes : s ≤ MOST_WIDTH
-  pub some_conns : 1 ≤ conns
-  pub few_conns : conns ≤ MOST_CONNS
+  pub some_guests : 1 ≤ guests
+  pub few_guests : guests ≤ MOST_GUESTS
   pub some_workers : 1 ≤ workers
   pub few_workers : workers ≤ MOST_WORKERS

@@ -1,6 +1,8 @@
 //! What words can ask for.
 
 use crate::text::{Text, Texts};
+use clap::error::ErrorKind;
+use std::alloc::AllocError;
 use thiserror::Error;
 
 /// A command with its values.
@@ -98,4 +100,31 @@ pub enum WordsFault {
     /// Memory is short.
     #[error("no memory")]
     Memory,
+}
+
+impl From<AllocError> for WordsFault {
+    ghost use Rattle.std.specs.Prelude.{◌≡◌};
+    ghost use Rattle.pir_words.specs.declared.asked.WordsFault.TheVariants.{Memory};
+
+    ghost from_gives = { λ _ fault. fault ≡ Memory };
+
+    fn from(_error: AllocError) -> WordsFault {
+        WordsFault::Memory
+    }
+}
+
+/// What a parse that doesn't end with matches comes to.
+impl From<clap::Error> for WordsFault {
+    ghost use Rattle.std.specs.Prelude.{◌≡◌};
+    ghost use Rattle.clap.specs.Words.{kind_of};
+    ghost use Rattle.pir_words.specs.Form.{fault_by};
+
+    ghost from_gives = { λ error fault. fault ≡ fault_by (kind_of error) };
+
+    fn from(error: clap::Error) -> WordsFault {
+        match error.kind() {
+            ErrorKind::OutOfMemory => WordsFault::Memory,
+            _ => WordsFault::Usage,
+        }
+    }
 }

@@ -49,11 +49,11 @@ fn fetch_command<'a>(alloc: Global) -> Result<Command<'a>, AllocError>
     let degree = with_option(alloc, scheme, "degree", false)?;
     let agree = with_option(alloc, degree, "agree", false)?;
     let coins = with_option(alloc, agree, "coins", false)?;
-    let keep = with_option(alloc, coins, "record", false)?;
+    let recorded = with_option(alloc, coins, "record", false)?;
     let addresses = Arg::new(alloc, "addresses")
         .required(true)
         .action(ArgAction::Append);
-    keep.arg(addresses)
+    recorded.arg(addresses)
 }
 
 /// `serve`.
@@ -64,8 +64,8 @@ fn serve_command<'a>(alloc: Global) -> Result<Command<'a>, AllocError>
     let start = Command::new(alloc, "serve");
     let database = with_option(alloc, start, "database", true)?;
     let width = with_option(alloc, database, "width", true)?;
-    let conns = with_option(alloc, width, "conns", true)?;
-    let listen = with_option(alloc, conns, "listen", true)?;
+    let guests = with_option(alloc, width, "conns", true)?;
+    let listen = with_option(alloc, guests, "listen", true)?;
     let scheme = with_option(alloc, listen, "scheme", false)?;
     with_option(alloc, scheme, "workers", false)
 }

@@ -4,15 +4,15 @@ ghost use Rattle.std.specs.Prelude.{◌≡◌, ◌≤◌, IfSome, length, map, o
 ghost use Rattle.wire_frames.specs.declared.TheConstants.{MOST_SERVERS};
 ghost use Rattle.pir_words.specs.Numbers.{given};
 ghost use Rattle.pir_words.specs.FetchForm.{addresses_in, fetch_of, fetch_sharing_in, xor_sharing_in};
-ghost use Rattle.pir_words.specs.Form.{Answers};
+ghost use Rattle.pir_words.specs.Form.{IsReadAs};
 
 use crate::asked::{Asked, WordsFault};
 use crate::ranges::{Sharing, block_at, coins_at, scheme_at, sharing_at, sizes_at};
 use crate::text::Texts;
-use crate::values::{kept, owned, text_at, texts_at};
+use crate::values::{owned, owned_if_given, text_at, texts_at};
 use clap::ArgMatches;
 use std::alloc::Global;
-use wire_frames::{MOST_SERVERS, SHAMIR};
+use wire_frames::{LEAST_SERVERS, MOST_SERVERS, Scheme};
 
 /// The addresses, of no more servers than there may be.
 #[tactic(auto, unfolding(crate::specs::FetchForm::addresses_in))]
@@ -34,7 +34,7 @@ fn xor_sharing_at(matches: &ArgMatches, servers: u8) -> Option<Sharing>
     ensures { result ≡ xor_sharing_in servers (given matches.now) }
 {
     let given = text_at(matches, "degree").is_some() || text_at(matches, "agree").is_some();
-    if given || servers < 2 {
+    if given || servers < LEAST_SERVERS {
         return None;
     }
     Some(Sharing {
@@ -45,41 +45,32 @@ fn xor_sharing_at(matches: &ArgMatches, servers: u8) -> Option<Sharing>
 
 /// The degree and the agreement of `servers` servers in a scheme.
 #[tactic(auto, unfolding(crate::specs::FetchForm::fetch_sharing_in))]
-fn fetch_sharing_at(matches: &ArgMatches, scheme: u8, servers: u8) -> Option<Sharing>
+fn fetch_sharing_at(matches: &ArgMatches, scheme: Scheme, servers: u8) -> Option<Sharing>
     ensures { result ≡ fetch_sharing_in scheme servers (given matches.now) }
 {
-    if scheme == SHAMIR {
-        sharing_at(matches, servers)
-    } else {
-        xor_sharing_at(matches, servers)
+    match scheme {
+        Scheme::Shamir => sharing_at(matches, servers),
+        Scheme::Xor => xor_sharing_at(matches, servers),
     }
 }
 
 /// `fetch` with its values, each in its range.
 #[tactic(auto, unfolding(crate::specs::FetchForm::fetch_of))]
 pub fn read_fetch(alloc: Global, matches: &ArgMatches) -> Result<Asked, WordsFault>
-    ensures { Answers (fetch_of (given matches.now)) result }
+    ensures { IsReadAs (fetch_of (given matches.now)) result }
 {
-    let Some(sizes) = sizes_at(matches) else {
-        return Err(WordsFault::Usage);
-    };
-    let Some(block) = block_at(matches, sizes.rows) else {
-        return Err(WordsFault::Usage);
-    };
-    let Some(scheme) = scheme_at(matches) else {
-        return Err(WordsFault::Usage);
-    };
-    let Some(addresses) = addresses_at(matches) else {
-        return Err(WordsFault::Usage);
-    };
-    let Some(sharing) = fetch_sharing_at(matches, scheme, addresses.len() as u8) else {
-        return Err(WordsFault::Usage);
-    };
+    let sizes = sizes_at(matches).ok_or(WordsFault::Usage)?;
+    let block = block_at(matches, sizes.rows).ok_or(WordsFault::Usage)?;
+    let scheme = scheme_at(matches).ok_or(WordsFault::Usage)?;
+    let addresses = addresses_at(matches).ok_or(WordsFault::Usage)?;
+    let sharing = fetch_sharing_at(matches, scheme, addresses.len() as u8).ok_or(
+        WordsFault::Usage,
+    )?;
     let coins = owned(alloc, coins_at(matches))?;
-    let keep = kept(alloc, text_at(matches, "record"))?;
-    let addresses = Texts::new(alloc, addresses).map_err(|_| WordsFault::Memory)?;
+    let keep = owned_if_given(alloc, text_at(matches, "record"))?;
+    let addresses = Texts::new(alloc, addresses)?;
     Ok(Asked::Fetch {
-        scheme,
+        scheme: scheme.number(),
         rows: sizes.rows,
         width: sizes.width,
         block,

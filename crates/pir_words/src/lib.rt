@@ -11,11 +11,11 @@
 //! in `command`, a form in `specs/` and a module that reads it, and an arm of `read_command`.
 #![tactic(auto)]
 
-ghost use Rattle.std.specs.Prelude.{◌≡◌, Bool, true, false, IfErr, IfOk, if◌then◌else◌, map, string_bytes};
-ghost use Rattle.clap.specs.Words.{kind_of, subcommand_of, subcommand_rows_of};
+ghost use Rattle.std.specs.Prelude.{◌≡◌, true, false, IfErr, IfOk, map, string_bytes};
+ghost use Rattle.clap.specs.Words.{subcommand_of, subcommand_rows_of};
 ghost use Rattle.pir_words.specs.Numbers.{given};
 ghost use Rattle.pir_words.specs.Command.{pir};
-ghost use Rattle.pir_words.specs.Form.{Answers, InRange, are_taken, asked_by, asked_in, asked_of, is_memory};
+ghost use Rattle.pir_words.specs.Form.{IsReadAs, InRange, are_taken, asked_by, asked_in, asked_of};
 
 mod asked;
 mod command;
@@ -29,8 +29,7 @@ mod text;
 mod values;
 
 pub use asked::{Asked, WordsFault};
-use clap::error::ErrorKind;
-use clap::{ArgMatches, Error};
+use clap::ArgMatches;
 use command::pir_command;
 use demo_words::read_demo;
 use fetch_words::read_fetch;
@@ -40,27 +39,11 @@ use serve_words::read_serve;
 use std::alloc::Global;
 pub use text::{Text, Texts};
 
-/// The greatest number of guests that a server takes before it ends.
-pub const MOST_CONNS: u32 = 65535;
-
-/// The greatest number of workers of a server.
-pub const MOST_WORKERS: u8 = 16;
-
 /// The least port of a demonstration, whose servers listen at those that follow it.
 pub const LEAST_PORT: u16 = 1024;
 
 /// The greatest port of a demonstration.
 pub const MOST_PORT: u16 = 65000;
-
-/// What a parse that doesn't end with matches comes to.
-fn fault_by(error: Error) -> WordsFault
-    ensures { result ≡ (if is_memory (kind_of error) then WordsFault.Memory else WordsFault.Usage) }
-{
-    match error.kind() {
-        ErrorKind::OutOfMemory => WordsFault::Memory,
-        _ => WordsFault::Usage,
-    }
-}
 
 /// The matches of the words, where they have some.
 fn parse<'a>(alloc: Global, words: &'a [String]) -> Result<ArgMatches<'a>, WordsFault>
@@ -68,20 +51,14 @@ fn parse<'a>(alloc: Global, words: &'a [String]) -> Result<ArgMatches<'a>, Words
     ensures entered { IfOk result (λ m. subcommand_rows_of m ≡ subcommand_of pir (map string_bytes words.entry.now)) }
     ensures err { IfErr result (λ e. e ≡ WordsFault.Usage → are_taken (map string_bytes words.entry.now) ≡ false) }
 {
-    let command = match pir_command(alloc) {
-        Ok(command) => command,
-        Err(_) => return Err(WordsFault::Memory),
-    };
-    match command.try_get_matches_from(words) {
-        Ok(matches) => Ok(matches),
-        Err(error) => Err(fault_by(error)),
-    }
+    let command = pir_command(alloc)?;
+    Ok(command.try_get_matches_from(words)?)
 }
 
 /// The command of this name, with the values that the matches have for its arguments.
 #[tactic(auto, unfolding(crate::specs::Form::asked_by))]
 fn read_command(alloc: Global, name: &str, matches: &ArgMatches) -> Result<Asked, WordsFault>
-    ensures { Answers (asked_by name.now (given matches.now)) result }
+    ensures { IsReadAs (asked_by name.now (given matches.now)) result }
 {
     match name {
         "replay" => read_replay(alloc, matches),
@@ -95,7 +72,7 @@ fn read_command(alloc: Global, name: &str, matches: &ArgMatches) -> Result<Asked
 
 /// The command that the matches ask for.
 fn read_matches(alloc: Global, matches: &ArgMatches) -> Result<Asked, WordsFault>
-    ensures { Answers (asked_in (subcommand_rows_of matches.now)) result }
+    ensures { IsReadAs (asked_in (subcommand_rows_of matches.now)) result }
 {
     match matches.subcommand() {
         Some((name, inner)) => read_command(alloc, name, inner),
@@ -120,11 +97,12 @@ fn read_matches(alloc: Global, matches: &ArgMatches) -> Result<Asked, WordsFault
 /// A number is one or more ASCII decimal digits, of a value below `2^64`: `002` is good, and `+2` is not. Any such number
 /// is a seed. The numbers R of rows and S of their bytes are at least 1 and at most
 /// [`MOST_ROWS`](wire_frames::MOST_ROWS) and [`MOST_WIDTH`](wire_frames::MOST_WIDTH), their product is at most
-/// [`MOST_CELLS`](wire_frames::MOST_CELLS), and the block B is below R. There are at least 2 servers and at most
-/// [`MOST_SERVERS`](wire_frames::MOST_SERVERS), as many as `--servers` says or addresses stand. Degree and agreement of N
+/// [`MOST_CELLS`](wire_frames::MOST_CELLS), and the block B is below R. There are at least [`LEAST_SERVERS`](wire_frames::LEAST_SERVERS) servers
+/// and at most [`MOST_SERVERS`](wire_frames::MOST_SERVERS), as many as `--servers` says or addresses stand. Degree and agreement of N
 /// servers have `1 <= T < H <= N`, and T is at most [`MOST_DEGREE`](wire_frames::MOST_DEGREE). In the XOR scheme neither
 /// may stand: the degree is N - 1 and the agreement N. At most all servers are liars. The number of guests is at least 1 and
-/// at most [`MOST_CONNS`], the number W of workers at least 1 and at most [`MOST_WORKERS`], and the port P at least
+/// at most [`MOST_GUESTS`](wire_frames::MOST_GUESTS), the number W of workers at least 1 and at most
+/// [`MOST_WORKERS`](wire_frames::MOST_WORKERS), and the port P at least
 /// [`LEAST_PORT`] and at most [`MOST_PORT`].
 ///
 /// # Errors
@@ -139,11 +117,9 @@ fn read_matches(alloc: Global, matches: &ArgMatches) -> Result<Asked, WordsFault
 /// assert_eq!(file.as_str(), "-");
 /// ```
 pub fn read_words(alloc: Global, words: &[String]) -> Result<Asked, WordsFault>
-    ensures form { Answers (asked_of (map string_bytes words.now)) result }
+    ensures form { IsReadAs (asked_of (map string_bytes words.now)) result }
     ensures ranges { IfOk result InRange }
 {
-    match parse(alloc, words) {
-        Ok(matches) => read_matches(alloc, &matches),
-        Err(fault) => Err(fault),
-    }
+    let matches = parse(alloc, words)?;
+    read_matches(alloc, &matches)
 }

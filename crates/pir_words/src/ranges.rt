@@ -4,10 +4,12 @@ ghost use Rattle.std.specs.Prelude.{◌≡◌};
 ghost use Rattle.pir_words.specs.Numbers.{given};
 ghost use Rattle.pir_words.specs.Ranges.{block_in, coins_in, scheme_in, scheme_named, servers_in, sharing_in, sizes_in, workers_in};
 
-use crate::MOST_WORKERS;
 use crate::values::{limited_at, number_at, number_of, text_at};
 use clap::ArgMatches;
-use wire_frames::{MOST_CELLS, MOST_DEGREE, MOST_ROWS, MOST_SERVERS, MOST_WIDTH, SHAMIR, XOR};
+use wire_frames::{
+    LEAST_SERVERS, MOST_CELLS, MOST_DEGREE, MOST_ROWS, MOST_SERVERS, MOST_WIDTH, MOST_WORKERS,
+    Scheme,
+};
 
 /// The sizes of a database.
 #[derive(Clone, Copy)]
@@ -53,32 +55,37 @@ pub fn block_at(matches: &ArgMatches, rows: u32) -> Option<u32>
     }
 }
 
-/// The number of a scheme by its name.
+/// The scheme of this name.
 #[tactic(auto, unfolding(crate::specs::Ranges::scheme_named))]
-fn scheme_of(name: &str) -> Option<u8>
+fn scheme_named(name: &str) -> Option<Scheme>
     ensures { result ≡ scheme_named name.now }
 {
     match name {
-        "shamir" => Some(SHAMIR),
-        "xor" => Some(XOR),
+        "shamir" => Some(Scheme::Shamir),
+        "xor" => Some(Scheme::Xor),
         _ => None,
     }
 }
 
 /// The scheme, Shamir's where none is named.
 #[tactic(auto, unfolding(crate::specs::Ranges::scheme_in))]
-pub fn scheme_at(matches: &ArgMatches) -> Option<u8>
+pub fn scheme_at(matches: &ArgMatches) -> Option<Scheme>
     ensures { result ≡ scheme_in (given matches.now) }
 {
-    scheme_of(text_at(matches, "scheme").unwrap_or("shamir"))
+    scheme_named(text_at(matches, "scheme").unwrap_or("shamir"))
 }
 
-/// How many servers there are, at least two.
+/// How many servers there are.
 #[tactic(auto, unfolding(crate::specs::Ranges::servers_in))]
 pub fn servers_at(matches: &ArgMatches) -> Option<u8>
     ensures { result ≡ servers_in (given matches.now) }
 {
-    let servers = limited_at(matches, "servers", 2, u64::from(MOST_SERVERS))?;
+    let servers = limited_at(
+        matches,
+        "servers",
+        u64::from(LEAST_SERVERS),
+        u64::from(MOST_SERVERS),
+    )?;
     Some(servers as u8)
 }
 

@@ -2,7 +2,7 @@
 
 ghost use Rattle.pir_words.specs.Numbers.{given};
 ghost use Rattle.pir_words.specs.ReplayForm.{replay_of};
-ghost use Rattle.pir_words.specs.Form.{Answers};
+ghost use Rattle.pir_words.specs.Form.{IsReadAs};
 
 use crate::asked::{Asked, WordsFault};
 use crate::values::{owned, text_at};
@@ -12,11 +12,9 @@ use std::alloc::Global;
 /// `replay` with its file.
 #[tactic(auto, unfolding(crate::specs::ReplayForm::replay_of))]
 pub fn read_replay(alloc: Global, matches: &ArgMatches) -> Result<Asked, WordsFault>
-    ensures { Answers (replay_of (given matches.now)) result }
+    ensures { IsReadAs (replay_of (given matches.now)) result }
 {
-    let Some(file) = text_at(matches, "file") else {
-        return Err(WordsFault::Usage);
-    };
+    let file = text_at(matches, "file").ok_or(WordsFault::Usage)?;
     let file = owned(alloc, file)?;
     Ok(Asked::Replay { file })
 }

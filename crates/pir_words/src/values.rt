@@ -74,11 +74,11 @@ pub fn owned(alloc: Global, text: &str) -> Result<Text, WordsFault>
     ensures ok { IfOk result (λ t. t ≡ text.now) }
     ensures err { IfErr result (λ e. e ≡ WordsFault.Memory) }
 {
-    Text::new(alloc, text).map_err(|_| WordsFault::Memory)
+    Ok(Text::new(alloc, text)?)
 }
 
 /// A copy of a word that may be left out.
-pub fn kept(alloc: Global, text: Option<&str>) -> Result<Option<Text>, WordsFault>
+pub fn owned_if_given(alloc: Global, text: Option<&str>) -> Result<Option<Text>, WordsFault>
     ensures ok { IfOk result (λ t. t ≡ option_map (λ s. s.now) text.entry) }
     ensures err { IfErr result (λ e. e ≡ WordsFault.Memory) }
 {

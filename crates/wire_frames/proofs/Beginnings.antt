@@ -14,7 +14,7 @@ use Rattle.wire_frames.specs.Layout.{IsHeader, IsRecordHeader, record_header}
 use Rattle.wire_frames.specs.Limits.{IsInRange}
 use Rattle.wire_frames.specs.Session.{Transcript, IsSession, Fits, header_bytes, record_bytes, records_bytes, session_bytes}
 use Rattle.wire_frames.proofs.Digits.{IsByte}
-use Rattle.wire_frames.proofs.FormLemmas.{All-behind, starts-front}
+use Rattle.wire_frames.proofs.Prefixes.{All-behind, starts-front}
 use Rattle.wire_frames.proofs.Parsing.{same_parts, same_params, same_digits, differ, len_of, bytes_of, record-parts, length-header, length-record_header, rest_of, records_bytes-append}
 
 -- the records of a session so far

@@ -8,8 +8,8 @@ use Rattle.wire_frames.specs.declared.field.Number.{Number}
 use Rattle.wire_frames.specs.Field.{IsField, IsNumber}
 use Rattle.wire_frames.specs.Form.{Starts, StopsWithin, Reads}
 use Rattle.wire_frames.proofs.Digits.{number, number-digits}
-use Rattle.wire_frames.proofs.FieldLemmas.{length_number}
-use Rattle.wire_frames.proofs.FormLemmas.{starts-front, starts-whole, stops-at}
+use Rattle.wire_frames.proofs.NumberPrefixes.{length_number}
+use Rattle.wire_frames.proofs.Prefixes.{starts-front, starts-whole, stops-at}
 use Rattle.std.proofs.lemmas.List.{take-take}
 
 -- a number of a field, and then what is to follow that number

@@ -2,7 +2,7 @@
 use Rattle.std.proofs.Common.{◌≡◌, ◌∙◌, ℕ, ◌+◌, ◌<◌, ◌≤◌, List, length, take, sym, ap, subst, arith}
 use Rattle.std.proofs.lemmas.List.{take-take, take_all, length-take}
 use Rattle.wire_frames.specs.Form.{Starts, StopsAt}
-use Rattle.wire_frames.proofs.FormLemmas.{starts-shorter, starts-whole}
+use Rattle.wire_frames.proofs.Prefixes.{starts-shorter, starts-whole}
 
 -- the place at which a front stops is that of the whole
 pub stops-front : {A : Type 0} (F : List ℕ → A → Type 0) (front bytes : List ℕ) (place : ℕ) → front ≡ take (length front) bytes → place < length front → StopsAt F front place → StopsAt F bytes place

@@ -9,7 +9,7 @@ use Rattle.wire_frames.specs.Layout.{IsHeader}
 use Rattle.wire_frames.specs.RecordsReader.{Refuses}
 use Rattle.wire_frames.specs.Session.{header_bytes}
 use Rattle.wire_frames.proofs.Beginnings.{header_begins, header_part}
-use Rattle.wire_frames.proofs.HeadLemmas.{IsBehind, place_behind, head_refuses, head_goes_on, refuses_more}
+use Rattle.wire_frames.proofs.PartialHeaders.{IsBehind, place_behind, head_refuses, head_goes_on, refuses_more}
 use Rattle.wire_frames.proofs.Parsing.{length-header}
 
 -- at the front of a session stands its header

@@ -2,20 +2,20 @@ pub mod Answering
 pub mod Beginnings
 mod Chains
 mod Digits
-mod FieldLemmas
+mod NumberPrefixes
 mod Filing
-pub mod FormLemmas
-mod HeadLemmas
+pub mod Prefixes
+mod PartialHeaders
 mod HeaderPieces
 mod SessionLayout
 pub mod Parsing
 mod QueryLayout
 mod RecordLayout
-mod RecordsReaderLemmas
+mod RecordSteps
 pub mod Servers
 mod ShapeFields
 mod Spellings
-mod SessionReaderLemmas
+mod SessionStates
 pub mod Spans
 pub mod UnderWay
 pub mod OneSession

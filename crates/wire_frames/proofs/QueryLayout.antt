@@ -2,20 +2,23 @@
 use Rattle.std.proofs.Common.{◌≡◌, ℕ, ◌+◌, ◌^◌, ◌<◌, ◌≤◌, List, [], ◌∷◌, length, take, drop, All, sym, subst, ap, ◌∙◌, arith, lit≤, lit<, length-drop}
 use Rattle.std.specs.Prelude.{Result, Err, IsErrAnd}
 use Rattle.std.specs.Int.{bytes_high_first}
-use Rattle.std.proofs.lemmas.List.{length-take, take-take}
+use Rattle.std.proofs.lemmas.List.{length-take, take_all}
 use Rattle.std.proofs.lemmas.List.Elements.{All-drop, All-take}
 use Rattle.std.proofs.lemmas.Result.{err_from_is_err_and}
-use Rattle.byteorder.specs.Endian.{big_number}
 use Rattle.wire_frames.specs.declared.field.Number.{Number}
 use Rattle.wire_frames.specs.declared.header.QueryHeader.{QueryHeader}
+use Rattle.wire_frames.specs.declared.header.TheConstants.{VERSION, QUERY_MAGIC}
+use Rattle.wire_frames.specs.declared.places.TheConstants.{FRAME_MAGIC_PLACE, FRAME_VERSION_PLACE, FRAME_SCHEME_PLACE, FRAME_INDEX_PLACE, FRAME_STATUS_PLACE, FRAME_SESSION_PLACE}
 use Rattle.wire_frames.specs.declared.query.Field.{Field}
 use Rattle.wire_frames.specs.declared.query.FrameFault.{FrameFault}
-use Rattle.wire_frames.specs.Field.{IsNumber}
-use Rattle.wire_frames.specs.Form.{Starts}
-use Rattle.wire_frames.specs.Query.{IsQueryHeader, ReadsField, ReadsQuery, first_place, place_count}
+use Rattle.wire_frames.specs.declared.scheme.TheConstants.{SHAMIR, XOR}
+use Rattle.wire_frames.specs.Field.{IsNumber, session_field}
+use Rattle.wire_frames.specs.Form.{Starts, StopsWithin}
+use Rattle.wire_frames.specs.Query.{IsQueryHeader, ReadsField, ReadsQuery, first_place, end_place}
 use Rattle.wire_frames.proofs.Chains.{Then, Leads, field_then, leads-start, leads-on, leads-stop, some_spelling}
-use Rattle.wire_frames.proofs.Digits.{IsByte, number, number_below, digits-number, big_number-is}
-use Rattle.wire_frames.proofs.ShapeFields.{session_field, at_session, shape_into, shape_back, some_session}
+use Rattle.wire_frames.proofs.Digits.{IsByte, number, number_below, digits-number}
+use Rattle.wire_frames.proofs.Prefixes.{starts-whole}
+use Rattle.wire_frames.proofs.ShapeFields.{at_session, shape_into, shape_back, some_session}
 use Rattle.wire_frames.proofs.Spellings.{only, byte_is, number_is, byte_front, only_front, joined, is_field}
 
 -- a query, from its header
@@ -30,13 +33,13 @@ abbrev pub at_index : ℕ → List ℕ → QueryHeader → Type 0
 at_index scheme = Then (record { width = 1; least = 1; most = 255 }) (λ index. at_zero scheme index)
 
 abbrev pub at_scheme : List ℕ → QueryHeader → Type 0
-at_scheme = Then (record { width = 1; least = 1; most = 2 }) (λ scheme. at_index scheme)
+at_scheme = Then (record { width = 1; least = SHAMIR; most = XOR }) (λ scheme. at_index scheme)
 
 abbrev pub at_version : List ℕ → QueryHeader → Type 0
-at_version = Then (only 1 1) (λ _. at_scheme)
+at_version = Then (only 1 VERSION) (λ _. at_scheme)
 
 abbrev pub at_magic : List ℕ → QueryHeader → Type 0
-at_magic = Then (only 4 1346982481) (λ _. at_version)
+at_magic = Then (only 4 QUERY_MAGIC) (λ _. at_version)
 
 -- a header is a chain of fields
 query_into : (bytes : List ℕ) (q : QueryHeader) → IsQueryHeader bytes q → at_magic bytes q
@@ -45,9 +48,9 @@ query_into bytes q h =
     let session_on = shape_into (query_of q.scheme q.index) q.session q.r q.s range.session range.shape in
     let zero_on = field_then {next = λ _. at_session (query_of q.scheme q.index)} _ q (number_is 1 0 0 0 (omega arith) (omega arith)) session_on in
     let index_on = field_then {next = λ index. at_zero q.scheme index} _ q (byte_is 1 q.index 255 range.some_index range.few_indices (lit< tt)) zero_on in
-    let scheme_on = field_then {next = λ scheme. at_index scheme} _ q (byte_is 1 q.scheme 2 range.some_scheme range.two_schemes (lit< tt)) index_on in
-    let version_on = field_then {next = λ _. at_scheme} _ q (number_is 1 1 1 1 (omega arith) (omega arith)) scheme_on in
-    let whole = field_then {next = λ _. at_version} _ q (number_is 4 1346982481 1346982481 1346982481 (lit≤ tt) (lit≤ tt)) version_on in
+    let scheme_on = field_then {next = λ scheme. at_index scheme} _ q (byte_is SHAMIR q.scheme XOR range.some_scheme range.two_schemes (lit< tt)) index_on in
+    let version_on = field_then {next = λ _. at_scheme} _ q (number_is 1 VERSION VERSION VERSION (omega arith) (omega arith)) scheme_on in
+    let whole = field_then {next = λ _. at_version} _ q (number_is 4 QUERY_MAGIC QUERY_MAGIC QUERY_MAGIC (lit≤ tt) (lit≤ tt)) version_on in
     subst (λ (l : List ℕ). at_magic l q) (sym h.spelled) whole
 
 -- the numbers in a chain of fields are those of a header
@@ -60,9 +63,9 @@ query_back bytes q magic =
     let shaped = shape_back (query_of scheme.number index.number) zero.rest q zero.goes_on in
     let zero_is = joined index.rest zero.front zero.rest (bytes_high_first 1 0) _ zero.split (only_front 1 0 zero.number zero.front zero.field) shaped.spelled in
     let index_is = joined scheme.rest index.front index.rest (index.number ∷ []) _ index.split (byte_front 1 255 index.number index.front (lit< tt) index.field) zero_is in
-    let scheme_is = joined version.rest scheme.front scheme.rest (scheme.number ∷ []) _ scheme.split (byte_front 1 2 scheme.number scheme.front (lit< tt) scheme.field) index_is in
-    let version_is = joined magic.rest version.front version.rest (bytes_high_first 1 1) _ version.split (only_front 1 1 version.number version.front version.field) scheme_is in
-    let whole = joined bytes magic.front magic.rest (bytes_high_first 4 1346982481) _ magic.split (only_front 4 1346982481 magic.number magic.front magic.field) version_is in
+    let scheme_is = joined version.rest scheme.front scheme.rest (scheme.number ∷ []) _ scheme.split (byte_front SHAMIR XOR scheme.number scheme.front (lit< tt) scheme.field) index_is in
+    let version_is = joined magic.rest version.front version.rest (bytes_high_first 1 VERSION) _ version.split (only_front 1 VERSION version.number version.front version.field) scheme_is in
+    let whole = joined bytes magic.front magic.rest (bytes_high_first 4 QUERY_MAGIC) _ magic.split (only_front 4 QUERY_MAGIC magic.number magic.front magic.field) version_is in
     subst (IsQueryHeader bytes) shaped.same (record {
       range = record {
         some_scheme = scheme.field.least;
@@ -83,56 +86,67 @@ pub some_index : (scheme : ℕ) → Starts (at_index scheme) []
 some_index scheme = some_spelling _ _ 1 (omega arith) (lit≤ tt) (some_zero scheme 1)
 
 pub some_scheme : Starts at_scheme []
-some_scheme = some_spelling _ _ 1 (omega arith) (lit≤ tt) (some_index 1)
+some_scheme = some_spelling _ _ SHAMIR (omega arith) (lit≤ tt) (some_index SHAMIR)
 
 pub some_version : Starts at_version []
 some_version = some_spelling _ _ 1 (omega arith) (omega arith) some_scheme
 
 -- THE STEPS of a reading of a header: each field that is read leads on to the next
-pub to_magic : (bytes : List ℕ) → Leads IsQueryHeader at_magic 0 bytes
+pub to_magic : (bytes : List ℕ) → Leads IsQueryHeader at_magic FRAME_MAGIC_PLACE bytes
 to_magic bytes = leads-start bytes query_into query_back
 
-pub to_version : {bytes : List ℕ} {v : ℕ} → Leads IsQueryHeader at_magic 0 bytes → IsNumber (only 4 1346982481) (take 4 (drop 0 bytes)) v → Leads IsQueryHeader at_version 4 bytes
-to_version leads h = leads-on (is_field 4 1346982481 1346982481 (lit≤ tt) (lit≤ tt) (lit< tt)) leads h
+pub to_version : {bytes : List ℕ} {v : ℕ} → Leads IsQueryHeader at_magic FRAME_MAGIC_PLACE bytes → IsNumber (only 4 QUERY_MAGIC) (take 4 (drop FRAME_MAGIC_PLACE bytes)) v → Leads IsQueryHeader at_version FRAME_VERSION_PLACE bytes
+to_version leads h = leads-on (is_field 4 QUERY_MAGIC QUERY_MAGIC (lit≤ tt) (lit≤ tt) (lit< tt)) leads h
 
-pub to_scheme : {bytes : List ℕ} {v : ℕ} → Leads IsQueryHeader at_version 4 bytes → IsNumber (only 1 1) (take 1 (drop 4 bytes)) v → Leads IsQueryHeader at_scheme 5 bytes
-to_scheme leads h = leads-on (is_field 1 1 1 (lit≤ tt) (lit≤ tt) (lit< tt)) leads h
+pub to_scheme : {bytes : List ℕ} {v : ℕ} → Leads IsQueryHeader at_version FRAME_VERSION_PLACE bytes → IsNumber (only 1 VERSION) (take 1 (drop FRAME_VERSION_PLACE bytes)) v → Leads IsQueryHeader at_scheme FRAME_SCHEME_PLACE bytes
+to_scheme leads h = leads-on (is_field 1 VERSION VERSION (lit≤ tt) (lit≤ tt) (lit< tt)) leads h
 
-pub to_index : {bytes : List ℕ} {v : ℕ} → Leads IsQueryHeader at_scheme 5 bytes → IsNumber (record { width = 1; least = 1; most = 2 }) (take 1 (drop 5 bytes)) v
-    → Leads IsQueryHeader (at_index v) 6 bytes
-to_index leads h = leads-on (is_field 1 1 2 (lit≤ tt) (lit≤ tt) (lit< tt)) leads h
+pub to_index : {bytes : List ℕ} {v : ℕ} → Leads IsQueryHeader at_scheme FRAME_SCHEME_PLACE bytes → IsNumber (record { width = 1; least = SHAMIR; most = XOR }) (take 1 (drop FRAME_SCHEME_PLACE bytes)) v
+    → Leads IsQueryHeader (at_index v) FRAME_INDEX_PLACE bytes
+to_index leads h = leads-on (is_field 1 SHAMIR XOR (lit≤ tt) (lit≤ tt) (lit< tt)) leads h
 
-pub to_zero : {bytes : List ℕ} {scheme v : ℕ} → Leads IsQueryHeader (at_index scheme) 6 bytes → IsNumber (record { width = 1; least = 1; most = 255 }) (take 1 (drop 6 bytes)) v
-    → Leads IsQueryHeader (at_zero scheme v) 7 bytes
+pub to_zero : {bytes : List ℕ} {scheme v : ℕ} → Leads IsQueryHeader (at_index scheme) FRAME_INDEX_PLACE bytes → IsNumber (record { width = 1; least = 1; most = 255 }) (take 1 (drop FRAME_INDEX_PLACE bytes)) v
+    → Leads IsQueryHeader (at_zero scheme v) FRAME_STATUS_PLACE bytes
 to_zero leads h = leads-on (is_field 1 1 255 (lit≤ tt) (lit≤ tt) (lit< tt)) leads h
 
-pub to_session : {bytes : List ℕ} {scheme index v : ℕ} → Leads IsQueryHeader (at_zero scheme index) 7 bytes → IsNumber (only 1 0) (take 1 (drop 7 bytes)) v
-    → Leads IsQueryHeader (at_session (query_of scheme index)) 8 bytes
+pub to_session : {bytes : List ℕ} {scheme index v : ℕ} → Leads IsQueryHeader (at_zero scheme index) FRAME_STATUS_PLACE bytes → IsNumber (only 1 0) (take 1 (drop FRAME_STATUS_PLACE bytes)) v
+    → Leads IsQueryHeader (at_session (query_of scheme index)) FRAME_SESSION_PLACE bytes
 to_session leads h = leads-on (is_field 1 0 0 (lit≤ tt) (lit≤ tt) (lit< tt)) leads h
 
 -- any eight bytes are a session
-pub any_session : (bytes : List ℕ) (at n v : ℕ) → All IsByte bytes → 8 ≤ n → at + 8 ≤ length bytes → v ≡ big_number 8 (take n (drop at bytes)) → IsNumber session_field (take 8 (drop at bytes)) v
-any_session bytes at n v all few enough value =
+any_session : (bytes : List ℕ) (at : ℕ) → All IsByte bytes → at + 8 ≤ length bytes
+    → (length (take 8 (drop at bytes)) ≡ 8) × IsNumber session_field (take 8 (drop at bytes)) (number (take 8 (drop at bytes)))
+any_session bytes at all enough =
     let front = take 8 (drop at bytes) in
     let long : length front ≡ 8 = length-take 8 (drop at bytes) ∙ omega (arith, length-drop at bytes) in
-    let behind : 8 ≤ length (take n (drop at bytes)) = omega (arith, length-take n (drop at bytes), length-drop at bytes) in
-    let is : number front ≡ v = ap number (sym (take-take 8 n (drop at bytes) few)) ∙ big_number-is 8 (take n (drop at bytes)) behind ∙ sym value in
     let are = All-take IsByte 8 (drop at bytes) (All-drop IsByte at bytes all) in
     let below : number front < 18446744073709551616 = subst (λ (k : ℕ). number front < 256 ^ k) long (number_below front are) in
-    record {
-      least = omega arith;
-      most = omega (arith, is);
-      spelled = sym (digits-number front are) ∙ ap (λ (k : ℕ). bytes_high_first k (number front)) long ∙ ap (bytes_high_first 8) is;
-    }
+    (
+      long,
+      record {
+        least = omega arith;
+        most = omega arith;
+        spelled = sym (digits-number front are) ∙ ap (λ (k : ℕ). bytes_high_first k (number front)) long;
+      },
+    )
+
+-- so they never stop being one
+pub session_goes_on : (bytes : List ℕ) (at place : ℕ) → All IsByte bytes → at + 8 ≤ length bytes → StopsWithin (IsNumber session_field) at 8 bytes place → ⊥
+session_goes_on bytes at place all enough w =
+    let front = take 8 (drop at bytes) in
+    let any = any_session bytes at all enough in
+    let whole : take 8 front ≡ front = take_all 8 front (omega (arith, any.0)) in
+    w.stops.longest 8 (omega (arith, w.after, w.before)) (omega (arith, any.0))
+    (subst (Starts (IsNumber session_field)) (sym whole) (starts-whole (IsNumber session_field) front (number front) any.1))
 
 -- a field stops being right: so does the header, in that field
-pub stops_in : {f : Number} {next : ℕ → List ℕ → QueryHeader → Type 0} {bytes : List ℕ} {fault : FrameFault} (field : Field) → f.width ≡ place_count field
+pub stops_in : {f : Number} {next : ℕ → List ℕ → QueryHeader → Type 0} {bytes : List ℕ} {fault : FrameFault} (field : Field) → first_place field + f.width ≡ end_place field
     → Leads IsQueryHeader (Then f next) (first_place field) bytes → ((v : ℕ) → f.least ≤ v → v ≤ f.most → Starts (next v) []) → ReadsField f field bytes (Err fault)
     → ReadsQuery bytes (Err fault)
 stops_in {f} {next} {bytes} {fault} field size leads some h =
     let stops = leads-stop leads some h.0 in
     let after : first_place fault.field ≤ fault.place = omega (arith, h.0.after, ap first_place h.1) in
-    let before : fault.place < first_place fault.field + place_count fault.field = omega (arith, h.0.before, size, ap first_place h.1, ap place_count h.1) in
+    let before : fault.place < end_place fault.field = omega (arith, h.0.before, size, ap end_place h.1) in
     (record { stops = stops.0; after = after; before = before }, stops.1)
 
 -- what a `?` hands on of a reading

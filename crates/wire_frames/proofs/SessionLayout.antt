@@ -3,10 +3,15 @@ use Rattle.std.proofs.Common.{ℕ, ◌+◌, ◌<◌, ◌≤◌, List, [], ◌∷
 use Rattle.std.specs.Int.{bytes_high_first}
 use Rattle.wire_frames.specs.declared.TheConstants.{MOST_DEGREE, MOST_SERVERS}
 use Rattle.wire_frames.specs.declared.field.Number.{Number}
+use Rattle.wire_frames.specs.declared.header.TheConstants.{VERSION}
+use Rattle.wire_frames.specs.declared.layout.TheConstants.{SESSION_MAGIC}
+use Rattle.wire_frames.specs.declared.places.TheConstants.{SESSION_MAGIC_PLACE, SESSION_VERSION_PLACE, SESSION_SCHEME_PLACE, SESSION_DEGREE_PLACE, SESSION_AGREEMENT_PLACE, SESSION_SERVERS_PLACE, SESSION_ZERO_PLACE, SESSION_NUMBER_PLACE}
+use Rattle.wire_frames.specs.declared.scheme.TheConstants.{SHAMIR, XOR}
 use Rattle.wire_frames.specs.declared.session.SessionParams.{SessionParams}
 use Rattle.wire_frames.specs.Field.{IsNumber, most_servers, servers_field}
 use Rattle.wire_frames.specs.Form.{Starts}
 use Rattle.wire_frames.specs.Layout.{IsHeader}
+use Rattle.wire_frames.specs.Scheme.{scheme_of}
 use Rattle.wire_frames.proofs.Chains.{Then, Leads, field_then, leads-start, leads-on, some_spelling}
 use Rattle.wire_frames.proofs.Servers.{few_agree, few_servers, some_servers, at_most_servers, one_number, servers_are, a_scheme, scheme_in}
 use Rattle.wire_frames.proofs.ShapeFields.{at_session, shape_into, shape_back, some_session}
@@ -21,14 +26,14 @@ abbrev pub at_zero : ℕ → ℕ → ℕ → ℕ → List ℕ → SessionParams 
 at_zero scheme t h n = Then (only 3 0) (λ _. at_session (params_of scheme t h n))
 
 abbrev pub at_n : ℕ → ℕ → ℕ → List ℕ → SessionParams → Type 0
-at_n scheme t h = Then (servers_field scheme h) (λ n. at_zero scheme t h n)
+at_n scheme t h = Then (servers_field (scheme_of scheme) h) (λ n. at_zero scheme t h n)
 
 abbrev pub at_h : ℕ → ℕ → List ℕ → SessionParams → Type 0
-at_h scheme t = Then (servers_field scheme (t + 1)) (λ h. at_n scheme t h)
+at_h scheme t = Then (servers_field (scheme_of scheme) (t + 1)) (λ h. at_n scheme t h)
 
 -- Shamir's sharing or the XOR scheme
 abbrev pub scheme_field : Number
-scheme_field = record { width = 1; least = 1; most = 2 }
+scheme_field = record { width = 1; least = SHAMIR; most = XOR }
 
 abbrev pub at_t : ℕ → List ℕ → SessionParams → Type 0
 at_t scheme = Then (record { width = 1; least = 1; most = MOST_DEGREE }) (λ t. at_h scheme t)
@@ -37,10 +42,10 @@ abbrev pub at_scheme : List ℕ → SessionParams → Type 0
 at_scheme = Then scheme_field (λ scheme. at_t scheme)
 
 abbrev pub at_version : List ℕ → SessionParams → Type 0
-at_version = Then (only 1 1) (λ _. at_scheme)
+at_version = Then (only 1 VERSION) (λ _. at_scheme)
 
 abbrev pub at_magic : List ℕ → SessionParams → Type 0
-at_magic = Then (only 4 1346982483) (λ _. at_version)
+at_magic = Then (only 4 SESSION_MAGIC) (λ _. at_version)
 
 -- a header is a chain of fields
 pub header_into : (bytes : List ℕ) (p : SessionParams) → IsHeader bytes p → at_magic bytes p
@@ -49,12 +54,12 @@ header_into bytes p h =
     let some_scheme = scheme_in p.scheme range.scheme in
     let session_on = shape_into (params_of p.scheme p.t p.h p.n) p.session p.r p.s range.session range.shape in
     let zero_on = field_then {next = λ _. at_session (params_of p.scheme p.t p.h p.n)} _ p (number_is 3 0 0 0 (omega arith) (omega arith)) session_on in
-    let n_on = field_then {next = λ n. at_zero p.scheme p.t p.h n} _ p (byte_is p.h p.n (most_servers p.scheme p.h) range.servers (at_most_servers p.scheme p.h p.n range.all_answer range.few_servers) (omega (arith, few_servers p.scheme p.h range.few_agree))) zero_on in
-    let h_on = field_then {next = λ h. at_n p.scheme p.t h} _ p (byte_is (p.t + 1) p.h (most_servers p.scheme (p.t + 1)) (omega (arith, range.agreement)) (at_most_servers p.scheme (p.t + 1) p.h range.all_agree range.few_agree) (omega (arith, few_servers p.scheme (p.t + 1) (omega (arith, range.few_private))))) n_on in
+    let n_on = field_then {next = λ n. at_zero p.scheme p.t p.h n} _ p (byte_is p.h p.n (most_servers (scheme_of p.scheme) p.h) range.servers (at_most_servers p.scheme p.h p.n range.all_answer range.few_servers) (omega (arith, few_servers (scheme_of p.scheme) p.h range.few_agree))) zero_on in
+    let h_on = field_then {next = λ h. at_n p.scheme p.t h} _ p (byte_is (p.t + 1) p.h (most_servers (scheme_of p.scheme) (p.t + 1)) (omega (arith, range.agreement)) (at_most_servers p.scheme (p.t + 1) p.h range.all_agree range.few_agree) (omega (arith, few_servers (scheme_of p.scheme) (p.t + 1) (omega (arith, range.few_private))))) n_on in
     let t_on = field_then {next = λ t. at_h p.scheme t} _ p (byte_is 1 p.t MOST_DEGREE range.private range.few_private (lit< tt)) h_on in
-    let scheme_on = field_then {next = λ scheme. at_t scheme} _ p (byte_is 1 p.scheme 2 some_scheme.0 some_scheme.1 (lit< tt)) t_on in
-    let version_on = field_then {next = λ _. at_scheme} _ p (number_is 1 1 1 1 (omega arith) (omega arith)) scheme_on in
-    let whole = field_then {next = λ _. at_version} _ p (number_is 4 1346982483 1346982483 1346982483 (lit≤ tt) (lit≤ tt)) version_on in
+    let scheme_on = field_then {next = λ scheme. at_t scheme} _ p (byte_is SHAMIR p.scheme XOR some_scheme.0 some_scheme.1 (lit< tt)) t_on in
+    let version_on = field_then {next = λ _. at_scheme} _ p (number_is 1 VERSION VERSION VERSION (omega arith) (omega arith)) scheme_on in
+    let whole = field_then {next = λ _. at_version} _ p (number_is 4 SESSION_MAGIC SESSION_MAGIC SESSION_MAGIC (lit≤ tt) (lit≤ tt)) version_on in
     subst (λ (l : List ℕ). at_magic l p) (sym h.spelled) whole
 
 -- the numbers in a chain of fields are those of a header
@@ -66,17 +71,17 @@ header_back bytes p magic =
     let h = t.goes_on in
     let n = h.goes_on in
     let zero = n.goes_on in
-    let few : h.number ≤ MOST_SERVERS = few_agree scheme.number t.number h.number t.field.most h.field.most in
-    let most_agree : most_servers scheme.number (t.number + 1) < 256 = omega (arith, few_servers scheme.number (t.number + 1) (omega (arith, t.field.most))) in
-    let most : most_servers scheme.number h.number ≤ MOST_SERVERS = few_servers scheme.number h.number few in
+    let few : h.number ≤ MOST_SERVERS = few_agree (scheme_of scheme.number) t.number h.number t.field.most h.field.most in
+    let most_agree : most_servers (scheme_of scheme.number) (t.number + 1) < 256 = omega (arith, few_servers (scheme_of scheme.number) (t.number + 1) (omega (arith, t.field.most))) in
+    let most : most_servers (scheme_of scheme.number) h.number ≤ MOST_SERVERS = few_servers (scheme_of scheme.number) h.number few in
     let shaped = shape_back (params_of scheme.number t.number h.number n.number) zero.rest p zero.goes_on in
     let zero_is = joined n.rest zero.front zero.rest (bytes_high_first 3 0) _ zero.split (only_front 3 0 zero.number zero.front zero.field) shaped.spelled in
-    let n_is = joined h.rest n.front n.rest (n.number ∷ []) _ n.split (byte_front h.number (most_servers scheme.number h.number) n.number n.front (omega (arith, most)) n.field) zero_is in
-    let h_is = joined t.rest h.front h.rest (h.number ∷ []) _ h.split (byte_front (t.number + 1) (most_servers scheme.number (t.number + 1)) h.number h.front most_agree h.field) n_is in
+    let n_is = joined h.rest n.front n.rest (n.number ∷ []) _ n.split (byte_front h.number (most_servers (scheme_of scheme.number) h.number) n.number n.front (omega (arith, most)) n.field) zero_is in
+    let h_is = joined t.rest h.front h.rest (h.number ∷ []) _ h.split (byte_front (t.number + 1) (most_servers (scheme_of scheme.number) (t.number + 1)) h.number h.front most_agree h.field) n_is in
     let t_is = joined scheme.rest t.front t.rest (t.number ∷ []) _ t.split (byte_front 1 MOST_DEGREE t.number t.front (lit< tt) t.field) h_is in
-    let scheme_is = joined version.rest scheme.front scheme.rest (scheme.number ∷ []) _ scheme.split (byte_front 1 2 scheme.number scheme.front (lit< tt) scheme.field) t_is in
-    let version_is = joined magic.rest version.front version.rest (bytes_high_first 1 1) _ version.split (only_front 1 1 version.number version.front version.field) scheme_is in
-    let whole = joined bytes magic.front magic.rest (bytes_high_first 4 1346982483) _ magic.split (only_front 4 1346982483 magic.number magic.front magic.field) version_is in
+    let scheme_is = joined version.rest scheme.front scheme.rest (scheme.number ∷ []) _ scheme.split (byte_front SHAMIR XOR scheme.number scheme.front (lit< tt) scheme.field) t_is in
+    let version_is = joined magic.rest version.front version.rest (bytes_high_first 1 VERSION) _ version.split (only_front 1 VERSION version.number version.front version.field) scheme_is in
+    let whole = joined bytes magic.front magic.rest (bytes_high_first 4 SESSION_MAGIC) _ magic.split (only_front 4 SESSION_MAGIC magic.number magic.front magic.field) version_is in
     subst (IsHeader bytes) shaped.same (record {
       range = record {
         scheme = a_scheme scheme.number scheme.field.least scheme.field.most;
@@ -99,45 +104,45 @@ pub some_zero : (scheme t h n : ℕ) → Starts (at_zero scheme t h n) []
 some_zero scheme t h n = some_spelling _ _ 0 (omega arith) (omega arith) (some_session (params_of scheme t h n))
 
 pub some_n : (scheme t h : ℕ) → h ≤ MOST_SERVERS → Starts (at_n scheme t h) []
-some_n scheme t h few = some_spelling _ _ h (omega arith) (some_servers scheme h few) (some_zero scheme t h h)
+some_n scheme t h few = some_spelling _ _ h (omega arith) (some_servers (scheme_of scheme) h few) (some_zero scheme t h h)
 
 pub some_h : (scheme t : ℕ) → t ≤ MOST_DEGREE → Starts (at_h scheme t) []
-some_h scheme t few = some_spelling _ _ (t + 1) (omega arith) (some_servers scheme (t + 1) (omega (arith, few))) (some_n scheme t (t + 1) (omega (arith, few)))
+some_h scheme t few = some_spelling _ _ (t + 1) (omega arith) (some_servers (scheme_of scheme) (t + 1) (omega (arith, few))) (some_n scheme t (t + 1) (omega (arith, few)))
 
 pub some_t : (scheme : ℕ) → Starts (at_t scheme) []
 some_t scheme = some_spelling _ _ 1 (omega arith) (lit≤ tt) (some_h scheme 1 (lit≤ tt))
 
 pub some_scheme : Starts at_scheme []
-some_scheme = some_spelling _ _ 1 (omega arith) (lit≤ tt) (some_t 1)
+some_scheme = some_spelling _ _ SHAMIR (omega arith) (lit≤ tt) (some_t SHAMIR)
 
 pub some_version : Starts at_version []
 some_version = some_spelling _ _ 1 (omega arith) (omega arith) some_scheme
 
 pub some_magic : Starts at_magic []
-some_magic = some_spelling _ _ 1346982483 (lit≤ tt) (lit≤ tt) some_version
+some_magic = some_spelling _ _ SESSION_MAGIC (lit≤ tt) (lit≤ tt) some_version
 
 -- THE STEPS of a reading of a header: each field that is read leads on to the next
-pub to_version : (bytes : List ℕ) (v : ℕ) → IsNumber (only 4 1346982483) (take 4 (drop 0 bytes)) v → Leads IsHeader at_version 4 bytes
-to_version bytes v h = leads-on (is_field 4 1346982483 1346982483 (lit≤ tt) (lit≤ tt) (lit< tt)) (leads-start bytes header_into header_back) h
+pub to_version : (bytes : List ℕ) (v : ℕ) → IsNumber (only 4 SESSION_MAGIC) (take 4 (drop SESSION_MAGIC_PLACE bytes)) v → Leads IsHeader at_version SESSION_VERSION_PLACE bytes
+to_version bytes v h = leads-on (is_field 4 SESSION_MAGIC SESSION_MAGIC (lit≤ tt) (lit≤ tt) (lit< tt)) (leads-start bytes header_into header_back) h
 
-pub to_scheme : {bytes : List ℕ} {v : ℕ} → Leads IsHeader at_version 4 bytes → IsNumber (only 1 1) (take 1 (drop 4 bytes)) v → Leads IsHeader at_scheme 5 bytes
-to_scheme leads h = leads-on (is_field 1 1 1 (lit≤ tt) (lit≤ tt) (lit< tt)) leads h
+pub to_scheme : {bytes : List ℕ} {v : ℕ} → Leads IsHeader at_version SESSION_VERSION_PLACE bytes → IsNumber (only 1 VERSION) (take 1 (drop SESSION_VERSION_PLACE bytes)) v → Leads IsHeader at_scheme SESSION_SCHEME_PLACE bytes
+to_scheme leads h = leads-on (is_field 1 VERSION VERSION (lit≤ tt) (lit≤ tt) (lit< tt)) leads h
 
-pub to_t : {bytes : List ℕ} {v : ℕ} → Leads IsHeader at_scheme 5 bytes → IsNumber scheme_field (take 1 (drop 5 bytes)) v → Leads IsHeader (at_t v) 6 bytes
-to_t leads h = leads-on (is_field 1 1 2 (lit≤ tt) (lit≤ tt) (lit< tt)) leads h
+pub to_t : {bytes : List ℕ} {v : ℕ} → Leads IsHeader at_scheme SESSION_SCHEME_PLACE bytes → IsNumber scheme_field (take 1 (drop SESSION_SCHEME_PLACE bytes)) v → Leads IsHeader (at_t v) SESSION_DEGREE_PLACE bytes
+to_t leads h = leads-on (is_field 1 SHAMIR XOR (lit≤ tt) (lit≤ tt) (lit< tt)) leads h
 
-pub to_h : {bytes : List ℕ} {scheme v : ℕ} → Leads IsHeader (at_t scheme) 6 bytes → IsNumber (record { width = 1; least = 1; most = MOST_DEGREE }) (take 1 (drop 6 bytes)) v
-    → Leads IsHeader (at_h scheme v) 7 bytes
+pub to_h : {bytes : List ℕ} {scheme v : ℕ} → Leads IsHeader (at_t scheme) SESSION_DEGREE_PLACE bytes → IsNumber (record { width = 1; least = 1; most = MOST_DEGREE }) (take 1 (drop SESSION_DEGREE_PLACE bytes)) v
+    → Leads IsHeader (at_h scheme v) SESSION_AGREEMENT_PLACE bytes
 to_h leads h = leads-on (is_field 1 1 MOST_DEGREE (lit≤ tt) (lit≤ tt) (lit< tt)) leads h
 
-pub to_n : {bytes : List ℕ} {scheme t v : ℕ} → t ≤ MOST_DEGREE → Leads IsHeader (at_h scheme t) 7 bytes → IsNumber (servers_field scheme (t + 1)) (take 1 (drop 7 bytes)) v
-    → Leads IsHeader (at_n scheme t v) 8 bytes
-to_n {bytes} {scheme} {t} {v} few leads h = leads-on (servers_are scheme (t + 1) (omega (arith, few))) leads h
+pub to_n : {bytes : List ℕ} {scheme t v : ℕ} → t ≤ MOST_DEGREE → Leads IsHeader (at_h scheme t) SESSION_AGREEMENT_PLACE bytes → IsNumber (servers_field (scheme_of scheme) (t + 1)) (take 1 (drop SESSION_AGREEMENT_PLACE bytes)) v
+    → Leads IsHeader (at_n scheme t v) SESSION_SERVERS_PLACE bytes
+to_n {bytes} {scheme} {t} {v} few leads h = leads-on (servers_are (scheme_of scheme) (t + 1) (omega (arith, few))) leads h
 
-pub to_zero : {bytes : List ℕ} {scheme t h v : ℕ} → h ≤ MOST_SERVERS → Leads IsHeader (at_n scheme t h) 8 bytes → IsNumber (servers_field scheme h) (take 1 (drop 8 bytes)) v
-    → Leads IsHeader (at_zero scheme t h v) 9 bytes
-to_zero {bytes} {scheme} {t} {h} {v} few leads is = leads-on (servers_are scheme h few) leads is
+pub to_zero : {bytes : List ℕ} {scheme t h v : ℕ} → h ≤ MOST_SERVERS → Leads IsHeader (at_n scheme t h) SESSION_SERVERS_PLACE bytes → IsNumber (servers_field (scheme_of scheme) h) (take 1 (drop SESSION_SERVERS_PLACE bytes)) v
+    → Leads IsHeader (at_zero scheme t h v) SESSION_ZERO_PLACE bytes
+to_zero {bytes} {scheme} {t} {h} {v} few leads is = leads-on (servers_are (scheme_of scheme) h few) leads is
 
-pub to_session : {bytes : List ℕ} {scheme t h n v : ℕ} → Leads IsHeader (at_zero scheme t h n) 9 bytes → IsNumber (only 3 0) (take 3 (drop 9 bytes)) v
-    → Leads IsHeader (at_session (params_of scheme t h n)) 12 bytes
+pub to_session : {bytes : List ℕ} {scheme t h n v : ℕ} → Leads IsHeader (at_zero scheme t h n) SESSION_ZERO_PLACE bytes → IsNumber (only 3 0) (take 3 (drop SESSION_ZERO_PLACE bytes)) v
+    → Leads IsHeader (at_session (params_of scheme t h n)) SESSION_NUMBER_PLACE bytes
 to_session leads h = leads-on (is_field 3 0 0 (lit≤ tt) (lit≤ tt) (lit< tt)) leads h

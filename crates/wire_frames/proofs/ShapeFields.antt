@@ -5,20 +5,17 @@ use Rattle.std.proofs.Math.Nat.{div-mul-le_self, mul-le-mul_right}
 use Rattle.std.proofs.lemmas.Nat.{le-div}
 use Rattle.wire_frames.specs.declared.TheConstants.{MOST_ROWS, MOST_WIDTH, MOST_CELLS}
 use Rattle.wire_frames.specs.declared.field.Number.{Number}
-use Rattle.wire_frames.specs.Field.{IsNumber, width_field}
+use Rattle.wire_frames.specs.Field.{IsNumber, session_field, width_field}
 use Rattle.wire_frames.specs.Form.{Starts}
 use Rattle.wire_frames.specs.Limits.{IsShape}
 use Rattle.wire_frames.proofs.Chains.{Then, IsDone, Leads, field_then, leads-on, some_spelling, no_more}
 use Rattle.wire_frames.proofs.Spellings.{number_is, joined, is_field}
 
--- a session, and rows
-abbrev pub session_field : Number
-session_field = record { width = 8; least = 0; most = 18446744073709551615 }
-
+-- rows
 abbrev pub rows_field : Number
 rows_field = record { width = 4; least = 1; most = MOST_ROWS }
 
--- their bytes
+-- the bytes of a session, of rows and of their width
 abbrev pub shape_bytes : ℕ → ℕ → ℕ → List ℕ
 shape_bytes session r s = bytes_high_first 8 session ++ (bytes_high_first 4 r ++ bytes_high_first 4 s)
 

@@ -1,8 +1,9 @@
 -- A field of a frame: a number of so many bytes, highest first, in a range.
-use Rattle.std.specs.Prelude.{◌≡◌, ℕ, ◌^◌, ◌/◌, ◌<◌, ◌≤◌, ◌==◌, if◌then◌else◌, List, min}
+use Rattle.std.specs.Prelude.{◌≡◌, ℕ, ◌-◌, ◌^◌, ◌/◌, ◌<◌, ◌≤◌, List, min}
 use Rattle.std.specs.Int.{bytes_high_first}
 use Rattle.wire_frames.specs.declared.TheConstants.{MOST_SERVERS, MOST_WIDTH, MOST_CELLS}
-use Rattle.wire_frames.specs.declared.scheme.TheConstants.{XOR}
+use Rattle.wire_frames.specs.declared.scheme.Scheme.{Scheme}
+use Rattle.wire_frames.specs.declared.scheme.Scheme.TheVariants.{Shamir, Xor}
 use Rattle.wire_frames.specs.declared.field.Number.{Number}
 
 -- a range of numbers that has some, and none of more bytes than the field has
@@ -17,14 +18,19 @@ pub record IsNumber (field : Number) (bytes : List ℕ) (value : ℕ) : Type 0 w
   pub most : value ≤ field.most
   pub spelled : bytes ≡ bytes_high_first field.width value
 
+-- the number of a session, which any eight bytes are
+abbrev pub session_field : Number
+session_field = record { width = 8; least = 0; most = 2 ^ 64 - 1 }
+
 -- the width of so many rows
 abbrev pub width_field : ℕ → Number
 width_field rows = record { width = 4; least = 1; most = min MOST_WIDTH (MOST_CELLS / rows) }
 
 -- the most servers there may be, where there are at least so many: in the XOR scheme no more
-abbrev pub most_servers : ℕ → ℕ → ℕ
-most_servers scheme least = if scheme == XOR then least else MOST_SERVERS
+abbrev pub most_servers : Scheme → ℕ → ℕ
+most_servers Shamir least = MOST_SERVERS
+most_servers Xor least = least
 
 -- such a number of servers
-abbrev pub servers_field : ℕ → ℕ → Number
+abbrev pub servers_field : Scheme → ℕ → Number
 servers_field scheme least = record { width = 1; least = least; most = most_servers scheme least }

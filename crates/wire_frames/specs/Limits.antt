@@ -1,4 +1,4 @@
--- The ranges of the numbers in frames and session files. They are widened here, and nowhere else.
+-- The ranges of the numbers in frames and session files. Each limit is a constant of the crate's root.
 use Rattle.std.specs.Prelude.{ℕ, ◌+◌, ◌*◌, ◌^◌, ◌<◌, ◌≤◌, ◌≡◌, ◌⊎◌}
 use Rattle.wire_frames.specs.declared.TheConstants.{MOST_DEGREE, MOST_SERVERS, MOST_ROWS, MOST_WIDTH, MOST_CELLS}
 use Rattle.wire_frames.specs.declared.scheme.TheConstants.{SHAMIR, XOR}

@@ -5,6 +5,8 @@ use Rattle.wire_frames.specs.declared.header.QueryHeader.{QueryHeader}
 use Rattle.wire_frames.specs.declared.query.Field.{Field}
 use Rattle.wire_frames.specs.declared.query.Field.TheVariants.{Magic, Version, Scheme, Index, Zero, Rows, Width}
 use Rattle.wire_frames.specs.declared.query.FrameFault.{FrameFault}
+use Rattle.wire_frames.specs.declared.places.TheConstants.{FRAME_MAGIC_PLACE, FRAME_VERSION_PLACE, FRAME_SCHEME_PLACE, FRAME_INDEX_PLACE, FRAME_STATUS_PLACE, FRAME_SESSION_PLACE, FRAME_ROWS_PLACE, FRAME_WIDTH_PLACE}
+use Rattle.wire_frames.specs.declared.sizes.TheConstants.{FRAME_HEADER_LEN}
 use Rattle.wire_frames.specs.Field.{IsNumber}
 use Rattle.wire_frames.specs.Form.{StopsAt, StopsWithin}
 use Rattle.wire_frames.specs.Header.{query_header}
@@ -15,30 +17,31 @@ pub record IsQueryHeader (bytes : List ℕ) (q : QueryHeader) : Type 0 where
   pub range : IsQuery q
   pub spelled : bytes ≡ query_header q
 
--- the first place of a field, and how many it has
+-- the first place of a field
 abbrev pub first_place : Field → ℕ
-first_place Magic = 0
-first_place Version = 4
-first_place Scheme = 5
-first_place Index = 6
-first_place Zero = 7
-first_place Rows = 16
-first_place Width = 20
+first_place Magic = FRAME_MAGIC_PLACE
+first_place Version = FRAME_VERSION_PLACE
+first_place Scheme = FRAME_SCHEME_PLACE
+first_place Index = FRAME_INDEX_PLACE
+first_place Zero = FRAME_STATUS_PLACE
+first_place Rows = FRAME_ROWS_PLACE
+first_place Width = FRAME_WIDTH_PLACE
 
-abbrev pub place_count : Field → ℕ
-place_count Magic = 4
-place_count Version = 1
-place_count Scheme = 1
-place_count Index = 1
-place_count Zero = 1
-place_count Rows = 4
-place_count Width = 4
+-- the place behind a field
+abbrev pub end_place : Field → ℕ
+end_place Magic = FRAME_VERSION_PLACE
+end_place Version = FRAME_SCHEME_PLACE
+end_place Scheme = FRAME_INDEX_PLACE
+end_place Index = FRAME_STATUS_PLACE
+end_place Zero = FRAME_SESSION_PLACE
+end_place Rows = FRAME_WIDTH_PLACE
+end_place Width = FRAME_HEADER_LEN
 
 -- the bytes begin a query's header up to the fault's place and not further, and that place is in the fault's field
 pub record IsFault (bytes : List ℕ) (fault : FrameFault) : Type 0 where
   pub stops : StopsAt IsQueryHeader bytes fault.place
   pub after : first_place fault.field ≤ fault.place
-  pub before : fault.place < first_place fault.field + place_count fault.field
+  pub before : fault.place < end_place fault.field
 
 -- what a reading answers: the query whose header the bytes are, or a fault
 abbrev pub ReadsQuery : List ℕ → Result QueryHeader FrameFault → Type 0

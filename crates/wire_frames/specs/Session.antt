@@ -2,6 +2,7 @@
 use Rattle.std.specs.Prelude.{◌≡◌, ℕ, ◌+◌, ◌*◌, ◌<◌, ◌≤◌, List, [], ◌∷◌, ◌++◌, length, codes, Option, Some, None, All, IfSome}
 use Rattle.std.specs.Int.{bytes_high_first}
 use Rattle.wire_frames.specs.Sizes.{answer_len}
+use Rattle.wire_frames.specs.declared.header.TheConstants.{VERSION}
 use Rattle.wire_frames.specs.declared.session.SessionParams.{SessionParams}
 use Rattle.wire_frames.specs.Limits.{IsInRange}
 use Rattle.wire_frames.specs.Records.{Kept}
@@ -11,9 +12,11 @@ pub record Transcript : Type 0 where
   pub params : SessionParams
   pub records : List (Option (List ℕ))
 
--- the first 28 bytes
+-- the header: `PIRS`, the version, scheme, degree, agreement and servers, three zeros, and session, rows and width
 abbrev pub header_bytes : SessionParams → List ℕ
-header_bytes p = codes "PIRS" ++ (1 ∷ p.scheme ∷ p.t ∷ p.h ∷ p.n ∷ 0 ∷ 0 ∷ 0 ∷ []) ++ bytes_high_first 8 p.session ++ bytes_high_first 4 p.r ++ bytes_high_first 4 p.s
+header_bytes p =
+    codes "PIRS" ++ (VERSION ∷ p.scheme ∷ p.t ∷ p.h ∷ p.n ∷ 0 ∷ 0 ∷ 0 ∷ [])
+    ++ bytes_high_first 8 p.session ++ bytes_high_first 4 p.r ++ bytes_high_first 4 p.s
 
 -- record i: its index, whether it is present, its length, and its bytes
 abbrev pub record_bytes : ℕ → Option (List ℕ) → List ℕ

@@ -4,6 +4,10 @@ ghost use Rattle.std.specs.Int.{bytes_high_first};
 ghost use Rattle.wire_frames.specs.Header.{frame_header, query_header, answer_header, answer_to};
 ghost use Rattle.wire_frames.specs.Limits.{IsQuery};
 
+use crate::places::{
+    FRAME_INDEX_PLACE, FRAME_MAGIC_PLACE, FRAME_ROWS_PLACE, FRAME_SCHEME_PLACE, FRAME_SESSION_PLACE,
+    FRAME_STATUS_PLACE, FRAME_VERSION_PLACE, FRAME_WIDTH_PLACE,
+};
 use crate::sizes::FRAME_HEADER_LEN;
 use byteorder::{BigEndian, ByteOrder};
 
@@ -31,19 +35,19 @@ pub struct QueryHeader {
     pub s: u32,
 }
 
-/// The header of a frame, with its letters and its byte at place 7.
-fn frame_header(magic: u32, query: &QueryHeader, seventh: u8) -> [u8; FRAME_HEADER_LEN]
-    ensures { result ≡ frame_header (bytes_high_first 4 magic) query.now seventh }
+/// The header of a frame, with its letters and its status, which a query has 0 for.
+fn frame_header(magic: u32, query: &QueryHeader, status: u8) -> [u8; FRAME_HEADER_LEN]
+    ensures { result ≡ frame_header (bytes_high_first 4 magic) query.now status }
 {
     let mut header = [0; FRAME_HEADER_LEN];
-    header[..4].copy_from_slice(&magic.to_be_bytes());
-    header[4] = VERSION;
-    header[5] = query.scheme;
-    header[6] = query.index;
-    header[7] = seventh;
-    BigEndian::write_u64(&mut header[8..], query.session);
-    BigEndian::write_u32(&mut header[16..], query.r);
-    BigEndian::write_u32(&mut header[20..], query.s);
+    header[FRAME_MAGIC_PLACE..FRAME_VERSION_PLACE].copy_from_slice(&magic.to_be_bytes());
+    header[FRAME_VERSION_PLACE] = VERSION;
+    header[FRAME_SCHEME_PLACE] = query.scheme;
+    header[FRAME_INDEX_PLACE] = query.index;
+    header[FRAME_STATUS_PLACE] = status;
+    BigEndian::write_u64(&mut header[FRAME_SESSION_PLACE..], query.session);
+    BigEndian::write_u32(&mut header[FRAME_ROWS_PLACE..], query.r);
+    BigEndian::write_u32(&mut header[FRAME_WIDTH_PLACE..], query.s);
     header
 }
 
@@ -71,7 +75,7 @@ pub fn write_answer_header(query: &[u8; FRAME_HEADER_LEN], status: u8, out: &mut
     ensures { out.new ≡ answer_to query.now status }
 {
     *out = *query;
-    out[..4].copy_from_slice(&ANSWER_MAGIC.to_be_bytes());
-    out[4] = VERSION;
-    out[7] = status;
+    out[FRAME_MAGIC_PLACE..FRAME_VERSION_PLACE].copy_from_slice(&ANSWER_MAGIC.to_be_bytes());
+    out[FRAME_VERSION_PLACE] = VERSION;
+    out[FRAME_STATUS_PLACE] = status;
 }

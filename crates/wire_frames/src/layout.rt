@@ -1,35 +1,43 @@
 //! The parts of a session file that are numbers: its header, and what stands before the bytes of
 //! a record. Both are read from the bytes that have come so far, and each field's range may depend
-//! on the numbers before it.
+//! on the numbers before it. Where the fields stand is said in `places`.
 //!
-//! | Places | Field of the header | Range |
-//! |---|---|---|
-//! | 0..3 | `PIRS` | fixed |
-//! | 4 | version | 1 |
-//! | 5 | scheme | 1 or 2 |
-//! | 6 | t | from 1 to `MOST_DEGREE` |
-//! | 7 | h | from t + 1 to `MOST_SERVERS`; in scheme 2 t + 1 |
-//! | 8 | n | from h to `MOST_SERVERS`; in scheme 2 h |
-//! | 9..11 | zero | 0 |
-//! | 12..19 | session | any |
-//! | 20..23 | r | from 1 to `MOST_ROWS` |
-//! | 24..27 | s | from 1 to `MOST_WIDTH`, with r times s at most `MOST_CELLS` |
+//! | Field of the header | Range |
+//! |---|---|
+//! | letters | `PIRS` |
+//! | version | 1 |
+//! | scheme | 1 or 2 |
+//! | degree t | from 1 to `MOST_DEGREE` |
+//! | agreement h | from t + 1 to `MOST_SERVERS`; in the XOR scheme t + 1 |
+//! | servers n | from h to `MOST_SERVERS`; in the XOR scheme h |
+//! | zero | 0 |
+//! | session | any |
+//! | rows | from 1 to `MOST_ROWS` |
+//! | width | from 1 to `MOST_WIDTH`, with rows times width at most `MOST_CELLS` |
 //!
-//! | Places | Field before a record's bytes | Range |
-//! |---|---|---|
-//! | 0 | index | that of the record, from 1 |
-//! | 1 | present | 0 or 1 |
-//! | 2..5 | length | at most that of an answer, and 0 where present is 0 |
+//! | Field before a record's bytes | Range |
+//! |---|---|
+//! | index | that of the record, from 1 |
+//! | present | 0 or 1 |
+//! | length | at most that of an answer, and 0 where present is 0 |
 ghost use Rattle.std.specs.Prelude.{◌≡◌, ◌≤◌, ◌<◌, ◌^◌, length};
 ghost use Rattle.wire_frames.specs.declared.sizes.TheConstants.{SESSION_HEADER_LEN, RECORD_HEADER_LEN};
 ghost use Rattle.wire_frames.specs.Field.{servers_field, width_field};
 ghost use Rattle.wire_frames.specs.Form.{Reads};
 ghost use Rattle.wire_frames.specs.Layout.{IsHeader, IsRecordHeader};
+ghost use Rattle.wire_frames.specs.Scheme.{scheme_of};
 
 use crate::field::{Number, number_at};
 use crate::header::VERSION;
+use crate::places::{
+    RECORD_INDEX_PLACE, RECORD_LENGTH_PLACE, RECORD_PRESENT_PLACE, SESSION_AGREEMENT_PLACE,
+    SESSION_DEGREE_PLACE, SESSION_MAGIC_PLACE, SESSION_NUMBER_PLACE, SESSION_ROWS_PLACE,
+    SESSION_SCHEME_PLACE, SESSION_SERVERS_PLACE, SESSION_VERSION_PLACE, SESSION_WIDTH_PLACE,
+    SESSION_ZERO_PLACE,
+};
+use crate::scheme::{SHAMIR, Scheme, XOR};
 use crate::session::SessionParams;
-use crate::{MOST_CELLS, MOST_DEGREE, MOST_ROWS, MOST_SERVERS, MOST_WIDTH, SHAMIR, XOR};
+use crate::{MOST_CELLS, MOST_DEGREE, MOST_ROWS, MOST_SERVERS, MOST_WIDTH};
 
 /// `PIRS`
 pub(crate) const SESSION_MAGIC: u32 = 0x5049_5253;
@@ -71,7 +79,8 @@ const ZERO: Number = Number {
     most: 0,
 };
 
-const SESSION: Number = Number {
+/// The number of a session.
+pub(crate) const SESSION: Number = Number {
     width: 8,
     least: 0,
     most: u64::MAX,
@@ -117,15 +126,14 @@ pub(crate) fn width_field(rows: u64) -> Number
     Number { most, ..WIDTH }
 }
 
-/// A number of servers from the least on, and in the XOR scheme no more: there all servers have to answer, and all of them
-/// but one learn nothing.
-fn servers_field(scheme: u64, least: u64) -> Number
-    ensures { result ≡ servers_field scheme least }
+/// A number of servers from the least on, and in the XOR scheme no more: there all servers have to
+/// answer, and all of them but one learn nothing.
+fn servers_field(scheme: u8, least: u64) -> Number
+    ensures { result ≡ servers_field (scheme_of scheme) least }
 {
-    let most = if scheme == u64::from(XOR) {
-        least
-    } else {
-        SERVERS.most
+    let most = match Scheme::of(scheme) {
+        Scheme::Shamir => SERVERS.most,
+        Scheme::Xor => least,
     };
     Number {
         least,
@@ -139,16 +147,16 @@ pub(crate) fn read_header(bytes: &[u8]) -> Result<SessionParams, usize>
     requires { length bytes.now ≤ SESSION_HEADER_LEN }
     ensures { Reads IsHeader bytes.now result }
 {
-    number_at(bytes, 0, MAGIC)?;
-    number_at(bytes, 4, VERSION_FIELD)?;
-    let scheme = number_at(bytes, 5, SCHEME)?;
-    let t = number_at(bytes, 6, DEGREE)?;
-    let h = number_at(bytes, 7, servers_field(scheme, t + 1))?;
-    let n = number_at(bytes, 8, servers_field(scheme, h))?;
-    number_at(bytes, 9, ZERO)?;
-    let session = number_at(bytes, 12, SESSION)?;
-    let r = number_at(bytes, 20, ROWS)?;
-    let s = number_at(bytes, 24, width_field(r))?;
+    number_at(bytes, SESSION_MAGIC_PLACE, MAGIC)?;
+    number_at(bytes, SESSION_VERSION_PLACE, VERSION_FIELD)?;
+    let scheme = number_at(bytes, SESSION_SCHEME_PLACE, SCHEME)?;
+    let t = number_at(bytes, SESSION_DEGREE_PLACE, DEGREE)?;
+    let h = number_at(bytes, SESSION_AGREEMENT_PLACE, servers_field(scheme as u8, t + 1))?;
+    let n = number_at(bytes, SESSION_SERVERS_PLACE, servers_field(scheme as u8, h))?;
+    number_at(bytes, SESSION_ZERO_PLACE, ZERO)?;
+    let session = number_at(bytes, SESSION_NUMBER_PLACE, SESSION)?;
+    let r = number_at(bytes, SESSION_ROWS_PLACE, ROWS)?;
+    let s = number_at(bytes, SESSION_WIDTH_PLACE, width_field(r))?;
     Ok(SessionParams {
         scheme: scheme as u8,
         t: t as u8,
@@ -173,12 +181,12 @@ pub(crate) fn read_record_header(bytes: &[u8], index: u8, most: u32) -> Result<O
         least: index,
         most: index,
     };
-    number_at(bytes, 0, number)?;
-    let present = number_at(bytes, 1, PRESENT)?;
+    number_at(bytes, RECORD_INDEX_PLACE, number)?;
+    let present = number_at(bytes, RECORD_PRESENT_PLACE, PRESENT)?;
     if present == 0 {
-        number_at(bytes, 2, NO_LEN)?;
+        number_at(bytes, RECORD_LENGTH_PLACE, NO_LEN)?;
         return Ok(None);
     }
-    let len = number_at(bytes, 2, Number { most, ..LEN })?;
+    let len = number_at(bytes, RECORD_LENGTH_PLACE, Number { most, ..LEN })?;
     Ok(Some(len as u32))
 }

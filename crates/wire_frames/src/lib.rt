@@ -12,7 +12,9 @@ mod answer;
 mod field;
 mod head;
 mod header;
+pub mod laws;
 mod layout;
+mod places;
 mod query;
 mod reader;
 mod records;
@@ -28,20 +30,35 @@ pub use query::{Field, FrameFault, read_query_header};
 pub use reader::{BadSession, FeedFault, SessionReader};
 pub use scheme::{SHAMIR, Scheme, XOR};
 pub use session::{Session, SessionParams};
-pub use sizes::{FRAME_HEADER_LEN, RECORD_HEADER_LEN, SESSION_HEADER_LEN, answer_len};
+pub use sizes::{FRAME_HEADER_LEN, RECORD_HEADER_LEN, SESSION_HEADER_LEN, answer_len, query_len};
 pub use write::write_session;
 
-/// The greatest degree of a query's polynomials, so how many servers together may learn nothing.
-pub const MOST_DEGREE: u8 = 7;
+/// The least number of servers: one alone would learn the block.
+pub const LEAST_SERVERS: u8 = 2;
 
-/// The greatest number of servers.
+/// The greatest number of servers. An index is one byte, so 255 is the end; the choices of answers that
+/// a verdict tries grow with it.
 pub const MOST_SERVERS: u8 = 8;
 
-/// The greatest number of rows of a database.
+/// The greatest degree of a query's polynomials, so how many servers together may learn nothing. It
+/// goes with [`MOST_SERVERS`]: one server more has to agree.
+pub const MOST_DEGREE: u8 = MOST_SERVERS - 1;
+
+/// The greatest number of rows of a database. Its field has four bytes; [`MOST_CELLS`] has to allow one
+/// byte a row.
 pub const MOST_ROWS: u32 = 1 << 20;
 
-/// The greatest width of a row, in bytes.
+/// The greatest width of a row, in bytes. The length of an answer, [`answer_len`], has to fit four
+/// bytes.
 pub const MOST_WIDTH: u32 = 1 << 16;
 
-/// The greatest size of a database, in bytes.
+/// The greatest size of a database, in bytes. A server holds so much memory, and a number of rows times
+/// a width has to stay below 2^64.
 pub const MOST_CELLS: u64 = 1 << 30;
+
+/// The greatest number of workers that share the work on an answer. Each is a thread of its own; it is
+/// kept in one byte.
+pub const MOST_WORKERS: u8 = 16;
+
+/// The greatest number of guests that a server takes before it ends. It is kept in four bytes.
+pub const MOST_GUESTS: u32 = 65535;

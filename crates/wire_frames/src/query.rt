@@ -1,42 +1,46 @@
-//! Reads the header of a query.
+//! Reads the header of a query, whose fields stand where `places` says.
 //!
-//! | Places | Field | Range |
-//! |---|---|---|
-//! | 0..3 | `PIRQ` | fixed |
-//! | 4 | version | 1 |
-//! | 5 | scheme | 1 or 2 |
-//! | 6 | index | not 0 |
-//! | 7 | zero | 0 |
-//! | 8..15 | session | any |
-//! | 16..19 | r | from 1 to `MOST_ROWS` |
-//! | 20..23 | s | from 1 to `MOST_WIDTH`, with r times s at most `MOST_CELLS` |
-ghost use Rattle.std.specs.Prelude.{◌≡◌};
-ghost use Rattle.wire_frames.specs.Field.{IsField};
+//! | Field | Range |
+//! |---|---|
+//! | letters | `PIRQ` |
+//! | version | 1 |
+//! | scheme | 1 or 2 |
+//! | index | not 0 |
+//! | zero | 0 |
+//! | session | any |
+//! | rows | from 1 to `MOST_ROWS` |
+//! | width | from 1 to `MOST_WIDTH`, with rows times width at most `MOST_CELLS` |
+ghost use Rattle.std.specs.Prelude.{◌≡◌, take, drop};
+ghost use Rattle.wire_frames.specs.declared.places.TheConstants.{FRAME_SESSION_PLACE};
+ghost use Rattle.wire_frames.specs.Field.{IsField, IsNumber, session_field};
 ghost use Rattle.wire_frames.specs.Query.{first_place, ReadsField, ReadsQuery};
 
 use crate::field::{Number, number_at};
 use crate::header::{QUERY_MAGIC, QueryHeader};
-use crate::layout::{ROWS, SCHEME, VERSION_FIELD, width_field};
+use crate::layout::{ROWS, SCHEME, SESSION, VERSION_FIELD, width_field};
+use crate::places::{
+    FRAME_INDEX_PLACE, FRAME_MAGIC_PLACE, FRAME_ROWS_PLACE, FRAME_SCHEME_PLACE, FRAME_SESSION_PLACE,
+    FRAME_STATUS_PLACE, FRAME_VERSION_PLACE, FRAME_WIDTH_PLACE,
+};
 use crate::sizes::FRAME_HEADER_LEN;
-use byteorder::{BigEndian, ByteOrder};
 use thiserror::Error;
 
 /// A field of a query's header that can be wrong.
 #[derive(Clone, Copy, Debug, PartialEq, Eq)]
 pub enum Field {
-    /// The four letters, at 0 to 3.
+    /// The four letters.
     Magic,
-    /// At 4.
+    /// The version.
     Version,
-    /// At 5.
+    /// The scheme's number.
     Scheme,
-    /// The index of the server, at 6.
+    /// The index of the server.
     Index,
-    /// At 7.
+    /// The byte that is 0, where an answer has its status.
     Zero,
-    /// At 16 to 19.
+    /// The number of rows.
     Rows,
-    /// The width of a row, at 20 to 23. That the rows have too many bytes together counts to it.
+    /// The width of a row. That the rows have too many bytes together counts to it.
     Width,
 }
 
@@ -46,13 +50,13 @@ impl Field {
         ensures { result ≡ first_place self }
     {
         match self {
-            Field::Magic => 0,
-            Field::Version => 4,
-            Field::Scheme => 5,
-            Field::Index => 6,
-            Field::Zero => 7,
-            Field::Rows => 16,
-            Field::Width => 20,
+            Field::Magic => FRAME_MAGIC_PLACE,
+            Field::Version => FRAME_VERSION_PLACE,
+            Field::Scheme => FRAME_SCHEME_PLACE,
+            Field::Index => FRAME_INDEX_PLACE,
+            Field::Zero => FRAME_STATUS_PLACE,
+            Field::Rows => FRAME_ROWS_PLACE,
+            Field::Width => FRAME_WIDTH_PLACE,
         }
     }
 }
@@ -99,6 +103,16 @@ fn read_field(bytes: &[u8], field: Field, number: Number) -> Result<u64, FrameFa
     }
 }
 
+/// The number of the session, which any bytes are.
+fn read_session(bytes: &[u8; FRAME_HEADER_LEN]) -> u64
+    ensures { IsNumber session_field (take session_field.width (drop FRAME_SESSION_PLACE bytes.now)) result }
+{
+    let Ok(session) = number_at(bytes, FRAME_SESSION_PLACE, SESSION) else {
+        unreachable!()
+    };
+    session
+}
+
 /// The query whose header these bytes are. It takes no memory.
 ///
 /// # Errors
@@ -114,7 +128,7 @@ pub fn read_query_header(bytes: &[u8; FRAME_HEADER_LEN]) -> Result<QueryHeader, 
     let scheme = read_field(bytes, Field::Scheme, SCHEME)?;
     let index = read_field(bytes, Field::Index, INDEX)?;
     read_field(bytes, Field::Zero, ZERO)?;
-    let session = BigEndian::read_u64(&bytes[8..]);
+    let session = read_session(bytes);
     let r = read_field(bytes, Field::Rows, ROWS)?;
     let s = read_field(bytes, Field::Width, width_field(r))?;
     Ok(QueryHeader {

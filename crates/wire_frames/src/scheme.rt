@@ -1,6 +1,6 @@
 //! The schemes, and their numbers in frames, sessions and words.
 ghost use Rattle.std.specs.Prelude.{◌≡◌, ◌≤◌, ◌<◌};
-ghost use Rattle.wire_frames.specs.Scheme.{scheme_of, payload_len};
+ghost use Rattle.wire_frames.specs.Scheme.{scheme_of, number_of, payload_len};
 
 /// The number of Shamir's sharing (Goldberg 2007).
 pub const SHAMIR: u8 = 1;
@@ -18,8 +18,8 @@ pub enum Scheme {
 }
 
 impl Scheme {
-    /// The scheme that a number stands for: [`XOR`], or else Shamir's. The numbers of frames, sessions and words are
-    /// those two alone.
+    /// The scheme that a number stands for: [`XOR`], or else Shamir's. The numbers of frames, sessions
+    /// and words are those two alone.
     #[tactic(auto, unfolding(crate::specs::Scheme::scheme_of))]
     pub fn of(number: u8) -> Scheme
         ensures { result ≡ scheme_of number }
@@ -31,8 +31,20 @@ impl Scheme {
         }
     }
 
-    /// How many bytes the payload of a query has, for a database of so many rows: one for each row or, in the XOR scheme, a
-    /// bit for each row.
+    /// Its number, [`SHAMIR`] or [`XOR`], which stands for it.
+    #[tactic(auto, unfolding(crate::specs::Scheme::scheme_of))]
+    pub fn number(self) -> u8
+        ensures is { result ≡ number_of self }
+        ensures stands { scheme_of result ≡ self }
+    {
+        match self {
+            Scheme::Shamir => SHAMIR,
+            Scheme::Xor => XOR,
+        }
+    }
+
+    /// How many bytes the payload of a query has, for a database of so many rows: one for each row or,
+    /// in the XOR scheme, a bit for each row.
     pub fn payload_len(self, rows: u32) -> usize
         ensures is { result ≡ payload_len self rows }
         ensures some { 0 < rows → 0 < result }

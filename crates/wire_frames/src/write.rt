@@ -10,6 +10,11 @@ ghost use Rattle.wire_frames.specs.Session.{IsSession, header_bytes, record_byte
 
 use crate::header::VERSION;
 use crate::layout::SESSION_MAGIC;
+use crate::places::{
+    RECORD_INDEX_PLACE, RECORD_LENGTH_PLACE, RECORD_PRESENT_PLACE, SESSION_AGREEMENT_PLACE,
+    SESSION_DEGREE_PLACE, SESSION_MAGIC_PLACE, SESSION_NUMBER_PLACE, SESSION_ROWS_PLACE,
+    SESSION_SCHEME_PLACE, SESSION_SERVERS_PLACE, SESSION_VERSION_PLACE, SESSION_WIDTH_PLACE,
+};
 use crate::session::{Session, SessionParams};
 use crate::sizes::{RECORD_HEADER_LEN, SESSION_HEADER_LEN};
 use byteorder::{BigEndian, ByteOrder};
@@ -20,15 +25,15 @@ fn header_of(params: &SessionParams) -> [u8; SESSION_HEADER_LEN]
     ensures { result ≡ header_bytes params.now }
 {
     let mut header = [0; SESSION_HEADER_LEN];
-    header[..4].copy_from_slice(&SESSION_MAGIC.to_be_bytes());
-    header[4] = VERSION;
-    header[5] = params.scheme;
-    header[6] = params.t;
-    header[7] = params.h;
-    header[8] = params.n;
-    BigEndian::write_u64(&mut header[12..], params.session);
-    BigEndian::write_u32(&mut header[20..], params.r);
-    BigEndian::write_u32(&mut header[24..], params.s);
+    header[SESSION_MAGIC_PLACE..SESSION_VERSION_PLACE].copy_from_slice(&SESSION_MAGIC.to_be_bytes());
+    header[SESSION_VERSION_PLACE] = VERSION;
+    header[SESSION_SCHEME_PLACE] = params.scheme;
+    header[SESSION_DEGREE_PLACE] = params.t;
+    header[SESSION_AGREEMENT_PLACE] = params.h;
+    header[SESSION_SERVERS_PLACE] = params.n;
+    BigEndian::write_u64(&mut header[SESSION_NUMBER_PLACE..], params.session);
+    BigEndian::write_u32(&mut header[SESSION_ROWS_PLACE..], params.r);
+    BigEndian::write_u32(&mut header[SESSION_WIDTH_PLACE..], params.s);
     header
 }
 
@@ -37,10 +42,10 @@ fn record_header_of(index: u8, len: Option<u32>) -> [u8; RECORD_HEADER_LEN]
     ensures { result ≡ record_header index len }
 {
     let mut header = [0; RECORD_HEADER_LEN];
-    header[0] = index;
+    header[RECORD_INDEX_PLACE] = index;
     if let Some(len) = len {
-        header[1] = 1;
-        BigEndian::write_u32(&mut header[2..], len);
+        header[RECORD_PRESENT_PLACE] = 1;
+        BigEndian::write_u32(&mut header[RECORD_LENGTH_PLACE..], len);
     }
     header
 }

@@ -1,12 +1,12 @@
 use Rattle.std.proofs.Common.{subst}
 use Rattle.pir_words.specs.Numbers.{given}
-use Rattle.pir_words.specs.Form.{Answers}
+use Rattle.pir_words.specs.Form.{IsReadAs}
 use Rattle.pir_words.proofs.Entered.{asked_at, asked_none}
 use Rattle.pir_words.proofs.read_matches.Goals as goal
 
 pub returns-in-Some : goal.returns-in-Some
 returns-in-Some c =
-    subst (λ o. Answers o c.read_command.result)
+    subst (λ o. IsReadAs o c.read_command.result)
     (asked_at _ _ _ c.in-Some.name.now (given c.in-Some.inner.now) c.in-Some.ensures.name c.in-Some.ensures.rows) c.read_command.ensures
 
 pub returns-in-None : goal.returns-in-None

@@ -9,13 +9,13 @@ unfolding serve_app
 returns-clause-app c =
     let database_is = c.in_ok-database.ensures.app ∙ ap (λ (a : App). with_option a (codes "database") true) c.new-start.ensures.app in
     let width_is = c.in_ok-width.ensures.app ∙ ap (λ (a : App). with_option a (codes "width") true) database_is in
-    let conns_is = c.in_ok-conns.ensures.app ∙ ap (λ (a : App). with_option a (codes "conns") true) width_is in
-    let listen_is = c.in_ok-listen.ensures.app ∙ ap (λ (a : App). with_option a (codes "listen") true) conns_is in
+    let guests_is = c.in_ok-guests.ensures.app ∙ ap (λ (a : App). with_option a (codes "conns") true) width_is in
+    let listen_is = c.in_ok-listen.ensures.app ∙ ap (λ (a : App). with_option a (codes "listen") true) guests_is in
     let scheme_is = c.in_ok-scheme.ensures.app ∙ ap (λ (a : App). with_option a (codes "scheme") false) listen_is in
     IfOk-weaker c.with_option-6.result _ _ (λ r h. h ∙ ap (λ (a : App). with_option a (codes "workers") false) scheme_is) c.with_option-6.ensures.app
 
 pub returns-clause-local : goal.returns-clause-local
 returns-clause-local c =
-    let three = c.in_ok-conns.ensures.local ∙ (c.in_ok-width.ensures.local ∙ (c.in_ok-database.ensures.local ∙ c.new-start.ensures.local)) in
+    let three = c.in_ok-guests.ensures.local ∙ (c.in_ok-width.ensures.local ∙ (c.in_ok-database.ensures.local ∙ c.new-start.ensures.local)) in
     let five = c.in_ok-scheme.ensures.local ∙ (c.in_ok-listen.ensures.local ∙ three) in
     IfOk-weaker c.with_option-6.result _ _ (λ r h. h ∙ five) c.with_option-6.ensures.local

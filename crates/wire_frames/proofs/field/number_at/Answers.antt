@@ -3,7 +3,7 @@ use Rattle.std.proofs.Math.Nat.{pow-le-pow_right}
 use Rattle.std.proofs.lemmas.List.Elements.{All-drop}
 use Rattle.wire_frames.specs.Field.{IsNumber}
 use Rattle.wire_frames.proofs.Digits.{IsByte, bytes_from_fits}
-use Rattle.wire_frames.proofs.FieldLemmas.{IsFloor, floor_none, floor_ends, floor_whole, turn_at, turn_fits, turn_goes_on, turn_stops, stops_within}
+use Rattle.wire_frames.proofs.NumberPrefixes.{IsFloor, floor_none, floor_ends, floor_whole, turn_at, turn_fits, turn_goes_on, turn_stops, stops_within}
 use Rattle.wire_frames.proofs.field.number_at.Goals as goal
 use Rattle.wire_frames.proofs.field.number_at.Goals.{then-floor-number-via-then-floor-number, then-floor-number-via-else-floor-number+then-floor-spread}
 

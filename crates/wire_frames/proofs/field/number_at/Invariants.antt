@@ -1,5 +1,5 @@
 use Rattle.std.proofs.Common.{drop}
-use Rattle.wire_frames.proofs.FieldLemmas.{IsFloor}
+use Rattle.wire_frames.proofs.NumberPrefixes.{IsFloor}
 use Rattle.wire_frames.proofs.field.number_at.Given as goal
 
 abbrev pub invariant-loop-i : goal.invariant-loop-i

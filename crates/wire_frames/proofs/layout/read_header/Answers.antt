@@ -1,5 +1,7 @@
+use Rattle.wire_frames.specs.Scheme.{scheme_of}
+use Rattle.wire_frames.specs.declared.places.TheConstants.{SESSION_AGREEMENT_PLACE, SESSION_SERVERS_PLACE, SESSION_WIDTH_PLACE}
 use Rattle.wire_frames.proofs.Chains.{leads-start, leads-stop, leads-done, no_more}
-use Rattle.wire_frames.proofs.FormLemmas.{reads-exit}
+use Rattle.wire_frames.proofs.Prefixes.{reads-exit}
 use Rattle.wire_frames.proofs.Servers.{few_agree}
 use Rattle.wire_frames.proofs.SessionLayout.{header_into, header_back, to_version, to_scheme, to_t, to_h, to_n, to_zero, to_session, some_version, some_scheme, some_t, some_h, some_n, some_zero}
 use Rattle.wire_frames.proofs.ShapeFields.{some_session, some_r, some_s, to_r, to_s, to_end}
@@ -35,7 +37,7 @@ returns-in_err-h c =
     let version = to_scheme magic c.in_ok-number_at-2.ensures in
     let scheme = to_t version c.in_ok-scheme.ensures in
     let t = to_h scheme c.in_ok-t.ensures in
-    reads-exit c.from_residual-in_err-h.result _ c.from_residual-in_err-h.ensures.1 (leads-stop t (λ v _ most. some_n _ _ v (few_agree c.in_ok-scheme.scheme c.in_ok-t.t v c.in_ok-t.ensures.most most)) (stop_as c.servers_field.ensures c.in_err-h.ensures))
+    reads-exit c.from_residual-in_err-h.result _ c.from_residual-in_err-h.ensures.1 (leads-stop t (λ v _ most. some_n _ _ v (few_agree (scheme_of c.in_ok-scheme.scheme) c.in_ok-t.t v c.in_ok-t.ensures.most most)) (stop_as c.servers_field.ensures c.in_err-h.ensures))
 
 pub returns-in_err-n : goal.returns-in_err-n
 returns-in_err-n c =
@@ -43,7 +45,7 @@ returns-in_err-n c =
     let version = to_scheme magic c.in_ok-number_at-2.ensures in
     let scheme = to_t version c.in_ok-scheme.ensures in
     let t = to_h scheme c.in_ok-t.ensures in
-    let agree = number_as 7 c.args.bytes.now c.servers_field.ensures c.in_ok-h.ensures in
+    let agree = number_as SESSION_AGREEMENT_PLACE c.args.bytes.now c.servers_field.ensures c.in_ok-h.ensures in
     let h = to_n c.in_ok-t.ensures.most t agree in
     reads-exit c.from_residual-in_err-n.result _ c.from_residual-in_err-n.ensures.1 (leads-stop h (λ v _ _. some_zero _ _ _ v) (stop_as c.servers_field-2.ensures c.in_err-n.ensures))
 
@@ -53,10 +55,10 @@ returns-in_err-number_at-3 c =
     let version = to_scheme magic c.in_ok-number_at-2.ensures in
     let scheme = to_t version c.in_ok-scheme.ensures in
     let t = to_h scheme c.in_ok-t.ensures in
-    let agree = number_as 7 c.args.bytes.now c.servers_field.ensures c.in_ok-h.ensures in
+    let agree = number_as SESSION_AGREEMENT_PLACE c.args.bytes.now c.servers_field.ensures c.in_ok-h.ensures in
     let h = to_n c.in_ok-t.ensures.most t agree in
-    let few = few_agree c.in_ok-scheme.scheme c.in_ok-t.t c.in_ok-h.h c.in_ok-t.ensures.most agree.most in
-    let n = to_zero few h (number_as 8 c.args.bytes.now c.servers_field-2.ensures c.in_ok-n.ensures) in
+    let few = few_agree (scheme_of c.in_ok-scheme.scheme) c.in_ok-t.t c.in_ok-h.h c.in_ok-t.ensures.most agree.most in
+    let n = to_zero few h (number_as SESSION_SERVERS_PLACE c.args.bytes.now c.servers_field-2.ensures c.in_ok-n.ensures) in
     reads-exit c.from_residual-in_err-number_at-3.result _ c.from_residual-in_err-number_at-3.ensures.1 (leads-stop n (λ _ _ _. some_session _) c.in_err-number_at-3.ensures)
 
 pub returns-in_err-session : goal.returns-in_err-session
@@ -65,10 +67,10 @@ returns-in_err-session c =
     let version = to_scheme magic c.in_ok-number_at-2.ensures in
     let scheme = to_t version c.in_ok-scheme.ensures in
     let t = to_h scheme c.in_ok-t.ensures in
-    let agree = number_as 7 c.args.bytes.now c.servers_field.ensures c.in_ok-h.ensures in
+    let agree = number_as SESSION_AGREEMENT_PLACE c.args.bytes.now c.servers_field.ensures c.in_ok-h.ensures in
     let h = to_n c.in_ok-t.ensures.most t agree in
-    let few = few_agree c.in_ok-scheme.scheme c.in_ok-t.t c.in_ok-h.h c.in_ok-t.ensures.most agree.most in
-    let n = to_zero few h (number_as 8 c.args.bytes.now c.servers_field-2.ensures c.in_ok-n.ensures) in
+    let few = few_agree (scheme_of c.in_ok-scheme.scheme) c.in_ok-t.t c.in_ok-h.h c.in_ok-t.ensures.most agree.most in
+    let n = to_zero few h (number_as SESSION_SERVERS_PLACE c.args.bytes.now c.servers_field-2.ensures c.in_ok-n.ensures) in
     let zero = to_session n c.in_ok-number_at-3.ensures in
     reads-exit c.from_residual-in_err-session.result _ c.from_residual-in_err-session.ensures.1 (leads-stop zero (λ v _ _. some_r _) c.in_err-session.ensures)
 
@@ -78,10 +80,10 @@ returns-in_err-r c =
     let version = to_scheme magic c.in_ok-number_at-2.ensures in
     let scheme = to_t version c.in_ok-scheme.ensures in
     let t = to_h scheme c.in_ok-t.ensures in
-    let agree = number_as 7 c.args.bytes.now c.servers_field.ensures c.in_ok-h.ensures in
+    let agree = number_as SESSION_AGREEMENT_PLACE c.args.bytes.now c.servers_field.ensures c.in_ok-h.ensures in
     let h = to_n c.in_ok-t.ensures.most t agree in
-    let few = few_agree c.in_ok-scheme.scheme c.in_ok-t.t c.in_ok-h.h c.in_ok-t.ensures.most agree.most in
-    let n = to_zero few h (number_as 8 c.args.bytes.now c.servers_field-2.ensures c.in_ok-n.ensures) in
+    let few = few_agree (scheme_of c.in_ok-scheme.scheme) c.in_ok-t.t c.in_ok-h.h c.in_ok-t.ensures.most agree.most in
+    let n = to_zero few h (number_as SESSION_SERVERS_PLACE c.args.bytes.now c.servers_field-2.ensures c.in_ok-n.ensures) in
     let zero = to_session n c.in_ok-number_at-3.ensures in
     let session = to_r _ zero c.in_ok-session.ensures in
     reads-exit c.from_residual-in_err-r.result _ c.from_residual-in_err-r.ensures.1 (leads-stop session (λ v least most. some_s _ v least most) c.in_err-r.ensures)
@@ -92,10 +94,10 @@ returns-in_err-s c =
     let version = to_scheme magic c.in_ok-number_at-2.ensures in
     let scheme = to_t version c.in_ok-scheme.ensures in
     let t = to_h scheme c.in_ok-t.ensures in
-    let agree = number_as 7 c.args.bytes.now c.servers_field.ensures c.in_ok-h.ensures in
+    let agree = number_as SESSION_AGREEMENT_PLACE c.args.bytes.now c.servers_field.ensures c.in_ok-h.ensures in
     let h = to_n c.in_ok-t.ensures.most t agree in
-    let few = few_agree c.in_ok-scheme.scheme c.in_ok-t.t c.in_ok-h.h c.in_ok-t.ensures.most agree.most in
-    let n = to_zero few h (number_as 8 c.args.bytes.now c.servers_field-2.ensures c.in_ok-n.ensures) in
+    let few = few_agree (scheme_of c.in_ok-scheme.scheme) c.in_ok-t.t c.in_ok-h.h c.in_ok-t.ensures.most agree.most in
+    let n = to_zero few h (number_as SESSION_SERVERS_PLACE c.args.bytes.now c.servers_field-2.ensures c.in_ok-n.ensures) in
     let zero = to_session n c.in_ok-number_at-3.ensures in
     let session = to_r _ zero c.in_ok-session.ensures in
     let r = to_s _ session c.in_ok-r.ensures in
@@ -107,12 +109,12 @@ returns c =
     let version = to_scheme magic c.in_ok-number_at-2.ensures in
     let scheme = to_t version c.in_ok-scheme.ensures in
     let t = to_h scheme c.in_ok-t.ensures in
-    let agree = number_as 7 c.args.bytes.now c.servers_field.ensures c.in_ok-h.ensures in
+    let agree = number_as SESSION_AGREEMENT_PLACE c.args.bytes.now c.servers_field.ensures c.in_ok-h.ensures in
     let h = to_n c.in_ok-t.ensures.most t agree in
-    let few = few_agree c.in_ok-scheme.scheme c.in_ok-t.t c.in_ok-h.h c.in_ok-t.ensures.most agree.most in
-    let n = to_zero few h (number_as 8 c.args.bytes.now c.servers_field-2.ensures c.in_ok-n.ensures) in
+    let few = few_agree (scheme_of c.in_ok-scheme.scheme) c.in_ok-t.t c.in_ok-h.h c.in_ok-t.ensures.most agree.most in
+    let n = to_zero few h (number_as SESSION_SERVERS_PLACE c.args.bytes.now c.servers_field-2.ensures c.in_ok-n.ensures) in
     let zero = to_session n c.in_ok-number_at-3.ensures in
     let session = to_r _ zero c.in_ok-session.ensures in
     let r = to_s _ session c.in_ok-r.ensures in
-    let s = to_end _ c.in_ok-r.r r (number_as 24 c.args.bytes.now c.width_field.ensures c.in_ok-s.ensures) in
+    let s = to_end _ c.in_ok-r.r r (number_as SESSION_WIDTH_PLACE c.args.bytes.now c.width_field.ensures c.in_ok-s.ensures) in
     leads-done s c.requires

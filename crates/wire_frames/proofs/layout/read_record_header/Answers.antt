@@ -1,7 +1,7 @@
 use Rattle.std.proofs.Common.{◌≡◌, ℕ, subst, arith}
 use Rattle.wire_frames.specs.Layout.{IsRecordHeader}
 use Rattle.wire_frames.proofs.Chains.{Leads, leads-start, leads-stop, no_more}
-use Rattle.wire_frames.proofs.FormLemmas.{reads-exit}
+use Rattle.wire_frames.proofs.Prefixes.{reads-exit}
 use Rattle.wire_frames.proofs.RecordLayout.{at_len, record_into, record_back, some_present, some_len, to_present, to_len}
 use Rattle.wire_frames.proofs.layout.read_record_header.Goals as goal
 

@@ -1,11 +1,9 @@
-use Rattle.std.proofs.Common.{subst, refl, arith, lit≤}
+use Rattle.std.proofs.Common.{subst, refl, arith}
 use Rattle.wire_frames.specs.declared.field.Number.{Number}
 use Rattle.std.specs.Prelude.{Ok, Err}
 use Rattle.wire_frames.specs.Query.{ReadsField}
 use Rattle.wire_frames.proofs.Chains.{leads-done, no_more}
-use Rattle.std.proofs.lemmas.List.Elements.{All-from_get_or}
-use Rattle.wire_frames.proofs.Digits.{IsByte}
-use Rattle.wire_frames.proofs.QueryLayout.{some_version, some_scheme, some_index, some_zero, to_magic, to_version, to_scheme, to_index, to_zero, to_session, any_session, stops_in, query_exit}
+use Rattle.wire_frames.proofs.QueryLayout.{some_version, some_scheme, some_index, some_zero, to_magic, to_version, to_scheme, to_index, to_zero, to_session, stops_in, query_exit}
 use Rattle.wire_frames.proofs.ShapeFields.{some_session, some_s, to_r, to_s, to_end}
 use Rattle.wire_frames.specs.declared.query.Field.TheVariants.{Magic, Version, Scheme, Index, Zero, Rows, Width}
 use Rattle.wire_frames.proofs.query.read_query_header.Goals as goal
@@ -48,7 +46,7 @@ returns-in_err-r c =
     let index = to_index scheme c.in_ok-scheme.ensures in
     let zero = to_zero index c.in_ok-index.ensures in
     let session = to_session zero c.in_ok-read_field-3.ensures in
-    let r = to_r _ session (any_session c.args.bytes.now 8 16 c.read_u64-session.result (All-from_get_or IsByte c.args.bytes.now 0 (λ i _. c.fits-bytes i)) (lit≤ tt) (omega (arith, c.told-bytes)) c.read_u64-session.ensures) in
+    let r = to_r _ session c.read_session-session.ensures in
     query_exit c.from_residual-in_err-r.result _ c.from_residual-in_err-r.ensures.1 (stops_in Rows refl r (λ v least most. some_s _ v least most) c.in_err-r.ensures)
 
 pub returns-in_err-s : goal.returns-in_err-s
@@ -58,7 +56,7 @@ returns-in_err-s c =
     let index = to_index scheme c.in_ok-scheme.ensures in
     let zero = to_zero index c.in_ok-index.ensures in
     let session = to_session zero c.in_ok-read_field-3.ensures in
-    let r = to_r _ session (any_session c.args.bytes.now 8 16 c.read_u64-session.result (All-from_get_or IsByte c.args.bytes.now 0 (λ i _. c.fits-bytes i)) (lit≤ tt) (omega (arith, c.told-bytes)) c.read_u64-session.ensures) in
+    let r = to_r _ session c.read_session-session.ensures in
     let s = to_s _ r c.in_ok-r.ensures in
     let width = subst (λ (f : Number). ReadsField f Width c.args.bytes.now (Err c.in_err-s.field-0.0)) c.width_field.ensures c.in_err-s.ensures in
     query_exit c.from_residual-in_err-s.result _ c.from_residual-in_err-s.ensures.1 (stops_in Width refl s (λ _ _ _. no_more _) width)
@@ -70,7 +68,7 @@ returns c =
     let index = to_index scheme c.in_ok-scheme.ensures in
     let zero = to_zero index c.in_ok-index.ensures in
     let session = to_session zero c.in_ok-read_field-3.ensures in
-    let r = to_r _ session (any_session c.args.bytes.now 8 16 c.read_u64-session.result (All-from_get_or IsByte c.args.bytes.now 0 (λ i _. c.fits-bytes i)) (lit≤ tt) (omega (arith, c.told-bytes)) c.read_u64-session.ensures) in
+    let r = to_r _ session c.read_session-session.ensures in
     let s = to_s _ r c.in_ok-r.ensures in
     let width = subst (λ (f : Number). ReadsField f Width c.args.bytes.now (Ok c.in_ok-s.s)) c.width_field.ensures c.in_ok-s.ensures in
     leads-done (to_end _ c.in_ok-r.r s width) (omega (arith, c.told-bytes))

@@ -6,7 +6,7 @@ use Rattle.wire_frames.specs.RecordsReader.{bytes_so_far}
 use Rattle.wire_frames.specs.Session.{Transcript, IsSession}
 use Rattle.wire_frames.specs.Reading.{Reading, Ends}
 use Rattle.wire_frames.specs.SessionReader.{IsSound, reading_of}
-use Rattle.wire_frames.proofs.SessionReaderLemmas.{ends_records, ends_before}
+use Rattle.wire_frames.proofs.SessionStates.{ends_records, ends_before}
 use Rattle.wire_frames.proofs.reader.SessionReader.end.Goals as goal
 
 pub returns-in-Records : goal.returns-in-Records

@@ -4,7 +4,7 @@ use Rattle.wire_frames.specs.declared.reader.FeedFault.TheVariants.{BadSession}
 use Rattle.wire_frames.specs.declared.reader.Stop.{Stop}
 use Rattle.wire_frames.specs.Reading.{Reading, Refused, Feeds}
 use Rattle.wire_frames.specs.SessionReader.{FeedsState, reading_of}
-use Rattle.wire_frames.proofs.SessionReaderLemmas.{taken_fits, taken_sound, taken_reads, refused_fits, refused_reads}
+use Rattle.wire_frames.proofs.SessionStates.{taken_fits, taken_sound, taken_reads, refused_fits, refused_reads}
 use Rattle.wire_frames.proofs.reader.SessionReader.feed.Goals as goal
 
 pub overflow_add-self : goal.overflow_add-self

@@ -1,5 +1,5 @@
 use Rattle.std.proofs.Common.{refl}
-use Rattle.wire_frames.proofs.SessionReaderLemmas.{new_sound}
+use Rattle.wire_frames.proofs.SessionStates.{new_sound}
 use Rattle.wire_frames.proofs.reader.SessionReader.new.Goals as goal
 
 pub invariant_of-result : goal.invariant_of-result

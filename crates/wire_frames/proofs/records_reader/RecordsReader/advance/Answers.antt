@@ -1,5 +1,5 @@
 use Rattle.std.proofs.Common.{◌∙◌, sym, arith}
-use Rattle.wire_frames.proofs.RecordsReaderLemmas.{last_refuses}
+use Rattle.wire_frames.proofs.RecordSteps.{last_refuses}
 use Rattle.wire_frames.proofs.records_reader.RecordsReader.advance.Goals as goal
 
 pub returns-then-len-from-clause-bytes : goal.returns-then-len-from-clause-bytes

@@ -1,7 +1,7 @@
 use Rattle.std.proofs.Common.{◌+◌, length, ap, ◌∙◌, arith}
 use Rattle.std.specs.Prelude.{None}
 use Rattle.wire_frames.specs.Layout.{record_header}
-use Rattle.wire_frames.proofs.RecordsReaderLemmas.{closed_open, closed_bytes, absent_spelled}
+use Rattle.wire_frames.proofs.RecordSteps.{closed_open, closed_bytes, absent_spelled}
 use Rattle.wire_frames.proofs.records_reader.RecordsReader.begin.Goals as goal
 
 pub returns-in-None-clause-open : goal.returns-in-None-clause-open

@@ -1,6 +1,6 @@
 use Rattle.std.proofs.Common.{arith}
 use Rattle.std.specs.Prelude.{Some}
-use Rattle.wire_frames.proofs.RecordsReaderLemmas.{closed_open, closed_bytes, present_spelled}
+use Rattle.wire_frames.proofs.RecordSteps.{closed_open, closed_bytes, present_spelled}
 use Rattle.wire_frames.proofs.records_reader.RecordsReader.close_if_whole.Goals as goal
 
 pub returns-then-self-eq0-clause-open : goal.returns-then-self-eq0-clause-open

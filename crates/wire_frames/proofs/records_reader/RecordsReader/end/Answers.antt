@@ -1,5 +1,5 @@
 use Rattle.std.proofs.Common.{arith}
-use Rattle.wire_frames.proofs.RecordsReaderLemmas.{open_short}
+use Rattle.wire_frames.proofs.RecordSteps.{open_short}
 use Rattle.wire_frames.proofs.records_reader.RecordsReader.end.Goals as goal
 
 pub returns-then-len-from : goal.returns-then-len-from

@@ -2,8 +2,8 @@ use Rattle.std.proofs.Common.{ℕ, List, ◌++◌, ap, subst, ◌∙◌, arith, 
 use Rattle.std.specs.Prelude.{Ok}
 use Rattle.std.proofs.lemmas.List.{take_all, take_rest}
 use Rattle.wire_frames.specs.RecordsReader.{Advances, Refuses, bytes_so_far}
-use Rattle.wire_frames.proofs.HeadLemmas.{piece_more, refuses_more}
-use Rattle.wire_frames.proofs.RecordsReaderLemmas.{open_begins}
+use Rattle.wire_frames.proofs.PartialHeaders.{piece_more, refuses_more}
+use Rattle.wire_frames.proofs.RecordSteps.{open_begins}
 use Rattle.wire_frames.proofs.records_reader.RecordsReader.feed.Goals as goal
 
 pub loop-at-preserved : goal.loop-at-preserved

@@ -1,6 +1,6 @@
 use Rattle.std.proofs.Common.{◌∙◌, ◌*◌, ℕ, ap}
 use Rattle.wire_frames.specs.Records.{nothing_kept}
-use Rattle.wire_frames.proofs.RecordsReaderLemmas.{new_open}
+use Rattle.wire_frames.proofs.RecordSteps.{new_open}
 use Rattle.wire_frames.proofs.records_reader.RecordsReader.new.Goals as goal
 
 pub returns-clause-open : goal.returns-clause-open

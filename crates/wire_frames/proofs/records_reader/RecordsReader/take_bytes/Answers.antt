@@ -2,7 +2,7 @@ use Rattle.std.proofs.Common.{◌-◌, ◌≤◌, length, take, arith}
 use Rattle.std.proofs.lemmas.List.{length-take}
 use Rattle.std.proofs.lemmas.List.Elements.{All-take}
 use Rattle.wire_frames.proofs.Digits.{IsByte, bytes_from_fits}
-use Rattle.wire_frames.proofs.RecordsReaderLemmas.{extended_steady, room_left}
+use Rattle.wire_frames.proofs.RecordSteps.{extended_steady, room_left}
 use Rattle.wire_frames.proofs.records_reader.RecordsReader.take_bytes.Goals as goal
 
 pub close_if_whole-requires-clause-steady : goal.close_if_whole-requires-clause-steady

@@ -1,7 +1,7 @@
 use Rattle.std.proofs.Common.{ℕ, ◌+◌, ◌<◌, ◌≤◌, Err, subst, arith}
 use Rattle.wire_frames.specs.Form.{Reads}
 use Rattle.wire_frames.specs.Layout.{IsRecordHeader}
-use Rattle.wire_frames.proofs.RecordsReaderLemmas.{header_after, header_refuses, header_goes_on}
+use Rattle.wire_frames.proofs.RecordSteps.{header_after, header_refuses, header_goes_on}
 use Rattle.wire_frames.proofs.records_reader.RecordsReader.take_header.Goals as goal
 
 pub overflow_sub-result : goal.overflow_sub-result

@@ -10,7 +10,7 @@ use Rattle.wire_frames.specs.declared.field.Number.{Number}
 use Rattle.wire_frames.specs.Field.{IsField, IsNumber}
 use Rattle.wire_frames.specs.Form.{Starts, StopsAt, StopsWithin}
 use Rattle.wire_frames.proofs.Digits.{IsByte, number, pow_pos, pow_up, length-digits, digits_are_bytes, number_below, digits-number, number-digits, number-append}
-use Rattle.wire_frames.proofs.FormLemmas.{All-behind, stops-at}
+use Rattle.wire_frames.proofs.Prefixes.{All-behind, stops-at}
 use Rattle.std.proofs.lemmas.List.{take-take}
 
 -- a number's bytes are as many as its field has

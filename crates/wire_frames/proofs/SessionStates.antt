@@ -18,9 +18,9 @@ use Rattle.wire_frames.specs.RecordsReader.{Refuses, bytes_so_far}
 use Rattle.wire_frames.specs.Session.{Transcript, IsSession}
 use Rattle.wire_frames.specs.SessionReader.{Sees, IsSound, FeedsState, reading_of}
 use Rattle.wire_frames.proofs.Beginnings.{begins_short, header_begins, header_short}
-use Rattle.wire_frames.proofs.FormLemmas.{starts-shorter}
+use Rattle.wire_frames.proofs.Prefixes.{starts-shorter}
 use Rattle.wire_frames.proofs.SessionLayout.{header_back, some_magic}
-use Rattle.wire_frames.proofs.RecordsReaderLemmas.{open_begins}
+use Rattle.wire_frames.proofs.RecordSteps.{open_begins}
 
 -- no byte is right
 pub nothing_right : Starts IsHeader []

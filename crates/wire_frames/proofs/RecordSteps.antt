@@ -16,7 +16,7 @@ use Rattle.wire_frames.specs.RecordsReader.{IsOpen, IsSteady, IsInHeader, IsInBy
 use Rattle.wire_frames.specs.Session.{Transcript, IsSession, Fits, record_bytes, session_bytes}
 use Rattle.wire_frames.proofs.Beginnings.{so_far, AllFit, records_begin, record_begins, record_part, bytes_begin, nothing_behind, record_short, bytes_short, session_bytes-push}
 use Rattle.wire_frames.proofs.Digits.{IsByte}
-use Rattle.wire_frames.proofs.HeadLemmas.{IsBehind, place_behind, head_refuses, head_goes_on}
+use Rattle.wire_frames.proofs.PartialHeaders.{IsBehind, place_behind, head_refuses, head_goes_on}
 use Rattle.wire_frames.proofs.Parsing.{length-record_header}
 
 -- no byte of a record's header is right
