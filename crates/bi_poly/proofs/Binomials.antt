@@ -5,20 +5,9 @@ use Rattle.std.proofs.lemmas.Bool.{cases_eq, cases_lt}
 use Rattle.std.proofs.lemmas.Nat.{mod_below}
 use Rattle.std.specs.Int.Bits.{and_step}
 use Rattle.gf256.specs.Field.{◌⊕◌}
-use Rattle.gf256.proofs.Xor.{sums, add_zero, zero_add}
+use Rattle.gf256.proofs.Xor.{sums, add_bits, add_zero, zero_add}
 use Rattle.uni_poly.specs.Binomial.{binomial}
 use Rattle.bi_poly.specs.Hasse.{binomial_parity}
-
--- the sum of two bits in the field is their sum modulo 2
-bits_add : (x y : ℕ) → x < 2 → y < 2 → (x + y) % 2 ≡ x ⊕ y
-unfolding ◌⊕◌
-bits_add zero zero h k = refl
-bits_add zero (suc zero) h k = refl
-bits_add (suc zero) zero h k = refl
-bits_add (suc zero) (suc zero) h k = refl
-bits_add (suc (suc x)) y h k = absurd (omega arith)
-bits_add zero (suc (suc y)) h k = absurd (omega arith)
-bits_add (suc zero) (suc (suc y)) h k = absurd (omega arith)
 
 -- Pascal's rule: over 0 they are 1,
 pub binomial_parity-none : (n : ℕ) → binomial_parity n 0 ≡ 1
@@ -37,7 +26,7 @@ binomial_parity-next n k =
     let a = binomial n k in
     let b = binomial n (suc k) in
     let each : (a + b) % 2 ≡ (a % 2 + b % 2) % 2 = omega arith in
-    each ∙ bits_add (a % 2) (b % 2) (omega arith) (omega arith)
+    each ∙ add_bits (a % 2) (b % 2) (omega arith) (omega arith)
 
 -- above n they are 0
 pub binomial_parity-small : (n k : ℕ) → n < k → binomial_parity n k ≡ 0
