@@ -5,15 +5,36 @@ use Rattle.std.proofs.lemmas.Bool.{cases_eq, cases_lt}
 use Rattle.std.proofs.lemmas.Nat.{mod_below}
 use Rattle.std.specs.Int.Bits.{and_step}
 use Rattle.gf256.specs.Field.{◌⊕◌}
-use Rattle.gf256.proofs.Xor.{sums, add_zero, zero_add}
+use Rattle.gf256.proofs.Xor.{sums, add_bits, add_zero, zero_add}
+use Rattle.uni_poly.specs.Binomial.{binomial}
 use Rattle.bi_poly.specs.Hasse.{binomial_parity}
+
+-- Pascal's rule: over 0 they are 1,
+pub binomial_parity-none : (n : ℕ) → binomial_parity n 0 ≡ 1
+unfolding binomial_parity binomial
+binomial_parity-none n = refl
+
+-- of 0 over more they are 0,
+pub binomial_parity-empty : (k : ℕ) → binomial_parity 0 (suc k) ≡ 0
+unfolding binomial_parity binomial
+binomial_parity-empty k = refl
+
+-- and the others are sums of two
+pub binomial_parity-next : (n k : ℕ) → binomial_parity (suc n) (suc k) ≡ binomial_parity n k ⊕ binomial_parity n (suc k)
+unfolding binomial_parity binomial
+binomial_parity-next n k =
+    let a = binomial n k in
+    let b = binomial n (suc k) in
+    let each : (a + b) % 2 ≡ (a % 2 + b % 2) % 2 = omega arith in
+    each ∙ add_bits (a % 2) (b % 2) (omega arith) (omega arith)
 
 -- above n they are 0
 pub binomial_parity-small : (n k : ℕ) → n < k → binomial_parity n k ≡ 0
-unfolding binomial_parity
 binomial_parity-small n zero h = absurd (omega arith)
-binomial_parity-small zero (suc k) h = refl
-binomial_parity-small (suc n) (suc k) h = ap₂ ◌⊕◌ (binomial_parity-small n k (omega arith)) (binomial_parity-small n (suc k) (omega arith)) ∙ zero_add 0
+binomial_parity-small zero (suc k) h = binomial_parity-empty k
+binomial_parity-small (suc n) (suc k) h =
+    binomial_parity-next n k
+    ∙ ap₂ ◌⊕◌ (binomial_parity-small n k (omega arith)) (binomial_parity-small n (suc k) (omega arith)) ∙ zero_add 0
 
 -- where they are odd, k is at most n
 pub binomial_parity-at_most : (n k : ℕ) → binomial_parity n k ≡ 1 → k ≤ n
@@ -22,13 +43,18 @@ binomial_parity-at_most n k e =
 
 -- two steps at once, where the middle cancels
 binomial_parity-two : (n k : ℕ) → binomial_parity (suc (suc n)) (suc (suc k)) ≡ binomial_parity n k ⊕ binomial_parity n (suc (suc k))
-unfolding binomial_parity
-binomial_parity-two n k = simp sums
+binomial_parity-two n k =
+    let over : ℕ → ℕ = binomial_parity n in
+    let cancel : (over k ⊕ over (suc k)) ⊕ (over (suc k) ⊕ over (suc (suc k))) ≡ over k ⊕ over (suc (suc k)) = simp sums in
+    binomial_parity-next (suc n) (suc k) ∙ ap₂ ◌⊕◌ (binomial_parity-next n k) (binomial_parity-next n (suc k)) ∙ cancel
 
 -- the same for the second of a row
 binomial_parity-two_one : (n : ℕ) → binomial_parity (suc (suc n)) 1 ≡ binomial_parity n 1
-unfolding binomial_parity
-binomial_parity-two_one n = simp sums
+binomial_parity-two_one n =
+    let cancel : 1 ⊕ (1 ⊕ binomial_parity n 1) ≡ binomial_parity n 1 = simp sums in
+    binomial_parity-next (suc n) 0
+    ∙ ap₂ ◌⊕◌ (binomial_parity-none (suc n)) (binomial_parity-next n 0 ∙ ap (λ x. x ⊕ binomial_parity n 1) (binomial_parity-none n))
+    ∙ cancel
 
 -- twice a number, by recursion
 unfoldable pub twice : ℕ → ℕ
@@ -43,29 +69,34 @@ twice-is (suc n) = let ih = twice-is n in omega arith
 
 -- an even number over an odd one: the lowest bit of the lower is not among those of the upper
 binomial_parity-even_odd : (n k : ℕ) → binomial_parity (twice n) (suc (twice k)) ≡ 0
-unfolding twice binomial_parity
-binomial_parity-even_odd zero k = refl
+unfolding twice
+binomial_parity-even_odd zero k = binomial_parity-empty (twice k)
 binomial_parity-even_odd (suc n) zero = binomial_parity-two_one (twice n) ∙ binomial_parity-even_odd n 0
 binomial_parity-even_odd (suc n) (suc k) =
     binomial_parity-two (twice n) (suc (twice k)) ∙ ap₂ ◌⊕◌ (binomial_parity-even_odd n k) (binomial_parity-even_odd n (suc k)) ∙ zero_add 0
 
 -- an even number over an even one: their halves decide
 binomial_parity-even : (n k : ℕ) → binomial_parity (twice n) (twice k) ≡ binomial_parity n k
-unfolding twice binomial_parity
-binomial_parity-even n zero = refl
-binomial_parity-even zero (suc k) = refl
-binomial_parity-even (suc n) (suc k) = binomial_parity-two (twice n) (twice k) ∙ ap₂ ◌⊕◌ (binomial_parity-even n k) (binomial_parity-even n (suc k))
+unfolding twice
+binomial_parity-even n zero = binomial_parity-none (twice n) ∙ sym (binomial_parity-none n)
+binomial_parity-even zero (suc k) = binomial_parity-empty (suc (twice k)) ∙ sym (binomial_parity-empty k)
+binomial_parity-even (suc n) (suc k) =
+    binomial_parity-two (twice n) (twice k) ∙ ap₂ ◌⊕◌ (binomial_parity-even n k) (binomial_parity-even n (suc k))
+    ∙ sym (binomial_parity-next n k)
 
 -- an odd number over an even one: the halves decide
 binomial_parity-odd_even : (n k : ℕ) → binomial_parity (suc (twice n)) (twice k) ≡ binomial_parity n k
-unfolding binomial_parity twice
-binomial_parity-odd_even n zero = refl
-binomial_parity-odd_even n (suc k) = ap₂ ◌⊕◌ (binomial_parity-even_odd n k) (binomial_parity-even n (suc k)) ∙ zero_add _
+unfolding twice
+binomial_parity-odd_even n zero = binomial_parity-none (suc (twice n)) ∙ sym (binomial_parity-none n)
+binomial_parity-odd_even n (suc k) =
+    binomial_parity-next (twice n) (suc (twice k))
+    ∙ ap₂ ◌⊕◌ (binomial_parity-even_odd n k) (binomial_parity-even n (suc k)) ∙ zero_add _
 
 -- an odd number over an odd one: the halves decide
 binomial_parity-odd : (n k : ℕ) → binomial_parity (suc (twice n)) (suc (twice k)) ≡ binomial_parity n k
-unfolding binomial_parity
-binomial_parity-odd n k = ap₂ ◌⊕◌ (binomial_parity-even n k) (binomial_parity-even_odd n k) ∙ add_zero _
+binomial_parity-odd n k =
+    binomial_parity-next (twice n) (twice k)
+    ∙ ap₂ ◌⊕◌ (binomial_parity-even n k) (binomial_parity-even_odd n k) ∙ add_zero _
 
 -- two tests that stand for the same
 same_test : (a b c d : ℕ) → (a ≡ b → c ≡ d) → (c ≡ d → a ≡ b) → nat_eq a b ≡ nat_eq c d
@@ -100,9 +131,8 @@ binomial_parity-digits m l (suc zero) (suc (suc y)) a h k e = absurd (omega arit
 
 -- 0 has no bits
 binomial_parity-zero : (k : ℕ) → binomial_parity 0 k ≡ cond (nat_eq (bit_and 0 k) k) 1 0
-unfolding binomial_parity
-binomial_parity-zero zero = refl
-binomial_parity-zero (suc k) = ap (λ b. cond b 1 0) (sym (ne_eqb 0 (suc k) (λ z. omega arith)))
+binomial_parity-zero zero = binomial_parity-none 0
+binomial_parity-zero (suc k) = binomial_parity-empty k ∙ ap (λ b. cond b 1 0) (sym (ne_eqb 0 (suc k) (λ z. omega arith)))
 
 -- C(n, k) is odd exactly where the bits of k are among those of n
 pub binomial_parity-bits : (n k : ℕ) → binomial_parity n k ≡ cond (nat_eq (bit_and n k) k) 1 0

@@ -11,14 +11,14 @@ use Rattle.gf256.proofs.Sums.{sum_to-first, sum_to-same, sum_to-add, mul-sum_to,
 use Rattle.gf256.specs.Polynomial.{coef}
 use Rattle.uni_poly.specs.Taylor.{taylor}
 use Rattle.bi_poly.specs.Hasse.{binomial_parity, derivative}
-use Rattle.bi_poly.proofs.Binomials.{binomial_parity-small}
+use Rattle.bi_poly.proofs.Binomials.{binomial_parity-none, binomial_parity-empty, binomial_parity-next, binomial_parity-small}
 
 -- a term at the next place
 term_zero : (c a i : ℕ) → binomial_parity (suc i) 0 ⊗ (c ⊗ power a (suc i - 0)) ≡ a ⊗ (binomial_parity i 0 ⊗ (c ⊗ power a (i - 0)))
-unfolding binomial_parity power
+unfolding power
 term_zero c a i =
-    ap (λ k. 1 ⊗ (c ⊗ power a k)) (sub-zero (suc i)) ∙ (simp ring)
-    ∙ sym (ap (λ k. a ⊗ (1 ⊗ (c ⊗ power a k))) (sub-zero i))
+    ap₂ (λ b k. b ⊗ (c ⊗ power a k)) (binomial_parity-none (suc i)) (sub-zero (suc i)) ∙ (simp ring)
+    ∙ sym (ap₂ (λ b k. a ⊗ (b ⊗ (c ⊗ power a k))) (binomial_parity-none i) (sub-zero i))
 
 -- the other part of a term at the next place, by Pascal's rule
 later_term : (c a i u : ℕ) → binomial_parity i (suc u) ⊗ (c ⊗ power a (i - u)) ≡ a ⊗ (binomial_parity i (suc u) ⊗ (c ⊗ power a (i - suc u)))
@@ -36,21 +36,20 @@ later_term c a i u =
 
 -- a term of a later order at the next place
 term_suc : (c a i u : ℕ) → binomial_parity (suc i) (suc u) ⊗ (c ⊗ power a (suc i - suc u)) ≡ binomial_parity i u ⊗ (c ⊗ power a (i - u)) ⊕ a ⊗ (binomial_parity i (suc u) ⊗ (c ⊗ power a (i - suc u)))
-unfolding binomial_parity
 term_suc c a i u =
     let s : suc i - suc u ≡ i - u = omega arith in
-    ap (λ k. (binomial_parity i u ⊕ binomial_parity i (suc u)) ⊗ (c ⊗ power a k)) s ∙ add_mul _ _ _
+    ap₂ (λ b k. b ⊗ (c ⊗ power a k)) (binomial_parity-next i u) s ∙ add_mul _ _ _
     ∙ ap (◌⊕◌ (binomial_parity i u ⊗ (c ⊗ power a (i - u)))) (later_term c a i u)
 
 -- the coefficient at x ^ u of p(x + a) is the derivative of order u
 pub taylor-derivative : (p : List ℕ) (a u : ℕ) → taylor p a u ≡ derivative p a u
-unfolding taylor derivative coef binomial_parity power
+unfolding taylor derivative coef power
 taylor-derivative [] a u = sym (sum_to-zero _ 0 (λ i l. absurd (omega arith)))
 taylor-derivative (c ∷ p) a zero =
     let n = length p in
     let F = λ (i : ℕ). binomial_parity i 0 ⊗ (get_or (c ∷ p) i 0 ⊗ power a (i - 0)) in
     let G = λ (i : ℕ). binomial_parity i 0 ⊗ (get_or p i 0 ⊗ power a (i - 0)) in
-    ap₂ ◌⊕◌ (sym (one_mul_mul c 1))
+    ap₂ ◌⊕◌ (sym (ap (λ b. b ⊗ (c ⊗ 1)) (binomial_parity-none 0) ∙ one_mul_mul c 1))
     (ap (◌⊗◌ a) (taylor-derivative p a 0) ∙ mul-sum_to a G n ∙ sum_to-same (λ i. a ⊗ G i) (λ i. F (suc i)) n (λ i l. sym (term_zero (get_or p i 0) a i)))
     ∙ sym (sum_to-first F n)
 taylor-derivative (c ∷ p) a (suc u) =
@@ -62,7 +61,7 @@ taylor-derivative (c ∷ p) a (suc u) =
     ∙ sym (sum_to-add G (λ i. a ⊗ H i) n)
     ∙ sum_to-same (λ i. G i ⊕ a ⊗ H i) (λ i. F (suc i)) n (λ i l. sym (term_suc (get_or p i 0) a i u))
     ∙ sym (zero_add _)
-    ∙ ap (λ x. x ⊕ sum_to (λ i. F (suc i)) n) (sym (zero_mul (c ⊗ power a (0 - suc u))))
+    ∙ ap (λ x. x ⊕ sum_to (λ i. F (suc i)) n) (sym (ap (λ b. b ⊗ (c ⊗ power a (0 - suc u))) (binomial_parity-empty u) ∙ zero_mul _))
     ∙ sym (sum_to-first F n)
 
 -- the sum of the first n terms

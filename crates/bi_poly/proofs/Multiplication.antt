@@ -11,8 +11,8 @@ use Rattle.gf256.specs.Polynomial.{coef}
 use Rattle.gf256.proofs.Xor.{add_zero}
 use Rattle.gf256.proofs.FieldLaws.{zero_mul}
 use Rattle.gf256.proofs.Sums.{sum_to-longer}
-use Rattle.uni_poly.specs.Product.{product, product_coef}
-use Rattle.uni_poly.proofs.Products.{coef-product}
+use Rattle.uni_poly.specs.Product.{product_coef}
+use Rattle.uni_poly.proofs.Products.{product_coef-past}
 
 -- the first n terms of coefficient e
 unfoldable pub product_to : List ℕ → List ℕ → ℕ → ℕ → ℕ
@@ -39,13 +39,6 @@ product_to-all p q e n h =
           ∙ sym (sum_to-longer F (length p) (e + 1) (omega arith) (λ i l. ap (λ x. x ⊗ coef q (e - i)) (get_or_past p i 0 l) ∙ zero_mul _))
       | inr long ↦ ap (sum_to F) (h ∙ min-eq_right long)
     ]
-
--- past the end of both factors there is nothing
-product_coef-past : (p q : List ℕ) (e : ℕ) → length p + length q - 1 ≤ e → product_coef p q e ≡ 0
-unfolding product coef
-product_coef-past p q e l =
-    sym (coef-product p q e)
-    ∙ get_or_past (product p q) e 0 (rw length-map-range_with_len l)
 
 -- coefficient e of p * q + r
 unfoldable pub sum_coef : List ℕ → List ℕ → List ℕ → ℕ → ℕ

@@ -1,16 +1,15 @@
 -- Hasse derivatives (Hasse 1936), which serve in characteristic 2, where the usual derivatives vanish, and zeros with
 -- their multiplicities (Guruswami and Sudan 1999).
-use Rattle.std.specs.Prelude.{◌≡◌, ℕ, zero, suc, ◌+◌, ◌-◌, ◌<◌, List, length}
-use Rattle.gf256.specs.Field.{◌⊕◌, ◌⊗◌, power}
+use Rattle.std.specs.Prelude.{◌≡◌, ℕ, ◌+◌, ◌-◌, ◌%◌, ◌<◌, List, length}
+use Rattle.gf256.specs.Field.{◌⊗◌, power}
 use Rattle.gf256.specs.Sums.{sum_to}
 use Rattle.gf256.specs.Polynomial.{coef}
+use Rattle.uni_poly.specs.Binomial.{binomial}
 use Rattle.bi_poly.specs.Rows.{row, cell}
 
--- 1 where the binomial coefficient of n over k is odd, else 0, by Pascal's rule modulo 2
+-- 1 where the binomial coefficient of n over k is odd, else 0
 unfoldable pub binomial_parity : ℕ → ℕ → ℕ
-binomial_parity n zero = 1
-binomial_parity zero (suc k) = 0
-binomial_parity (suc n) (suc k) = binomial_parity n k ⊕ binomial_parity n (suc k)
+binomial_parity n k = binomial n k % 2
 
 -- the Hasse derivative of order u of a polynomial in one variable at a: the sum over i of C(i, u) * p_i * a^(i - u),
 -- with the binomials modulo 2, which are 0 where i < u

@@ -4,7 +4,8 @@ use Rattle.std.proofs.lemmas.List.{length-map, take_more, take_all, get_or-take,
 use Rattle.std.proofs.lemmas.List.Elements.{All-append, All-map, All-cons, All-nil, Contains-append_left, Contains-append_right}
 use Rattle.std.proofs.lemmas.List.Quantifiers.{all_pairs_push}
 use Rattle.std.proofs.lemmas.Bool.{cases_lt}
-use Rattle.block_decoder.specs.Choices.{choices, binomial}
+use Rattle.uni_poly.specs.Binomial.{binomial}
+use Rattle.block_decoder.specs.Choices.{choices}
 
 -- one choice of no place, none of some of no places, and otherwise those without the last place, then those with it
 pub choices_none : (k n : ℕ) → n ≡ 0 → choices k n ≡ [] ∷ []
@@ -34,6 +35,7 @@ length-choices zero (suc n) = refl
 length-choices (suc k) (suc n) =
     length-append (choices k (suc n)) (map (λ choice. choice ++ k ∷ []) (choices k n))
     ∙ ap₂ (λ (x y : ℕ). x + y) (length-choices k (suc n)) (length-map (choices k n) (λ choice. choice ++ k ∷ []) ∙ length-choices k n)
+    ∙ (let turned : binomial k (suc n) + binomial k n ≡ binomial k n + binomial k (suc n) = omega arith in turned)
 
 -- n of the first k places, ascending
 pub record IsChoice (k n : ℕ) (choice : List ℕ) : Type 0 where

@@ -1,6 +1,7 @@
 pub mod Agreement
 pub mod ChoiceTable
 pub mod Columns
+pub mod Counting
 pub mod Combination
 pub mod Ascending
 pub mod HexText

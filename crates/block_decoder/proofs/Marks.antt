@@ -1,9 +1,8 @@
 -- Which answers polynomials hold at, marked column by column.
-use Rattle.std.proofs.Common.{◌≡◌, ◌≢◌, ℕ, suc, ◌+◌, ◌<◌, ◌≤◌, ◌&&◌, ◌⊎◌, Bool, true, false, cond, Option, None, Vec, Global, List, [], ◌∷◌, ◌++◌, length, map, take, drop, get_or, eqb, count_by, refl, sym, ap, ap₂, subst, ◌∙◌, arith, inl, inr, below_more}
+use Rattle.std.proofs.Common.{◌≡◌, ◌≢◌, ℕ, suc, ◌+◌, ◌<◌, ◌≤◌, ◌&&◌, ◌⊎◌, Bool, true, false, Option, None, Vec, Global, List, [], ◌∷◌, ◌++◌, length, map, take, drop, get_or, eqb, count_by, refl, sym, ap, ap₂, subst, ◌∙◌, arith, inl, inr, below_more}
 use Rattle.std.proofs.lemmas.List.{ext_get_or, get_or-map, length-map, take_more, get_or-take, length-take-le, length-append, take-append-drop, get_or_append_left, get_or-set_same, get_or-set_other}
 use Rattle.std.proofs.Math.ListN.{set}
 use Rattle.std.proofs.Math.Seq.{get_or-append_seam}
-use Rattle.std.proofs.lemmas.List.Sums.{sum_by-cons}
 use Rattle.std.proofs.lemmas.Bool.{false≢true, false_from_ne_true, cases_lt}
 use Rattle.std.proofs.lemmas.Bool.Decides.{eqb_tells}
 use Rattle.std.proofs.lemmas.Slice.Eq.{bytes_eq-Decides}
@@ -13,6 +12,7 @@ use Rattle.block_decoder.specs.Agreed.{answer_at, constants_of, Filled, holds_fi
 use Rattle.block_decoder.specs.Lagrange.{combination, bytes_at, takes, HasColumns, AreChosen, IsLagrange, IsThrough}
 use Rattle.block_decoder.proofs.Agreement.{filled-at}
 use Rattle.block_decoder.proofs.Columns.{told}
+use Rattle.block_decoder.proofs.Counting.{one_if, count-cons}
 use Rattle.block_decoder.proofs.Weight.{holds_first-true, holds_first-false, holds_first-append, weight-append}
 
 -- in the first n columns, where each takes its byte
@@ -88,19 +88,15 @@ marked_more answers polynomials n constants old new constant passes filled l h b
 count_by-map : {X : Type 0} (f : X → Bool) (xs : List X) → count_by (λ (b : Bool). b) (map f xs) ≡ count_by f xs
 count_by-map f [] = refl
 count_by-map f (x ∷ xs) =
-    sum_by-cons (λ (b : Bool). cond b 1 0) (f x) (map f xs) ∙ ap (λ n. cond (f x) 1 0 + n) (count_by-map f xs) ∙ sym (sum_by-cons (λ y. cond (f y) 1 0) x xs)
-
-one_if : Bool → ℕ
-one_if b = cond b 1 0
+    count-cons (λ (b : Bool). b) (f x) (map f xs) ∙ ap (λ n. one_if (f x) + n) (count_by-map f xs) ∙ sym (count-cons f x xs)
 
 -- where all marks are set, they are as many as there are marks
 pub count_set : (marks : List Bool) → ((k : ℕ) → k < length marks → get_or marks k false ≡ true) → count_by (λ (b : Bool). b) marks ≡ length marks
-unfolding one_if
 count_set [] h = refl
 count_set (b ∷ marks) h =
     let ih = count_set marks (λ k l. h (suc k) (omega (arith, l))) in
     let here = h 0 (omega arith) in
-    let parts = sum_by-cons (λ (b : Bool). cond b 1 0) b marks in
+    let parts = count-cons (λ (b : Bool). b) b marks in
     let one = ap one_if here in
     omega (arith, ih, parts, one)
 

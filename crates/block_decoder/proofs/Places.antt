@@ -1,16 +1,13 @@
 -- The places of a list at which a test holds, and how many they are.
-use Rattle.std.proofs.Common.{◌≡◌, ℕ, suc, ◌+◌, ◌-◌, ◌<◌, ◌≤◌, Bool, true, false, List, [], ◌∷◌, length, get_or, take, drop, count_by, cond, filter, ◌&&◌, All, AllPairs, refl, sym, ap, ap₂, subst, ◌∙◌, arith}
+use Rattle.std.proofs.Common.{◌≡◌, ℕ, suc, ◌+◌, ◌-◌, ◌<◌, ◌≤◌, Bool, true, false, List, [], ◌∷◌, length, get_or, take, drop, count_by, filter, ◌&&◌, All, AllPairs, refl, sym, ap, ap₂, subst, ◌∙◌, arith}
 use Rattle.std.specs.List.{range_with_len}
 use Rattle.std.specs.List.Sorted.{IsStrictlyIncreasing}
 use Rattle.std.proofs.lemmas.List.Elements.{All-from_get_or, All-filter, filter_passes}
 use Rattle.std.proofs.lemmas.List.FromFn.{length-range_with_len, get_or-range_with_len}
 use Rattle.std.proofs.lemmas.List.Kept.{IsStrictlyIncreasing-filter, AllPairs-from_increasing}
-use Rattle.std.proofs.lemmas.List.Sums.{count_by_more_yes, length-filter, sum_by-cons, sum_by-take-le, sum_by-take-drop, count_by-le-length}
+use Rattle.std.proofs.lemmas.List.Sums.{count_by_more_yes, length-filter, sum_by-take-le, sum_by-take-drop, count_by-le-length}
 use Rattle.std.proofs.lemmas.List.{take-take, length-drop, length-take, get_or-take}
-
--- one if the test passed
-abbrev one_if : Bool → ℕ
-one_if b = cond b 1 0
+use Rattle.block_decoder.proofs.Counting.{one_if, count-cons}
 
 -- no more elements pass in a shorter beginning
 pub count_by-take : {X : Type 0} (test : X → Bool) (xs : List X) (m n : ℕ) → m ≤ n → count_by test (take m xs) ≤ count_by test (take n xs)
@@ -70,9 +67,9 @@ count_by-range test [] d whole from same = refl
 count_by-range test (x ∷ xs) d whole from same =
     let first : get_or whole from d ≡ x = let e : from ≡ from + 0 = omega arith in ap (λ i. get_or whole i d) e ∙ same 0 (omega arith) in
     let later = count_by-range test xs d whole (from + 1) (λ i h. let e : from + 1 + i ≡ from + suc i = omega arith in ap (λ i. get_or whole i d) e ∙ same (suc i) (omega arith)) in
-    sum_by-cons (λ p. one_if (test (get_or whole p d))) from (range_with_len (from + 1) (length xs))
+    count-cons (λ p. test (get_or whole p d)) from (range_with_len (from + 1) (length xs))
     ∙ ap₂ (λ (b : Bool) (n : ℕ). one_if b + n) (ap test first) later
-    ∙ sym (sum_by-cons (λ y. one_if (test y)) x xs)
+    ∙ sym (count-cons test x xs)
 
 -- they are as many as the elements that pass
 pub length-places_of : {X : Type 0} (test : X → Bool) (xs : List X) (d : X) → length (places_of test xs d) ≡ count_by test xs
@@ -105,9 +102,9 @@ both_or_one false b = grind arith
 pub count_by_both : {X : Type 0} (p q : X → Bool) (xs : List X) → count_by p xs + count_by q xs ≤ length xs + count_by (λ x. p x && q x) xs
 count_by_both p q [] = omega arith
 count_by_both p q (x ∷ xs) =
-    let first = sum_by-cons (λ x. one_if (p x)) x xs in
-    let second = sum_by-cons (λ x. one_if (q x)) x xs in
-    let both = sum_by-cons (λ x. one_if (p x && q x)) x xs in
+    let first = count-cons p x xs in
+    let second = count-cons q x xs in
+    let both = count-cons (λ x. p x && q x) x xs in
     let here = both_or_one (p x) (q x) in
     let ih = count_by_both p q xs in
     omega (arith, first, second, both, here, ih)

@@ -1,5 +1,5 @@
 -- At which answers polynomials hold in their first columns, and at how many.
-use Rattle.std.proofs.Common.{◌≡◌, ◌≢◌, ℕ, ◌<◌, ◌≤◌, Bool, true, false, cond, List, [], ◌++◌, length, get_or, take, map, refl, sym, ap, ◌∙◌, arith}
+use Rattle.std.proofs.Common.{◌≡◌, ◌≢◌, ℕ, ◌<◌, ◌≤◌, Bool, true, false, List, [], ◌++◌, length, get_or, take, map, refl, sym, ap, ◌∙◌, arith}
 use Rattle.std.proofs.lemmas.List.{ext_get_or, length-map, length-append, length-take-le, get_or-map, get_or-take, take-take, take-map}
 use Rattle.std.proofs.Math.Seq.{take-append_seam}
 use Rattle.std.proofs.lemmas.Bool.{false≢true}
@@ -8,6 +8,7 @@ use Rattle.std.proofs.lemmas.Slice.Eq.{bytes_eq-Decides}
 use Rattle.gf256.specs.Polynomial.{val}
 use Rattle.wire_frames.specs.Answer.{Answer}
 use Rattle.block_decoder.specs.Agreed.{holds_first, weight}
+use Rattle.block_decoder.proofs.Counting.{one_if}
 
 module _ (ps : List (List ℕ)) (a : Answer) (long : length ps ≤ length a.payload) where
   values : List ℕ
@@ -47,11 +48,13 @@ holds_first-append ps qs a h =
     (bytes_eq-Decides (take (length ps) a.payload) (map f ps)).1
     (sym (take-take (length ps) (length (ps ++ qs)) a.payload l) ∙ ap (take (length ps)) e ∙ take-map f (length ps) (ps ++ qs) ∙ ap (map f) (take-append_seam ps qs))
 
-one_if-le : (b c : Bool) → (b ≡ true → c ≡ true) → cond b 1 0 ≤ cond c 1 0
+one_if-le : (b c : Bool) → (b ≡ true → c ≡ true) → one_if b ≤ one_if c
 one_if-le false c h = omega arith
 one_if-le true true h = omega arith
 one_if-le true false h = absurd (false≢true (h refl))
 
 -- more polynomials hold at no more answers
 pub weight-append : (ps qs : List (List ℕ)) (answers : List Answer) → weight (ps ++ qs) answers ≤ weight ps answers
-weight-append ps qs answers = sum_by-le-sum_by (λ a. cond (holds_first (ps ++ qs) a) 1 0) (λ a. cond (holds_first ps a) 1 0) answers (λ a. one_if-le (holds_first (ps ++ qs) a) (holds_first ps a) (holds_first-append ps qs a))
+weight-append ps qs answers =
+    sum_by-le-sum_by (λ a. one_if (holds_first (ps ++ qs) a)) (λ a. one_if (holds_first ps a)) answers
+    (λ a. one_if-le (holds_first (ps ++ qs) a) (holds_first ps a) (holds_first-append ps qs a))

@@ -1,14 +1,8 @@
 -- The choices of some of the first places.
-use Rattle.std.specs.Prelude.{ℕ, zero, suc, ◌+◌, List, [], ◌∷◌, ◌++◌, map}
+use Rattle.std.specs.Prelude.{ℕ, zero, suc, List, [], ◌∷◌, ◌++◌, map}
 
 -- the choices of n of the first k places, each ascending: those without the last place, then those with it
 unfoldable pub choices : ℕ → ℕ → List (List ℕ)
 choices k zero = [] ∷ []
 choices zero (suc n) = []
 choices (suc k) (suc n) = choices k (suc n) ++ map (λ choice. choice ++ k ∷ []) (choices k n)
-
--- how many choices of n of k things there are, by Pascal's rule
-unfoldable pub binomial : ℕ → ℕ → ℕ
-binomial k zero = 1
-binomial zero (suc n) = 0
-binomial (suc k) (suc n) = binomial k (suc n) + binomial k n

@@ -2,8 +2,8 @@
 
 ghost use Rattle.std.specs.Prelude.{◌≡◌, ◌≢◌, ◌+◌, ◌*◌, ◌^◌, ◌<◌, ◌≤◌, ◌⊎◌, length, All, IfOk};
 ghost use Rattle.std.specs.List.Sorted.{IsStrictlyIncreasing};
+ghost use Rattle.uni_poly.specs.Binomial.{binomial};
 ghost use Rattle.block_decoder.specs.Agreed.{answers_of, Lists};
-ghost use Rattle.block_decoder.specs.Choices.{binomial};
 ghost use Rattle.block_decoder.specs.Lagrange.{HasColumns};
 ghost use Rattle.block_decoder.specs.Numbers.{bound_of};
 ghost use Rattle.block_decoder.specs.Verdict.{IsDecided};

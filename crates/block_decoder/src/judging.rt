@@ -1,8 +1,8 @@
 //! The verdict on a session.
 
 ghost use Rattle.std.specs.Prelude.{◌≡◌, ◌+◌, ◌*◌, ◌≤◌, length, IfOk};
+ghost use Rattle.uni_poly.specs.Binomial.{binomial};
 ghost use Rattle.wire_frames.specs.Answer.{answers};
-ghost use Rattle.block_decoder.specs.Choices.{binomial};
 ghost use Rattle.block_decoder.specs.Verdict.{IsVerdict};
 ghost use Rattle.block_decoder.specs.Usable.{IsCollected};
 

@@ -6,23 +6,12 @@ use Rattle.std.proofs.lemmas.Nat.{pow_pos, mod_below, xor_shr, and_mask, shl_who
 use Rattle.std.proofs.lemmas.Nat.Bits.{bit_at-lt, bit_at-zero, bit_at_cat_low, bit_at-pow_same, bit_at-pow_other, same_from_bits_below, ones_shl, and_high_mask}
 use Rattle.gf256.specs.Field.{◌⊕◌}
 use Rattle.gf256.specs.Sums.{sum_to}
-use Rattle.gf256.proofs.Xor.{add_shl, bit_at_add}
+use Rattle.gf256.proofs.Xor.{add_shl, add_bits, bit_at_add}
 use Rattle.chor_xor.specs.Bitmap.{unused_bits, cleared, unit_byte}
-
--- the sum of two bits
-bits_add : (x y : ℕ) → x < 2 → y < 2 → (x + y) % 2 ≡ x ⊕ y
-unfolding ◌⊕◌
-bits_add zero zero h k = refl
-bits_add zero (suc zero) h k = refl
-bits_add (suc zero) zero h k = refl
-bits_add (suc zero) (suc zero) h k = refl
-bits_add (suc (suc x)) y h k = absurd (omega arith)
-bits_add zero (suc (suc y)) h k = absurd (omega arith)
-bits_add (suc zero) (suc (suc y)) h k = absurd (omega arith)
 
 -- a bit of a sum is the sum of the bits
 pub bit-add : (a b i : ℕ) → bit_at (a ⊕ b) i ≡ bit_at a i ⊕ bit_at b i
-bit-add a b i = bit_at_add a b i ∙ bits_add (bit_at a i) (bit_at b i) (bit_at-lt a i) (bit_at-lt b i)
+bit-add a b i = bit_at_add a b i ∙ add_bits (bit_at a i) (bit_at b i) (bit_at-lt a i) (bit_at-lt b i)
 
 -- the same of many
 pub bit-sum_to : (f : ℕ → ℕ) (n i : ℕ) → bit_at (sum_to f n) i ≡ sum_to (λ k. bit_at (f k) i) n

@@ -2,6 +2,6 @@ pub mod Bits
 pub mod Places
 pub mod Shares
 pub mod ChosenSums
-pub mod PlaceSums
+pub mod FourSums
 pub mod RunSums
 pub mod NextBits

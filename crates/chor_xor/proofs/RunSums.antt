@@ -1,71 +1,34 @@
 -- Sums over runs of rows.
-use Rattle.std.proofs.Common.{◌≡◌, ℕ, suc, ◌+◌, ◌*◌, ◌-◌, ◌/◌, ◌≤◌, ◌<◌, List, [], length, get_or, sym, ap, ap₂, ◌∙◌, arith}
+use Rattle.std.proofs.Common.{◌≡◌, ℕ, ◌+◌, ◌*◌, ◌/◌, ◌≤◌, ◌<◌, List, [], length, get_or, sym, ap, ap₂, ◌∙◌, arith}
 use Rattle.gf256.specs.Field.{◌⊕◌}
 use Rattle.gf256.specs.Product.{IsMatrix}
-use Rattle.gf256.specs.Sums.{sum_to}
-use Rattle.gf256.proofs.Xor.{sums, add_assoc, add_zero, zero_add, add_swap, add_self_left}
-use Rattle.gf256.proofs.Sums.{sum_to-append, sum_to-zero}
+use Rattle.gf256.specs.Sums.{run_sum}
+use Rattle.gf256.proofs.Xor.{add_assoc, add_zero, add_swap}
+use Rattle.gf256.proofs.RunSums.{run-zero, run-join, run-next, run-all}
 use Rattle.chor_xor.specs.Bitmap.{bit_of}
-use Rattle.chor_xor.specs.Chosen.{given, chosen_at, run_sum}
+use Rattle.chor_xor.specs.Chosen.{given, chosen_at}
 use Rattle.chor_xor.proofs.ChosenSums.{given-chosen, given-left}
-use Rattle.chor_xor.proofs.PlaceSums.{four_at}
-
--- the sum of a run, by those of all rows before its ends
-run-is : (bitmap : List ℕ) (rows : List (List ℕ)) (c from to : ℕ) → from ≤ to
-    → run_sum bitmap rows c from to ≡ sum_to (given bitmap rows c) from ⊕ sum_to (given bitmap rows c) to
-unfolding run_sum
-run-is bitmap rows c from to le =
-    let whole : from + (to - from) ≡ to = omega arith in
-    let f = given bitmap rows c in
-    sym (ap (λ n. sum_to f from ⊕ sum_to f n) (sym whole)
-    ∙ ap (◌⊕◌ (sum_to f from)) (sum_to-append f from (to - from))
-    ∙ add_self_left (sum_to f from) (sum_to (λ i. f (from + i)) (to - from)))
-
--- one run after the other
-pub run-join : (bitmap : List ℕ) (rows : List (List ℕ)) (c from at to : ℕ) → from ≤ at → at ≤ to
-    → run_sum bitmap rows c from at ⊕ run_sum bitmap rows c at to ≡ run_sum bitmap rows c from to
-run-join bitmap rows c from at to l m =
-    let S = sum_to (given bitmap rows c) in
-    ap₂ ◌⊕◌ (run-is bitmap rows c from at l) (run-is bitmap rows c at to m)
-    ∙ (let e : (S from ⊕ S at) ⊕ (S at ⊕ S to) ≡ S from ⊕ S to = simp sums in e)
-    ∙ sym (run-is bitmap rows c from to (omega (arith, l, m)))
+use Rattle.chor_xor.proofs.FourSums.{four_at}
 
 -- a run of rows whose bits aren't set
 pub run-left : (bitmap : List ℕ) (rows : List (List ℕ)) (c from to : ℕ) → ((j : ℕ) → from ≤ j → j < to → bit_of bitmap j ≡ 0)
-    → run_sum bitmap rows c from to ≡ 0
-unfolding run_sum
-run-left bitmap rows c from to none =
-    sum_to-zero (λ i. given bitmap rows c (from + i)) (to - from)
-    (λ i l. given-left bitmap rows c (from + i) (none (from + i) (omega arith) (omega arith)))
-
--- no rows
-pub run-none : (bitmap : List ℕ) (rows : List (List ℕ)) (c from : ℕ) → run_sum bitmap rows c from from ≡ 0
-run-none bitmap rows c from = run-left bitmap rows c from from (λ j l m. absurd (omega (arith, l, m)))
-
--- one more row
-pub run-next : (bitmap : List ℕ) (rows : List (List ℕ)) (c from j : ℕ) → from ≤ j
-    → run_sum bitmap rows c from (j + 1) ≡ run_sum bitmap rows c from j ⊕ given bitmap rows c j
-unfolding run_sum sum_to
-run-next bitmap rows c from j le =
-    let more : j + 1 - from ≡ suc (j - from) = omega arith in
-    let place : from + (j - from) ≡ j = omega arith in
-    ap (sum_to (λ i. given bitmap rows c (from + i))) more
-    ∙ ap (λ p. run_sum bitmap rows c from j ⊕ given bitmap rows c p) place
+    → run_sum (given bitmap rows c) from to ≡ 0
+run-left bitmap rows c from to none = run-zero (given bitmap rows c) from to (λ j l m. given-left bitmap rows c j (none j l m))
 
 -- one more row whose bit is set, and then some whose bits aren't
 pub run-step : (bitmap row : List ℕ) (rows : List (List ℕ)) (r s c from j next : ℕ) → IsMatrix rows r s → j < r → from ≤ j → j + 1 ≤ next
     → bit_of bitmap j ≡ 1 → row ≡ get_or rows j [] → ((i : ℕ) → j + 1 ≤ i → i < next → bit_of bitmap i ≡ 0)
-    → run_sum bitmap rows c from next ≡ run_sum bitmap rows c from j ⊕ get_or row c 0
+    → run_sum (given bitmap rows c) from next ≡ run_sum (given bitmap rows c) from j ⊕ get_or row c 0
 run-step bitmap row rows r s c from j next is l le lt bit e none =
-    sym (run-join bitmap rows c from (j + 1) next (omega arith) lt)
-    ∙ ap₂ ◌⊕◌ (run-next bitmap rows c from j le) (run-left bitmap rows c (j + 1) next none)
+    sym (run-join (given bitmap rows c) from (j + 1) next (omega arith) lt)
+    ∙ ap₂ ◌⊕◌ (run-next (given bitmap rows c) from j le) (run-left bitmap rows c (j + 1) next none)
     ∙ add_zero _
-    ∙ ap (◌⊕◌ (run_sum bitmap rows c from j)) (sym (given-chosen bitmap row rows r s c j is l bit e))
+    ∙ ap (◌⊕◌ (run_sum (given bitmap rows c) from j)) (sym (given-chosen bitmap row rows r s c j is l bit e))
 
 -- the rows of the four quarters that are added, up to one place in each; the last takes the rows that are left over
 unfoldable pub quarters : List ℕ → List (List ℕ) → ℕ → ℕ → ℕ → ℕ → ℕ → ℕ → ℕ
 quarters bitmap rows k quarter a b c d =
-    run_sum bitmap rows k 0 a ⊕ run_sum bitmap rows k quarter b ⊕ run_sum bitmap rows k (2 * quarter) c ⊕ run_sum bitmap rows k (3 * quarter) d
+    run_sum (given bitmap rows k) 0 a ⊕ run_sum (given bitmap rows k) quarter b ⊕ run_sum (given bitmap rows k) (2 * quarter) c ⊕ run_sum (given bitmap rows k) (3 * quarter) d
 
 in_pairs : (a b c d w x y z : ℕ) → (a ⊕ w) ⊕ (b ⊕ x) ⊕ (c ⊕ y) ⊕ (d ⊕ z) ≡ (a ⊕ b ⊕ c ⊕ d) ⊕ (w ⊕ x ⊕ y ⊕ z)
 in_pairs a b c d w x y z =
@@ -102,7 +65,7 @@ quarters-next bitmap rows r s k quarter a b c d a2 b2 c2 d2 ra rb rc rd is la lb
     ∙ in_pairs _ _ _ _ _ _ _ _
   where
     step : (row : List ℕ) (from j next : ℕ) → j < r → IsStep bitmap row rows from j next
-        → run_sum bitmap rows k from next ≡ run_sum bitmap rows k from j ⊕ get_or row k 0
+        → run_sum (given bitmap rows k) from next ≡ run_sum (given bitmap rows k) from j ⊕ get_or row k 0
     step row from j next l st = run-step bitmap row rows r s k from j next is l st.begun st.on st.set st.is st.others
 
 -- the rest of each
@@ -112,22 +75,17 @@ with_rests a b c d w x y z = together (a ⊕ b ⊕ c ⊕ d) w x y z ∙ sym (in_
     together : (s w x y z : ℕ) → s ⊕ w ⊕ x ⊕ y ⊕ z ≡ s ⊕ (w ⊕ x ⊕ y ⊕ z)
     together s w x y z = simp add_assoc
 
--- all rows
-run-all : (bitmap : List ℕ) (rows : List (List ℕ)) (c : ℕ) → run_sum bitmap rows c 0 (length rows) ≡ chosen_at bitmap rows c
-unfolding chosen_at sum_to
-run-all bitmap rows c = run-is bitmap rows c 0 (length rows) (omega arith) ∙ zero_add _
-
 -- the quarters and their rests are all rows
 pub quarters-all : (bitmap : List ℕ) (rows : List (List ℕ)) (k r quarter a b c d : ℕ) → r ≡ length rows → quarter ≡ r / 4
     → a ≤ quarter → quarter ≤ b → b ≤ 2 * quarter → 2 * quarter ≤ c → c ≤ 3 * quarter → 3 * quarter ≤ d → d ≤ r
-    → quarters bitmap rows k quarter a b c d ⊕ run_sum bitmap rows k a quarter ⊕ run_sum bitmap rows k b (2 * quarter)
-    ⊕ run_sum bitmap rows k c (3 * quarter) ⊕ run_sum bitmap rows k d r ≡ chosen_at bitmap rows k
-unfolding quarters
+    → quarters bitmap rows k quarter a b c d ⊕ run_sum (given bitmap rows k) a quarter ⊕ run_sum (given bitmap rows k) b (2 * quarter)
+    ⊕ run_sum (given bitmap rows k) c (3 * quarter) ⊕ run_sum (given bitmap rows k) d r ≡ chosen_at bitmap rows k
+unfolding quarters chosen_at
 quarters-all bitmap rows k r quarter a b c d is q la lb mb lc mc ld md =
-    let R = run_sum bitmap rows k in
+    let R = run_sum (given bitmap rows k) in
     with_rests (R 0 a) (R quarter b) (R (2 * quarter) c) (R (3 * quarter) d) (R a quarter) (R b (2 * quarter)) (R c (3 * quarter)) (R d r)
-    ∙ ap₂ ◌⊕◌ (ap₂ ◌⊕◌ (ap₂ ◌⊕◌ (run-join bitmap rows k 0 a quarter (omega arith) la) (run-join bitmap rows k quarter b (2 * quarter) lb mb)) (run-join bitmap rows k (2 * quarter) c (3 * quarter) lc mc)) (run-join bitmap rows k (3 * quarter) d r ld md)
-    ∙ ap (λ s. s ⊕ R (2 * quarter) (3 * quarter) ⊕ R (3 * quarter) r) (run-join bitmap rows k 0 quarter (2 * quarter) (omega arith) (omega arith))
-    ∙ ap (λ s. s ⊕ R (3 * quarter) r) (run-join bitmap rows k 0 (2 * quarter) (3 * quarter) (omega arith) (omega arith))
-    ∙ run-join bitmap rows k 0 (3 * quarter) r (omega arith) (omega (arith, ld, md))
-    ∙ ap (R 0) is ∙ run-all bitmap rows k
+    ∙ ap₂ ◌⊕◌ (ap₂ ◌⊕◌ (ap₂ ◌⊕◌ (run-join (given bitmap rows k) 0 a quarter (omega arith) la) (run-join (given bitmap rows k) quarter b (2 * quarter) lb mb)) (run-join (given bitmap rows k) (2 * quarter) c (3 * quarter) lc mc)) (run-join (given bitmap rows k) (3 * quarter) d r ld md)
+    ∙ ap (λ s. s ⊕ R (2 * quarter) (3 * quarter) ⊕ R (3 * quarter) r) (run-join (given bitmap rows k) 0 quarter (2 * quarter) (omega arith) (omega arith))
+    ∙ ap (λ s. s ⊕ R (3 * quarter) r) (run-join (given bitmap rows k) 0 (2 * quarter) (3 * quarter) (omega arith) (omega arith))
+    ∙ run-join (given bitmap rows k) 0 (3 * quarter) r (omega arith) (omega (arith, ld, md))
+    ∙ ap (R 0) is ∙ run-all (given bitmap rows k) (length rows)

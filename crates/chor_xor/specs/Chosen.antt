@@ -1,5 +1,5 @@
 -- What a server answers to a bitmap, and what the answers give together (Chor, Goldreich, Kushilevitz and Sudan 1995).
-use Rattle.std.specs.Prelude.{ℕ, ◌+◌, ◌-◌, List, [], length, map, slice_index, slice_index_or}
+use Rattle.std.specs.Prelude.{ℕ, List, [], length, map, slice_index, slice_index_or}
 use Rattle.std.specs.List.{range_with_len}
 use Rattle.gf256.specs.Field.{◌⊗◌}
 use Rattle.gf256.specs.Sums.{sum_to}
@@ -13,10 +13,6 @@ given bitmap rows c j = bit_of bitmap j ⊗ slice_index (slice_index_or rows j [
 -- column c of the sum of the rows whose bit is set
 unfoldable pub chosen_at : List ℕ → List (List ℕ) → ℕ → ℕ
 chosen_at bitmap rows c = sum_to (given bitmap rows c) (length rows)
-
--- column c of the sum of those among the rows from `from` up to `to`
-unfoldable pub run_sum : List ℕ → List (List ℕ) → ℕ → ℕ → ℕ → ℕ
-run_sum bitmap rows c from to = sum_to (λ i. given bitmap rows c (from + i)) (to - from)
 
 -- the sum of the rows whose bit is set: a byte for each column
 unfoldable pub chosen : Database → List ℕ → List ℕ

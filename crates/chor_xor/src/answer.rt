@@ -2,11 +2,13 @@
 
 ghost use Rattle.std.specs.Prelude.{◌≡◌, ℕ, ◌≤◌, length, slice_index};
 ghost use Rattle.gf256.specs.Field.{◌⊕◌};
+ghost use Rattle.gf256.specs.Sums.{run_sum};
 ghost use Rattle.chor_xor.specs.Bitmap.{size_of};
-ghost use Rattle.chor_xor.specs.Chosen.{chosen, run_sum};
+ghost use Rattle.chor_xor.specs.Chosen.{chosen, given};
 
 use crate::bitmap::{is_set, next_set};
 use block_matrix::Matrix;
+use gf256::rows::{add_row, clear};
 
 /// Makes `out` the XOR of the rows whose bit is set: a byte for each column. Of the rows `41 42` and `43 44` the bitmap
 /// `c0` has the answer `02 06`.
@@ -50,13 +52,13 @@ fn add_rows(matrix: &Matrix, bitmap: &[u8], from: u32, to: u32, sum: &mut [u8])
     requires within { to ≤ length matrix.now.rows }
     requires bitmap { length bitmap.now ≡ size_of (length matrix.now.rows) }
     requires room { length sum.old ≡ matrix.now.width }
-    ensures { (k : ℕ) → slice_index sum.new k ≡ slice_index sum.old k ⊕ run_sum bitmap.now matrix.now.rows k from to }
+    ensures { (k : ℕ) → slice_index sum.new k ≡ slice_index sum.old k ⊕ run_sum (given bitmap.now matrix.now.rows k) from to }
 {
     // Its contract says that the rows are bytes.
     let _rows = matrix.rows();
     for j in from..to {
         if is_set(bitmap, j) {
-            combine_into(sum, matrix.row(j));
+            add_row(sum, matrix.row(j));
         }
     }
 }
@@ -81,16 +83,5 @@ pub fn combine_into(acc: &mut [u8], payload: &[u8])
     requires { length payload.now ≡ length acc.old }
     ensures { (k : ℕ) → slice_index acc.new k ≡ slice_index acc.old k ⊕ slice_index payload.now k }
 {
-    for i in 0..acc.len() {
-        acc[i] ^= payload[i];
-    }
-}
-
-/// Makes each byte zero.
-pub(crate) fn clear(bytes: &mut [u8])
-    ensures { (k : ℕ) → slice_index bytes.new k ≡ 0 }
-{
-    for byte in bytes.iter_mut() {
-        *byte = 0;
-    }
+    add_row(acc, payload);
 }

@@ -2,16 +2,16 @@
 
 ghost use Rattle.std.specs.Prelude.{◌≡◌, ℕ, ◌+◌, ◌-◌, ◌*◌, ◌<◌, ◌≤◌, ◌^◌, MatchBool, length, slice_index, if◌then◌else◌};
 ghost use Rattle.gf256.specs.Sums.{sum_to};
-ghost use Rattle.chor_xor.specs.Bitmap.{IsTrim, bit_of, bitmap, cleared, has_unused, size_of};
+ghost use Rattle.chor_xor.specs.Bitmap.{IsTrim, bit_of, bitmap, cleared, has_unused, size_of, unused_bits};
 
-use crate::answer::{clear, combine_into};
+use gf256::rows::{add_row, clear};
 
 /// Writes the bitmap of server `index`, counted from 1, where `n` servers are asked for the row `block` of `r` rows.
 ///
-/// There are two servers or more, the index is from 1 to `n`, and the block is one of the rows, of which there are at most
-/// `2^20`. There are `(n - 1) * ceil(r / 8)` coins, and `out` has `ceil(r / 8)` bytes. Each server before the last gets a
-/// piece of the coins as its bitmap, with the unused low bits of the last byte cleared; the last gets the XOR of all those
-/// and of the bit of the block (Chor, Goldreich, Kushilevitz and Sudan 1995). It takes no memory.
+/// There are two servers or more, the index is from 1 to `n`, and the block is one of the rows. There are
+/// `(n - 1) * ceil(r / 8)` coins, and `out` has `ceil(r / 8)` bytes. Each server before the last gets a piece of the coins as
+/// its bitmap, with the unused low bits of the last byte cleared; the last gets the XOR of all those and of the bit of the
+/// block (Chor, Goldreich, Kushilevitz and Sudan 1995). It takes no memory.
 ///
 /// ```
 /// // Two servers, two rows, block 1: the bitmaps are `80` and `c0`.
@@ -23,7 +23,6 @@ pub fn bitmap_into(coins: &[u8], n: u32, r: u32, block: u32, index: u8, out: &mu
     requires first { 1 ≤ index }
     requires last { index ≤ n }
     requires block { block < r }
-    requires rows { r ≤ 2 ^ 20 }
     requires coins { length coins.now ≡ (n - 1) * size_of r }
     requires room { length out.old ≡ size_of r }
     ensures { out.new ≡ bitmap coins.now n r block index }
@@ -50,32 +49,38 @@ fn sum_pieces(coins: &[u8], count: usize, out: &mut [u8])
     clear(out);
     let size = out.len();
     for i in 0..count {
-        combine_into(out, &coins[i * size..(i + 1) * size]);
+        add_row(out, &coins[i * size..(i + 1) * size]);
     }
 }
 
 /// Clears the unused bits of a bitmap of `r` bits.
 fn clear_unused(bitmap: &mut [u8], r: u32)
     requires some { 1 ≤ r }
-    requires few { r ≤ 2 ^ 20 }
     requires size { length bitmap.old ≡ size_of r }
     ensures { (k : ℕ) → slice_index bitmap.new k ≡ cleared r k (slice_index bitmap.old k) }
 {
     let last = bitmap.len() - 1;
-    bitmap[last] &= 0xff << (8 * bitmap.len() as u32 - r);
+    bitmap[last] &= 0xff << unused_in_last(r);
 }
 
-/// Whether a bit past those of the `r` rows is set, for which a server refuses a query. There are from 1 to `2^20` rows, and
-/// the bitmap has `ceil(r / 8)` bytes. With two rows `c0` has none, and `a0` has one.
+/// How many low bits are unused of the last byte of a bitmap of `r` bits.
+fn unused_in_last(r: u32) -> u32
+    requires { 1 ≤ r }
+    ensures few { result < 8 }
+    ensures is { result ≡ unused_bits r (size_of r - 1) }
+{
+    (8 - r % 8) % 8
+}
+
+/// Whether a bit past those of the `r` rows is set, for which a server refuses a query. There is a row or more, and the
+/// bitmap has `ceil(r / 8)` bytes. With two rows `c0` has none, and `a0` has one.
 pub fn has_unused_bits(bitmap: &[u8], r: u32) -> bool
     requires some { 1 ≤ r }
-    requires few { r ≤ 2 ^ 20 }
     requires size { length bitmap.now ≡ size_of r }
     ensures is { result ≡ has_unused r bitmap.now }
     ensures bits { MatchBool result (IsTrim r bitmap.now → ⊥) (IsTrim r bitmap.now) }
 {
-    let unused = 8 * bitmap.len() as u32 - r;
-    bitmap[bitmap.len() - 1] & ((1 << unused) - 1) != 0
+    bitmap[bitmap.len() - 1] & ((1 << unused_in_last(r)) - 1) != 0
 }
 
 /// Whether row `j` has its bit set.

@@ -1,19 +1,15 @@
 -- The frames of honest servers are usable, and so their payloads are honest answers.
-use Rattle.std.proofs.Common.{◌≡◌, ℕ, suc, ◌+◌, ◌-◌, ◌≤◌, ◌<◌, Bool, true, false, cond, Option, None, Some, option_and_then, List, [], ◌∷◌, length, get_or, count_by, bytes_eq, refl, ap, ◌∙◌, arith}
+use Rattle.std.proofs.Common.{◌≡◌, ℕ, suc, ◌+◌, ◌-◌, ◌≤◌, ◌<◌, Bool, true, false, Option, None, Some, option_and_then, List, [], ◌∷◌, length, get_or, count_by, bytes_eq, refl, ap, ◌∙◌, arith}
 use Rattle.std.specs.List.{range_with_len}
-use Rattle.std.proofs.lemmas.List.Sums.{sum_by-cons}
 use Rattle.std.proofs.lemmas.Slice.Eq.{bytes_eq-Decides}
 use Rattle.wire_frames.specs.declared.session.SessionParams.{SessionParams}
 use Rattle.wire_frames.specs.Answer.{Answer, answers_from, asked, usable, with_answer}
 use Rattle.wire_frames.specs.Session.{Transcript}
+use Rattle.block_decoder.proofs.Counting.{one_if, count-cons}
 use Rattle.block_decoder.proofs.UsableAnswers.{usable_frame, answers_from-cons}
 use Rattle.fetch_client.specs.Sent.{payload_to}
 use Rattle.fetch_client.specs.Honest.{IsHonest, HonestRecords, answer_by, honest_frame, is_frame}
 use Rattle.fetch_client.proofs.Schemes.{length-honest_answer}
-
--- one if the test passed
-abbrev one_if : Bool → ℕ
-one_if b = cond b 1 0
 
 module _ (p : SessionParams) (matrix : List (List ℕ)) (coins : List ℕ) (block : ℕ) where
   abbrev reply : ℕ → List ℕ
@@ -35,7 +31,7 @@ module _ (p : SessionParams) (matrix : List (List ℕ)) (coins : List ℕ) (bloc
   -- one more server in front takes none away
   no_fewer : (i : ℕ) (o : Option (List ℕ)) (rest : List Answer) → count_by is_honest rest ≤ count_by is_honest (with_answer i o rest)
   no_fewer i None rest = omega arith
-  no_fewer i (Some bytes) rest = let e = sum_by-cons (λ a. one_if (is_honest a)) (record { index = i; payload = bytes }) rest in omega (arith, e)
+  no_fewer i (Some bytes) rest = let e = count-cons is_honest (record { index = i; payload = bytes }) rest in omega (arith, e)
 
   -- and an honest one adds one
   one_more : (i : ℕ) (o : Option (List ℕ)) (rest : List Answer) → o ≡ Some (reply i) → 1 + count_by is_honest rest ≤ count_by is_honest (with_answer i o rest)
@@ -43,7 +39,7 @@ module _ (p : SessionParams) (matrix : List (List ℕ)) (coins : List ℕ) (bloc
   one_more i (Some bytes) rest e =
       let same : bytes ≡ reply i = cc in
       let one = ap one_if ((bytes_eq-Decides bytes (reply i)).1 same) in
-      let more = sum_by-cons (λ a. one_if (is_honest a)) (record { index = i; payload = bytes }) rest in
+      let more = count-cons is_honest (record { index = i; payload = bytes }) rest in
       omega (arith, more, one)
 
   by_test : (i : ℕ) (bytes : List ℕ) (rest : List Answer) (b : Bool) → bytes_eq bytes (frame i) ≡ b → one_if b + count_by is_honest rest ≤ count_by is_honest (with_answer i (usable bytes (asked p i)) rest)
@@ -62,7 +58,7 @@ module _ (p : SessionParams) (matrix : List (List ℕ)) (coins : List ℕ) (bloc
   count_frames [] whole i first at = omega arith
   count_frames (x ∷ records) whole i first at =
       let here : get_or whole (i - 1) None ≡ x = let e : i - 1 ≡ i + 0 - 1 = omega arith in ap (λ k. get_or whole k None) e ∙ at 0 (omega arith) in
-      let more = sum_by-cons (λ j. one_if (is_frame (frame j) (get_or whole (j - 1) None))) i (range_with_len (i + 1) (length records)) in
+      let more = count-cons (λ j. is_frame (frame j) (get_or whole (j - 1) None)) i (range_with_len (i + 1) (length records)) in
       let ih = count_frames records whole (i + 1) (omega arith) (λ k l. let e : i + 1 + k - 1 ≡ i + suc k - 1 = omega arith in ap (λ k. get_or whole k None) e ∙ at (suc k) (omega arith)) in
       let step = one_server i x (answers_from (i + 1) p records) in
       let one = ap (λ y. one_if (is_frame (frame i) y)) here in

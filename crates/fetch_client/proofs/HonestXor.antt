@@ -1,11 +1,11 @@
 -- In the XOR scheme the answers of all servers add up to the block.
-use Rattle.std.proofs.Common.{◌≡◌, ℕ, zero, suc, ◌+◌, ◌-◌, ◌<◌, ◌≤◌, Bool, true, cond, Option, None, Some, List, [], ◌∷◌, length, map, get_or, count_by, bytes_eq, All, AllPairs, IfSome, inl, inr, refl, sym, ap, subst, ◌∙◌, arith}
+use Rattle.std.proofs.Common.{◌≡◌, ℕ, zero, suc, ◌+◌, ◌-◌, ◌<◌, ◌≤◌, Bool, true, Option, None, Some, List, [], ◌∷◌, length, map, get_or, count_by, bytes_eq, All, AllPairs, IfSome, inl, inr, refl, sym, ap, subst, ◌∙◌, arith}
 use Rattle.std.specs.List.{range_with_len}
 use Rattle.std.proofs.lemmas.Bool.{cases_lt, cases_Bool}
 use Rattle.std.proofs.lemmas.List.{ext_get_or, get_or_past, length-map, get_or-map}
 use Rattle.std.proofs.lemmas.List.Elements.{All-nil, All-cons, All-head, All-tail}
 use Rattle.std.proofs.lemmas.List.FromFn.{length-range_with_len, get_or-range_with_len, length-map-range_with_len, get_or-map-range_with_len}
-use Rattle.std.proofs.lemmas.List.Sums.{sum_by-cons, count_by-le-length}
+use Rattle.std.proofs.lemmas.List.Sums.{count_by-le-length}
 use Rattle.std.proofs.lemmas.Slice.Eq.{bytes_eq-Decides}
 use Rattle.wire_frames.specs.declared.session.SessionParams.{SessionParams}
 use Rattle.wire_frames.specs.Answer.{Answer, answers}
@@ -16,19 +16,13 @@ use Rattle.chor_xor.specs.Bitmap.{bitmap}
 use Rattle.chor_xor.specs.Chosen.{chosen, combined}
 use Rattle.chor_xor.specs.Chosen.{answers as chosen_answers}
 use Rattle.chor_xor.proofs.ChosenSums.{answers-combined}
+use Rattle.block_decoder.proofs.Counting.{one_if, count-cons}
 use Rattle.block_decoder.proofs.UsableAnswers.{AreInOrder, answers_in_order}
 use Rattle.fetch_client.specs.Sent.{payload_to}
 use Rattle.fetch_client.specs.Honest.{AllHonest, HonestRecords, IsHonest, answer_by, block_of, honest_frame, is_frame}
 use Rattle.fetch_client.proofs.Schemes.{answer_of_xor, payload_of_xor}
 
 -- ---- counting
-
--- one if the test passed
-abbrev one_if : Bool → ℕ
-one_if b = cond b 1 0
-
-count-cons : {X : Type 0} (test : X → Bool) (x : X) (xs : List X) → count_by test (x ∷ xs) ≡ one_if (test x) + count_by test xs
-count-cons test x xs = sum_by-cons (λ y. one_if (test y)) x xs
 
 -- where as many pass as there are, all pass
 pub all_pass : {X : Type 0} (test : X → Bool) (xs : List X) → length xs ≤ count_by test xs → All (λ x. test x ≡ true) xs

@@ -1,9 +1,9 @@
 //! One fetch.
 
 ghost use Rattle.std.specs.Prelude.{◌≡◌, ◌≤◌, ◌+◌, ◌*◌, length, map, string_bytes, IfOk, drop, vec_len, []};
+ghost use Rattle.uni_poly.specs.Binomial.{binomial};
 ghost use Rattle.wire_frames.specs.Sizes.{answer_len};
 ghost use Rattle.wire_frames.specs.Answer.{answers};
-ghost use Rattle.block_decoder.specs.Choices.{binomial};
 ghost use Rattle.fetch_client.specs.Plan.{IsPlan, params_of, need};
 ghost use Rattle.block_decoder.specs.Verdict.{IsVerdict};
 ghost use Rattle.fetch_client.specs.Sent.{payload_size, session_number};

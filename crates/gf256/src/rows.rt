@@ -1,4 +1,4 @@
-//! Rows of bytes times one factor, 16 bytes at once.
+//! Rows of bytes: cleared, added to each other, and times one factor, 16 bytes at once.
 //!
 //! A byte is the sum of its low four bits and its high four. So its product with the factor is the sum of one of 16
 //! products and one of 16 others, which two vectors keep, and a swizzle takes from such a vector for 16 bytes at once
@@ -9,7 +9,7 @@ ghost use Rattle.std.specs.Prelude.{◌≡◌, ℕ, ◌+◌, ◌*◌, ◌<◌, �
 ghost use Rattle.std.specs.List.{range_with_len};
 ghost use Rattle.std.specs.Simd.Lanes.{chunk};
 ghost use Rattle.gf256.specs.Field.{◌⊕◌, ◌⊗◌};
-ghost use Rattle.gf256.specs.Rows.{IsAdded};
+ghost use Rattle.gf256.specs.Rows.{multiple, IsAdded};
 
 use crate::mul;
 use std::marker::Model;
@@ -145,6 +145,26 @@ fn high_products(factor: u8) -> u8x16
     row_of(&MIDDLE, factor & 15) ^ row_of(&LARGE, factor >> 4)
 }
 
+/// Makes each byte zero.
+pub fn clear(row: &mut [u8])
+    ensures { (k : ℕ) → slice_index row.new k ≡ 0 }
+{
+    for byte in row.iter_mut() {
+        *byte = 0;
+    }
+}
+
+/// Adds `row` to `acc`, which is as long: `acc[i]` becomes `acc[i] + row[i]`, for each place i. Adding `57 83` to `83 83`
+/// makes it `d4 00`.
+pub fn add_row(acc: &mut [u8], row: &[u8])
+    requires { length row.now ≡ length acc.old }
+    ensures { (k : ℕ) → slice_index acc.new k ≡ slice_index acc.old k ⊕ slice_index row.now k }
+{
+    for i in 0..acc.len() {
+        acc[i] ^= row[i];
+    }
+}
+
 /// Adds `factor` times `row` to `acc`, which is as long: `acc[i]` becomes `acc[i] + factor * row[i]`, for each place i.
 /// Adding `83` times `57 57` to `00 01` makes it `c1 c0`.
 pub fn add_scaled_row(acc: &mut [u8], row: &[u8], factor: u8)
@@ -167,7 +187,7 @@ fn add_rest(acc: &mut [u8], row: &[u8], products: &Products, at: usize)
     requires same { length row.now ≡ length acc.old }
     requires within { at ≤ length acc.old }
     requires few { length acc.old < at + 16 }
-    ensures { IsAdded acc.new acc.old row.now products.now at (length acc.old) }
+    ensures { IsAdded acc.new acc.old (multiple row.now products.now) at (length acc.old) }
 {
     if acc.len() < 16 {
         for i in at..acc.len() {

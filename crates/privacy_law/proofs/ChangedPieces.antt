@@ -48,6 +48,15 @@ addend_outside f size piece i isnt = ap (λ b. if b then f (i % size) else 0) (n
 pub addend_elsewhere : (f : ℕ → ℕ) (size piece k e : ℕ) → e < size → k ≢ piece → addend f size piece (k * size + e) ≡ 0
 addend_elsewhere f size piece k e l isnt = addend_outside f size piece (k * size + e) (λ same. isnt (sym (div-mul-add k size e l) ∙ same))
 
+-- nor to any, where f is nothing
+pub addend_nothing : (f : ℕ → ℕ) (size piece i : ℕ) → ((e : ℕ) → f e ≡ 0) → addend f size piece i ≡ 0
+unfolding addend
+addend_nothing f size piece i none =
+    elim (cases_eq (i / size) piece) [
+      | inl same ↦ ap (λ b. if b then f (i % size) else 0) (eq-eqb (i / size) piece same) ∙ none (i % size)
+      | inr other ↦ addend_outside f size piece i other
+    ]
+
 -- a byte before the piece
 pub before_piece : (size piece i : ℕ) → i < piece * size → i / size ≢ piece
 before_piece size piece i l same = let low = div-mul-le_self i size in let e = ap (λ q. q * size) same in omega (arith, l, low, e)

@@ -1,5 +1,5 @@
 -- Coins where a polynomial is added to one row.
-use Rattle.std.proofs.Common.{◌≡◌, ◌≢◌, ℕ, ◌+◌, ◌-◌, ◌*◌, ◌/◌, ◌<◌, ◌≤◌, List, ◌++◌, length, get_or, take, drop, refl, sym, ap, ap₂, ◌∙◌, arith, inl, inr, length-drop, length-append}
+use Rattle.std.proofs.Common.{◌≡◌, ◌≢◌, ℕ, zero, suc, ◌+◌, ◌-◌, ◌*◌, ◌/◌, ◌<◌, ◌≤◌, List, [], ◌∷◌, ◌++◌, length, get_or, take, drop, refl, sym, ap, ap₂, ◌∙◌, arith, inl, inr, length-drop, length-append, mul-zero}
 use Rattle.std.proofs.lemmas.Bool.{cases_lt}
 use Rattle.std.proofs.lemmas.List.{ext_get_or, get_or-drop, get_or-take, get_or_past, get_or_append_left, get_or-append_right, length-take-le}
 use borrow.Rule.Slice.PartMut.{put_mid}
@@ -13,7 +13,7 @@ use Rattle.shamir_share.specs.Query.{row_coins}
 use Rattle.shamir_share.proofs.Rows.{coin_at, length-row_coins, rows_fit}
 use Rattle.privacy_law.specs.Pieces.{addend}
 use Rattle.privacy_law.specs.Partner.{added_to_row}
-use Rattle.privacy_law.proofs.ChangedPieces.{length-added, added_at, addend_here, addend_elsewhere, addend_outside, before_piece, after_piece}
+use Rattle.privacy_law.proofs.ChangedPieces.{length-added, added_at, addend_here, addend_elsewhere, addend_outside, addend_nothing, before_piece, after_piece}
 
 -- what is added to coin e of the row
 abbrev pub above : List ℕ → ℕ → ℕ
@@ -59,11 +59,25 @@ val-row_changed coins t r g j a long row few =
     ])
     ∙ val-add_list old (drop 1 g) a
 
--- where a polynomial was added to the slice of row j
-pub written_row : (coins g new : List ℕ) (t j : ℕ) → 0 < t → j * t + t ≤ length coins → length new ≡ t
+-- with no coins a row, nothing is written and nothing changes
+written_none : (coins g new : List ℕ) (t j : ℕ) → t ≡ 0 → length new ≡ t → length g ≤ t + 1
+    → put_mid (j * t) t coins new ≡ added_to_row coins t g j
+unfolding coef
+written_none coins g [] zero j none long few =
+    ap (λ m. put_mid m 0 coins []) (mul-zero j)
+    ∙ sym (ext_get_or 0 (added_to_row coins 0 g j) coins (length-added coins 0 j (above g)) (λ i l.
+    let within : i < length coins = omega (arith, l, length-added coins 0 j (above g)) in
+    added_at coins 0 j (above g) i within
+    ∙ ap (◌⊕◌ (get_or coins i 0)) (addend_nothing (above g) 0 j i (λ e. get_or_past g (e + 1) 0 (omega (arith, few))))
+    ∙ add_zero _))
+written_none coins g (x ∷ new) zero j none long few = absurd (omega (arith, long))
+written_none coins g new (suc t) j none long few = absurd (omega (arith, none))
+
+-- where a polynomial was added to the slice of row j, which has some coins
+written_some : (coins g new : List ℕ) (t j : ℕ) → 0 < t → j * t + t ≤ length coins → length new ≡ t
     → IsSum new (take t (drop (j * t) coins)) (drop 1 g) → put_mid (j * t) t coins new ≡ added_to_row coins t g j
 unfolding coef
-written_row coins g new t j some fits long sum =
+written_some coins g new t j some fits long sum =
     let m = j * t in
     let front = take m coins in
     let back = drop t (drop m coins) in
@@ -95,6 +109,15 @@ written_row coins g new t j some fits long sum =
                 ∙ ap (λ k. get_or coins k 0) (omega (arith, past, place)) ∙ stays (after_piece t j i some (omega (arith, past, place)))
           ]
     ])
+
+-- where it was added to the slice of any row
+pub written_row : (coins g new : List ℕ) (t j : ℕ) → j * t + t ≤ length coins → length new ≡ t → length g ≤ t + 1
+    → IsSum new (take t (drop (j * t) coins)) (drop 1 g) → put_mid (j * t) t coins new ≡ added_to_row coins t g j
+written_row coins g new t j fits long few sum =
+    elim (cases_lt 0 t) [
+      | inl some ↦ written_some coins g new t j some fits long sum
+      | inr none ↦ written_none coins g new t j (omega (arith, none)) long few
+    ]
 
 -- the slice of a row
 pub length-row_slice : (coins : List ℕ) (t j : ℕ) → j * t + t ≤ length coins → length (take t (drop (j * t) coins)) ≡ t

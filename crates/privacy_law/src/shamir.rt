@@ -36,7 +36,6 @@ pub fn partner(
     b2: u32,
 ) -> Result<Vec<u8>, AllocError>
     requires coins { length coins.now ≡ r * t }
-    requires degree { 1 ≤ t }
     requires bound { length coalition.now ≤ t }
     requires nonzero { All (λ a. a ≢ 0) coalition.now }
     requires block { b < r }
@@ -76,7 +75,6 @@ fn multiply(p: &mut [u8], factor: u8)
 fn add_to_rows(coins: &mut [u8], g: &[u8], t: usize, b: usize, b2: usize)
     requires row { b * t + t ≤ length coins.old }
     requires other { b2 * t + t ≤ length coins.old }
-    requires degree { 1 ≤ t }
     requires some { 0 < length g.now }
     requires few { length g.now ≤ t + 1 }
     ensures { coins.new ≡ added_to_row (added_to_row coins.old t g.now b) t g.now b2 }
@@ -88,7 +86,6 @@ fn add_to_rows(coins: &mut [u8], g: &[u8], t: usize, b: usize, b2: usize)
 /// Adds the coefficients of `g` from 1 on to the coins of one row.
 fn add_to_row(coins: &mut [u8], g: &[u8], t: usize, row: usize)
     requires row { row * t + t ≤ length coins.old }
-    requires degree { 1 ≤ t }
     requires some { 0 < length g.now }
     requires few { length g.now ≤ t + 1 }
     ensures { coins.new ≡ added_to_row coins.old t g.now row }

@@ -1,5 +1,6 @@
 -- What reading a recorded session to its end, and judging it, gives.
 use Rattle.std.specs.Prelude.{◌≤◌, ◌+◌, ◌*◌, length, Some, ◌≡◌, ℕ, List, IfSome, Result, Ok, Err}
+use Rattle.uni_poly.specs.Binomial.{binomial}
 use Rattle.pir_ports.specs.World.{World}
 use Rattle.pir_ports.specs.Number.{INPUT}
 use Rattle.pir_ports.specs.Moves.{took}
@@ -9,7 +10,6 @@ use Rattle.wire_frames.specs.Beginning.{IsPlace}
 use Rattle.wire_frames.specs.Reading.{Reading, Feeds}
 use Rattle.wire_frames.specs.declared.reader.FeedFault.TheVariants.{BadSession as Wrong, Memory as NoMemory}
 use Rattle.wire_frames.specs.Answer.{answers}
-use Rattle.block_decoder.specs.Choices.{binomial}
 use Rattle.block_decoder.specs.Verdict.{IsVerdict}
 use Rattle.block_decoder.specs.declared.verdict.Verdict.{Verdict}
 use Rattle.replay.specs.declared.ReplayFault.{ReplayFault}

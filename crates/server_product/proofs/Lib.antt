@@ -1,4 +1,4 @@
-pub mod LaneSums
+pub mod SixSums
 pub mod RunSums
 pub mod TrioSums
 pub mod Gathering

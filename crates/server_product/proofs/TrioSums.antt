@@ -1,15 +1,15 @@
 -- Two trios that are added to a list, the second behind the first.
-use Rattle.std.proofs.Common.{◌≡◌, ℕ, ◌+◌, ◌<◌, ◌≤◌, List, length, get_or, map, bit_xor, sym, ap, ap₂, ◌∙◌, arith, inl, inr}
+use Rattle.std.proofs.Common.{◌≡◌, ℕ, ◌+◌, ◌<◌, ◌≤◌, List, length, get_or, map, bit_xor, refl, sym, ap, ap₂, ◌∙◌, arith, inl, inr}
 use Rattle.std.specs.Simd.Lanes.{zip2, chunk, put_chunk}
 use Rattle.std.proofs.lemmas.Bool.{cases_lt}
-use Rattle.std.proofs.lemmas.List.{length-map, get_or-map, get_or_past}
-use Rattle.std.proofs.lemmas.Simd.{length-chunk, length-zip2, get_or-chunk, get_or-zip2}
+use Rattle.std.proofs.lemmas.List.{get_or_past}
 use Rattle.gf256.specs.Field.{◌⊕◌, ◌⊗◌}
+use Rattle.gf256.specs.Rows.{IsAdded}
 use Rattle.gf256.proofs.Xor.{add_zero}
 use Rattle.gf256.proofs.FieldLaws.{mul_zero}
-use Rattle.server_product.specs.Summed.{IsSummed}
+use Rattle.gf256.proofs.Added.{added-none, added-lanes}
+use Rattle.gf256.proofs.LaneSums.{lanes-of, lanes-sum, lanes-times}
 use Rattle.server_product.specs.Trios.{trio_at}
-use Rattle.server_product.proofs.LaneSums.{summed-none, summed-lanes}
 
 -- three rows give nothing past their ends
 pub trio-past : (a b c : List ℕ) (f n : ℕ) → length a ≡ n → length b ≡ n → length c ≡ n → (k : ℕ) → n ≤ k → trio_at a b c f k ≡ 0
@@ -18,51 +18,21 @@ trio-past a b c f n ea eb ec k l =
     ap (◌⊗◌ f) (ap₂ ◌⊕◌ (ap₂ ◌⊕◌ (get_or_past a k 0 (omega arith)) (get_or_past b k 0 (omega arith))) (get_or_past c k 0 (omega arith)))
     ∙ (let e : f ⊗ (0 ⊕ 0 ⊕ 0) ≡ 0 = simp (add_zero, mul_zero) in e)
 
--- 16 places of three rows
-module _ (a b c : List ℕ) (at : ℕ) (room_a : at + 16 ≤ length a) (room_b : at + 16 ≤ length b) (room_c : at + 16 ≤ length c) where
-  abbrev two : List ℕ
-  two = zip2 bit_xor (chunk at 16 a) (chunk at 16 b)
-
-  abbrev pub three_lanes : List ℕ
-  three_lanes = zip2 bit_xor two (chunk at 16 c)
-
-  size_two : length two ≡ 16
-  size_two = length-zip2 bit_xor (chunk at 16 a) (chunk at 16 b) (length-chunk at 16 a room_a ∙ sym (length-chunk at 16 b room_b)) ∙ length-chunk at 16 a room_a
-
-  pub three-size : length three_lanes ≡ 16
-  three-size = length-zip2 bit_xor two (chunk at 16 c) (size_two ∙ sym (length-chunk at 16 c room_c)) ∙ size_two
-
-  at_two : (k : ℕ) → k < 16 → get_or two k 0 ≡ bit_xor (get_or a (at + k) 0) (get_or b (at + k) 0)
-  at_two k l =
-      get_or-zip2 bit_xor (chunk at 16 a) (chunk at 16 b) k 0 0 0 (omega (arith, length-chunk at 16 a room_a)) (omega (arith, length-chunk at 16 b room_b))
-      ∙ ap₂ bit_xor (get_or-chunk at 16 a k 0 l) (get_or-chunk at 16 b k 0 l)
-
-  pub three-at : (k : ℕ) → k < 16 → get_or three_lanes k 0 ≡ get_or a (at + k) 0 ⊕ get_or b (at + k) 0 ⊕ get_or c (at + k) 0
-  unfolding ◌⊕◌
-  three-at k l =
-      get_or-zip2 bit_xor two (chunk at 16 c) k 0 0 0 (omega (arith, size_two)) (omega (arith, length-chunk at 16 c room_c))
-      ∙ ap₂ bit_xor (at_two k l) (get_or-chunk at 16 c k 0 l)
-
 -- 16 places with their products with a trio, stored where they stand
-pub trio-put : (acc a b c products : List ℕ) (f at : ℕ) → at + 16 ≤ length acc → length a ≡ length acc → length b ≡ length acc → length c ≡ length acc
+pub trio-put : (acc a b c products : List ℕ) (f at : ℕ)
+    → at + 16 ≤ length acc → length a ≡ length acc → length b ≡ length acc → length c ≡ length acc
     → products ≡ map (λ x. f ⊗ x) (zip2 bit_xor (zip2 bit_xor (chunk at 16 a) (chunk at 16 b)) (chunk at 16 c))
-    → IsSummed (put_chunk at acc (zip2 bit_xor (chunk at 16 acc) products)) acc (trio_at a b c f) at (at + 16)
-unfolding ◌⊕◌ trio_at
+    → IsAdded (put_chunk at acc (zip2 bit_xor (chunk at 16 acc) products)) acc (trio_at a b c f) at (at + 16)
+unfolding trio_at
 trio-put acc a b c products f at room ea eb ec e =
-    let room_a : at + 16 ≤ length a = omega arith in
-    let room_b : at + 16 ≤ length b = omega arith in
-    let room_c : at + 16 ≤ length c = omega arith in
-    let three = zip2 bit_xor (zip2 bit_xor (chunk at 16 a) (chunk at 16 b)) (chunk at 16 c) in
-    let size = three-size a b c at room_a room_b room_c in
-    let long : length products ≡ 16 = ap length e ∙ length-map three (λ x. f ⊗ x) ∙ size in
-    let whole = length-chunk at 16 acc room in
-    summed-lanes acc acc (zip2 bit_xor (chunk at 16 acc) products) (trio_at a b c f) at at at room
-    (length-zip2 bit_xor (chunk at 16 acc) products (whole ∙ sym long) ∙ whole) (omega arith) (omega arith) (omega arith)
-    (λ k l.
-    get_or-zip2 bit_xor (chunk at 16 acc) products k 0 0 0 (omega (arith, whole)) (omega (arith, long))
-    ∙ ap₂ bit_xor (get_or-chunk at 16 acc k 0 l)
-    (ap (λ ps. get_or ps k 0) e ∙ get_or-map (λ x. f ⊗ x) three k 0 0 (omega (arith, size)) ∙ ap (λ x. f ⊗ x) (three-at a b c at room_a room_b room_c k l)))
-    (summed-none acc (trio_at a b c f) at)
+    let two = lanes-sum (chunk at 16 a) (chunk at 16 b) _ _ at (lanes-of a at (omega arith)) (lanes-of b at (omega arith)) in
+    let three = lanes-sum _ (chunk at 16 c) _ _ at two (lanes-of c at (omega arith)) in
+    let times = lanes-times _ products _ f at e three in
+    added-lanes acc acc (zip2 bit_xor (chunk at 16 acc) products) (trio_at a b c f) _ at at at room
+    (lanes-sum (chunk at 16 acc) products _ _ at (lanes-of acc at room) times) (omega arith) (omega arith) (omega arith)
+    (λ k l m. absurd (omega (arith, l, m)))
+    (λ k l m i. refl)
+    (added-none acc (trio_at a b c f) at)
 
 -- one place of a trio
 pub trio-place : (a b c : List ℕ) (f g k x : ℕ) → x ≡ g ⊗ bit_xor (bit_xor (get_or a k 0) (get_or b k 0)) (get_or c k 0) → f ≡ g → x ≡ trio_at a b c f k
@@ -76,7 +46,7 @@ pub record IsLagged (new old : List ℕ) (g h : ℕ → ℕ) (n m : ℕ) : Type 
   pub none : (k : ℕ) → n ≤ k → get_or new k 0 ≡ get_or old k 0
 
 -- the first has begun
-pub lagged-start : (new old : List ℕ) (g h : ℕ → ℕ) (n : ℕ) → IsSummed new old g 0 n → IsLagged new old g h n 0
+pub lagged-start : (new old : List ℕ) (g h : ℕ → ℕ) (n : ℕ) → IsAdded new old g 0 n → IsLagged new old g h n 0
 lagged-start new old g h n s = record {
   both = λ k l. absurd (omega arith);
   first = λ k l m. s.added k l m;
@@ -84,7 +54,7 @@ lagged-start new old g h n s = record {
 }
 
 -- the first goes on
-pub lagged-first : (new mid old : List ℕ) (g h : ℕ → ℕ) (n m to : ℕ) → m ≤ n → n ≤ to → IsSummed new mid g n to → IsLagged mid old g h n m → IsLagged new old g h to m
+pub lagged-first : (new mid old : List ℕ) (g h : ℕ → ℕ) (n m to : ℕ) → m ≤ n → n ≤ to → IsAdded new mid g n to → IsLagged mid old g h n m → IsLagged new old g h to m
 lagged-first new mid old g h n m to l r s done = record {
   both = λ k i. s.before k (omega arith) ∙ done.both k i;
   first = λ k i j.
@@ -96,7 +66,7 @@ lagged-first new mid old g h n m to l r s done = record {
 }
 
 -- the second goes on
-pub lagged-second : (new mid old : List ℕ) (g h : ℕ → ℕ) (n m to : ℕ) → m ≤ to → to ≤ n → IsSummed new mid h m to → IsLagged mid old g h n m → IsLagged new old g h n to
+pub lagged-second : (new mid old : List ℕ) (g h : ℕ → ℕ) (n m to : ℕ) → m ≤ to → to ≤ n → IsAdded new mid h m to → IsLagged mid old g h n m → IsLagged new old g h n to
 lagged-second new mid old g h n m to l r s done = record {
   both = λ k i.
       elim (cases_lt k m) [

@@ -3,9 +3,10 @@ use Rattle.std.proofs.Common.{◌≡◌, ℕ, zero, suc, ◌+◌, ◌*◌, ◌/�
 use Rattle.std.proofs.lemmas.List.{get_or-take, get_or-drop, get_or_append_left, get_or-append-add}
 use Rattle.std.proofs.Math.Nat.{div-le_of_le-mul, mul-div_cancel, mul-le-mul_right, zero-div, zero-mul}
 use Rattle.gf256.specs.Field.{◌⊕◌}
-use Rattle.server_product.specs.Runs.{run_sum}
+use Rattle.gf256.specs.Sums.{run_sum}
+use Rattle.server_product.specs.Runs.{term}
 use Rattle.server_product.specs.Parts.{first_row, part, HasParts}
-use Rattle.server_product.proofs.RunSums.{run-join}
+use Rattle.gf256.proofs.RunSums.{run-join}
 
 -- the first worker begins with the first row
 pub first-zero : (rows workers : ℕ) → first_row rows workers 0 ≡ 0
@@ -27,10 +28,10 @@ first-within rows workers worker lt =
 
 -- the rows of a worker follow those of the workers before it
 pub next-part : (q : List ℕ) (rows : List (List ℕ)) (workers worker c : ℕ)
-    → run_sum q rows c 0 (first_row (length rows) workers worker) ⊕ part q rows workers worker c ≡ run_sum q rows c 0 (first_row (length rows) workers (worker + 1))
+    → run_sum (term q rows c) 0 (first_row (length rows) workers worker) ⊕ part q rows workers worker c ≡ run_sum (term q rows c) 0 (first_row (length rows) workers (worker + 1))
 next-part q rows workers worker c =
     let le = first-le_next (length rows) workers worker in
-    run-join q rows c 0 (first_row (length rows) workers worker) (first_row (length rows) workers (worker + 1)) (omega arith) le
+    run-join (term q rows c) 0 (first_row (length rows) workers worker) (first_row (length rows) workers (worker + 1)) (omega arith) le
 
 -- a place of a piece of a list
 pub at-range : (xs : List ℕ) (a n k : ℕ) → k < n → slice_index (take n (drop a xs)) k ≡ slice_index xs (a + k)

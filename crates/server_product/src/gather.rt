@@ -6,7 +6,8 @@
 
 ghost use Rattle.std.specs.Prelude.{◌≡◌, ℕ, ◌<◌, ◌≤◌, List, length, replicate, slice_index, slice_index_or};
 ghost use Rattle.gf256.specs.Field.{◌⊕◌};
-ghost use Rattle.server_product.specs.Runs.{term, run_sum};
+ghost use Rattle.gf256.specs.Sums.{run_sum};
+ghost use Rattle.server_product.specs.Runs.{term};
 ghost use Rattle.server_product.specs.Trios.{trio_at};
 ghost use Rattle.server_product.specs.Gathered.{
   three_sum,
@@ -23,7 +24,7 @@ ghost use Rattle.server_product.specs.Gathered.{
   RestAreRows,
 };
 
-use crate::rows::{add_row, scaled_row};
+use crate::rows::{add_term, scaled_row};
 use crate::six_rows::add_six_rows;
 use crate::trios::{Trio, add_two_trios};
 use block_matrix::Matrix;
@@ -52,7 +53,7 @@ pub fn add_in_trios(matrix: &Matrix, q: &[u8], from: u32, to: u32, sums: &mut [u
     requires query { length q.now ≡ length matrix.now.rows }
     requires room { length sums.old ≡ matrix.now.width }
     ensures { (k : ℕ) → slice_index sums.new k
-        ≡ slice_index sums.old k ⊕ run_sum q.now matrix.now.rows k from to }
+        ≡ slice_index sums.old k ⊕ run_sum (term q.now matrix.now.rows k) from to }
 {
     let mut waiting = none_waiting();
     let mut held = None;
@@ -313,15 +314,15 @@ fn add_few(matrix: &Matrix, q: &[u8], few: Few, sums: &mut [u8])
 {
     match few {
         Few::Empty => {}
-        Few::One(a) => add_row(matrix, q, a, sums),
+        Few::One(a) => add_term(matrix, q, a, sums),
         Few::Two(a, b) => {
-            add_row(matrix, q, a, sums);
-            add_row(matrix, q, b, sums);
+            add_term(matrix, q, a, sums);
+            add_term(matrix, q, b, sums);
         }
         Few::All(three) => {
-            add_row(matrix, q, three.a, sums);
-            add_row(matrix, q, three.b, sums);
-            add_row(matrix, q, three.c, sums);
+            add_term(matrix, q, three.a, sums);
+            add_term(matrix, q, three.b, sums);
+            add_term(matrix, q, three.c, sums);
         }
     }
 }

@@ -38,20 +38,11 @@ pub fn mul_add_row(acc: &mut [u8], row: &[u8], c: u8)
 }
 
 /// Adds row `j`, times the query's byte for it.
-pub fn add_row(matrix: &Matrix, q: &[u8], j: u32, sums: &mut [u8])
+pub fn add_term(matrix: &Matrix, q: &[u8], j: u32, sums: &mut [u8])
     requires within { j < length matrix.now.rows }
     requires query { length q.now ≡ length matrix.now.rows }
     requires room { length sums.old ≡ matrix.now.width }
     ensures { (k : ℕ) → slice_index sums.new k ≡ slice_index sums.old k ⊕ term q.now matrix.now.rows k j }
 {
     mul_add_row(sums, matrix.row(j), q[j as usize]);
-}
-
-/// Makes each byte zero.
-pub fn clear(sums: &mut [u8])
-    ensures { (k : ℕ) → slice_index sums.new k ≡ 0 }
-{
-    for sum in sums.iter_mut() {
-        *sum = 0;
-    }
 }

@@ -1,12 +1,13 @@
 //! The sum over a run of rows, each times the query's byte for it.
 
 ghost use Rattle.std.specs.Prelude.{◌≡◌, ℕ, ◌≤◌, length, slice_index};
-ghost use Rattle.server_product.specs.Runs.{run_sum};
+ghost use Rattle.gf256.specs.Sums.{run_sum};
+ghost use Rattle.server_product.specs.Runs.{term};
 
 use crate::gather::add_in_trios;
-use crate::rows::clear;
 use crate::sixths::add_in_sixths;
 use block_matrix::Matrix;
+use gf256::rows::clear;
 
 /// From how many bytes on a row is so wide that going from one to any other costs little beside reading it.
 const WIDE: u32 = 8192;
@@ -19,7 +20,7 @@ pub fn sum_rows(matrix: &Matrix, q: &[u8], from: u32, to: u32, sums: &mut [u8])
     requires within { to ≤ length matrix.now.rows }
     requires query { length q.now ≡ length matrix.now.rows }
     requires room { length sums.old ≡ matrix.now.width }
-    ensures { (k : ℕ) → slice_index sums.new k ≡ run_sum q.now matrix.now.rows k from to }
+    ensures { (k : ℕ) → slice_index sums.new k ≡ run_sum (term q.now matrix.now.rows k) from to }
 {
     if matrix.width() >= WIDE {
         clear(sums);

@@ -2,7 +2,8 @@
 
 ghost use Rattle.std.specs.Prelude.{◌≡◌, ℕ, ◌+◌, ◌<◌, ◌≤◌, length, slice_index};
 ghost use Rattle.gf256.specs.Field.{◌⊕◌, ◌⊗◌};
-ghost use Rattle.server_product.specs.SixRows.{six_at, AreProducts};
+ghost use Rattle.gf256.specs.Rows.{multiple, AreLanes};
+ghost use Rattle.server_product.specs.SixRows.{six_at};
 
 use crate::rows::Scaled;
 use gf256::mul;
@@ -13,7 +14,7 @@ use std::simd::prelude::*;
 #[inline(always)]
 fn products_at(row: &[u8], products: &Products, at: usize) -> u8x16
     requires { at + 16 ≤ length row.now }
-    ensures { AreProducts result row.now products.now at }
+    ensures { AreLanes result (multiple row.now products.now) at }
 {
     products.times(u8x16::from_slice(&row[at..]))
 }

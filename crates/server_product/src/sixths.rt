@@ -2,9 +2,10 @@
 
 ghost use Rattle.std.specs.Prelude.{◌≡◌, ℕ, ◌+◌, ◌*◌, ◌<◌, ◌≤◌, length, slice_index};
 ghost use Rattle.gf256.specs.Field.{◌⊕◌};
-ghost use Rattle.server_product.specs.Runs.{run_sum};
+ghost use Rattle.gf256.specs.Sums.{run_sum};
+ghost use Rattle.server_product.specs.Runs.{term};
 
-use crate::rows::{add_row, scaled_row};
+use crate::rows::{add_term, scaled_row};
 use crate::six_rows::add_six_rows;
 use block_matrix::Matrix;
 
@@ -15,12 +16,12 @@ pub fn add_in_sixths(matrix: &Matrix, q: &[u8], from: u32, to: u32, sums: &mut [
     requires query { length q.now ≡ length matrix.now.rows }
     requires room { length sums.old ≡ matrix.now.width }
     ensures { (k : ℕ) → slice_index sums.new k
-        ≡ slice_index sums.old k ⊕ run_sum q.now matrix.now.rows k from to }
+        ≡ slice_index sums.old k ⊕ run_sum (term q.now matrix.now.rows k) from to }
 {
     let sixth = sixth_of(to - from, matrix.width());
     add_sixths(matrix, q, from, sixth, sums);
     for j in from + 6 * sixth..to {
-        add_row(matrix, q, j, sums);
+        add_term(matrix, q, j, sums);
     }
 }
 
@@ -53,7 +54,7 @@ fn add_sixths(matrix: &Matrix, q: &[u8], from: u32, sixth: u32, sums: &mut [u8])
     requires query { length q.now ≡ length matrix.now.rows }
     requires room { length sums.old ≡ matrix.now.width }
     ensures { (k : ℕ) → slice_index sums.new k
-        ≡ slice_index sums.old k ⊕ run_sum q.now matrix.now.rows k from (from + 6 * sixth) }
+        ≡ slice_index sums.old k ⊕ run_sum (term q.now matrix.now.rows k) from (from + 6 * sixth) }
 {
     // Its contract bounds the number of rows.
     let _rows = matrix.rows();

@@ -3,7 +3,7 @@
 ghost use Rattle.std.specs.Prelude.{◌≡◌, ℕ, ◌+◌, ◌≤◌, length, slice_index};
 ghost use Rattle.std.specs.Simd.Lanes.{chunk};
 ghost use Rattle.gf256.specs.Field.{◌⊕◌, ◌⊗◌};
-ghost use Rattle.server_product.specs.Summed.{IsSummed};
+ghost use Rattle.gf256.specs.Rows.{IsAdded};
 ghost use Rattle.server_product.specs.Trios.{trio_at};
 
 use gf256::mul;
@@ -38,7 +38,7 @@ fn add_lanes(acc: &mut [u8], trio: Trio, products: &Products, at: usize)
     requires b { length trio.b.now ≡ length acc.old }
     requires c { length trio.c.now ≡ length acc.old }
     requires within { at + 16 ≤ length acc.old }
-    ensures { IsSummed acc.new acc.old
+    ensures { IsAdded acc.new acc.old
         (trio_at trio.entry.a.now trio.entry.b.now trio.entry.c.now products.now) at (at + 16) }
 {
     let rows = lanes_of(trio.a, at) ^ lanes_of(trio.b, at) ^ lanes_of(trio.c, at);
@@ -54,7 +54,7 @@ fn add_places(acc: &mut [u8], trio: Trio, products: &Products, from: usize, to: 
     requires factor { products.now ≡ trio.factor }
     requires order { from ≤ to }
     requires within { to ≤ length acc.old }
-    ensures { IsSummed acc.new acc.old
+    ensures { IsAdded acc.new acc.old
         (trio_at trio.entry.a.now trio.entry.b.now trio.entry.c.now products.now) from to }
 {
     let mut at = from;

@@ -7,9 +7,9 @@ ghost use Rattle.std.specs.Thread.{IsSync};
 ghost use Rattle.server_product.specs.Parts.{part, HasParts};
 
 use crate::gate::Gate;
-use crate::rows::clear;
 use crate::runs::sum_rows;
 use block_matrix::Matrix;
+use gf256::rows::{add_row, clear};
 use std::thread::{Threads, join_mut};
 
 /// Makes `out` the product of the query `q`, a byte for each row, and the matrix: a byte for each column. The query `01 02`
@@ -41,17 +41,7 @@ pub fn product_into<R: Threads + Sync, G: Gate + Sync>(
     clear(out);
     for worker in 0..u32::from(workers) {
         let start = worker as usize * width;
-        add_part(out, &scratch[start..start + width]);
-    }
-}
-
-/// Adds the sums of a worker.
-fn add_part(acc: &mut [u8], sums: &[u8])
-    requires { length sums.now ≡ length acc.old }
-    ensures { (k : ℕ) → slice_index acc.new k ≡ slice_index acc.old k ⊕ slice_index sums.now k }
-{
-    for i in 0..acc.len() {
-        acc[i] ^= sums[i];
+        add_row(out, &scratch[start..start + width]);
     }
 }
 

@@ -18,7 +18,7 @@ ghost use Rattle.std.specs.Prelude.{◌≡◌, ◌≢◌, ◌*◌, ◌<◌, ◌�
 ghost use Rattle.shamir_share.specs.Query.{query};
 
 use crate::masks::masks_into;
-use crate::products::Products;
+use crate::products::ProductTable;
 
 /// Writes the query of one server: at `j` the value at `index` of the polynomial of row `j`, with the constant 1 where
 /// `j` is `block` and 0 elsewhere, and then the `t` coins of the row, at `j * t` and on.
@@ -40,7 +40,7 @@ pub fn query_into(coins: &[u8], t: u32, r: u32, block: u32, index: u8, out: &mut
     requires few { t ≤ 31 }
     ensures { out.new ≡ query coins.now t r block index }
 {
-    let products = Products::of(index);
+    let products = ProductTable::of(index);
     masks_into(&products, coins, t as usize, out);
     out[block as usize] ^= 1;
 }

@@ -4,10 +4,10 @@ ghost use Rattle.gf256.specs.Field.{◌⊗◌};
 ghost use Rattle.gf256.specs.Polynomial.{val};
 ghost use Rattle.shamir_share.specs.Query.{masks};
 
-use crate::products::Products;
+use crate::products::ProductTable;
 
 /// Writes the value of each row's polynomial, of degree `t`, at the factor.
-pub(crate) fn masks_into(products: &Products, coins: &[u8], t: usize, out: &mut [u8])
+pub(crate) fn masks_into(products: &ProductTable, coins: &[u8], t: usize, out: &mut [u8])
     requires { length coins.now ≡ length out.old * t }
     ensures { out.new ≡ masks coins.now t (length out.old) products.now }
 {
@@ -19,7 +19,7 @@ pub(crate) fn masks_into(products: &Products, coins: &[u8], t: usize, out: &mut 
 }
 
 /// The same row by row, four of them at once.
-fn rows_into(products: &Products, coins: &[u8], t: usize, out: &mut [u8])
+fn rows_into(products: &ProductTable, coins: &[u8], t: usize, out: &mut [u8])
     requires { length coins.now ≡ length out.old * t }
     ensures { out.new ≡ masks coins.now t (length out.old) products.now }
 {
@@ -35,7 +35,7 @@ fn rows_into(products: &Products, coins: &[u8], t: usize, out: &mut [u8])
 }
 
 /// The values of four rows, by Horner's rule. No one waits for another.
-fn four_masks(products: &Products, rows: &[u8], t: usize) -> [u8; 4]
+fn four_masks(products: &ProductTable, rows: &[u8], t: usize) -> [u8; 4]
     requires { length rows.now ≡ 4 * t }
     ensures { result ≡ masks rows.now t 4 products.now }
 {
@@ -52,7 +52,7 @@ fn four_masks(products: &Products, rows: &[u8], t: usize) -> [u8; 4]
 }
 
 /// The value of one row, by Horner's rule.
-fn mask(products: &Products, row: &[u8]) -> u8
+fn mask(products: &ProductTable, row: &[u8]) -> u8
     ensures { result ≡ products.now ⊗ val row.now products.now }
 {
     let mut value = 0;

@@ -6,16 +6,16 @@ use gf256::rows;
 use std::marker::Model;
 use std::simd::prelude::*;
 
-/// The products of one byte, the factor, and every byte. Contracts see the factor.
+/// The products of one byte, the factor, and every byte: looked up for one, and by [`rows::Products`] for 16 at once.
+/// Contracts see the factor.
 #[derive(Drop)]
-pub(crate) struct Products {
+pub(crate) struct ProductTable {
     // The product with each byte.
     table: [u8; 256],
-    // Those with 16 bytes at once.
     lanes: rows::Products,
 }
 
-impl Model for Products {
+impl Model for ProductTable {
     ghost use Rattle.std.specs.Prelude.{◌≡◌, ℕ, ◌<◌, slice_index};
     ghost use Rattle.gf256.specs.Field.{◌⊗◌};
 
@@ -26,16 +26,16 @@ impl Model for Products {
     ghost invariant = { λ p. (x : ℕ) → x < 256 → slice_index p.table x ≡ p.lanes ⊗ x };
 }
 
-impl Products {
+impl ProductTable {
     /// The products of this byte.
-    pub(crate) fn of(factor: u8) -> Products
+    pub(crate) fn of(factor: u8) -> ProductTable
         ensures { result ≡ factor }
     {
         let mut table = [0; 256];
         for x in 0..256usize {
             table[x] = gf256::mul(factor, x as u8);
         }
-        Products {
+        ProductTable {
             table,
             lanes: rows::Products::of(factor),
         }

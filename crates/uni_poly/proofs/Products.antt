@@ -18,7 +18,7 @@ use Rattle.uni_poly.proofs.Taylor.{val-same}
 use Rattle.uni_poly.proofs.Addition.{add_list, coef-add_list, val-add_list}
 
 -- a coefficient past the end of both factors is 0
-product_coef-past : (p q : List ℕ) (e : ℕ) → length p + length q - 1 ≤ e → product_coef p q e ≡ 0
+pub product_coef-past : (p q : List ℕ) (e : ℕ) → length p + length q - 1 ≤ e → product_coef p q e ≡ 0
 unfolding product_coef coef
 product_coef-past p q e h =
     sum_to-zero _ (e + 1) (λ i l.

@@ -3,3 +3,4 @@ pub mod Product
 pub mod Division
 pub mod Interpolation
 pub mod Taylor
+pub mod Binomial

@@ -1,8 +1,8 @@
 use Rattle.std.proofs.Common.{◌≤◌, ◌+◌, ◌*◌, length, subst}
+use Rattle.uni_poly.specs.Binomial.{binomial}
 use Rattle.wire_frames.specs.Session.{Transcript}
 use Rattle.wire_frames.specs.Answer.{answers}
 use Rattle.wire_frames.proofs.OneSession.{one_session}
-use Rattle.block_decoder.specs.Choices.{binomial}
 use Rattle.replay.specs.Replayed.{IsFileOf}
 use Rattle.replay.proofs.Readings.{at_told}
 use Rattle.replay.proofs.replay.Goals as goal

@@ -1,8 +1,8 @@
 use Rattle.std.proofs.Common.{◌+◌, ◌*◌, ◌≤◌, List, length, refl, sym, subst, ap, ◌∙◌, arith}
 use Rattle.wire_frames.specs.Answer.{Answer}
 use Rattle.uni_poly.proofs.Coefficients.{bytes_from_get_or}
+use Rattle.uni_poly.specs.Binomial.{binomial}
 use Rattle.block_decoder.specs.Agreed.{Lists}
-use Rattle.block_decoder.specs.Choices.{binomial}
 use Rattle.block_decoder.specs.Lagrange.{HasColumns}
 use Rattle.block_decoder.proofs.Agreement.{length-answers_of}
 use Rattle.block_decoder.proofs.Columns.{columns-answers_of}

@@ -4,7 +4,8 @@ use Rattle.std.proofs.lemmas.Bool.{false≢true}
 use Rattle.std.proofs.lemmas.List.{get_or-map, length-map, take_more, take_all}
 use Rattle.wire_frames.specs.Answer.{Answer}
 use Rattle.block_decoder.specs.Agreed.{constants_of}
-use Rattle.block_decoder.specs.Choices.{choices, binomial}
+use Rattle.uni_poly.specs.Binomial.{binomial}
+use Rattle.block_decoder.specs.Choices.{choices}
 use Rattle.block_decoder.specs.Lagrange.{AreChosen, IsLagrange, IsThrough}
 use Rattle.block_decoder.proofs.ChoiceTable.{IsChoice, only_choices, length-choices}
 use Rattle.block_decoder.proofs.Columns.{some_through}

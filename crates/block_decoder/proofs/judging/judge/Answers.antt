@@ -1,7 +1,7 @@
 use Rattle.std.proofs.Common.{◌≡◌, ℕ, ◌+◌, ◌*◌, length, sym, ap, ap₂, ◌∙◌, arith}
+use Rattle.uni_poly.specs.Binomial.{binomial}
 use Rattle.wire_frames.specs.declared.session.SessionParams.{SessionParams}
 use Rattle.wire_frames.specs.Answer.{answers}
-use Rattle.block_decoder.specs.Choices.{binomial}
 use Rattle.block_decoder.proofs.Agreement.{length-answers_of}
 use Rattle.block_decoder.proofs.judging.judge.Goals as goal
 

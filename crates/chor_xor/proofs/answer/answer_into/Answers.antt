@@ -1,7 +1,8 @@
 use Rattle.std.proofs.Common.{◌∙◌, ◌*◌, ◌/◌, ap, sym, arith}
 use Rattle.gf256.specs.Field.{◌⊕◌}
-use Rattle.chor_xor.specs.Chosen.{run_sum}
-use Rattle.chor_xor.proofs.PlaceSums.{four_at}
+use Rattle.gf256.specs.Sums.{run_sum}
+use Rattle.chor_xor.specs.Chosen.{given}
+use Rattle.chor_xor.proofs.FourSums.{four_at}
 use Rattle.chor_xor.proofs.ChosenSums.{chosen-is}
 use Rattle.chor_xor.proofs.RunSums.{quarters-none, quarters-next, quarters-all}
 use Rattle.chor_xor.proofs.answer.answer_into.Goals as goal
@@ -78,11 +79,11 @@ returns c =
     chosen-is c.args.matrix.now bitmap c.add_rows-4.new.sum (omega (arith, c.requires.room))
     (λ k.
     c.add_rows-4.ensures k
-    ∙ ap (λ s. s ⊕ run_sum bitmap rows k c.fours.d c.rows-rows.result)
+    ∙ ap (λ s. s ⊕ run_sum (given bitmap rows k) c.fours.d c.rows-rows.result)
     (c.add_rows-3.ensures k
-    ∙ ap (λ s. s ⊕ run_sum bitmap rows k c.fours.c (3 * quarter))
+    ∙ ap (λ s. s ⊕ run_sum (given bitmap rows k) c.fours.c (3 * quarter))
     (c.add_rows-2.ensures k
-    ∙ ap (λ s. s ⊕ run_sum bitmap rows k c.fours.b (2 * quarter))
-    (c.add_rows.ensures k ∙ ap (λ s. s ⊕ run_sum bitmap rows k c.fours.a quarter) (before.summed k))))
+    ∙ ap (λ s. s ⊕ run_sum (given bitmap rows k) c.fours.b (2 * quarter))
+    (c.add_rows.ensures k ∙ ap (λ s. s ⊕ run_sum (given bitmap rows k) c.fours.a quarter) (before.summed k))))
     ∙ quarters-all bitmap rows k c.rows-rows.result quarter c.fours.a c.fours.b c.fours.c c.fours.d c.rows-rows.ensures.is (omega arith)
     before.a_to before.b_from before.b_to before.c_from before.c_to before.d_from before.d_to)

@@ -1,13 +1,14 @@
-use Rattle.std.proofs.Common.{◌+◌, get_or, ap, ◌∙◌, arith}
+use Rattle.std.proofs.Common.{get_or, ap, ◌∙◌, arith}
 use Rattle.gf256.specs.Field.{◌⊗◌}
-use Rattle.gf256.proofs.RowSums.{added-on, added-place, added-last}
+use Rattle.gf256.specs.Rows.{multiple}
+use Rattle.gf256.proofs.Added.{added-place}
+use Rattle.gf256.proofs.RowSums.{added-last}
 use Rattle.gf256.proofs.rows.add_rest.Goals as goal
 
 pub loop-i-preserved : goal.loop-i-preserved
 loop-i-preserved c =
-    added-on _ c.loop-i.acc c.args.acc.now c.args.row.now c.args.products.now c.args.at c.loop-i.i (c.loop-i.i + 1) (omega arith) (omega arith) c.loop-i.invariant
-    (added-place c.loop-i.acc c.args.row.now c.args.products.now c.loop-i.i c.mul.result (omega arith)
-    (c.mul.ensures ∙ ap (λ f. f ⊗ get_or c.args.row.now c.loop-i.i 0) c.products.view_is))
+    added-place c.loop-i.acc c.args.acc.now (multiple c.args.row.now c.args.products.now) c.args.at c.loop-i.i c.mul.result (omega arith) (omega arith)
+    (c.mul.ensures ∙ ap (λ f. f ⊗ get_or c.args.row.now c.loop-i.i 0) c.products.view_is) c.loop-i.invariant
 
 pub returns : goal.returns
 returns c =

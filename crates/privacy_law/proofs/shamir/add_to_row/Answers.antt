@@ -16,4 +16,4 @@ returns c =
     let rest = take_rest g 1 in
     let sum = subst (λ k. IsSum new (take k (drop m coins)) (drop 1 g)) size (subst (λ q. IsSum new (take (m + t - m) (drop m coins)) q) rest c.add_into.ensures) in
     let long = c.add_into.auto.acc ∙ ap (λ k. length (take k (drop m coins))) size ∙ length-row_slice coins t c.args.row c.requires.row in
-    ap (λ k. put_mid m k coins new) size ∙ written_row coins g new t c.args.row c.requires.degree c.requires.row long sum
+    ap (λ k. put_mid m k coins new) size ∙ written_row coins g new t c.args.row c.requires.row long c.requires.few sum

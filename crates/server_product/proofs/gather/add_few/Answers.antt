@@ -13,7 +13,7 @@ returns-in-Empty c = λ k.
 pub returns-in-One : goal.returns-in-One
 unfolding few_sum
 returns-in-One c = λ k.
-    c.add_row.ensures k ∙ sym (ap (λ few. slice_index c.args.sums.now k ⊕ few_sum c.args.q.now c.args.matrix.now.rows k few) c.in-One.is)
+    c.add_term.ensures k ∙ sym (ap (λ few. slice_index c.args.sums.now k ⊕ few_sum c.args.q.now c.args.matrix.now.rows k few) c.in-One.is)
 
 pub returns-in-Two : goal.returns-in-Two
 unfolding few_sum
@@ -21,8 +21,8 @@ returns-in-Two c = λ k.
     let q = c.args.q.now in
     let rows = c.args.matrix.now.rows in
     let x = slice_index c.args.sums.now k in
-    c.add_row-in-Two-2.ensures k
-    ∙ ap (λ s. s ⊕ term q rows k c.in-Two.b) (c.add_row-in-Two.ensures k)
+    c.add_term-in-Two-2.ensures k
+    ∙ ap (λ s. s ⊕ term q rows k c.in-Two.b) (c.add_term-in-Two.ensures k)
     ∙ add_assoc x (term q rows k c.in-Two.a) (term q rows k c.in-Two.b)
     ∙ sym (ap (λ few. x ⊕ few_sum q rows k few) c.in-Two.is)
 
@@ -35,7 +35,7 @@ returns-in-All c = λ k.
     let a = term q rows k c.in-All.three.a in
     let b = term q rows k c.in-All.three.b in
     let d = term q rows k c.in-All.three.c in
-    c.add_row-in-All-3.ensures k
-    ∙ ap (λ s. s ⊕ d) (c.add_row-in-All-2.ensures k ∙ ap (λ s. s ⊕ b) (c.add_row-in-All.ensures k) ∙ add_assoc x a b)
+    c.add_term-in-All-3.ensures k
+    ∙ ap (λ s. s ⊕ d) (c.add_term-in-All-2.ensures k ∙ ap (λ s. s ⊕ b) (c.add_term-in-All.ensures k) ∙ add_assoc x a b)
     ∙ add_assoc x (a ⊕ b) d
     ∙ sym (ap (λ few. x ⊕ few_sum q rows k few) c.in-All.is)

@@ -1,10 +1,11 @@
 use Rattle.std.proofs.Common.{◌≡◌, ◌∙◌, sym, ap, ap₂, subst, arith, slice_index, slice_index_or}
 use Rattle.gf256.specs.Field.{◌⊕◌}
 use Rattle.gf256.proofs.Xor.{add_zero, add_assoc}
-use Rattle.server_product.specs.Runs.{term, run_sum}
+use Rattle.gf256.specs.Sums.{run_sum}
+use Rattle.server_product.specs.Runs.{term}
 use Rattle.server_product.specs.Gathered.{held_sum, waiting_sum, FewAreOf}
 use Rattle.server_product.specs.declared.gather.Few.TheVariants.{Empty}
-use Rattle.server_product.proofs.RunSums.{run-none, run-next}
+use Rattle.gf256.proofs.RunSums.{run-none, run-next}
 use Rattle.server_product.proofs.Gathering.{waiting-none, none-are}
 use Rattle.server_product.proofs.gather.add_in_trios.Goals as goal
 
@@ -18,7 +19,7 @@ loop-j-init c = record {
       let rows = c.args.matrix.now.rows in
       let old = slice_index c.args.sums.now k in
       ap₂ (λ s w. s ⊕ w) (add_zero old) (ap (waiting_sum q rows k) c.none_waiting-waiting.ensures ∙ waiting-none q rows k 256)
-      ∙ ap (◌⊕◌ old) (sym (run-none q rows k c.args.from));
+      ∙ ap (◌⊕◌ old) (sym (run-none (term q rows k) c.args.from));
 }
 
 pub loop-j-preserved : goal.loop-j-preserved
@@ -33,12 +34,12 @@ loop-j-preserved c =
           let old = slice_index c.args.sums.now k in
           c.gather-held.ensures.sum k
           ∙ ap (λ s. s ⊕ term q rows k j) (c.loop-j.invariant.sum k)
-          ∙ add_assoc old (run_sum q rows k c.args.from j) (term q rows k j)
-          ∙ ap (◌⊕◌ old) (sym (run-next q rows k c.args.from j (omega arith)));
+          ∙ add_assoc old (run_sum (term q rows k) c.args.from j) (term q rows k j)
+          ∙ ap (◌⊕◌ old) (sym (run-next (term q rows k) c.args.from j (omega arith)));
     }
 
 pub returns : goal.returns
 returns c = λ k.
     let end : c.loop-j.j ≡ c.args.to = omega arith in
     c.add_waiting.ensures k ∙ c.loop-j.invariant.sum k
-    ∙ ap (λ j. slice_index c.args.sums.now k ⊕ run_sum c.args.q.now c.args.matrix.now.rows k c.args.from j) end
+    ∙ ap (λ j. slice_index c.args.sums.now k ⊕ run_sum (term c.args.q.now c.args.matrix.now.rows k) c.args.from j) end

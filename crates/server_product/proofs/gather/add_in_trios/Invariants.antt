@@ -1,6 +1,7 @@
 use Rattle.std.proofs.Common.{◌≡◌, ℕ, ◌<◌, slice_index, slice_index_or}
 use Rattle.gf256.specs.Field.{◌⊕◌}
-use Rattle.server_product.specs.Runs.{run_sum}
+use Rattle.gf256.specs.Sums.{run_sum}
+use Rattle.server_product.specs.Runs.{term}
 use Rattle.server_product.specs.Gathered.{held_sum, waiting_sum, FewAreOf, HeldAreAlike}
 use Rattle.server_product.specs.declared.gather.Few.TheVariants.{Empty}
 use Rattle.server_product.proofs.gather.add_in_trios.Given as goal
@@ -10,5 +11,5 @@ invariant-loop-j l = record {
   held : HeldAreAlike l.q l.held;
   waiting : (f : ℕ) → f < 256 → FewAreOf l.q f (slice_index_or l.waiting f Empty);
   sum : (k : ℕ) → slice_index l.sums k ⊕ held_sum l.q l.matrix.rows k l.held ⊕ waiting_sum l.q l.matrix.rows k l.waiting
-      ≡ slice_index l.fn.sums k ⊕ run_sum l.q l.matrix.rows k l.from l.j;
+      ≡ slice_index l.fn.sums k ⊕ run_sum (term l.q l.matrix.rows k) l.from l.j;
 }

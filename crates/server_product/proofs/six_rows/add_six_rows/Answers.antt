@@ -1,14 +1,15 @@
 use Rattle.std.proofs.Common.{◌≡◌, ◌+◌, ◌-◌, length, slice_index, refl, ap, ◌∙◌, arith}
 use Rattle.gf256.specs.Field.{◌⊕◌}
 use Rattle.server_product.specs.SixRows.{six_at}
-use Rattle.server_product.proofs.LaneSums.{summed-none, summed-all, six-past, six-same, six-put}
+use Rattle.gf256.proofs.Added.{added-none, added-all}
+use Rattle.server_product.proofs.SixSums.{six-past, six-same, six-put}
 use Rattle.server_product.proofs.six_rows.add_six_rows.Goals as goal
 
 pub lanes-init : goal.lanes-init
 lanes-init c = record {
   within = omega arith;
   summed =
-      summed-none c.args.acc.now
+      added-none c.args.acc.now
       (six_at c.args.a.row.now c.args.b.row.now c.args.c.row.now c.args.d.row.now c.args.e.row.now c.args.f.row.now
       c.of-by_a.result c.of-by_b.result c.of-by_c.result c.of-by_d.result c.of-by_e.result c.of-by_f.result) 0;
 }
@@ -34,8 +35,8 @@ returns-then-at-acc c = λ k.
     let old = c.args.acc.now in
     let last = length old - 16 in
     let end : last + 16 ≡ length old = omega arith in
-    summed-all _ old (six_at c.args.a.row.now c.args.b.row.now c.args.c.row.now c.args.d.row.now c.args.e.row.now c.args.f.row.now
-    c.of-by_a.result c.of-by_b.result c.of-by_c.result c.of-by_d.result c.of-by_e.result c.of-by_f.result) (last + 16) end
+    added-all _ old (six_at c.args.a.row.now c.args.b.row.now c.args.c.row.now c.args.d.row.now c.args.e.row.now c.args.f.row.now
+    c.of-by_a.result c.of-by_b.result c.of-by_c.result c.of-by_d.result c.of-by_e.result c.of-by_f.result) (last + 16)
     (λ j l. six-past c.args.a.row.now c.args.b.row.now c.args.c.row.now c.args.d.row.now c.args.e.row.now c.args.f.row.now
     c.of-by_a.result c.of-by_b.result c.of-by_c.result c.of-by_d.result c.of-by_e.result c.of-by_f.result (length old) c.requires.a c.requires.b c.requires.c c.requires.d c.requires.e c.requires.f j (omega arith))
     (six-put c.lanes.acc old old c.args.a.row.now c.args.b.row.now c.args.c.row.now c.args.d.row.now c.args.e.row.now c.args.f.row.now
@@ -54,8 +55,8 @@ pub returns-else-at-acc : goal.returns-else-at-acc
 returns-else-at-acc c = λ k.
     let old = c.args.acc.now in
     let end : c.lanes.at ≡ length old = omega (arith, c.lanes.invariant.within) in
-    summed-all c.lanes.acc old (six_at c.args.a.row.now c.args.b.row.now c.args.c.row.now c.args.d.row.now c.args.e.row.now c.args.f.row.now
-    c.of-by_a.result c.of-by_b.result c.of-by_c.result c.of-by_d.result c.of-by_e.result c.of-by_f.result) c.lanes.at end
+    added-all c.lanes.acc old (six_at c.args.a.row.now c.args.b.row.now c.args.c.row.now c.args.d.row.now c.args.e.row.now c.args.f.row.now
+    c.of-by_a.result c.of-by_b.result c.of-by_c.result c.of-by_d.result c.of-by_e.result c.of-by_f.result) c.lanes.at
     (λ j l. six-past c.args.a.row.now c.args.b.row.now c.args.c.row.now c.args.d.row.now c.args.e.row.now c.args.f.row.now
     c.of-by_a.result c.of-by_b.result c.of-by_c.result c.of-by_d.result c.of-by_e.result c.of-by_f.result (length old) c.requires.a c.requires.b c.requires.c c.requires.d c.requires.e c.requires.f j (omega arith))
     c.lanes.invariant.summed k

@@ -1,13 +1,13 @@
 use Rattle.std.proofs.Common.{◌-◌, ◌+◌, ◌≤◌}
 use Rattle.server_product.specs.SixRows.{six_at}
-use Rattle.server_product.specs.Summed.{IsSummed}
+use Rattle.gf256.specs.Rows.{IsAdded}
 use Rattle.server_product.proofs.six_rows.add_six_rows.Given as goal
 
 abbrev pub invariant-lanes : goal.invariant-lanes
 invariant-lanes l = record {
   within : l.at ≤ l.last + 16;
   summed :
-      IsSummed l.acc l.initial.acc
+      IsAdded l.acc l.initial.acc
       (six_at l.a.row.now l.b.row.now l.c.row.now l.d.row.now l.e.row.now l.f.row.now l.by_a l.by_b l.by_c l.by_d l.by_e l.by_f) 0 l.at;
 }
 

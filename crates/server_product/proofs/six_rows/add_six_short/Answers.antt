@@ -1,18 +1,19 @@
-use Rattle.std.proofs.Common.{◌≡◌, length, refl, subst, arith}
+use Rattle.std.proofs.Common.{◌≡◌, length, subst, arith}
 use Rattle.server_product.specs.SixRows.{six_at}
-use Rattle.server_product.specs.Summed.{IsSummed}
-use Rattle.server_product.proofs.LaneSums.{summed-none, summed-place, summed-all, six-past, six-place}
+use Rattle.gf256.specs.Rows.{IsAdded}
+use Rattle.gf256.proofs.Added.{added-none, added-place, added-all}
+use Rattle.server_product.proofs.SixSums.{six-past, six-place}
 use Rattle.server_product.proofs.six_rows.add_six_short.Goals as goal
 
 pub loop-i-init : goal.loop-i-init
 loop-i-init c =
-    summed-none c.args.acc.now
+    added-none c.args.acc.now
     (six_at c.args.a.row.now c.args.b.row.now c.args.c.row.now c.args.d.row.now c.args.e.row.now c.args.f.row.now
     c.args.a.factor c.args.b.factor c.args.c.factor c.args.d.factor c.args.e.factor c.args.f.factor) 0
 
 pub loop-i-preserved : goal.loop-i-preserved
 loop-i-preserved c =
-    summed-place c.loop-i.acc c.args.acc.now
+    added-place c.loop-i.acc c.args.acc.now
     (six_at c.args.a.row.now c.args.b.row.now c.args.c.row.now c.args.d.row.now c.args.e.row.now c.args.f.row.now
     c.args.a.factor c.args.b.factor c.args.c.factor c.args.d.factor c.args.e.factor c.args.f.factor)
     0 c.loop-i.i _ (omega arith) (omega arith)
@@ -27,7 +28,7 @@ returns c =
     c.args.a.factor c.args.b.factor c.args.c.factor c.args.d.factor c.args.e.factor c.args.f.factor in
     let n = length c.args.acc.now in
     let end : c.loop-i.i ≡ n = omega arith in
-    summed-all c.loop-i.acc c.args.acc.now g n refl
+    added-all c.loop-i.acc c.args.acc.now g n
     (six-past c.args.a.row.now c.args.b.row.now c.args.c.row.now c.args.d.row.now c.args.e.row.now c.args.f.row.now
     c.args.a.factor c.args.b.factor c.args.c.factor c.args.d.factor c.args.e.factor c.args.f.factor n c.requires.a c.requires.b c.requires.c c.requires.d c.requires.e c.requires.f)
-    (subst (IsSummed c.loop-i.acc c.args.acc.now g 0) end c.loop-i.invariant)
+    (subst (IsAdded c.loop-i.acc c.args.acc.now g 0) end c.loop-i.invariant)

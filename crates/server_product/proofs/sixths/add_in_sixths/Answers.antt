@@ -1,8 +1,9 @@
 use Rattle.std.proofs.Common.{◌≡◌, ◌∙◌, sym, ap, arith, slice_index}
 use Rattle.gf256.specs.Field.{◌⊕◌}
 use Rattle.gf256.proofs.Xor.{add_assoc}
-use Rattle.server_product.specs.Runs.{term, run_sum}
-use Rattle.server_product.proofs.RunSums.{run-next}
+use Rattle.gf256.specs.Sums.{run_sum}
+use Rattle.server_product.specs.Runs.{term}
+use Rattle.gf256.proofs.RunSums.{run-next}
 use Rattle.server_product.proofs.sixths.add_in_sixths.Goals as goal
 
 pub loop-j-preserved : goal.loop-j-preserved
@@ -11,12 +12,12 @@ loop-j-preserved c = λ k.
     let rows = c.args.matrix.now.rows in
     let old = slice_index c.args.sums.now k in
     let j = c.loop-j.j in
-    c.add_row.ensures k
+    c.add_term.ensures k
     ∙ ap (λ s. s ⊕ term q rows k j) (c.loop-j.invariant k)
-    ∙ add_assoc old (run_sum q rows k c.args.from j) (term q rows k j)
-    ∙ ap (◌⊕◌ old) (sym (run-next q rows k c.args.from j (omega arith)))
+    ∙ add_assoc old (run_sum (term q rows k) c.args.from j) (term q rows k j)
+    ∙ ap (◌⊕◌ old) (sym (run-next (term q rows k) c.args.from j (omega arith)))
 
 pub returns : goal.returns
 returns c = λ k.
     let end : c.loop-j.j ≡ c.args.to = omega arith in
-    c.loop-j.invariant k ∙ ap (λ j. slice_index c.args.sums.now k ⊕ run_sum c.args.q.now c.args.matrix.now.rows k c.args.from j) end
+    c.loop-j.invariant k ∙ ap (λ j. slice_index c.args.sums.now k ⊕ run_sum (term c.args.q.now c.args.matrix.now.rows k) c.args.from j) end

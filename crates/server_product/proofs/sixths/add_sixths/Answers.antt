@@ -1,13 +1,14 @@
 use Rattle.std.proofs.Common.{◌≡◌, ◌∙◌, ◌+◌, ◌*◌, sym, ap, ap₂, arith, slice_index}
 use Rattle.gf256.specs.Field.{◌⊕◌}
 use Rattle.gf256.proofs.Xor.{add_zero, add_assoc}
+use Rattle.server_product.specs.Runs.{term}
 use Rattle.server_product.proofs.RunSums.{sixths, sixths-none, sixths-next, sixths-all, six-terms}
 use Rattle.server_product.proofs.sixths.add_sixths.Goals as goal
 
 pub loop-i-init : goal.loop-i-init
 loop-i-init c = λ k.
     let sum = slice_index c.args.sums.now k in
-    sym (ap (◌⊕◌ sum) (sixths-none c.args.q.now c.args.matrix.now.rows k c.args.from c.args.sixth) ∙ add_zero sum)
+    sym (ap (◌⊕◌ sum) (sixths-none (term c.args.q.now c.args.matrix.now.rows k) c.args.from c.args.sixth) ∙ add_zero sum)
 
 pub loop-i-preserved : goal.loop-i-preserved
 loop-i-preserved c = λ k.
@@ -28,8 +29,8 @@ loop-i-preserved c = λ k.
     _ _ _ _ _ _ _ _ _ _ _ _
     s.ensures.row s2.ensures.row s3.ensures.row s4.ensures.row s5.ensures.row s6.ensures.row
     s.ensures.factor s2.ensures.factor s3.ensures.factor s4.ensures.factor s5.ensures.factor s6.ensures.factor)
-    ∙ add_assoc (slice_index c.args.sums.now k) (sixths q rows k from sixth i) _
-    ∙ ap (◌⊕◌ (slice_index c.args.sums.now k)) (sym (sixths-next q rows k from sixth i))
+    ∙ add_assoc (slice_index c.args.sums.now k) (sixths (term q rows k) from sixth i) _
+    ∙ ap (◌⊕◌ (slice_index c.args.sums.now k)) (sym (sixths-next (term q rows k) from sixth i))
 
 pub returns : goal.returns
 returns c = λ k.
@@ -38,4 +39,4 @@ returns c = λ k.
     let end : c.loop-i.i ≡ c.args.sixth = omega arith in
     c.loop-i.invariant k
     ∙ ap (◌⊕◌ (slice_index c.args.sums.now k))
-    (ap (sixths q rows k c.args.from c.args.sixth) end ∙ sixths-all q rows k c.args.from c.args.sixth)
+    (ap (sixths (term q rows k) c.args.from c.args.sixth) end ∙ sixths-all (term q rows k) c.args.from c.args.sixth)

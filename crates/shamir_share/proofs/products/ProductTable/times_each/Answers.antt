@@ -4,7 +4,7 @@ use Rattle.std.proofs.lemmas.List.{map-append, length-map}
 use Rattle.std.proofs.lemmas.Simd.{take_more_put_chunk, length-put_chunk, length-chunk}
 use Rattle.std.specs.Simd.Lanes.{chunk}
 use Rattle.gf256.specs.Field.{◌⊗◌}
-use Rattle.shamir_share.proofs.products.Products.times_each.Goals as goal
+use Rattle.shamir_share.proofs.products.ProductTable.times_each.Goals as goal
 
 pub lanes-preserved : goal.lanes-preserved
 lanes-preserved c =

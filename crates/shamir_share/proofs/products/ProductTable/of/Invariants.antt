@@ -1,6 +1,6 @@
 use Rattle.std.proofs.Common.{◌≡◌, ℕ, ◌<◌, get_or, length}
 use Rattle.gf256.specs.Field.{◌⊗◌}
-use Rattle.shamir_share.proofs.products.Products.of.Given as goal
+use Rattle.shamir_share.proofs.products.ProductTable.of.Given as goal
 
 abbrev pub invariant-loop-x : goal.invariant-loop-x
 invariant-loop-x l = record {

@@ -1,7 +1,7 @@
 use Rattle.std.proofs.Common.{◌∙◌, ap, slice_index}
 use Rattle.gf256.specs.Field.{◌⊕◌, ◌⊗◌}
 use Rattle.server_product.specs.Runs.{term}
-use Rattle.server_product.proofs.rows.add_row.Goals as goal
+use Rattle.server_product.proofs.rows.add_term.Goals as goal
 
 pub returns : goal.returns
 unfolding term

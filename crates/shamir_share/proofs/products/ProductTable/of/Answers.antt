@@ -1,7 +1,7 @@
 use Rattle.std.proofs.Common.{◌≡◌, ℕ, List, ◌+◌, ◌<◌, length, get_or, set, sym, ap, ◌∙◌, inl, inr, arith, length-set, get_or-set_same, get_or-set_other}
 use Rattle.std.proofs.lemmas.Bool.{cases_eq}
 use Rattle.gf256.specs.Field.{◌⊗◌}
-use Rattle.shamir_share.proofs.products.Products.of.Goals as goal
+use Rattle.shamir_share.proofs.products.ProductTable.of.Goals as goal
 
 -- one product more
 next : (table : List ℕ) (a x v : ℕ) → x < length table → v ≡ a ⊗ x → ((k : ℕ) → k < x → get_or table k 0 ≡ a ⊗ k) → (k : ℕ) → k < x + 1 → get_or (set table x v) k 0 ≡ a ⊗ k

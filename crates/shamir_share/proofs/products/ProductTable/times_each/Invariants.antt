@@ -1,6 +1,6 @@
 use Rattle.std.proofs.Common.{◌≡◌, ◌-◌, ◌≤◌, length, map, take}
 use Rattle.gf256.specs.Field.{◌⊗◌}
-use Rattle.shamir_share.proofs.products.Products.times_each.Given as goal
+use Rattle.shamir_share.proofs.products.ProductTable.times_each.Given as goal
 
 abbrev pub invariant-lanes : goal.invariant-lanes
 invariant-lanes l = record {
