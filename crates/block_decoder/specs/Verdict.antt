@@ -1,5 +1,6 @@
 -- The verdict on the answers of a session.
 use Rattle.std.specs.Prelude.{◌≡◌, ℕ, ◌*◌, ◌<◌, ◌≤◌, List, [], ◌∷◌, length, map}
+use Rattle.wire_frames.specs.declared.scheme.TheConstants.{SHAMIR, XOR}
 use Rattle.wire_frames.specs.Answer.{Answer, answers}
 use Rattle.wire_frames.specs.Session.{Transcript}
 use Rattle.chor_xor.specs.Chosen.{combined}
@@ -21,8 +22,17 @@ IsCombined all width n h (Listed blocks) = (n ≤ length all) × (blocks ≡ com
 
 -- the verdict on a session, by its usable answers: in Shamir's scheme, and in the XOR scheme
 pub record IsVerdict (session : Transcript) (verdict : Verdict) : Type 0 where
-  pub shamir : session.params.scheme ≡ 1 → IsDecided (answers session) session.params.s session.params.t session.params.h verdict
-  pub xor : session.params.scheme ≡ 2 → IsCombined (answers session) session.params.s session.params.n session.params.h verdict
+  pub shamir : session.params.scheme ≡ SHAMIR → IsDecided (answers session) session.params.s session.params.t session.params.h verdict
+  pub xor : session.params.scheme ≡ XOR → IsCombined (answers session) session.params.s session.params.n session.params.h verdict
+
+-- some verdict is that on the session
+pub record HasVerdict (session : Transcript) : Type 0 where
+  pub verdict : Verdict
+  pub is : IsVerdict session verdict
+
+-- any two verdicts on the session are one
+abbrev pub HasOneVerdict : Transcript → Type 0
+HasOneVerdict session = (one other : Verdict) → IsVerdict session one → IsVerdict session other → one ≡ other
 
 -- the verdict lists one block, or none
 abbrev pub ListsAtMostOne : Verdict → Type 0
