@@ -86,9 +86,9 @@ module _ (all : List Answer) (width : ℕ) where
       elim (cases_lt (length all) h) [
         | inl few ↦ (TooFew (length all) h, (refl, refl, few))
         | inr enough ↦ elim (cases_lt (length all * t) (h * h)) [
-            | inl strong ↦ let (blocks, lists) = some_listing all width t h filled in (Listed blocks, (enough, strong, lists))
-            | inr weak ↦ (TooWeak (length all) t h, (refl, refl, refl, enough, weak))
-          ]
+          | inl strong ↦ let (blocks, lists) = some_listing all width t h filled in (Listed blocks, (enough, strong, lists))
+          | inr weak ↦ (TooWeak (length all) t h, (refl, refl, refl, enough, weak))
+        ]
       ]
 
   pub some_combined : (n h : ℕ) → (verdict : Verdict) × IsCombined all width n h verdict

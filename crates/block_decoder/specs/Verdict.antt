@@ -1,5 +1,5 @@
 -- The verdict on the answers of a session.
-use Rattle.std.specs.Prelude.{◌≡◌, ℕ, ◌*◌, ◌<◌, ◌≤◌, List, [], ◌∷◌, length, map}
+use Rattle.std.specs.Prelude.{◌≡◌, ℕ, ◌*◌, ◌<◌, ◌≤◌, ◌⊎◌, List, [], ◌∷◌, length, map}
 use Rattle.wire_frames.specs.declared.scheme.TheConstants.{SHAMIR, XOR}
 use Rattle.wire_frames.specs.Answer.{Answer, answers}
 use Rattle.wire_frames.specs.Session.{Transcript}
@@ -24,6 +24,17 @@ IsCombined all width n h (Listed blocks) = (n ≤ length all) × (blocks ≡ com
 pub record IsVerdict (session : Transcript) (verdict : Verdict) : Type 0 where
   pub shamir : session.params.scheme ≡ SHAMIR → IsDecided (answers session) session.params.s session.params.t session.params.h verdict
   pub xor : session.params.scheme ≡ XOR → IsCombined (answers session) session.params.s session.params.n session.params.h verdict
+
+-- k answers are fewer than h, or so weak an agreement bounds no list of blocks
+abbrev pub IsUnlisted : ℕ → ℕ → ℕ → Type 0
+IsUnlisted k t h = (k < h) ⊎ (h * h ≤ k * t)
+
+-- how many columns are interpolated at least: one for a listing, and all where it has a block
+abbrev pub least_columns : ℕ → Verdict → ℕ
+least_columns width (TooFew k agree) = 0
+least_columns width (TooWeak k degree agree) = 0
+least_columns width (Listed []) = 1
+least_columns width (Listed (block ∷ blocks)) = width
 
 -- some verdict is that on the session
 pub record HasVerdict (session : Transcript) : Type 0 where

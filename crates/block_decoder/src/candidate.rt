@@ -67,6 +67,8 @@ impl Candidate {
         ensures told { (t : ℕ) (polynomials : List (List ℕ)) → length places.now ≡ t + 1 → IsThrough answers.now (length self.old.constants.items) t places.now polynomials
             → (IsTrue result ↔ (h ≤ weight polynomials answers.now)) × (IsTrue result → self.new.constants.items ≡ constants_of polynomials) }
         ensures cols { cols.new ≤ cols.old + length self.old.constants.items }
+        ensures some { 0 < length self.old.constants.items → cols.old < cols.new }
+        ensures all { IsTrue result → cols.new ≡ cols.old + length self.old.constants.items }
     {
         self.clear();
         for column in 0..self.constants.len() {

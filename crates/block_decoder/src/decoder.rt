@@ -2,11 +2,12 @@
 
 ghost use Rattle.std.specs.Prelude.{◌≡◌, ◌≢◌, ◌+◌, ◌*◌, ◌^◌, ◌<◌, ◌≤◌, ◌⊎◌, length, All, IfOk};
 ghost use Rattle.std.specs.List.Sorted.{IsStrictlyIncreasing};
+ghost use Rattle.wire_frames.specs.declared.TheConstants.{MOST_SERVERS};
 ghost use Rattle.block_decoder.specs.Agreed.{answers_of, Lists};
 ghost use Rattle.block_decoder.specs.Choices.{binomial};
 ghost use Rattle.block_decoder.specs.Lagrange.{HasColumns};
 ghost use Rattle.block_decoder.specs.Numbers.{bound_of};
-ghost use Rattle.block_decoder.specs.Verdict.{IsDecided};
+ghost use Rattle.block_decoder.specs.Verdict.{IsDecided, IsUnlisted, least_columns};
 
 use crate::answers::Answers;
 use crate::candidate::Candidate;
@@ -47,13 +48,15 @@ pub fn decide<C: Ledger>(
 ) -> Result<Verdict, AllocError>
     requires ascending { IsStrictlyIncreasing indices.now }
     requires nonzero { All (λ a. a ≢ 0) indices.now }
-    requires few { length indices.now ≤ 8 }
-    requires agreement { (1 ≤ t) × (t < h) × (h ≤ 32) }
-    requires width { (1 ≤ s) × (s ≤ 2 ^ 16) }
+    requires few { length indices.now ≤ MOST_SERVERS }
+    requires agreement { (1 ≤ t) × (t < h) }
+    requires width { 1 ≤ s }
     requires fit { length bytes.now ≡ length indices.now * s }
     ensures verdict { IfOk result (IsDecided (answers_of s indices.now bytes.now) s t h) }
     ensures cols { cols.new ≤ cols.old + s * binomial (length indices.now) (t + 1) }
-    ensures unlisted { (length indices.now < h) ⊎ (h * h ≤ length indices.now * t) → cols.new ≡ cols.old }
+    ensures least { cols.old ≤ cols.new }
+    ensures listed { IfOk result (λ verdict. cols.old + least_columns s verdict ≤ cols.new) }
+    ensures unlisted { IsUnlisted (length indices.now) t h → cols.new ≡ cols.old }
 {
     let k = indices.len() as u32;
     if k < h {
@@ -79,8 +82,12 @@ fn list_agreed<C: Ledger>(
 ) -> Result<Listing, AllocError>
     requires columns { HasColumns width answers.now }
     requires agreement { (t < h) × (h ≤ length answers.now) }
+    requires some { 0 < width }
     ensures blocks { IfOk result (λ l. Lists l answers.now width t h) }
     ensures cols { cols.new ≤ cols.old + width * binomial (length answers.now) (t + 1) }
+    ensures least { cols.old ≤ cols.new }
+    ensures tried { IfOk result (λ l. cols.old < cols.new) }
+    ensures found { IfOk result (λ l. 0 < length l → cols.old + width ≤ cols.new) }
 {
     let table = choices_of(alloc, answers.len(), t + 1)?;
     let mut candidate = Candidate::with_room(alloc, width, t + 1, answers.len())?;
