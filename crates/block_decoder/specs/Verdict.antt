@@ -11,7 +11,8 @@ use Rattle.block_decoder.specs.declared.verdict.Verdict.TheVariants.{Listed, Too
 -- fewer than h answers; else h answers may agree on too many blocks to list them; else the agreed blocks
 abbrev pub IsDecided : List Answer → ℕ → ℕ → ℕ → Verdict → Type 0
 IsDecided all width t h (TooFew k agree) = (k ≡ length all) × (agree ≡ h) × (length all < h)
-IsDecided all width t h (TooWeak k degree agree) = (k ≡ length all) × (degree ≡ t) × (agree ≡ h) × (h ≤ length all) × (h * h ≤ length all * t)
+IsDecided all width t h (TooWeak k degree agree) =
+    (k ≡ length all) × (degree ≡ t) × (agree ≡ h) × (h ≤ length all) × (h * h ≤ length all * t)
 IsDecided all width t h (Listed blocks) = (h ≤ length all) × (length all * t < h * h) × Lists blocks all width t h
 
 -- the answers of fewer than n servers; else the sum of all is the one block (Chor, Goldreich, Kushilevitz and Sudan 1995)
@@ -22,8 +23,10 @@ IsCombined all width n h (Listed blocks) = (n ≤ length all) × (blocks ≡ com
 
 -- the verdict on a session, by its usable answers: in Shamir's scheme, and in the XOR scheme
 pub record IsVerdict (session : Transcript) (verdict : Verdict) : Type 0 where
-  pub shamir : session.params.scheme ≡ SHAMIR → IsDecided (answers session) session.params.s session.params.t session.params.h verdict
-  pub xor : session.params.scheme ≡ XOR → IsCombined (answers session) session.params.s session.params.n session.params.h verdict
+  pub shamir : session.params.scheme ≡ SHAMIR
+      → IsDecided (answers session) session.params.s session.params.t session.params.h verdict
+  pub xor : session.params.scheme ≡ XOR
+      → IsCombined (answers session) session.params.s session.params.n session.params.h verdict
 
 -- k answers are fewer than h, or so weak an agreement bounds no list of blocks
 abbrev pub IsUnlisted : ℕ → ℕ → ℕ → Type 0

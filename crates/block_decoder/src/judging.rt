@@ -7,6 +7,7 @@ ghost use Rattle.block_decoder.specs.Choices.{binomial};
 ghost use Rattle.block_decoder.specs.Verdict.{IsUnlisted, IsVerdict, least_columns};
 ghost use Rattle.block_decoder.specs.Usable.{IsCollected};
 
+use crate::answers::ServerAnswers;
 use crate::combining::combine_all;
 use crate::decoder::decide;
 use crate::usable::usable_payload;
@@ -35,11 +36,13 @@ pub fn judge<C: Ledger>(
 ) -> Result<Verdict, AllocError>
     requires all { length session.now.records ≡ session.now.params.n }
     ensures verdict { IfOk result (IsVerdict session.now) }
-    ensures cols { cols.new ≤ cols.old + session.now.params.s * binomial (length (answers session.now)) (session.now.params.t + 1) }
+    ensures cols { cols.new ≤ cols.old
+        + session.now.params.s * binomial (length (answers session.now)) (session.now.params.t + 1) }
     ensures least { cols.old ≤ cols.new }
     ensures listed { session.now.params.scheme ≡ SHAMIR
         → IfOk result (λ verdict. cols.old + least_columns session.now.params.s verdict ≤ cols.new) }
-    ensures unlisted { IsUnlisted (length (answers session.now)) session.now.params.t session.now.params.h → cols.new ≡ cols.old }
+    ensures unlisted { IsUnlisted (length (answers session.now)) session.now.params.t session.now.params.h
+        → cols.new ≡ cols.old }
     ensures xor { session.now.params.scheme ≡ XOR → cols.new ≡ cols.old }
 {
     let params = session.params();
@@ -60,15 +63,8 @@ pub fn judge<C: Ledger>(
     }
 }
 
-// The usable answers, by ascending index.
-#[derive(Drop)]
-struct UsableAnswers {
-    indices: Vec<u8>,
-    payloads: Vec<u8>,
-}
-
-// Copies the usable answers into memory that is taken once, for all that there may be.
-fn collect_usable(alloc: Global, session: &Session) -> Result<UsableAnswers, AllocError>
+/// Copies the usable answers into memory that is taken once, for all that there may be.
+fn collect_usable(alloc: Global, session: &Session) -> Result<ServerAnswers, AllocError>
     requires all { length session.now.records ≡ session.now.params.n }
     ensures { IfOk result (λ u. IsCollected session.now u.indices.items u.payloads.items) }
 {
@@ -82,5 +78,5 @@ fn collect_usable(alloc: Global, session: &Session) -> Result<UsableAnswers, All
             payloads.extend_from_slice(payload)?;
         }
     }
-    Ok(UsableAnswers { indices, payloads })
+    Ok(ServerAnswers { indices, payloads })
 }
