@@ -51,9 +51,9 @@ module _ {K : Type 0} {R : K → K → Ordering} (o : IsTotalOrder R) where
       elim (first_or_later y ys x in_ys) [
         | inl is ↦ sym is
         | inr behind_y ↦ elim (first_or_later x xs y in_xs) [
-            | inl is ↦ is
-            | inr behind_x ↦ absurd (not_before_itself x (o.trans x y x (first_before x xs y p behind_x) (first_before y ys x q behind_y)))
-          ]
+          | inl is ↦ is
+          | inr behind_x ↦ absurd (not_before_itself x (o.trans x y x (first_before x xs y p behind_x) (first_before y ys x q behind_y)))
+        ]
       ]
 
   still_later : (x y : K) (xs ys : List K) → IsStrictlySortedBy R (x ∷ xs) → x ≡ y → (b : K) → Contains xs b → Contains (y ∷ ys) b → Contains ys b
@@ -119,9 +119,9 @@ module _ {K : Type 0} {R : K → K → Ordering} (o : IsTotalOrder R) where
       ],
       λ either. elim either [
         | inl c ↦ elim (first_or_later y ys b c) [
-            | inl is ↦ subst (Contains (y ∷ rest.new)) is (first y rest.new)
-            | inr there ↦ later y rest.new b ((rest.members b).1 (inl there))
-          ]
+          | inl is ↦ subst (Contains (y ∷ rest.new)) is (first y rest.new)
+          | inr there ↦ later y rest.new b ((rest.members b).1 (inl there))
+        ]
         | inr is ↦ later y rest.new b ((rest.members b).1 (inr is))
       ],
     );
