@@ -14,7 +14,8 @@ use pir_ports::{Filled, Port, Ports, read_exactly};
 ///
 /// # Errors
 ///
-/// `CoinsFault` only where the count of Coins rose; `CoinsEnded` exactly where there are fewer bytes, with their number.
+/// `CoinsFault` only where the count of Coins rose, and then fewer bytes were taken than are asked for; `CoinsEnded` exactly
+/// where there are fewer bytes, with their number.
 pub(crate) fn take_coins<P: Ports>(ports: &mut P, coins: &mut [u8]) -> Result<(), FetchFault>
     requires { 0 < length coins.old }
     ensures taken { TakesCoins (length coins.old) result coins.new (P.world ports.old) (P.world ports.new) }

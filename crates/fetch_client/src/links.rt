@@ -9,7 +9,7 @@ ghost use Rattle.wire_frames.specs.Sizes.{answer_len};
 ghost use Rattle.wire_frames.specs.Header.{query_header};
 ghost use Rattle.fetch_client.specs.Plan.{IsPlan, params_of, query_coins, need};
 ghost use Rattle.fetch_client.specs.Sent.{header_to, payload_size, payload_to, sent, session_number};
-ghost use Rattle.fetch_client.specs.Asked.{Asked};
+ghost use Rattle.fetch_client.specs.Link.{LinkAsked};
 ghost use Rattle.fetch_client.specs.Fetched.{AsksNext, AskedEach};
 
 use crate::coins::session_number_of;
@@ -83,7 +83,8 @@ fn ask<P: Ports>(
     requires frame { 0 < length frame.now }
     requires answer { 0 < length answer.old }
     ensures fits { IfSome result (λ n. n ≤ length answer.new) }
-    ensures asked { Asked address.now frame.now (length answer.old) (option_map (λ n. take n answer.new) result) ((P.world ports.old).at (link index)) ((P.world ports.new).at (link index)) }
+    ensures asked { LinkAsked address.now frame.now (length answer.old) (option_map (λ n. take n answer.new) result)
+        ((P.world ports.old).at (link index)) ((P.world ports.new).at (link index)) }
     ensures others { Touches (link index) (P.world ports.old) (P.world ports.new) }
 {
     let link = Port::Link(index);
@@ -117,7 +118,7 @@ fn ask_next<P: Ports>(
     requires params { session.old.params ≡ params_of plan.now (session_number coins.now) }
     requires few { length session.old.records < plan.now.n }
     ensures asked { AsksNext plan.now address.now coins.now session.old session.new (P.world ports.old) (P.world ports.new) }
-    ensures others { Touches ((link 1) + length session.old.records) (P.world ports.old) (P.world ports.new) }
+    ensures others { Touches (link 1 + length session.old.records) (P.world ports.old) (P.world ports.new) }
 {
     let index = session.record_count() as u8 + 1;
     write_frame(plan, coins, index, frame);
