@@ -1,5 +1,5 @@
 -- Asking one server after the other.
-use Rattle.std.proofs.Common.{◌≡◌, ◌∙◌, inl, inr, ℕ, ◌+◌, ◌<◌, ◌≤◌, List, [], ◌∷◌, ◌++◌, length, take, drop, slice_index_or, sym, ap, ap₂, subst, arith}
+use Rattle.std.proofs.Common.{◌≡◌, ◌∙◌, inl, inr, ℕ, ◌+◌, ◌<◌, ◌≤◌, List, [], ◌∷◌, ◌++◌, length, take, slice_index_or, sym, ap, ap₂, subst, arith}
 use Rattle.std.specs.Prelude.{Option, None, IfSome}
 use Rattle.std.proofs.lemmas.List.{take_all, get_or_append_left, get_or_push}
 use Rattle.pir_ports.specs.World.{Cell, World}
@@ -13,9 +13,10 @@ use Rattle.wire_frames.specs.Session.{Transcript}
 use Rattle.fetch_client.specs.declared.plan.FetchPlan.{FetchPlan}
 use Rattle.wire_frames.specs.Header.{query_header}
 use Rattle.fetch_client.specs.Plan.{IsPlan, params_of, need}
-use Rattle.fetch_client.specs.Sent.{sent, header_to, payload_to, session_number}
+use Rattle.fetch_client.specs.Sent.{sent, header_to, payload_to, queries_from, session_number}
 use Rattle.fetch_client.specs.Tossed.{Tossed}
 use Rattle.fetch_client.specs.Link.{LinkAsked, LinkBreaks}
+use Rattle.fetch_client.proofs.Schemes.{payload_of_session}
 use Rattle.fetch_client.specs.Fetched.{AsksNext, AskedEach, AsksWith}
 
 -- the link was opened and took the whole frame, and then a call failed
@@ -67,9 +68,10 @@ asked_more p addresses coins n before after w v u fits many each range next touc
 
 -- a header and a payload are a frame; a payload doesn't depend on the session's number
 pub sent_is : (p : FetchPlan) (coins : List ℕ) (i : ℕ) (header payload : List ℕ) → header ≡ query_header (header_to p coins i)
-    → payload ≡ payload_to (params_of p 0) (drop 8 coins) p.block i → header ++ payload ≡ sent p coins i
-unfolding sent payload_to
-sent_is p coins i header payload a b = ap₂ (λ (x y : List ℕ). x ++ y) a b
+    → payload ≡ payload_to (params_of p 0) (queries_from coins) p.block i → header ++ payload ≡ sent p coins i
+unfolding sent
+sent_is p coins i header payload a b =
+    ap₂ (λ (x y : List ℕ). x ++ y) a (b ∙ payload_of_session p (session_number coins) (queries_from coins) i)
 
 -- the coins were taken, and then every server was asked
 pub asked_before : (p : FetchPlan) (addresses : List (List ℕ)) (coins : List ℕ) (session : Transcript) (w v u : World) → IsPlan p → Tossed (need p) coins (w.at COINS) (v.at COINS) → Touches COINS w v

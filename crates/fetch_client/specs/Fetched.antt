@@ -1,5 +1,5 @@
 -- What a fetch does.
-use Rattle.std.specs.Prelude.{ℕ, ◌≡◌, ◌≢◌, ◌+◌, ◌<◌, ◌≤◌, ◌⊎◌, ◌++◌, ◌∷◌, List, [], length, drop, Option, None, Result, Ok, Err, slice_index_or}
+use Rattle.std.specs.Prelude.{ℕ, ◌≡◌, ◌≢◌, ◌+◌, ◌<◌, ◌≤◌, ◌⊎◌, ◌++◌, ◌∷◌, List, [], length, Option, None, Result, Ok, Err, slice_index_or}
 use Rattle.pir_ports.specs.World.{World}
 use Rattle.pir_ports.specs.Number.{COINS, link}
 use Rattle.pir_ports.specs.Moves.{Touches}
@@ -14,7 +14,7 @@ use Rattle.fetch_client.specs.declared.plan.FetchPlan.{FetchPlan}
 use Rattle.fetch_client.specs.declared.plan.FetchFault.{FetchFault}
 use Rattle.fetch_client.specs.declared.plan.FetchFault.TheVariants.{CoinsFault, CoinsEnded, Memory}
 use Rattle.fetch_client.specs.Plan.{params_of, need}
-use Rattle.fetch_client.specs.Sent.{sent, session_number}
+use Rattle.fetch_client.specs.Sent.{sent, session_number, queries_from}
 use Rattle.fetch_client.specs.Tossed.{Tossed, RunsOut}
 use Rattle.fetch_client.specs.Link.{LinkAsked}
 use Rattle.fetch_client.specs.Honest.{FindsHonestBlock}
@@ -58,7 +58,7 @@ pub record Concludes (p : FetchPlan) (addresses : List (List ℕ)) (session : Tr
   pub coins : List ℕ
   pub asked : AsksWith p addresses coins session old new
   pub judged : IsVerdict session verdict
-  pub found : FindsHonestBlock session (drop 8 coins) p.block verdict
+  pub found : FindsHonestBlock session (queries_from coins) p.block verdict
 
 -- what a fetch answers, and what it did then. Without the coins no server is asked
 abbrev pub Fetches : FetchPlan → List (List ℕ) → Result (Transcript × Verdict) FetchFault → World → World → Type 0

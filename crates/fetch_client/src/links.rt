@@ -5,19 +5,20 @@ ghost use Rattle.std.specs.Option.{option_map};
 ghost use Rattle.pir_ports.specs.Number.{link};
 ghost use Rattle.pir_ports.specs.Moves.{Touches};
 ghost use Rattle.pir_ports.specs.Each.{TouchesRange};
+ghost use Rattle.wire_frames.specs.Scheme.{scheme_of, payload_len};
 ghost use Rattle.wire_frames.specs.Sizes.{answer_len};
 ghost use Rattle.wire_frames.specs.Header.{query_header};
 ghost use Rattle.fetch_client.specs.Plan.{IsPlan, params_of, query_coins, need};
-ghost use Rattle.fetch_client.specs.Sent.{header_to, payload_size, payload_to, sent, session_number};
+ghost use Rattle.fetch_client.specs.Sent.{frame_len, header_to, payload_to, sent, session_number};
 ghost use Rattle.fetch_client.specs.Link.{LinkAsked};
 ghost use Rattle.fetch_client.specs.Fetched.{AsksNext, AskedEach};
 
-use crate::coins::session_number_of;
+use crate::coins::{NUMBER_LEN, session_number_of};
 use crate::plan::FetchPlan;
 use chor_xor::bitmap_into;
 use pir_ports::{Filled, Port, Ports, read_exactly, write_all};
 use shamir_share::query_into;
-use wire_frames::{FRAME_HEADER_LEN, QueryHeader, Session, XOR, write_query_header};
+use wire_frames::{FRAME_HEADER_LEN, QueryHeader, Scheme, Session, write_query_header};
 
 /// Writes the header of the query to server `index`.
 fn write_header(plan: &FetchPlan, coins: &[u8], index: u8, out: &mut [u8])
@@ -40,20 +41,19 @@ fn write_header(plan: &FetchPlan, coins: &[u8], index: u8, out: &mut [u8])
 }
 
 /// Writes the payload of the query to server `index`.
-#[tactic(auto, unfolding(crate::specs::Plan::query_coins, crate::specs::Sent::payload_size, crate::specs::Sent::payload_to))]
+#[tactic(auto, unfolding(crate::specs::Plan::query_coins, crate::specs::Sent::payload_to))]
 fn write_payload(plan: &FetchPlan, coins: &[u8], index: u8, out: &mut [u8])
     requires plan { IsPlan plan.now }
     requires coins { length coins.now ≡ query_coins (params_of plan.now 0) }
     requires first { 1 ≤ index }
     requires last { index ≤ plan.now.n }
-    requires room { length out.old ≡ payload_size (params_of plan.now 0) }
+    requires room { length out.old ≡ payload_len (scheme_of plan.now.scheme) plan.now.r }
     ensures { out.new ≡ payload_to (params_of plan.now 0) coins.now plan.now.block index }
 {
     let FetchPlan { t, n, r, block, .. } = *plan;
-    if plan.scheme == XOR {
-        bitmap_into(coins, u32::from(n), r, block, index, out);
-    } else {
-        query_into(coins, u32::from(t), r, block, index, out);
+    match plan.scheme() {
+        Scheme::Shamir => query_into(coins, u32::from(t), r, block, index, out),
+        Scheme::Xor => bitmap_into(coins, u32::from(n), r, block, index, out),
     }
 }
 
@@ -63,12 +63,12 @@ fn write_frame(plan: &FetchPlan, coins: &[u8], index: u8, frame: &mut [u8])
     requires coins { length coins.now ≡ need plan.now }
     requires first { 1 ≤ index }
     requires last { index ≤ plan.now.n }
-    requires room { length frame.old ≡ FRAME_HEADER_LEN + payload_size (params_of plan.now 0) }
+    requires room { length frame.old ≡ frame_len plan.now }
     ensures { frame.new ≡ sent plan.now coins.now index }
 {
     let (header, payload) = frame.split_at_mut(FRAME_HEADER_LEN);
     write_header(plan, coins, index, header);
-    write_payload(plan, &coins[8..], index, payload);
+    write_payload(plan, &coins[NUMBER_LEN..], index, payload);
 }
 
 /// Asks one server: opens its link, sends it the frame, and fills `answer` with what comes, up to its end. It says how many
@@ -113,7 +113,7 @@ fn ask_next<P: Ports>(
 )
     requires plan { IsPlan plan.now }
     requires coins { length coins.now ≡ need plan.now }
-    requires frame { length frame.old ≡ FRAME_HEADER_LEN + payload_size (params_of plan.now 0) }
+    requires frame { length frame.old ≡ frame_len plan.now }
     requires answer { length answer.old ≡ answer_len plan.now.s }
     requires params { session.old.params ≡ params_of plan.now (session_number coins.now) }
     requires few { length session.old.records < plan.now.n }
@@ -142,7 +142,7 @@ pub(crate) fn ask_all<P: Ports>(
     requires plan { IsPlan plan.now }
     requires coins { length coins.now ≡ need plan.now }
     requires addresses { length addresses.now ≡ plan.now.n }
-    requires frame { length frame.old ≡ FRAME_HEADER_LEN + payload_size (params_of plan.now 0) }
+    requires frame { length frame.old ≡ frame_len plan.now }
     requires answer { length answer.old ≡ answer_len plan.now.s }
     requires params { session.old.params ≡ params_of plan.now (session_number coins.now) }
     requires fresh { session.old.records ≡ [] }
