@@ -1,5 +1,5 @@
 -- What a fetch does.
-use Rattle.std.specs.Prelude.{ℕ, ◌≡◌, ◌≢◌, ◌+◌, ◌<◌, ◌≤◌, ◌⊎◌, ◌++◌, ◌∷◌, List, [], length, Option, None, Result, Ok, Err, slice_index_or}
+use Rattle.std.specs.Prelude.{ℕ, ◌≡◌, ◌≢◌, ◌+◌, ◌*◌, ◌<◌, ◌≤◌, ◌⊎◌, ◌++◌, ◌∷◌, List, [], length, Option, None, Result, Ok, Err, slice_index_or}
 use Rattle.pir_ports.specs.World.{World}
 use Rattle.pir_ports.specs.Number.{COINS, link}
 use Rattle.pir_ports.specs.Moves.{Touches}
@@ -7,7 +7,9 @@ use Rattle.pir_ports.specs.Whole.{FailsShort}
 use Rattle.pir_ports.specs.Each.{Each}
 use Rattle.pir_ports.specs.Touched.{One, From, TouchesOnly}
 use Rattle.wire_frames.specs.Sizes.{answer_len}
+use Rattle.wire_frames.specs.Answer.{answers}
 use Rattle.wire_frames.specs.Session.{Transcript}
+use Rattle.block_decoder.specs.Choices.{binomial}
 use Rattle.block_decoder.specs.Verdict.{IsVerdict}
 use Rattle.block_decoder.specs.declared.verdict.Verdict.{Verdict}
 use Rattle.fetch_client.specs.declared.plan.FetchPlan.{FetchPlan}
@@ -66,6 +68,18 @@ Fetches p addresses (Ok both) old new = Concludes p addresses both.0 both.1 old 
 Fetches p addresses (Err CoinsFault) old new = FailsShort COINS (need p) old new × Touches COINS old new
 Fetches p addresses (Err (CoinsEnded taken)) old new = RunsOut (need p) taken (old.at COINS) (new.at COINS) × Touches COINS old new
 Fetches p addresses (Err Memory) old new = (new ≡ old) ⊎ AsksSome p addresses old new
+
+-- the most columns that judging k answers takes: the width times the number of choices of t + 1 of them
+abbrev pub most_columns : FetchPlan → ℕ → ℕ
+most_columns p k = p.s * binomial k (p.t + 1)
+
+-- how many columns are interpolated at most: as many as judging the usable answers takes; where memory ran out, as many as
+-- judging answers of all servers takes; and without the coins none
+abbrev pub CountsColumns : FetchPlan → Result (Transcript × Verdict) FetchFault → ℕ → ℕ → Type 0
+CountsColumns p (Ok both) before now = now ≤ before + most_columns p (length (answers both.0))
+CountsColumns p (Err CoinsFault) before now = now ≡ before
+CountsColumns p (Err (CoinsEnded taken)) before now = now ≡ before
+CountsColumns p (Err Memory) before now = now ≤ before + most_columns p p.n
 
 -- Coins and the first n links alone are touched
 abbrev pub TouchesLinks : ℕ → World → World → Type 0

@@ -1,15 +1,14 @@
 //! One fetch.
 
-ghost use Rattle.std.specs.Prelude.{◌≡◌, ◌≤◌, ◌+◌, ◌*◌, length, map, string_bytes, IfOk, vec_len, []};
+ghost use Rattle.std.specs.Prelude.{◌≡◌, ◌≤◌, ◌+◌, length, map, string_bytes, IfOk, vec_len, []};
 ghost use Rattle.wire_frames.specs.declared.scheme.TheConstants.{XOR};
 ghost use Rattle.wire_frames.specs.Sizes.{answer_len};
 ghost use Rattle.wire_frames.specs.Answer.{answers};
-ghost use Rattle.block_decoder.specs.Choices.{binomial};
 ghost use Rattle.fetch_client.specs.Plan.{IsPlan, params_of, need};
 ghost use Rattle.block_decoder.specs.Verdict.{IsVerdict};
 ghost use Rattle.fetch_client.specs.Sent.{frame_len, queries_from, session_number};
 ghost use Rattle.fetch_client.specs.Honest.{FindsHonestBlock};
-ghost use Rattle.fetch_client.specs.Fetched.{AsksServers, Fetches, TouchesLinks};
+ghost use Rattle.fetch_client.specs.Fetched.{AsksServers, CountsColumns, Fetches, TouchesLinks, most_columns};
 
 use crate::coins::{NUMBER_LEN, session_number_of, take_coins};
 use crate::laws::honest_block_is_found;
@@ -94,7 +93,7 @@ fn conclude<C: Ledger>(
     requires all { length session.now.records ≡ plan.now.n }
     ensures judged { IfOk result (IsVerdict session.now) }
     ensures found { IfOk result (FindsHonestBlock session.now (queries_from coins.now) plan.now.block) }
-    ensures cols { cols.new ≤ cols.old + plan.now.s * binomial (length (answers session.now)) (plan.now.t + 1) }
+    ensures cols { cols.new ≤ cols.old + most_columns plan.now (length (answers session.now)) }
     ensures xor { plan.now.scheme ≡ XOR → cols.new ≡ cols.old }
 {
     let verdict = judge(alloc, session, cols)?;
@@ -127,12 +126,10 @@ pub fn fetch<C: Ledger, P: Ports>(
     requires addresses { length addresses.now ≡ plan.now.n }
     ensures fetched { Fetches plan.now (map string_bytes addresses.now) result (P.world ports.old) (P.world ports.new) }
     ensures others { TouchesLinks plan.now.n (P.world ports.old) (P.world ports.new) }
-    ensures cols { IfOk result (λ both. cols.new ≤ cols.old + plan.now.s * binomial (length (answers both.0)) (plan.now.t + 1)) }
+    ensures cols { CountsColumns plan.now result cols.old cols.new }
     ensures xor { plan.now.scheme ≡ XOR → cols.new ≡ cols.old }
 {
-    let Ok(mut room) = room_for(alloc, plan) else {
-        return Err(FetchFault::Memory);
-    };
+    let mut room = room_for(alloc, plan)?;
     ask_servers(
         plan,
         addresses,
@@ -142,8 +139,6 @@ pub fn fetch<C: Ledger, P: Ports>(
         &mut room.answer,
         &mut room.session,
     )?;
-    match conclude(alloc, plan, &room.coins, &room.session, cols) {
-        Ok(verdict) => Ok((room.session, verdict)),
-        Err(AllocError) => Err(FetchFault::Memory),
-    }
+    let verdict = conclude(alloc, plan, &room.coins, &room.session, cols)?;
+    Ok((room.session, verdict))
 }

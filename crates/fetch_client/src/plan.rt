@@ -6,6 +6,7 @@ ghost use Rattle.fetch_client.specs.Plan.{IsPlan, need, params_of};
 ghost use Rattle.fetch_client.specs.Sent.{frame_len};
 
 use crate::coins::NUMBER_LEN;
+use std::alloc::AllocError;
 use thiserror::Error;
 use wire_frames::{FRAME_HEADER_LEN, Scheme, SessionParams};
 
@@ -87,4 +88,15 @@ pub enum FetchFault {
     /// Want of memory: either nothing was touched, or every server was asked, and the answers couldn't be judged.
     #[error("no memory")]
     Memory,
+}
+
+impl From<AllocError> for FetchFault {
+    ghost use Rattle.std.specs.Prelude.{◌≡◌};
+    ghost use Rattle.fetch_client.specs.declared.plan.FetchFault.TheVariants.{Memory};
+
+    ghost from_gives = { λ _ fault. fault ≡ Memory };
+
+    fn from(_fault: AllocError) -> FetchFault {
+        FetchFault::Memory
+    }
 }
