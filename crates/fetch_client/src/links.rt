@@ -18,26 +18,20 @@ use crate::plan::FetchPlan;
 use chor_xor::bitmap_into;
 use pir_ports::{Filled, Port, Ports, read_exactly, write_all};
 use shamir_share::query_into;
-use wire_frames::{FRAME_HEADER_LEN, QueryHeader, Scheme, Session, write_query_header};
+use wire_frames::{FRAME_HEADER_LEN, Scheme, Session, SessionParams, write_query_header};
 
 /// Writes the header of the query to server `index`.
-fn write_header(plan: &FetchPlan, coins: &[u8], index: u8, out: &mut [u8])
+fn write_header(plan: &FetchPlan, coins: &[u8], index: u8, out: &mut [u8; FRAME_HEADER_LEN])
     requires plan { IsPlan plan.now }
     requires coins { length coins.now ≡ need plan.now }
     requires index { 1 ≤ index }
-    requires room { length out.old ≡ FRAME_HEADER_LEN }
     ensures { out.new ≡ query_header (header_to plan.now coins.now index) }
 {
-    let header = QueryHeader {
-        scheme: plan.scheme,
-        index,
+    let params = SessionParams {
         session: session_number_of(coins),
-        r: plan.r,
-        s: plan.s,
+        ..plan.params()
     };
-    let mut bytes = [0; FRAME_HEADER_LEN];
-    write_query_header(&header, &mut bytes);
-    out.copy_from_slice(&bytes);
+    write_query_header(&params.asked(index), out);
 }
 
 /// Writes the payload of the query to server `index`.
@@ -66,7 +60,9 @@ fn write_frame(plan: &FetchPlan, coins: &[u8], index: u8, frame: &mut [u8])
     requires room { length frame.old ≡ frame_len plan.now }
     ensures { frame.new ≡ sent plan.now coins.now index }
 {
-    let (header, payload) = frame.split_at_mut(FRAME_HEADER_LEN);
+    let Some((header, payload)) = frame.split_first_chunk_mut() else {
+        unreachable!()
+    };
     write_header(plan, coins, index, header);
     write_payload(plan, &coins[NUMBER_LEN..], index, payload);
 }
