@@ -14,15 +14,15 @@ use Rattle.wire_frames.specs.Sizes.{answer_len}
 use Rattle.wire_frames.specs.Session.{Transcript, IsSession, Fits, session_bytes}
 use Rattle.wire_frames.specs.Beginning.{Begins, IsPlace}
 use Rattle.wire_frames.specs.Reading.{Reading, SoFar, Refused, Feeds, Ends}
+use Rattle.wire_frames.specs.declared.reader.FeedFault.{FeedFault}
 use Rattle.wire_frames.specs.declared.reader.FeedFault.TheVariants.{BadSession as Wrong, Memory as NoMemory}
 use Rattle.wire_frames.specs.declared.reader.BadSession.{BadSession as SessionFault}
 use Rattle.wire_frames.proofs.Beginnings.{begins_short}
 use Rattle.wire_frames.proofs.OneSession.{one_session}
 use Rattle.wire_frames.proofs.Fronts.{stops-front, stops-none}
 use Rattle.replay.specs.declared.TheConstants.{PIECE_LEN}
-use Rattle.replay.specs.declared.ReplayFault.{ReplayFault}
-use Rattle.replay.specs.declared.ReplayFault.TheVariants.{ReadFault, BadSession, Memory}
-use Rattle.replay.specs.Replayed.{Spells, NoSession, ReadsWhole, Refuses, BreaksOff, Fed, ReadTo, most_columns, CountsColumns}
+use Rattle.replay.specs.Faults.{of_feed}
+use Rattle.replay.specs.Replayed.{Spells, NoSession, ReadsWhole, Refuses, BreaksOff, ReadTo, most_columns, CountsColumns}
 
 -- no session is longer
 abbrev pub longest : ℕ
@@ -164,9 +164,9 @@ place_behind begun piece place begins is = elim (cases_lt place (length begun)) 
 
 -- one more piece is refused
 pub seen_stops : {T : Type 0} (P : T → List ℕ → Type 0) (n : ℕ) (sub ys : List ℕ) (old v u : World) (reader new : Reading)
-    (fault : ReplayFault) → length sub ≡ PIECE_LEN → length ys ≡ length sub → HasSeen reader old v
-    → Hands INPUT n sub ys v u → Fed reader (take n ys) (Err fault) new → ReadTo P (Err fault) old u
-seen_stops P n sub ys old v u reader new (BadSession place) room same h hands fed =
+    (fault : FeedFault) → length sub ≡ PIECE_LEN → length ys ≡ length sub → HasSeen reader old v
+    → Hands INPUT n sub ys v u → Feeds reader (take n ys) (Err fault) new → ReadTo P (Err (of_feed fault)) old u
+seen_stops P n sub ys old v u reader new (Wrong place) room same h hands fed =
     let fed' = subst (λ (r : Reading). Feeds r (take n ys) (Err (Wrong place)) new) h.still fed in
     let seen = seen_by reader ++ take n ys in
     let reads = reads_more INPUT n (seen_by reader) sub ys old v u same h.reads hands in
@@ -181,8 +181,7 @@ seen_stops P n sub ys old v u reader new (BadSession place) room same h hands fe
       most = omega (arith, behind, size, hands.fits, room);
       none = refused_front (old.at INPUT).holds seen place reads.told fed'.0 fed'.1;
     }
-seen_stops P n sub ys old v u reader new ReadFault room same h hands fed = absurd fed
-seen_stops P n sub ys old v u reader new Memory room same h hands fed =
+seen_stops P n sub ys old v u reader new NoMemory room same h hands fed =
     let fed' = subst (λ (r : Reading). Feeds r (take n ys) (Err NoMemory) new) h.still fed in
     let reads = reads_more INPUT n (seen_by reader) sub ys old v u same h.reads hands in
     let size = length_seen n sub ys v u (seen_by reader) same hands in

@@ -8,8 +8,6 @@ use Rattle.wire_frames.specs.declared.scheme.TheConstants.{XOR}
 use Rattle.wire_frames.specs.declared.sizes.TheConstants.{SESSION_HEADER_LEN}
 use Rattle.wire_frames.specs.Session.{Transcript, IsSession}
 use Rattle.wire_frames.specs.Beginning.{Begins, IsPlace}
-use Rattle.wire_frames.specs.Reading.{Reading, Feeds}
-use Rattle.wire_frames.specs.declared.reader.FeedFault.TheVariants.{BadSession as Wrong, Memory as NoMemory}
 use Rattle.wire_frames.specs.Answer.{answers}
 use Rattle.block_decoder.specs.Choices.{binomial}
 use Rattle.block_decoder.specs.Verdict.{IsVerdict}
@@ -77,13 +75,6 @@ ReadTo P (Err (BadSession place)) old new = Refuses place (old.at INPUT) (new.at
 ReadTo P (Err ReadFault) old new = BreaksOff (old.at INPUT) (new.at INPUT)
 ReadTo P (Err Memory) old new =
     ReadsLittle (old.at INPUT) (new.at INPUT) ⊎ ReadsWhole SpellsOne (old.at INPUT) (new.at INPUT)
-
--- one more piece was read
-abbrev pub Fed : Reading → List ℕ → Result (Unit {0}) ReplayFault → Reading → Type 0
-Fed old piece (Ok x) new = Feeds old piece (Ok x) new
-Fed old piece (Err (BadSession place)) new = Feeds old piece (Err (Wrong place)) new
-Fed old piece (Err ReadFault) new = ⊥
-Fed old piece (Err Memory) new = Feeds old piece (Err NoMemory) new
 
 -- the most columns that judging a session takes: its width times the number of choices of t + 1 of its usable answers
 abbrev pub most_columns : Transcript → ℕ

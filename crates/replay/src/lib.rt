@@ -11,9 +11,7 @@
 ghost use Rattle.std.specs.Prelude.{◌≡◌, length, vec_len, IfOk};
 ghost use Rattle.pir_ports.specs.Number.{INPUT};
 ghost use Rattle.pir_ports.specs.Moves.{Touches};
-ghost use Rattle.wire_frames.specs.Session.{IsSession};
-ghost use Rattle.wire_frames.specs.Reading.{Feeds};
-ghost use Rattle.replay.specs.Replayed.{ReadTo, Judged, Spells, Fed, CountsColumns, CountsNone};
+ghost use Rattle.replay.specs.Replayed.{ReadTo, Judged, Spells, CountsColumns, CountsNone};
 
 use block_decoder::{Verdict, judge};
 use pir_ports::{Failed, Port, Ports};
@@ -37,19 +35,44 @@ pub enum ReplayFault {
     Memory,
 }
 
-/// How many bytes of Input are taken at once, at most.
-pub const PIECE_LEN: usize = 65536;
+impl From<FeedFault> for ReplayFault {
+    ghost use Rattle.std.specs.Prelude.{◌≡◌};
+    ghost use Rattle.replay.specs.Faults.{of_feed};
 
-/// Feeds one more piece.
-fn feed_piece(alloc: Global, reader: &mut SessionReader, piece: &[u8]) -> Result<(), ReplayFault>
-    ensures { Fed reader.old piece.now result reader.new }
-{
-    match reader.feed(alloc, piece) {
-        Ok(()) => Ok(()),
-        Err(FeedFault::BadSession { place }) => Err(ReplayFault::BadSession { place }),
-        Err(FeedFault::Memory) => Err(ReplayFault::Memory),
+    ghost from_gives = { λ fault given. given ≡ of_feed fault };
+
+    fn from(fault: FeedFault) -> ReplayFault {
+        match fault {
+            FeedFault::BadSession { place } => ReplayFault::BadSession { place },
+            FeedFault::Memory => ReplayFault::Memory,
+        }
     }
 }
+
+impl From<BadSession> for ReplayFault {
+    ghost use Rattle.std.specs.Prelude.{◌≡◌};
+    ghost use Rattle.replay.specs.Faults.{of_end};
+
+    ghost from_gives = { λ fault given. given ≡ of_end fault };
+
+    fn from(fault: BadSession) -> ReplayFault {
+        ReplayFault::BadSession { place: fault.place }
+    }
+}
+
+impl From<AllocError> for ReplayFault {
+    ghost use Rattle.std.specs.Prelude.{◌≡◌};
+    ghost use Rattle.replay.specs.declared.ReplayFault.TheVariants.{Memory};
+
+    ghost from_gives = { λ _ fault. fault ≡ Memory };
+
+    fn from(_fault: AllocError) -> ReplayFault {
+        ReplayFault::Memory
+    }
+}
+
+/// How many bytes of Input are taken at once, at most.
+pub const PIECE_LEN: usize = 65536;
 
 /// Reads Input to its end, or to the first piece that is refused, through the buffer.
 fn read_pieces<P: Ports>(
@@ -69,15 +92,12 @@ fn read_pieces<P: Ports>(
                 if n == 0 {
                     break;
                 }
-                feed_piece(alloc, &mut reader, &buffer[..n])?;
+                reader.feed(alloc, &buffer[..n])?;
             }
             Err(Failed) => return Err(ReplayFault::ReadFault),
         }
     }
-    match reader.end() {
-        Ok(session) => Ok(session),
-        Err(BadSession { place }) => Err(ReplayFault::BadSession { place }),
-    }
+    Ok(reader.end()?)
 }
 
 /// Room for one piece.
@@ -105,12 +125,7 @@ pub fn replay<C: Ledger, P: Ports>(
     ensures cols { CountsColumns ((P.world ports.old).at INPUT).holds cols.old cols.new }
     ensures unjudged { CountsNone result cols.old cols.new }
 {
-    let Ok(mut buffer) = piece_buffer(alloc) else {
-        return Err(ReplayFault::Memory);
-    };
+    let mut buffer = piece_buffer(alloc)?;
     let session = read_pieces(alloc, ports, &mut buffer)?;
-    match judge(alloc, &session, cols) {
-        Ok(verdict) => Ok(verdict),
-        Err(AllocError) => Err(ReplayFault::Memory),
-    }
+    Ok(judge(alloc, &session, cols)?)
 }

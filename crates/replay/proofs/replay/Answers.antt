@@ -1,8 +1,8 @@
 use Rattle.replay.proofs.Readings.{counts_of}
 use Rattle.replay.proofs.replay.Goals as goal
 
-pub returns-in-Ok-judge-clause-cols : goal.returns-in-Ok-judge-clause-cols
-returns-in-Ok-judge-clause-cols g c =
+pub returns-in_err-judge-clause-cols : goal.returns-in_err-judge-clause-cols
+returns-in_err-judge-clause-cols g c =
     counts_of c.in_ok-session.session _ _ _ _ c.in_ok-session.ensures.read c.judge.ensures.cols c.judge.ensures.xor
 
 pub returns-clause-cols : goal.returns-clause-cols
