@@ -7,7 +7,7 @@ use Rattle.std.proofs.lemmas.List.{take_all, drop_all, length-take-le, length-dr
 use Rattle.pir_ports.specs.World.{Cell, World}
 use Rattle.pir_ports.specs.Number.{DATABASE}
 use Rattle.pir_ports.specs.Moves.{Hands, took, counted, Rose}
-use Rattle.pir_ports.specs.Whole.{Reads, IsFront, Ends, FailsAfter}
+use Rattle.pir_ports.specs.Whole.{Reads, IsFront, Ends, FailsShort}
 use Rattle.pir_ports.proofs.Cells.{reads_more, took-took}
 use Rattle.block_matrix.specs.Loading.{ReadsUpTo}
 
@@ -24,7 +24,7 @@ module _ (n : ℕ) (read before after : List ℕ) (w v u : World) (kept : take (
   reads_piece =
       let rests : length (drop (length read) after) ≡ length (drop (length read) before) = omega (arith, length-drop (length read) after, length-drop (length read) before, same) in
       subst (λ (l : List ℕ). Reads DATABASE l w u) (ap (λ (l : List ℕ). l ++ take n (drop (length read) after)) (sym (still ∙ kept)) ∙ sym (take-add (length read) n after))
-      (reads_more 2 n read (drop (length read) before) (drop (length read) after) w v u rests so_far hands)
+      (reads_more DATABASE n read (drop (length read) before) (drop (length read) after) w v u rests so_far hands)
 
   -- as many bytes as there was room for
   pub reads_full : n ≡ length (drop (length read) before) → Reads DATABASE after w u
@@ -59,10 +59,19 @@ held_more n read (Some h) o1 is a more =
     omega (arith, left, a.there, length-drop (length read) h)
 
 -- a call on the port failed within a piece
-pub reads_failed : (read : List ℕ) (w v u : World) → Reads DATABASE read w v → FailsAfter DATABASE v u → FailsAfter DATABASE w u
-reads_failed read w v u so_far fails = record {
-  n = length read + fails.n;
-  cell = fails.cell ∙ ap (λ (c : Cell). counted (u.at DATABASE).faults (took fails.n c)) so_far.cell ∙ ap (counted (u.at DATABASE).faults) (took-took fails.n (length read) (w.at DATABASE));
-  held = held_more fails.n read (w.at DATABASE).holds (v.at DATABASE).holds (ap (λ (c : Cell). c.holds) so_far.cell) so_far.told fails.held;
-  rose = subst (λ (f : ℕ). Rose f (u.at DATABASE).faults) (ap (λ (c : Cell). c.faults) so_far.cell) fails.rose;
-}
+pub reads_failed : (most room : ℕ) (read : List ℕ) (w v u : World) → length read + room ≤ most → Reads DATABASE read w v
+    → FailsShort DATABASE room v u → FailsShort DATABASE most w u
+reads_failed most room read w v u within so_far fails =
+    let after = fails.after in
+    let before = ap (λ (c : Cell). c.holds) so_far.cell in
+    record {
+      after = record {
+        n = length read + after.n;
+        cell = after.cell
+            ∙ ap (λ (c : Cell). counted (u.at DATABASE).faults (took after.n c)) so_far.cell
+            ∙ ap (counted (u.at DATABASE).faults) (took-took after.n (length read) (w.at DATABASE));
+        held = held_more after.n read (w.at DATABASE).holds (v.at DATABASE).holds before so_far.told after.held;
+        rose = subst (λ (f : ℕ). Rose f (u.at DATABASE).faults) (ap (λ (c : Cell). c.faults) so_far.cell) after.rose;
+      };
+      fewer = omega (arith, within, fails.fewer);
+    }

@@ -1,19 +1,19 @@
 //! Reads a database from its file.
-ghost use Rattle.std.specs.Prelude.{◌≡◌, ◌+◌, ◌<◌, ◌≤◌, ◌^◌, length, take, drop, vec_len};
+ghost use Rattle.std.specs.Prelude.{◌≡◌, ◌+◌, ◌<◌, ◌≤◌, length, take, drop, vec_len};
 ghost use Rattle.pir_ports.specs.Number.{DATABASE};
 ghost use Rattle.pir_ports.specs.Moves.{Touches};
 ghost use Rattle.pir_ports.specs.Whole.{Fills};
-ghost use Rattle.block_matrix.specs.Database.{limit};
+ghost use Rattle.wire_frames.specs.declared.TheConstants.{MOST_WIDTH};
 ghost use Rattle.block_matrix.specs.Loading.{Lengthens, ReadsOr, Loads};
 
 use crate::matrix::{LoadFault, Matrix, most_bytes};
 use pir_ports::{Filled, Port, Ports, read_exactly};
 use std::alloc::Global;
 
-// How many bytes are asked for at once, at most.
+/// How many bytes are asked for at once, at most.
 const PIECE: usize = 1 << 20;
 
-// The room for bytes to come, when there is none left, is this part of the bytes so far.
+/// The room for bytes to come, when there is none left, is this part of the bytes so far.
 const GROWTH: usize = 16;
 
 /// Makes the bytes longer by zeros, at most 1 MB of them and no more than `most` bytes in all.
@@ -80,11 +80,11 @@ fn read_up_to<P: Ports>(alloc: Global, ports: &mut P, most: usize) -> Result<Vec
 /// # Errors
 ///
 /// `EmptyFile` exactly where the file has no bytes, `TooBig` exactly where it has more than a database of that width may
-/// have, as [`Matrix::from_bytes`] says; `ReadFault` exactly where a call on Database failed, whose count rose; `Memory` for
-/// want of memory.
+/// have, as [`Matrix::from_bytes`] says; `ReadFault` exactly where a call on Database failed, whose count rose, and then no
+/// more bytes were taken than such a database may have; `Memory` for want of memory.
 pub fn load<P: Ports>(alloc: Global, ports: &mut P, width: u32) -> Result<Matrix, LoadFault>
     requires some { 1 ≤ width }
-    requires few { width ≤ 2 ^ 16 }
+    requires few { width ≤ MOST_WIDTH }
     ensures loads { Loads width result (P.world ports.old) (P.world ports.new) }
     ensures others { Touches DATABASE (P.world ports.old) (P.world ports.new) }
 {

@@ -8,6 +8,7 @@ use Rattle.std.proofs.lemmas.List.Sums.{count_by-le-length}
 use Rattle.std.proofs.lemmas.Slice.Eq.{bytes_eq-Decides}
 use Rattle.gf256.specs.Polynomial.{coef, IsPolynomial}
 use Rattle.shamir_share.specs.Query.{query}
+use Rattle.wire_frames.specs.declared.scheme.TheConstants.{SHAMIR}
 use Rattle.wire_frames.specs.Answer.{Answer, answers}
 use Rattle.wire_frames.specs.Session.{Transcript}
 use Rattle.block_decoder.specs.Agreed.{Agreed, answer_at, constants_of}
@@ -29,7 +30,7 @@ pub record AreProducts (answers : List Answer) (matrix : List (List ℕ)) (coins
   pub enough : h ≤ count_by (λ a. bytes_eq a.payload (product matrix s (query coins t r block a.index))) answers
 
 -- honest servers answer so
-pub products_from_honest : (session : Transcript) (matrix : List (List ℕ)) (coins : List ℕ) (block : ℕ) → session.params.scheme ≡ 1 → IsHonest session matrix coins block
+pub products_from_honest : (session : Transcript) (matrix : List (List ℕ)) (coins : List ℕ) (block : ℕ) → session.params.scheme ≡ SHAMIR → IsHonest session matrix coins block
     → AreProducts (answers session) matrix coins session.params.t session.params.r session.params.s block session.params.h
 products_from_honest session matrix coins block one honest =
     let p = session.params in

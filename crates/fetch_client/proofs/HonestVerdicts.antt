@@ -1,6 +1,7 @@
 -- What a verdict says of the block that honest servers hold, in each scheme.
 use Rattle.std.proofs.Common.{◌≡◌, ℕ, ◌+◌, ◌*◌, ◌<◌, ◌≤◌, List, [], ◌∷◌, length, map, All, IfSome, Contains, ap, subst, ◌∙◌, arith}
 use Rattle.std.proofs.lemmas.List.Elements.{Contains-get_or}
+use Rattle.wire_frames.specs.declared.scheme.TheConstants.{SHAMIR, XOR}
 use Rattle.wire_frames.specs.Answer.{Answer, answers}
 use Rattle.wire_frames.specs.Limits.{IsInRange}
 use Rattle.wire_frames.specs.Session.{Transcript}
@@ -43,7 +44,7 @@ module _ (session : Transcript) (coins : List ℕ) (block : ℕ) (verdict : Verd
   close enough near = close_verdict_is_listed session verdict range columns enough near is
 
   -- in Shamir's sharing
-  module _ (one : session.params.scheme ≡ 1) where
+  module _ (one : session.params.scheme ≡ SHAMIR) where
     decided : IsDecided (answers session) session.params.s session.params.t session.params.h verdict
     decided = is.shamir one
 
@@ -71,7 +72,7 @@ module _ (session : Transcript) (coins : List ℕ) (block : ℕ) (verdict : Verd
     }
 
   -- in the XOR scheme
-  module _ (two : session.params.scheme ≡ 2) where
+  module _ (two : session.params.scheme ≡ XOR) where
     alone_of_all : (matrix : List (List ℕ)) → IsHonest session matrix coins block → verdict ≡ Listed (block_of matrix block ∷ [])
     alone_of_all matrix honest =
         let p = session.params in

@@ -7,6 +7,7 @@ use Rattle.std.proofs.lemmas.List.Elements.{All-nil, All-cons, All-head, All-tai
 use Rattle.std.proofs.lemmas.List.FromFn.{length-range_with_len, get_or-range_with_len, length-map-range_with_len, get_or-map-range_with_len}
 use Rattle.std.proofs.lemmas.List.Sums.{count_by-le-length}
 use Rattle.std.proofs.lemmas.Slice.Eq.{bytes_eq-Decides}
+use Rattle.wire_frames.specs.declared.scheme.TheConstants.{XOR}
 use Rattle.wire_frames.specs.declared.session.SessionParams.{SessionParams}
 use Rattle.wire_frames.specs.Answer.{Answer, answers}
 use Rattle.wire_frames.specs.Limits.{IsInRange}
@@ -76,7 +77,7 @@ index_is width n all k order size l =
 
 -- ---- the answers
 
-module _ (session : Transcript) (matrix : List (List ℕ)) (coins : List ℕ) (block : ℕ) (range : IsInRange session.params) (two : session.params.scheme ≡ 2)
+module _ (session : Transcript) (matrix : List (List ℕ)) (coins : List ℕ) (block : ℕ) (range : IsInRange session.params) (two : session.params.scheme ≡ XOR)
     (few : length session.records ≤ session.params.n) (bytes : All (λ r. IfSome r (All (λ b. b < 256))) session.records) where
   abbrev p : SessionParams
   p = session.params

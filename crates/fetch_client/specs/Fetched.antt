@@ -1,33 +1,35 @@
 -- What a fetch does.
-use Rattle.std.specs.Prelude.{ℕ, ◌≡◌, ◌≢◌, ◌+◌, ◌<◌, ◌≤◌, ◌⊎◌, ◌++◌, ◌∷◌, List, [], length, drop, Option, None, Result, Ok, Err, slice_index_or}
+use Rattle.std.specs.Prelude.{ℕ, ◌≡◌, ◌≢◌, ◌+◌, ◌*◌, ◌<◌, ◌≤◌, ◌⊎◌, ◌++◌, ◌∷◌, List, [], length, Option, None, Result, Ok, Err, slice_index_or}
 use Rattle.pir_ports.specs.World.{World}
 use Rattle.pir_ports.specs.Number.{COINS, link}
 use Rattle.pir_ports.specs.Moves.{Touches}
-use Rattle.pir_ports.specs.Whole.{FailsAfter}
+use Rattle.pir_ports.specs.Whole.{FailsShort}
 use Rattle.pir_ports.specs.Each.{Each}
 use Rattle.pir_ports.specs.Touched.{One, From, TouchesOnly}
 use Rattle.wire_frames.specs.Sizes.{answer_len}
+use Rattle.wire_frames.specs.Answer.{answers}
 use Rattle.wire_frames.specs.Session.{Transcript}
+use Rattle.block_decoder.specs.Choices.{binomial}
 use Rattle.block_decoder.specs.Verdict.{IsVerdict}
 use Rattle.block_decoder.specs.declared.verdict.Verdict.{Verdict}
 use Rattle.fetch_client.specs.declared.plan.FetchPlan.{FetchPlan}
 use Rattle.fetch_client.specs.declared.plan.FetchFault.{FetchFault}
 use Rattle.fetch_client.specs.declared.plan.FetchFault.TheVariants.{CoinsFault, CoinsEnded, Memory}
 use Rattle.fetch_client.specs.Plan.{params_of, need}
-use Rattle.fetch_client.specs.Sent.{sent, session_number}
+use Rattle.fetch_client.specs.Sent.{sent, session_number, queries_from}
 use Rattle.fetch_client.specs.Tossed.{Tossed, RunsOut}
-use Rattle.fetch_client.specs.Asked.{Asked}
+use Rattle.fetch_client.specs.Link.{LinkAsked}
 use Rattle.fetch_client.specs.Honest.{FindsHonestBlock}
 
 -- one more server was asked, and its record is the last
 pub record AsksNext (p : FetchPlan) (address coins : List ℕ) (before after : Transcript) (old new : World) : Type 0 where
   pub answer : Option (List ℕ)
   pub session : after ≡ record before { records = before.records ++ answer ∷ [] }
-  pub asked : Asked address (sent p coins (length before.records + 1)) (answer_len p.s) answer (old.at ((link 1) + length before.records)) (new.at ((link 1) + length before.records))
+  pub asked : LinkAsked address (sent p coins (length before.records + 1)) (answer_len p.s) answer (old.at (link 1 + length before.records)) (new.at (link 1 + length before.records))
 
 -- each of the first n servers was asked, by its address, and the session has its record
 abbrev pub AskedEach : FetchPlan → List (List ℕ) → List ℕ → ℕ → Transcript → World → World → Type 0
-AskedEach p addresses coins n session old new = Each (λ i. Asked (slice_index_or addresses i []) (sent p coins (i + 1)) (answer_len p.s) (slice_index_or session.records i None)) (link 1) n old new
+AskedEach p addresses coins n session old new = Each (λ i. LinkAsked (slice_index_or addresses i []) (sent p coins (i + 1)) (answer_len p.s) (slice_index_or session.records i None)) (link 1) n old new
 
 -- every server was asked, with these coins, and this is the session
 pub record AsksAll (p : FetchPlan) (addresses : List (List ℕ)) (coins : List ℕ) (session : Transcript) (old new : World) : Type 0 where
@@ -43,7 +45,7 @@ pub record AsksWith (p : FetchPlan) (addresses : List (List ℕ)) (coins : List 
 -- what taking the coins and asking every server answers, and what it did then. Without the coins no server is asked
 abbrev pub AsksServers : FetchPlan → List (List ℕ) → Result (Unit {0}) FetchFault → List ℕ → Transcript → World → World → Type 0
 AsksServers p addresses (Ok _) coins session old new = AsksWith p addresses coins session old new
-AsksServers p addresses (Err CoinsFault) coins session old new = FailsAfter COINS old new × Touches COINS old new
+AsksServers p addresses (Err CoinsFault) coins session old new = FailsShort COINS (need p) old new × Touches COINS old new
 AsksServers p addresses (Err (CoinsEnded taken)) coins session old new = RunsOut (need p) taken (old.at COINS) (new.at COINS) × Touches COINS old new
 AsksServers p addresses (Err Memory) coins session old new = ⊥
 
@@ -58,14 +60,26 @@ pub record Concludes (p : FetchPlan) (addresses : List (List ℕ)) (session : Tr
   pub coins : List ℕ
   pub asked : AsksWith p addresses coins session old new
   pub judged : IsVerdict session verdict
-  pub found : FindsHonestBlock session (drop 8 coins) p.block verdict
+  pub found : FindsHonestBlock session (queries_from coins) p.block verdict
 
 -- what a fetch answers, and what it did then. Without the coins no server is asked
 abbrev pub Fetches : FetchPlan → List (List ℕ) → Result (Transcript × Verdict) FetchFault → World → World → Type 0
 Fetches p addresses (Ok both) old new = Concludes p addresses both.0 both.1 old new
-Fetches p addresses (Err CoinsFault) old new = FailsAfter COINS old new × Touches COINS old new
+Fetches p addresses (Err CoinsFault) old new = FailsShort COINS (need p) old new × Touches COINS old new
 Fetches p addresses (Err (CoinsEnded taken)) old new = RunsOut (need p) taken (old.at COINS) (new.at COINS) × Touches COINS old new
 Fetches p addresses (Err Memory) old new = (new ≡ old) ⊎ AsksSome p addresses old new
+
+-- the most columns that judging k answers takes: the width times the number of choices of t + 1 of them
+abbrev pub most_columns : FetchPlan → ℕ → ℕ
+most_columns p k = p.s * binomial k (p.t + 1)
+
+-- how many columns are interpolated at most: as many as judging the usable answers takes; where memory ran out, as many as
+-- judging answers of all servers takes; and without the coins none
+abbrev pub CountsColumns : FetchPlan → Result (Transcript × Verdict) FetchFault → ℕ → ℕ → Type 0
+CountsColumns p (Ok both) before now = now ≤ before + most_columns p (length (answers both.0))
+CountsColumns p (Err CoinsFault) before now = now ≡ before
+CountsColumns p (Err (CoinsEnded taken)) before now = now ≡ before
+CountsColumns p (Err Memory) before now = now ≤ before + most_columns p p.n
 
 -- Coins and the first n links alone are touched
 abbrev pub TouchesLinks : ℕ → World → World → Type 0

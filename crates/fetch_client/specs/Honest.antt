@@ -1,9 +1,13 @@
--- Honest servers: what they answer, and that a verdict has the block that they hold (Goldberg 2007; in the XOR scheme, which
--- is scheme 2, Chor, Goldreich, Kushilevitz and Sudan 1995).
-use Rattle.std.specs.Prelude.{◌≡◌, ℕ, ◌+◌, ◌-◌, ◌*◌, ◌<◌, ◌≤◌, Bool, false, Option, None, Some, List, [], ◌∷◌, ◌++◌, length, slice_index_or, Contains, count_by, bytes_eq, ◌==◌, if◌then◌else◌}
+-- Honest servers: what they answer, and that a verdict has the block that they hold (Goldberg 2007; in the XOR scheme Chor,
+-- Goldreich, Kushilevitz and Sudan 1995).
+use Rattle.std.specs.Prelude.{◌≡◌, ℕ, ◌+◌, ◌-◌, ◌*◌, ◌<◌, ◌≤◌, Bool, false, Option, None, Some, List, [], ◌∷◌, ◌++◌, length, slice_index_or, Contains, count_by, bytes_eq}
 use Rattle.std.specs.List.{range_with_len}
 use Rattle.gf256.specs.Product.{IsMatrix, product}
 use Rattle.wire_frames.specs.declared.session.SessionParams.{SessionParams}
+use Rattle.wire_frames.specs.declared.scheme.TheConstants.{XOR}
+use Rattle.wire_frames.specs.declared.scheme.Scheme.{Scheme}
+use Rattle.wire_frames.specs.declared.scheme.Scheme.TheVariants.{Shamir, Xor}
+use Rattle.wire_frames.specs.Scheme.{scheme_of}
 use Rattle.wire_frames.specs.Header.{answer_header}
 use Rattle.wire_frames.specs.Answer.{answers, asked}
 use Rattle.wire_frames.specs.Session.{Transcript}
@@ -19,8 +23,13 @@ block_of matrix block = slice_index_or matrix block []
 
 -- what an honest server that holds the matrix answers to the payload of a query: the product of the two, and in the XOR scheme
 -- the sum of the rows that the payload has
+abbrev pub answer_in : Scheme → SessionParams → List (List ℕ) → List ℕ → List ℕ
+answer_in Shamir p matrix payload = product matrix p.s payload
+answer_in Xor p matrix payload = chosen (record { rows = matrix; width = p.s }) payload
+
+-- what it answers in a session
 unfoldable pub honest_answer : SessionParams → List (List ℕ) → List ℕ → List ℕ
-honest_answer p matrix payload = if p.scheme == 2 then chosen (record { rows = matrix; width = p.s }) payload else product matrix p.s payload
+honest_answer p matrix payload = answer_in (scheme_of p.scheme) p matrix payload
 
 -- what honest server i answers in a session, to its own query for the block
 abbrev pub answer_by : SessionParams → List (List ℕ) → List ℕ → ℕ → ℕ → List ℕ
@@ -60,5 +69,5 @@ pub record FindsHonestBlock (session : Transcript) (coins : List ℕ) (block : �
   pub close : session.params.h ≤ length (answers session) → length (answers session) + session.params.t < 2 * session.params.h → ListsAtMostOne verdict
   pub listed_by_frames : (matrix : List (List ℕ)) → HonestRecords session matrix coins block → (blocks : List (List ℕ)) → verdict ≡ Listed blocks → Contains blocks (block_of matrix block)
   pub alone_by_frames : (matrix : List (List ℕ)) → HonestRecords session matrix coins block → length (answers session) + session.params.t < 2 * session.params.h → verdict ≡ Listed (block_of matrix block ∷ [])
-  pub xor : session.params.scheme ≡ 2 → (matrix : List (List ℕ)) → IsHonest session matrix coins block → verdict ≡ Listed (block_of matrix block ∷ [])
-  pub xor_by_frames : session.params.scheme ≡ 2 → (matrix : List (List ℕ)) → AllHonest session matrix coins block → verdict ≡ Listed (block_of matrix block ∷ [])
+  pub xor : session.params.scheme ≡ XOR → (matrix : List (List ℕ)) → IsHonest session matrix coins block → verdict ≡ Listed (block_of matrix block ∷ [])
+  pub xor_by_frames : session.params.scheme ≡ XOR → (matrix : List (List ℕ)) → AllHonest session matrix coins block → verdict ≡ Listed (block_of matrix block ∷ [])

@@ -1,6 +1,6 @@
 pub mod Plan
 pub mod Sent
-pub mod Asked
+pub mod Link
 pub mod Tossed
 pub mod Honest
 pub mod Fetched

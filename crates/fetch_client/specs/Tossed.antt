@@ -3,7 +3,7 @@ use Rattle.std.specs.Prelude.{◌≡◌, ℕ, ◌<◌, List, length, take, All, 
 use Rattle.pir_ports.specs.World.{Cell, World}
 use Rattle.pir_ports.specs.Number.{COINS}
 use Rattle.pir_ports.specs.Moves.{took}
-use Rattle.pir_ports.specs.Whole.{FailsAfter}
+use Rattle.pir_ports.specs.Whole.{FailsShort}
 use Rattle.fetch_client.specs.declared.plan.FetchFault.{FetchFault}
 use Rattle.fetch_client.specs.declared.plan.FetchFault.TheVariants.{CoinsFault, CoinsEnded, Memory}
 
@@ -20,9 +20,9 @@ pub record RunsOut (need taken : ℕ) (old new : Cell) : Type 0 where
   pub cell : new ≡ took taken old
   pub all : IfSome old.holds (λ held. length held ≡ taken)
 
--- what taking so many coins from Coins answers
+-- what taking so many coins from Coins answers. Where a call fails, fewer were taken
 abbrev pub TakesCoins : ℕ → Result (Unit {0}) FetchFault → List ℕ → World → World → Type 0
 TakesCoins need (Ok _) coins old new = Tossed need coins (old.at COINS) (new.at COINS)
-TakesCoins need (Err CoinsFault) coins old new = FailsAfter COINS old new
+TakesCoins need (Err CoinsFault) coins old new = FailsShort COINS need old new
 TakesCoins need (Err (CoinsEnded taken)) coins old new = RunsOut need taken (old.at COINS) (new.at COINS)
 TakesCoins need (Err Memory) coins old new = ⊥

@@ -3,6 +3,7 @@
 ghost use Rattle.std.specs.Prelude.{◌≡◌, ◌<◌, ◌≤◌, length};
 ghost use Rattle.pir_ports.specs.Number.{COINS};
 ghost use Rattle.pir_ports.specs.Moves.{Touches};
+ghost use Rattle.fetch_client.specs.declared.coins.TheConstants.{NUMBER_LEN};
 ghost use Rattle.fetch_client.specs.Sent.{session_number};
 ghost use Rattle.fetch_client.specs.Tossed.{TakesCoins};
 
@@ -10,11 +11,15 @@ use crate::plan::FetchFault;
 use byteorder::{BigEndian, ByteOrder};
 use pir_ports::{Filled, Port, Ports, read_exactly};
 
+/// How many coins the number of a session takes.
+pub(crate) const NUMBER_LEN: usize = 8;
+
 /// Fills `coins` from Coins, which is open.
 ///
 /// # Errors
 ///
-/// `CoinsFault` only where the count of Coins rose; `CoinsEnded` exactly where there are fewer bytes, with their number.
+/// `CoinsFault` only where the count of Coins rose, and then fewer bytes were taken than are asked for; `CoinsEnded` exactly
+/// where there are fewer bytes, with their number.
 pub(crate) fn take_coins<P: Ports>(ports: &mut P, coins: &mut [u8]) -> Result<(), FetchFault>
     requires { 0 < length coins.old }
     ensures taken { TakesCoins (length coins.old) result coins.new (P.world ports.old) (P.world ports.new) }
@@ -29,10 +34,10 @@ pub(crate) fn take_coins<P: Ports>(ports: &mut P, coins: &mut [u8]) -> Result<()
     }
 }
 
-/// The number of the session: that in the first 8 coins, highest first.
+/// The number of the session: that in the first coins, highest first.
 #[tactic(auto, unfolding(crate::specs::Sent::session_number))]
 pub(crate) fn session_number_of(coins: &[u8]) -> u64
-    requires { 8 ≤ length coins.now }
+    requires { NUMBER_LEN ≤ length coins.now }
     ensures { result ≡ session_number coins.now }
 {
     BigEndian::read_u64(coins)

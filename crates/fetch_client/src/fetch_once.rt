@@ -1,16 +1,17 @@
 //! One fetch.
 
-ghost use Rattle.std.specs.Prelude.{◌≡◌, ◌≤◌, ◌+◌, ◌*◌, length, map, string_bytes, IfOk, drop, vec_len, []};
+ghost use Rattle.std.specs.Prelude.{◌≡◌, ◌≤◌, ◌+◌, length, map, string_bytes, IfOk, vec_len, []};
 ghost use Rattle.uni_poly.specs.Binomial.{binomial};
+ghost use Rattle.wire_frames.specs.declared.scheme.TheConstants.{XOR};
 ghost use Rattle.wire_frames.specs.Sizes.{answer_len};
 ghost use Rattle.wire_frames.specs.Answer.{answers};
 ghost use Rattle.fetch_client.specs.Plan.{IsPlan, params_of, need};
 ghost use Rattle.block_decoder.specs.Verdict.{IsVerdict};
-ghost use Rattle.fetch_client.specs.Sent.{payload_size, session_number};
+ghost use Rattle.fetch_client.specs.Sent.{frame_len, queries_from, session_number};
 ghost use Rattle.fetch_client.specs.Honest.{FindsHonestBlock};
-ghost use Rattle.fetch_client.specs.Fetched.{AsksServers, Fetches, TouchesLinks};
+ghost use Rattle.fetch_client.specs.Fetched.{AsksServers, CountsColumns, Fetches, TouchesLinks, most_columns};
 
-use crate::coins::{session_number_of, take_coins};
+use crate::coins::{NUMBER_LEN, session_number_of, take_coins};
 use crate::laws::honest_block_is_found;
 use crate::links::ask_all;
 use crate::plan::{FetchFault, FetchPlan};
@@ -19,7 +20,7 @@ use pir_ports::Ports;
 use std::alloc::{AllocError, Global};
 use std::sync::ledger::Ledger;
 use uni_poly::steps::Steps;
-use wire_frames::{FRAME_HEADER_LEN, Session, answer_len};
+use wire_frames::{Session, answer_len};
 
 // The memory that a fetch takes before anything is touched: a session with no record yet, and room for the coins, for one
 // query and for one answer.
@@ -35,13 +36,13 @@ fn room_for(alloc: Global, plan: &FetchPlan) -> Result<Room, AllocError>
     requires { IsPlan plan.now }
     ensures session { IfOk result (λ room. room.session ≡ record { params = params_of plan.now 0; records = [] }) }
     ensures coins { IfOk result (λ room. vec_len room.coins ≡ need plan.now) }
-    ensures frame { IfOk result (λ room. vec_len room.frame ≡ FRAME_HEADER_LEN + payload_size (params_of plan.now 0)) }
+    ensures frame { IfOk result (λ room. vec_len room.frame ≡ frame_len plan.now) }
     ensures answer { IfOk result (λ room. vec_len room.answer ≡ answer_len plan.now.s) }
 {
     Ok(Room {
         session: Session::new(alloc, plan.params())?,
         coins: vec![in alloc; 0; plan.coins_len()]?,
-        frame: vec![in alloc; 0; FRAME_HEADER_LEN + plan.payload_len()]?,
+        frame: vec![in alloc; 0; plan.frame_len()]?,
         answer: vec![in alloc; 0; answer_len(plan.s)]?,
     })
 }
@@ -63,7 +64,7 @@ fn ask_servers<P: Ports>(
     requires plan { IsPlan plan.now }
     requires addresses { length addresses.now ≡ plan.now.n }
     requires coins { length coins.old ≡ need plan.now }
-    requires frame { length frame.old ≡ FRAME_HEADER_LEN + payload_size (params_of plan.now 0) }
+    requires frame { length frame.old ≡ frame_len plan.now }
     requires answer { length answer.old ≡ answer_len plan.now.s }
     requires session { session.old ≡ record { params = params_of plan.now 0; records = [] } }
     ensures asked { AsksServers plan.now (map string_bytes addresses.now) result coins.new session.new (P.world ports.old) (P.world ports.new) }
@@ -92,12 +93,12 @@ fn conclude<C: Ledger>(
     requires params { session.now.params ≡ params_of plan.now (session_number coins.now) }
     requires all { length session.now.records ≡ plan.now.n }
     ensures judged { IfOk result (IsVerdict session.now) }
-    ensures found { IfOk result (FindsHonestBlock session.now (drop 8 coins.now) plan.now.block) }
-    ensures cols { cols.new ≤ cols.old + plan.now.s * binomial (length (answers session.now)) (plan.now.t + 1) }
-    ensures xor { plan.now.scheme ≡ 2 → cols.new ≡ cols.old }
+    ensures found { IfOk result (FindsHonestBlock session.now (queries_from coins.now) plan.now.block) }
+    ensures cols { cols.new ≤ cols.old + most_columns plan.now (length (answers session.now)) }
+    ensures xor { plan.now.scheme ≡ XOR → cols.new ≡ cols.old }
 {
     let verdict = judge(alloc, session, cols)?;
-    honest_block_is_found(session, &coins[8..], plan.block, &verdict);
+    honest_block_is_found(session, &coins[NUMBER_LEN..], plan.block, &verdict);
     Ok(verdict)
 }
 
@@ -126,12 +127,10 @@ pub fn fetch<C: Ledger, P: Ports>(
     requires addresses { length addresses.now ≡ plan.now.n }
     ensures fetched { Fetches plan.now (map string_bytes addresses.now) result (P.world ports.old) (P.world ports.new) }
     ensures others { TouchesLinks plan.now.n (P.world ports.old) (P.world ports.new) }
-    ensures cols { IfOk result (λ both. cols.new ≤ cols.old + plan.now.s * binomial (length (answers both.0)) (plan.now.t + 1)) }
-    ensures xor { plan.now.scheme ≡ 2 → cols.new ≡ cols.old }
+    ensures cols { CountsColumns plan.now result cols.old cols.new }
+    ensures xor { plan.now.scheme ≡ XOR → cols.new ≡ cols.old }
 {
-    let Ok(mut room) = room_for(alloc, plan) else {
-        return Err(FetchFault::Memory);
-    };
+    let mut room = room_for(alloc, plan)?;
     ask_servers(
         plan,
         addresses,
@@ -141,8 +140,6 @@ pub fn fetch<C: Ledger, P: Ports>(
         &mut room.answer,
         &mut room.session,
     )?;
-    match conclude(alloc, plan, &room.coins, &room.session, cols) {
-        Ok(verdict) => Ok((room.session, verdict)),
-        Err(AllocError) => Err(FetchFault::Memory),
-    }
+    let verdict = conclude(alloc, plan, &room.coins, &room.session, cols)?;
+    Ok((room.session, verdict))
 }

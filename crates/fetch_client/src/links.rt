@@ -5,55 +5,49 @@ ghost use Rattle.std.specs.Option.{option_map};
 ghost use Rattle.pir_ports.specs.Number.{link};
 ghost use Rattle.pir_ports.specs.Moves.{Touches};
 ghost use Rattle.pir_ports.specs.Each.{TouchesRange};
+ghost use Rattle.wire_frames.specs.Scheme.{scheme_of, payload_len};
 ghost use Rattle.wire_frames.specs.Sizes.{answer_len};
 ghost use Rattle.wire_frames.specs.Header.{query_header};
 ghost use Rattle.fetch_client.specs.Plan.{IsPlan, params_of, query_coins, need};
-ghost use Rattle.fetch_client.specs.Sent.{header_to, payload_size, payload_to, sent, session_number};
-ghost use Rattle.fetch_client.specs.Asked.{Asked};
+ghost use Rattle.fetch_client.specs.Sent.{frame_len, header_to, payload_to, sent, session_number};
+ghost use Rattle.fetch_client.specs.Link.{LinkAsked};
 ghost use Rattle.fetch_client.specs.Fetched.{AsksNext, AskedEach};
 
-use crate::coins::session_number_of;
+use crate::coins::{NUMBER_LEN, session_number_of};
 use crate::plan::FetchPlan;
 use chor_xor::bitmap_into;
 use pir_ports::{Filled, Port, Ports, read_exactly, write_all};
 use shamir_share::query_into;
-use wire_frames::{FRAME_HEADER_LEN, QueryHeader, Session, XOR, write_query_header};
+use wire_frames::{FRAME_HEADER_LEN, Scheme, Session, SessionParams, write_query_header};
 
 /// Writes the header of the query to server `index`.
-fn write_header(plan: &FetchPlan, coins: &[u8], index: u8, out: &mut [u8])
+fn write_header(plan: &FetchPlan, coins: &[u8], index: u8, out: &mut [u8; FRAME_HEADER_LEN])
     requires plan { IsPlan plan.now }
     requires coins { length coins.now ≡ need plan.now }
     requires index { 1 ≤ index }
-    requires room { length out.old ≡ FRAME_HEADER_LEN }
     ensures { out.new ≡ query_header (header_to plan.now coins.now index) }
 {
-    let header = QueryHeader {
-        scheme: plan.scheme,
-        index,
+    let params = SessionParams {
         session: session_number_of(coins),
-        r: plan.r,
-        s: plan.s,
+        ..plan.params()
     };
-    let mut bytes = [0; FRAME_HEADER_LEN];
-    write_query_header(&header, &mut bytes);
-    out.copy_from_slice(&bytes);
+    write_query_header(&params.asked(index), out);
 }
 
 /// Writes the payload of the query to server `index`.
-#[tactic(auto, unfolding(crate::specs::Plan::query_coins, crate::specs::Sent::payload_size, crate::specs::Sent::payload_to))]
+#[tactic(auto, unfolding(crate::specs::Plan::query_coins, crate::specs::Sent::payload_to))]
 fn write_payload(plan: &FetchPlan, coins: &[u8], index: u8, out: &mut [u8])
     requires plan { IsPlan plan.now }
     requires coins { length coins.now ≡ query_coins (params_of plan.now 0) }
     requires first { 1 ≤ index }
     requires last { index ≤ plan.now.n }
-    requires room { length out.old ≡ payload_size (params_of plan.now 0) }
+    requires room { length out.old ≡ payload_len (scheme_of plan.now.scheme) plan.now.r }
     ensures { out.new ≡ payload_to (params_of plan.now 0) coins.now plan.now.block index }
 {
     let FetchPlan { t, n, r, block, .. } = *plan;
-    if plan.scheme == XOR {
-        bitmap_into(coins, u32::from(n), r, block, index, out);
-    } else {
-        query_into(coins, u32::from(t), r, block, index, out);
+    match plan.scheme() {
+        Scheme::Shamir => query_into(coins, u32::from(t), r, block, index, out),
+        Scheme::Xor => bitmap_into(coins, u32::from(n), r, block, index, out),
     }
 }
 
@@ -63,12 +57,14 @@ fn write_frame(plan: &FetchPlan, coins: &[u8], index: u8, frame: &mut [u8])
     requires coins { length coins.now ≡ need plan.now }
     requires first { 1 ≤ index }
     requires last { index ≤ plan.now.n }
-    requires room { length frame.old ≡ FRAME_HEADER_LEN + payload_size (params_of plan.now 0) }
+    requires room { length frame.old ≡ frame_len plan.now }
     ensures { frame.new ≡ sent plan.now coins.now index }
 {
-    let (header, payload) = frame.split_at_mut(FRAME_HEADER_LEN);
+    let Some((header, payload)) = frame.split_first_chunk_mut() else {
+        unreachable!()
+    };
     write_header(plan, coins, index, header);
-    write_payload(plan, &coins[8..], index, payload);
+    write_payload(plan, &coins[NUMBER_LEN..], index, payload);
 }
 
 /// Asks one server: opens its link, sends it the frame, and fills `answer` with what comes, up to its end. It says how many
@@ -83,7 +79,8 @@ fn ask<P: Ports>(
     requires frame { 0 < length frame.now }
     requires answer { 0 < length answer.old }
     ensures fits { IfSome result (λ n. n ≤ length answer.new) }
-    ensures asked { Asked address.now frame.now (length answer.old) (option_map (λ n. take n answer.new) result) ((P.world ports.old).at (link index)) ((P.world ports.new).at (link index)) }
+    ensures asked { LinkAsked address.now frame.now (length answer.old) (option_map (λ n. take n answer.new) result)
+        ((P.world ports.old).at (link index)) ((P.world ports.new).at (link index)) }
     ensures others { Touches (link index) (P.world ports.old) (P.world ports.new) }
 {
     let link = Port::Link(index);
@@ -112,12 +109,12 @@ fn ask_next<P: Ports>(
 )
     requires plan { IsPlan plan.now }
     requires coins { length coins.now ≡ need plan.now }
-    requires frame { length frame.old ≡ FRAME_HEADER_LEN + payload_size (params_of plan.now 0) }
+    requires frame { length frame.old ≡ frame_len plan.now }
     requires answer { length answer.old ≡ answer_len plan.now.s }
     requires params { session.old.params ≡ params_of plan.now (session_number coins.now) }
     requires few { length session.old.records < plan.now.n }
     ensures asked { AsksNext plan.now address.now coins.now session.old session.new (P.world ports.old) (P.world ports.new) }
-    ensures others { Touches ((link 1) + length session.old.records) (P.world ports.old) (P.world ports.new) }
+    ensures others { Touches (link 1 + length session.old.records) (P.world ports.old) (P.world ports.new) }
 {
     let index = session.record_count() as u8 + 1;
     write_frame(plan, coins, index, frame);
@@ -141,7 +138,7 @@ pub(crate) fn ask_all<P: Ports>(
     requires plan { IsPlan plan.now }
     requires coins { length coins.now ≡ need plan.now }
     requires addresses { length addresses.now ≡ plan.now.n }
-    requires frame { length frame.old ≡ FRAME_HEADER_LEN + payload_size (params_of plan.now 0) }
+    requires frame { length frame.old ≡ frame_len plan.now }
     requires answer { length answer.old ≡ answer_len plan.now.s }
     requires params { session.old.params ≡ params_of plan.now (session_number coins.now) }
     requires fresh { session.old.records ≡ [] }

@@ -1,11 +1,14 @@
 //! What is to be fetched, and why it is not.
 
-ghost use Rattle.std.specs.Prelude.{◌≡◌, ◌≤◌};
+ghost use Rattle.std.specs.Prelude.{◌≡◌};
+ghost use Rattle.wire_frames.specs.Scheme.{scheme_of};
 ghost use Rattle.fetch_client.specs.Plan.{IsPlan, need, params_of};
-ghost use Rattle.fetch_client.specs.Sent.{payload_size};
+ghost use Rattle.fetch_client.specs.Sent.{frame_len};
 
+use crate::coins::NUMBER_LEN;
+use std::alloc::AllocError;
 use thiserror::Error;
-use wire_frames::{SessionParams, XOR};
+use wire_frames::{FRAME_HEADER_LEN, Scheme, SessionParams};
 
 /// What is to be fetched, and how.
 #[derive(Clone, Copy, Debug, PartialEq, Eq)]
@@ -43,33 +46,33 @@ impl FetchPlan {
         }
     }
 
-    /// How many coins it needs: 8 for the session's number, and `t` for each row or, in the XOR scheme, a bitmap for each
+    /// The scheme that it is fetched in.
+    pub(crate) fn scheme(&self) -> Scheme
+        ensures { result ≡ scheme_of self.now.scheme }
+    {
+        Scheme::of(self.scheme)
+    }
+
+    /// How many coins it needs: those of the session's number, and `t` for each row or, in the XOR scheme, a bitmap for each
     /// server but the last.
     #[tactic(auto, unfolding(crate::specs::Plan::query_coins))]
     pub(crate) fn coins_len(&self) -> usize
         requires { IsPlan self.now }
         ensures { result ≡ need self.now }
     {
-        let rows = self.r as usize;
-        if self.scheme == XOR {
-            8 + (usize::from(self.n) - 1) * rows.div_ceil(8)
-        } else {
-            8 + rows * usize::from(self.t)
-        }
+        let scheme = self.scheme();
+        let coins = match scheme {
+            Scheme::Shamir => self.r as usize * usize::from(self.t),
+            Scheme::Xor => (usize::from(self.n) - 1) * scheme.payload_len(self.r),
+        };
+        NUMBER_LEN + coins
     }
 
-    /// How many bytes the payload of a query has: one for each row or, in the XOR scheme, a bit for each row.
-    #[tactic(auto, unfolding(crate::specs::Sent::payload_size))]
-    pub(crate) fn payload_len(&self) -> usize
-        ensures is { result ≡ payload_size (params_of self.now 0) }
-        ensures few { result ≤ self.now.r }
+    /// How many bytes the frame has that a server is sent.
+    pub(crate) fn frame_len(&self) -> usize
+        ensures { result ≡ frame_len self.now }
     {
-        let rows = self.r as usize;
-        if self.scheme == XOR {
-            rows.div_ceil(8)
-        } else {
-            rows
-        }
+        FRAME_HEADER_LEN + self.scheme().payload_len(self.r)
     }
 }
 
@@ -85,4 +88,15 @@ pub enum FetchFault {
     /// Want of memory: either nothing was touched, or every server was asked, and the answers couldn't be judged.
     #[error("no memory")]
     Memory,
+}
+
+impl From<AllocError> for FetchFault {
+    ghost use Rattle.std.specs.Prelude.{◌≡◌};
+    ghost use Rattle.fetch_client.specs.declared.plan.FetchFault.TheVariants.{Memory};
+
+    ghost from_gives = { λ _ fault. fault ≡ Memory };
+
+    fn from(_fault: AllocError) -> FetchFault {
+        FetchFault::Memory
+    }
 }

@@ -1,22 +1,28 @@
 -- Reading a session from Input, piece by piece.
-use Rattle.std.proofs.Common.{◌≡◌, ◌∙◌, ℕ, ◌+◌, ◌-◌, ◌<◌, ◌≤◌, List, [], ◌++◌, length, take, refl, sym, ap, subst, arith, length-append}
+use Rattle.std.proofs.Common.{◌≡◌, ◌∙◌, inl, inr, ℕ, ◌+◌, ◌-◌, ◌<◌, ◌≤◌, All, List, [], ◌∷◌, ◌++◌, length, take, refl, sym, ap, subst, arith, length-append}
 use Rattle.std.specs.Prelude.{Option, Some, None, IfSome, Ok, Err}
-use Rattle.std.proofs.lemmas.List.{length-take-le}
-use Rattle.pir_ports.specs.World.{World}
+use Rattle.std.proofs.lemmas.Bool.{cases_lt}
+use Rattle.std.proofs.lemmas.List.{length-take-le, take-append-le, take_all}
+use Rattle.std.proofs.lemmas.List.Elements.{All-nil, All-push}
+use Rattle.pir_ports.specs.World.{Cell, World}
 use Rattle.pir_ports.specs.Number.{INPUT}
-use Rattle.pir_ports.specs.Moves.{Touches, Hands}
+use Rattle.pir_ports.specs.Moves.{Rose, Touches, Hands, Fails, counted}
 use Rattle.pir_ports.specs.Whole.{Reads, IsFront}
-use Rattle.pir_ports.proofs.Cells.{reads_more, reads_end, touches_more}
-use Rattle.wire_frames.specs.Session.{Transcript, IsSession}
-use Rattle.wire_frames.specs.Beginning.{IsPlace}
+use Rattle.pir_ports.proofs.Cells.{took_none, reads_more, reads_end, touches_more}
+use Rattle.wire_frames.specs.declared.scheme.TheConstants.{XOR}
+use Rattle.wire_frames.specs.Sizes.{answer_len}
+use Rattle.wire_frames.specs.Session.{Transcript, IsSession, Fits, session_bytes}
+use Rattle.wire_frames.specs.Beginning.{Begins, IsPlace}
 use Rattle.wire_frames.specs.Reading.{Reading, SoFar, Refused, Feeds, Ends}
-use Rattle.wire_frames.specs.declared.reader.FeedFault.TheVariants.{BadSession as Wrong}
+use Rattle.wire_frames.specs.declared.reader.FeedFault.{FeedFault}
+use Rattle.wire_frames.specs.declared.reader.FeedFault.TheVariants.{BadSession as Wrong, Memory as NoMemory}
 use Rattle.wire_frames.specs.declared.reader.BadSession.{BadSession as SessionFault}
 use Rattle.wire_frames.proofs.Beginnings.{begins_short}
+use Rattle.wire_frames.proofs.OneSession.{one_session}
 use Rattle.wire_frames.proofs.Fronts.{stops-front, stops-none}
-use Rattle.replay.specs.declared.ReplayFault.{ReplayFault}
-use Rattle.replay.specs.declared.ReplayFault.TheVariants.{ReadFault, BadSession, Memory}
-use Rattle.replay.specs.Replayed.{NoSession, Took, IsFileOf, Fed, ReadTo}
+use Rattle.replay.specs.declared.TheConstants.{PIECE_LEN}
+use Rattle.replay.specs.Faults.{of_feed}
+use Rattle.replay.specs.Replayed.{Spells, NoSession, ReadsWhole, Refuses, BreaksOff, ReadTo, most_columns, CountsColumns}
 
 -- no session is longer
 abbrev pub longest : ℕ
@@ -32,7 +38,7 @@ pub record HasSeen (reader : Reading) (old new : World) : Type 0 where
   pub still : reader ≡ SoFar (seen_by reader)
   pub reads : Reads INPUT (seen_by reader) old new
   pub others : Touches INPUT old new
-  pub short : length (seen_by reader) ≤ longest
+  pub begins : Begins (seen_by reader)
 
 -- what is said where bytes are told holds of these bytes
 pub at_told : (P : List ℕ → Type 0) (o : Option (List ℕ)) (bytes : List ℕ) → o ≡ Some bytes → IfSome o P → P bytes
@@ -50,57 +56,194 @@ refused_front (Some h) read place front is lt =
     let there = stops-front IsSession read h place front.bytes lt is in
     record { place_is = there; none = stops-none IsSession h place there (omega (arith, front.there)) }
 
+-- so many bytes were seen, with the next piece
+length_seen : (n : ℕ) (sub ys : List ℕ) (v u : World) (seen : List ℕ) → length ys ≡ length sub → Hands INPUT n sub ys v u
+    → length (seen ++ take n ys) ≡ length seen + n
+length_seen n sub ys v u seen same hands =
+    length-append seen (take n ys)
+    ∙ ap (λ (k : ℕ). length seen + k) (length-take-le n ys (omega (arith, same, hands.fits)))
+
+-- the least session: two servers, whose records are absent
+abbrev least : Transcript
+least = record {
+  params = record { scheme = 1; t = 1; h = 2; n = 2; session = 0; r = 1; s = 1 };
+  records = None ∷ None ∷ [];
+}
+
+fits_absent : All (Fits (answer_len 1)) (None ∷ None ∷ [])
+fits_absent = All-push (Fits (answer_len 1)) (None ∷ []) None (All-push (Fits (answer_len 1)) [] None (All-nil (Fits (answer_len 1))) tt) tt
+
+-- no bytes begin a session
+pub nothing_begins : Begins []
+nothing_begins = record {
+  rest = session_bytes least;
+  value = least;
+  whole = record {
+    range = record {
+      scheme = inl refl;
+      private = omega arith;
+      few_private = omega arith;
+      agreement = omega arith;
+      few_agree = omega arith;
+      servers = omega arith;
+      few_servers = omega arith;
+      all_agree = λ xor. omega (arith, xor);
+      all_answer = λ xor. omega (arith, xor);
+      session = omega arith;
+      shape = record {
+        some_rows = omega arith;
+        few_rows = omega arith;
+        some_bytes = omega arith;
+        few_bytes = omega arith;
+        few_cells = omega arith;
+      };
+    };
+    all = refl;
+    fits = fits_absent;
+    spelled = refl;
+  };
+}
+
+-- before the first piece the reader has seen nothing
+pub seen_nothing : (w : World) → HasSeen (SoFar []) w w
+seen_nothing w = record {
+  still = refl;
+  reads = record { cell = sym (took_none (w.at INPUT)); told = no_bytes (w.at INPUT).holds };
+  others = record { others = λ q l ne. refl; crowd = refl; started = refl };
+  begins = nothing_begins;
+}
+  where
+    no_bytes : (o : Option (List ℕ)) → IfSome o (IsFront [])
+    no_bytes None = tt
+    no_bytes (Some held) = record { there = omega arith; bytes = refl }
+
 -- one more piece is read, and the reader has seen it
-pub seen_more : (n : ℕ) (sub ys : List ℕ) (old v u : World) (reader new : Reading) (x : Unit {0}) → length ys ≡ length sub → HasSeen reader old v → Hands INPUT n sub ys v u → Touches INPUT v u
-    → Feeds reader (take n ys) (Ok x) new → HasSeen new old u
+pub seen_more : (n : ℕ) (sub ys : List ℕ) (old v u : World) (reader new : Reading) (x : Unit {0}) → length ys ≡ length sub
+    → HasSeen reader old v → Hands INPUT n sub ys v u → Touches INPUT v u → Feeds reader (take n ys) (Ok x) new
+    → HasSeen new old u
 seen_more n sub ys old v u reader new x same h hands others fed =
     let fed' = subst (λ (r : Reading). Feeds r (take n ys) (Ok x) new) h.still fed in
-    let seen = seen_by reader ++ take n ys in
-    let reads = reads_more 0 n (seen_by reader) sub ys old v u same h.reads hands in
     subst (λ (r : Reading). HasSeen r old u) (sym fed'.1) record {
       still = refl;
-      reads = reads;
-      others = touches_more 0 old v u h.others others;
-      short = begins_short seen fed'.0;
+      reads = reads_more INPUT n (seen_by reader) sub ys old v u same h.reads hands;
+      others = touches_more INPUT old v u h.others others;
+      begins = fed'.0;
     }
 
 -- and it has seen more than before
-pub seen_grows : (n : ℕ) (sub ys : List ℕ) (old v u : World) (reader new : Reading) (x : Unit {0}) → 0 < n → length ys ≡ length sub → HasSeen reader old v → Hands INPUT n sub ys v u
-    → Feeds reader (take n ys) (Ok x) new → longest - length (seen_by new) < longest - length (seen_by reader)
+pub seen_grows : (n : ℕ) (sub ys : List ℕ) (old v u : World) (reader new : Reading) (x : Unit {0}) → 0 < n
+    → length ys ≡ length sub → HasSeen reader old v → Hands INPUT n sub ys v u → Feeds reader (take n ys) (Ok x) new
+    → longest - length (seen_by new) < longest - length (seen_by reader)
 seen_grows n sub ys old v u reader new x some same h hands fed =
     let fed' = subst (λ (r : Reading). Feeds r (take n ys) (Ok x) new) h.still fed in
     let seen = seen_by reader ++ take n ys in
-    let size : length seen ≡ length (seen_by reader) + n = length-append (seen_by reader) (take n ys) ∙ ap (λ (k : ℕ). length (seen_by reader) + k) (length-take-le n ys (omega (arith, hands.fits))) in
+    let size = length_seen n sub ys v u (seen_by reader) same hands in
     let short = begins_short seen fed'.0 in
-    subst (λ (r : Reading). longest - length (seen_by r) < longest - length (seen_by reader)) (sym fed'.1) (omega (arith, size, short))
+    subst (λ (r : Reading). longest - length (seen_by r) < longest - length (seen_by reader)) (sym fed'.1)
+    (omega (arith, size, short))
 
--- some bytes were taken where so many were read
-took_read : (read : List ℕ) (old new : World) → Reads INPUT read old new → Took INPUT old new
-took_read read old new reads = record { n = length read; cell = reads.cell }
+-- a call failed behind the bytes that the reader has seen
+pub seen_fails : (old v u : World) (reader : Reading) → HasSeen reader old v → Fails INPUT v u
+    → BreaksOff (old.at INPUT) (u.at INPUT)
+seen_fails old v u reader h fails = record {
+  read = seen_by reader;
+  begins = h.begins;
+  cell = fails.cell ∙ ap (counted (u.at INPUT).faults) h.reads.cell;
+  front = h.reads.told;
+  rose = subst (λ (k : ℕ). Rose k (u.at INPUT).faults) (ap (λ (c : Cell). c.faults) h.reads.cell) fails.rose;
+}
+
+-- where bytes begin a session, the place of what has them in front is not before their end
+place_behind : (begun piece : List ℕ) (place : ℕ) → Begins begun → IsPlace (begun ++ piece) place → length begun ≤ place
+place_behind begun piece place begins is = elim (cases_lt place (length begun)) [
+  | inl before ↦
+      let front : begun ≡ take (length begun) (begun ++ piece) = sym (take-append-le (length begun) begun piece (omega arith) ∙ take_all (length begun) begun (omega arith)) in
+      absurd (is.longest (length begun) before (omega (arith, length-append begun piece)) (subst Begins front begins))
+  | inr behind ↦ omega (arith, behind)
+]
 
 -- one more piece is refused
-pub seen_stops : {T : Type 0} (P : T → List ℕ → Type 0) (n : ℕ) (sub ys : List ℕ) (old v u : World) (reader new : Reading) (fault : ReplayFault) → length ys ≡ length sub → HasSeen reader old v
-    → Hands INPUT n sub ys v u → Fed reader (take n ys) (Err fault) new → ReadTo P (Err fault) old u
-seen_stops P n sub ys old v u reader new (BadSession place) same h hands fed =
+pub seen_stops : {T : Type 0} (P : T → List ℕ → Type 0) (n : ℕ) (sub ys : List ℕ) (old v u : World) (reader new : Reading)
+    (fault : FeedFault) → length sub ≡ PIECE_LEN → length ys ≡ length sub → HasSeen reader old v
+    → Hands INPUT n sub ys v u → Feeds reader (take n ys) (Err fault) new → ReadTo P (Err (of_feed fault)) old u
+seen_stops P n sub ys old v u reader new (Wrong place) room same h hands fed =
     let fed' = subst (λ (r : Reading). Feeds r (take n ys) (Err (Wrong place)) new) h.still fed in
-    let reads = reads_more 0 n (seen_by reader) sub ys old v u same h.reads hands in
-    (took_read (seen_by reader ++ take n ys) old u reads, refused_front (old.at INPUT).holds (seen_by reader ++ take n ys) place reads.told fed'.0 fed'.1)
-seen_stops P n sub ys old v u reader new ReadFault same h hands fed = absurd fed
-seen_stops P n sub ys old v u reader new Memory same h hands fed =
-    took_read (seen_by reader ++ take n ys) old u (reads_more 0 n (seen_by reader) sub ys old v u same h.reads hands)
+    let seen = seen_by reader ++ take n ys in
+    let reads = reads_more INPUT n (seen_by reader) sub ys old v u same h.reads hands in
+    let size = length_seen n sub ys v u (seen_by reader) same hands in
+    let behind = place_behind (seen_by reader) (take n ys) place h.begins fed'.0 in
+    record {
+      read = seen;
+      cell = reads.cell;
+      front = reads.told;
+      wrong = record { place_is = fed'.0; none = stops-none IsSession seen place fed'.0 fed'.1 };
+      least = omega (arith, fed'.1);
+      most = omega (arith, behind, size, hands.fits, room);
+      none = refused_front (old.at INPUT).holds seen place reads.told fed'.0 fed'.1;
+    }
+seen_stops P n sub ys old v u reader new NoMemory room same h hands fed =
+    let fed' = subst (λ (r : Reading). Feeds r (take n ys) (Err NoMemory) new) h.still fed in
+    let reads = reads_more INPUT n (seen_by reader) sub ys old v u same h.reads hands in
+    let size = length_seen n sub ys v u (seen_by reader) same hands in
+    inl record {
+      read = seen_by reader ++ take n ys;
+      cell = reads.cell;
+      front = reads.told;
+      few = omega (arith, fed'.1, size, hands.fits, room);
+    }
 
 -- Input is at its end, and the bytes are a session
-pub seen_whole : (n : ℕ) (sub ys : List ℕ) (old v u : World) (reader : Reading) (session : Transcript) → HasSeen reader old v → Hands INPUT n sub ys v u → n ≡ 0
-    → IfSome (v.at INPUT).holds (λ h. h ≡ []) → Ends reader (Ok session) → Took INPUT old u × IfSome (old.at INPUT).holds (IsFileOf session)
+pub seen_whole : (n : ℕ) (sub ys : List ℕ) (old v u : World) (reader : Reading) (session : Transcript) → HasSeen reader old v
+    → Hands INPUT n sub ys v u → n ≡ 0 → IfSome (v.at INPUT).holds (λ h. h ≡ []) → Ends reader (Ok session)
+    → ReadsWhole (Spells session) (old.at INPUT) (u.at INPUT)
 seen_whole n sub ys old v u reader session h hands none last ends =
-    let all = reads_end 0 n (seen_by reader) sub ys old v u h.reads hands none last in
-    let whole = subst (λ (r : Reading). Ends r (Ok session)) h.still ends in
-    (record { n = length (seen_by reader); cell = all.0 }, of_held (IsFileOf session) (old.at INPUT).holds (seen_by reader) all.1 whole)
+    let all = reads_end INPUT n (seen_by reader) sub ys old v u h.reads hands none last in
+    record {
+      read = seen_by reader;
+      cell = all.0;
+      all = all.1;
+      is = subst (λ (r : Reading). Ends r (Ok session)) h.still ends;
+    }
 
 -- Input is at its end, and the bytes are no session
-pub seen_short : (n : ℕ) (sub ys : List ℕ) (old v u : World) (reader : Reading) (fault : SessionFault) → HasSeen reader old v → Hands INPUT n sub ys v u → n ≡ 0
-    → IfSome (v.at INPUT).holds (λ h. h ≡ []) → Ends reader (Err fault) → Took INPUT old u × IfSome (old.at INPUT).holds (NoSession fault.place)
+pub seen_short : (n : ℕ) (sub ys : List ℕ) (old v u : World) (reader : Reading) (fault : SessionFault) → HasSeen reader old v
+    → Hands INPUT n sub ys v u → n ≡ 0 → IfSome (v.at INPUT).holds (λ h. h ≡ []) → Ends reader (Err fault)
+    → Refuses fault.place (old.at INPUT) (u.at INPUT)
 seen_short n sub ys old v u reader fault h hands none last ends =
-    let all = reads_end 0 n (seen_by reader) sub ys old v u h.reads hands none last in
+    let read = seen_by reader in
+    let all = reads_end INPUT n read sub ys old v u h.reads hands none last in
     let short = subst (λ (r : Reading). Ends r (Err fault)) h.still ends in
-    (record { n = length (seen_by reader); cell = all.0 }, of_held (NoSession fault.place) (old.at INPUT).holds (seen_by reader) all.1 (record { place_is = short.0; none = short.2 }))
+    let wrong : NoSession fault.place read = record { place_is = short.0; none = short.2 } in
+    record {
+      read = read;
+      cell = all.0;
+      front = h.reads.told;
+      wrong = wrong;
+      least = omega (arith, short.1);
+      most = omega (arith, short.1);
+      none = of_held (NoSession fault.place) (old.at INPUT).holds read all.1 wrong;
+    }
+
+-- columns are counted for the one session that Input held
+pub counts_of : (session : Transcript) (old new : Cell) (before now : ℕ) → ReadsWhole (Spells session) old new
+    → now ≤ before + most_columns session → (session.params.scheme ≡ XOR → now ≡ before) → CountsColumns old.holds before now
+counts_of session old new before now reads most xor = record {
+  most = λ bytes other told is. subst (λ (t : Transcript). now ≤ before + most_columns t) (same bytes other told is) most;
+  xor = λ bytes other told is scheme.
+      xor (ap (λ (t : Transcript). t.params.scheme) (same bytes other told is) ∙ scheme);
+  none = λ bytes told nothing. absurd (nothing (session, spelled bytes told));
+}
+  where
+    spelled : (bytes : List ℕ) → old.holds ≡ Some bytes → IsSession bytes session
+    spelled bytes told = subst (Spells session) (at_told (λ held. reads.read ≡ held) old.holds bytes told reads.all) reads.is
+
+    same : (bytes : List ℕ) (other : Transcript) → old.holds ≡ Some bytes → IsSession bytes other → session ≡ other
+    same bytes other told is = one_session bytes session other (spelled bytes told) is
+
+-- no column is counted
+pub counts_none : (held : Option (List ℕ)) (before now : ℕ) → now ≡ before → CountsColumns held before now
+counts_none held before now same = record {
+  most = λ bytes session told is. omega (arith, same);
+  xor = λ bytes session told is scheme. same;
+  none = λ bytes told nothing. same;
+}

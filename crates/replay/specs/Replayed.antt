@@ -1,23 +1,28 @@
--- What reading a recorded session to its end, and judging it, gives.
-use Rattle.std.specs.Prelude.{◌≤◌, ◌+◌, ◌*◌, length, Some, ◌≡◌, ℕ, List, IfSome, Result, Ok, Err}
+-- What reading a recorded session from Input, and judging it, does and gives.
+use Rattle.std.specs.Prelude.{◌≤◌, ◌+◌, ◌*◌, ◌⊎◌, length, Some, ◌≡◌, ℕ, List, Option, IfSome, Result, Ok, Err}
 use Rattle.uni_poly.specs.Binomial.{binomial}
-use Rattle.pir_ports.specs.World.{World}
+use Rattle.pir_ports.specs.World.{Cell, World}
 use Rattle.pir_ports.specs.Number.{INPUT}
-use Rattle.pir_ports.specs.Moves.{took}
-use Rattle.pir_ports.specs.Whole.{FailsAfter}
+use Rattle.pir_ports.specs.Moves.{Rose, took, counted}
+use Rattle.pir_ports.specs.Whole.{IsFront}
+use Rattle.wire_frames.specs.declared.scheme.TheConstants.{XOR}
+use Rattle.wire_frames.specs.declared.sizes.TheConstants.{SESSION_HEADER_LEN}
 use Rattle.wire_frames.specs.Session.{Transcript, IsSession}
-use Rattle.wire_frames.specs.Beginning.{IsPlace}
-use Rattle.wire_frames.specs.Reading.{Reading, Feeds}
-use Rattle.wire_frames.specs.declared.reader.FeedFault.TheVariants.{BadSession as Wrong, Memory as NoMemory}
+use Rattle.wire_frames.specs.Beginning.{Begins, IsPlace}
 use Rattle.wire_frames.specs.Answer.{answers}
 use Rattle.block_decoder.specs.Verdict.{IsVerdict}
 use Rattle.block_decoder.specs.declared.verdict.Verdict.{Verdict}
+use Rattle.replay.specs.declared.TheConstants.{PIECE_LEN}
 use Rattle.replay.specs.declared.ReplayFault.{ReplayFault}
 use Rattle.replay.specs.declared.ReplayFault.TheVariants.{ReadFault, BadSession, Memory}
 
--- the bytes are the file of a session
-abbrev pub IsFileOf : Transcript → List ℕ → Type 0
-IsFileOf session bytes = IsSession bytes session
+-- the bytes spell this session
+abbrev pub Spells : Transcript → List ℕ → Type 0
+Spells session bytes = IsSession bytes session
+
+-- the bytes spell some session
+abbrev pub SpellsOne : List ℕ → Type 0
+SpellsOne bytes = (session : Transcript) × Spells session bytes
 
 -- the bytes are a session that has this verdict
 pub record Judged (verdict : Verdict) (bytes : List ℕ) : Type 0 where
@@ -30,27 +35,63 @@ pub record NoSession (place : ℕ) (bytes : List ℕ) : Type 0 where
   pub place_is : IsPlace bytes place
   pub none : (session : Transcript) → IsSession bytes session → ⊥
 
--- some bytes were taken from the port, which is otherwise as it was
-pub record Took (p : ℕ) (old new : World) : Type 0 where
-  pub n : ℕ
-  pub cell : new.at p ≡ took n (old.at p)
+-- the port was read to its end, and P holds of all that it held
+pub record ReadsWhole (P : List ℕ → Type 0) (old new : Cell) : Type 0 where
+  pub read : List ℕ
+  pub cell : new ≡ took (length read) old
+  pub all : IfSome old.holds (λ held. read ≡ held)
+  pub is : P read
 
--- Input was read: what it held is P of the result; or it is no session; or a call on Input failed; or memory ran out
+-- the port was read until it was seen that it holds no session: to this place, and no more than one piece past it
+pub record Refuses (place : ℕ) (old new : Cell) : Type 0 where
+  pub read : List ℕ
+  pub cell : new ≡ took (length read) old
+  pub front : IfSome old.holds (IsFront read)
+  pub wrong : NoSession place read
+  pub least : place ≤ length read
+  pub most : length read ≤ place + PIECE_LEN
+  pub none : IfSome old.holds (NoSession place)
+
+-- the port handed out what begins a session, and then a call on it failed
+pub record BreaksOff (old new : Cell) : Type 0 where
+  pub read : List ℕ
+  pub begins : Begins read
+  pub cell : new ≡ counted new.faults (took (length read) old)
+  pub front : IfSome old.holds (IsFront read)
+  pub rose : Rose old.faults new.faults
+
+-- the port was read no further than a session's header and one piece
+pub record ReadsLittle (old new : Cell) : Type 0 where
+  pub read : List ℕ
+  pub cell : new ≡ took (length read) old
+  pub front : IfSome old.holds (IsFront read)
+  pub few : length read ≤ SESSION_HEADER_LEN + PIECE_LEN
+
+-- Input was read: what it held is P of the result; or it is no session; or a call on Input failed; or memory ran out, early or
+-- when a whole session was read
 abbrev pub ReadTo : {T : Type 0} → (T → List ℕ → Type 0) → Result T ReplayFault → World → World → Type 0
-ReadTo P (Ok x) old new = Took INPUT old new × IfSome (old.at INPUT).holds (P x)
-ReadTo P (Err (BadSession place)) old new = Took INPUT old new × IfSome (old.at INPUT).holds (NoSession place)
-ReadTo P (Err ReadFault) old new = FailsAfter INPUT old new
-ReadTo P (Err Memory) old new = Took INPUT old new
+ReadTo P (Ok x) old new = ReadsWhole (P x) (old.at INPUT) (new.at INPUT)
+ReadTo P (Err (BadSession place)) old new = Refuses place (old.at INPUT) (new.at INPUT)
+ReadTo P (Err ReadFault) old new = BreaksOff (old.at INPUT) (new.at INPUT)
+ReadTo P (Err Memory) old new =
+    ReadsLittle (old.at INPUT) (new.at INPUT) ⊎ ReadsWhole SpellsOne (old.at INPUT) (new.at INPUT)
 
--- one more piece was read
-abbrev pub Fed : Reading → List ℕ → Result (Unit {0}) ReplayFault → Reading → Type 0
-Fed old piece (Ok x) new = Feeds old piece (Ok x) new
-Fed old piece (Err (BadSession place)) new = Feeds old piece (Err (Wrong place)) new
-Fed old piece (Err ReadFault) new = ⊥
-Fed old piece (Err Memory) new = Feeds old piece (Err NoMemory) new
+-- the most columns that judging a session takes: its width times the number of choices of t + 1 of its usable answers
+abbrev pub most_columns : Transcript → ℕ
+most_columns session = session.params.s * binomial (length (answers session)) (session.params.t + 1)
 
--- where Input held a session, no more steps were taken than its width times the number of choices of t + 1 of its
--- usable answers
-abbrev pub StepsWithin : ℕ → ℕ → World → Type 0
-StepsWithin before now world = (bytes : List ℕ) (session : Transcript) → (world.at INPUT).holds ≡ Some bytes → IsSession bytes session
-    → now ≤ before + session.params.s * binomial (length (answers session)) (session.params.t + 1)
+-- where this held a session no more columns are counted than judging it takes, and none in the XOR scheme; where it held
+-- no session, none
+pub record CountsColumns (held : Option (List ℕ)) (before now : ℕ) : Type 0 where
+  pub most : (bytes : List ℕ) (session : Transcript) → held ≡ Some bytes → IsSession bytes session
+      → now ≤ before + most_columns session
+  pub xor : (bytes : List ℕ) (session : Transcript) → held ≡ Some bytes → IsSession bytes session
+      → session.params.scheme ≡ XOR → now ≡ before
+  pub none : (bytes : List ℕ) → held ≡ Some bytes → (SpellsOne bytes → ⊥) → now ≡ before
+
+-- where nothing is judged no column is counted
+abbrev pub CountsNone : Result Verdict ReplayFault → ℕ → ℕ → Type 0
+CountsNone (Ok verdict) before now = Unit {0}
+CountsNone (Err (BadSession place)) before now = now ≡ before
+CountsNone (Err ReadFault) before now = now ≡ before
+CountsNone (Err Memory) before now = Unit {0}

@@ -1,18 +1,17 @@
 //! Replays a recorded session: reads it from Input to its end, and judges it.
 //!
-//! Promised: the verdict is that of the session that Input held; bytes that are no session are refused, with the length
-//! of their longest prefix that begins one; no port but Input is touched; and the columns that are interpolated are
-//! counted, and bounded.
+//! Promised: the verdict is that of the session that Input held, all of which was read; bytes that are no session are
+//! refused, with the length of their longest prefix that begins one, and no more than [`PIECE_LEN`] bytes past it are read;
+//! nothing is read after a failed call; no port but Input is touched; and the columns that are interpolated are counted,
+//! and bounded.
 //!
 //! Not promised: that memory is found, or that Input ever answers.
 #![tactic(auto)]
 
-ghost use Rattle.std.specs.Prelude.{◌≡◌, ◌<◌, length, vec_len, IfOk};
+ghost use Rattle.std.specs.Prelude.{◌≡◌, length, vec_len, IfOk};
 ghost use Rattle.pir_ports.specs.Number.{INPUT};
 ghost use Rattle.pir_ports.specs.Moves.{Touches};
-ghost use Rattle.wire_frames.specs.Session.{IsSession};
-ghost use Rattle.wire_frames.specs.Reading.{Feeds};
-ghost use Rattle.replay.specs.Replayed.{ReadTo, Judged, IsFileOf, Fed, StepsWithin};
+ghost use Rattle.replay.specs.Replayed.{ReadTo, Judged, Spells, CountsColumns, CountsNone};
 
 use block_decoder::{Verdict, judge};
 use pir_ports::{Failed, Port, Ports};
@@ -36,19 +35,44 @@ pub enum ReplayFault {
     Memory,
 }
 
-// How many bytes are taken at once, at most.
-const PIECE: usize = 65536;
+impl From<FeedFault> for ReplayFault {
+    ghost use Rattle.std.specs.Prelude.{◌≡◌};
+    ghost use Rattle.replay.specs.Faults.{of_feed};
 
-/// Feeds one more piece.
-fn feed_piece(alloc: Global, reader: &mut SessionReader, piece: &[u8]) -> Result<(), ReplayFault>
-    ensures { Fed reader.old piece.now result reader.new }
-{
-    match reader.feed(alloc, piece) {
-        Ok(()) => Ok(()),
-        Err(FeedFault::BadSession { place }) => Err(ReplayFault::BadSession { place }),
-        Err(FeedFault::Memory) => Err(ReplayFault::Memory),
+    ghost from_gives = { λ fault given. given ≡ of_feed fault };
+
+    fn from(fault: FeedFault) -> ReplayFault {
+        match fault {
+            FeedFault::BadSession { place } => ReplayFault::BadSession { place },
+            FeedFault::Memory => ReplayFault::Memory,
+        }
     }
 }
+
+impl From<BadSession> for ReplayFault {
+    ghost use Rattle.std.specs.Prelude.{◌≡◌};
+    ghost use Rattle.replay.specs.Faults.{of_end};
+
+    ghost from_gives = { λ fault given. given ≡ of_end fault };
+
+    fn from(fault: BadSession) -> ReplayFault {
+        ReplayFault::BadSession { place: fault.place }
+    }
+}
+
+impl From<AllocError> for ReplayFault {
+    ghost use Rattle.std.specs.Prelude.{◌≡◌};
+    ghost use Rattle.replay.specs.declared.ReplayFault.TheVariants.{Memory};
+
+    ghost from_gives = { λ _ fault. fault ≡ Memory };
+
+    fn from(_fault: AllocError) -> ReplayFault {
+        ReplayFault::Memory
+    }
+}
+
+/// How many bytes of Input are taken at once, at most.
+pub const PIECE_LEN: usize = 65536;
 
 /// Reads Input to its end, or to the first piece that is refused, through the buffer.
 fn read_pieces<P: Ports>(
@@ -56,8 +80,8 @@ fn read_pieces<P: Ports>(
     ports: &mut P,
     buffer: &mut [u8],
 ) -> Result<Session, ReplayFault>
-    requires { 0 < length buffer.old }
-    ensures read { ReadTo IsFileOf result (P.world ports.old) (P.world ports.new) }
+    requires { length buffer.old ≡ PIECE_LEN }
+    ensures read { ReadTo Spells result (P.world ports.old) (P.world ports.new) }
     ensures all { IfOk result (λ session. length session.records ≡ session.params.n) }
     ensures others { Touches INPUT (P.world ports.old) (P.world ports.new) }
 {
@@ -68,31 +92,29 @@ fn read_pieces<P: Ports>(
                 if n == 0 {
                     break;
                 }
-                feed_piece(alloc, &mut reader, &buffer[..n])?;
+                reader.feed(alloc, &buffer[..n])?;
             }
             Err(Failed) => return Err(ReplayFault::ReadFault),
         }
     }
-    match reader.end() {
-        Ok(session) => Ok(session),
-        Err(BadSession { place }) => Err(ReplayFault::BadSession { place }),
-    }
+    Ok(reader.end()?)
 }
 
 /// Room for one piece.
 fn piece_buffer(alloc: Global) -> Result<Vec<u8>, AllocError>
-    ensures { IfOk result (λ buffer. 0 < vec_len buffer) }
+    ensures { IfOk result (λ buffer. vec_len buffer ≡ PIECE_LEN) }
 {
-    vec![in alloc; 0; PIECE]
+    vec![in alloc; 0; PIECE_LEN]
 }
 
-/// The verdict on the session that Input, already open, holds to its end. It is read in pieces, and a wrong byte
-/// ends the reading. `cols` counts the columns that are interpolated.
+/// The verdict on the session that Input, already open, holds to its end. It is read in pieces of at most [`PIECE_LEN`]
+/// bytes, and the first piece with a wrong byte ends the reading. `cols` counts the columns that are interpolated.
 ///
 /// # Errors
 ///
-/// `ReadFault` only where the count of Input rose; `BadSession` exactly where Input holds no session; `Memory` for
-/// want of memory.
+/// `ReadFault` only where the count of Input rose, and then what was read begins some session; `BadSession` exactly where
+/// Input holds no session; `Memory` for want of memory, before more is read than the header of a session and one piece, or
+/// when a whole session was read.
 pub fn replay<C: Ledger, P: Ports>(
     alloc: Global,
     ports: &mut P,
@@ -100,14 +122,10 @@ pub fn replay<C: Ledger, P: Ports>(
 ) -> Result<Verdict, ReplayFault>
     ensures replayed { ReadTo Judged result (P.world ports.old) (P.world ports.new) }
     ensures others { Touches INPUT (P.world ports.old) (P.world ports.new) }
-    ensures cols { StepsWithin cols.old cols.new (P.world ports.old) }
+    ensures cols { CountsColumns ((P.world ports.old).at INPUT).holds cols.old cols.new }
+    ensures unjudged { CountsNone result cols.old cols.new }
 {
-    let Ok(mut buffer) = piece_buffer(alloc) else {
-        return Err(ReplayFault::Memory);
-    };
+    let mut buffer = piece_buffer(alloc)?;
     let session = read_pieces(alloc, ports, &mut buffer)?;
-    match judge(alloc, &session, cols) {
-        Ok(verdict) => Ok(verdict),
-        Err(AllocError) => Err(ReplayFault::Memory),
-    }
+    Ok(judge(alloc, &session, cols)?)
 }

@@ -1,4 +1,4 @@
-use Rattle.std.proofs.Common.{◌≡◌, ◌∙◌, ◌+◌, ℕ, List, length, take, drop, refl, sym, ap, subst, arith}
+use Rattle.std.proofs.Common.{length-drop, ◌≡◌, ◌∙◌, ◌+◌, ℕ, List, length, take, drop, refl, sym, ap, subst, arith}
 use Rattle.pir_ports.specs.Number.{DATABASE}
 use Rattle.pir_ports.specs.Moves.{Hands}
 use Rattle.pir_ports.specs.Whole.{Reads, Ends}
@@ -43,4 +43,13 @@ returns-in-Ended-clause-read g c =
     (reads_ended c.args.most c.in-Ended.n read before after _ v u kept still c.fill_rest.auto.bytes (omega (arith, c.deref_mut.ensures.len, c.lengthen.new.bytes.ok.0, c.in_ok-lengthen.ensures.within)) c.pieces.invariant.so_far ends)
 
 pub returns-in-Failed-clause-read : goal.returns-in-Failed-clause-read
-returns-in-Failed-clause-read g c = reads_failed _ _ _ _ c.pieces.invariant.so_far c.in-Failed.ensures.rest.after
+returns-in-Failed-clause-read g c =
+    let before = c.deref_mut.result.now in
+    let rest = length-drop c.len-filled.result before in
+    let filled : c.len-filled.result ≡ length c.pieces.bytes.items = c.len-filled.ensures ∙ c.pieces.bytes.ok.0 in
+    let size = c.deref_mut.ensures.len in
+    let long = c.lengthen.new.bytes.ok.0 in
+    let more = c.in_ok-lengthen.ensures.more in
+    let within = c.in_ok-lengthen.ensures.within in
+    reads_failed c.args.most (length (drop c.len-filled.result before)) _ _ _ _
+    (omega (arith, rest, filled, size, long, more, within)) c.pieces.invariant.so_far c.in-Failed.ensures.rest
