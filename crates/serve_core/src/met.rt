@@ -11,6 +11,7 @@ pub enum Met {
     Refused(u8),
     /// It ended before its query was whole, and was given nothing.
     Gone,
-    /// A call on it failed. What it was given is a front of the reply.
+    /// A call on it failed. It was given nothing unless all that the reply takes was taken, and then a proper front of the
+    /// reply, which may be empty.
     GuestFault,
 }
