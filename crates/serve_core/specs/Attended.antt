@@ -23,7 +23,7 @@ pub record Replied (service : Service) (met : Met) (old new : World) : Type 0 wh
   pub cell : new.at GUEST ≡ gave frame (took n (old.at GUEST))
   pub told : IfSome (old.at GUEST).holds (IsReply service met n frame)
 
--- a front of the reply to these bytes: nothing, or n bytes of its frame
+-- a proper front of the reply to these bytes: n bytes of its frame
 pub record IsFrontOfReply (service : Service) (front bytes : List ℕ) : Type 0 where
   pub met : Met
   pub frame : List ℕ
@@ -34,7 +34,8 @@ pub record IsFrontOfReply (service : Service) (front bytes : List ℕ) : Type 0 
 
 -- fewer than the bytes of a header, or of a query whose header suits
 abbrev pub IsShort : Service → ℕ → List ℕ → Type 0
-IsShort service n bytes = (n < FRAME_HEADER_LEN) ⊎ (Suits service bytes × (n < query_len service))
+IsShort service n bytes = (n < FRAME_HEADER_LEN)
+    ⊎ (Suits service bytes × (n < query_len service))
 
 -- taking failed: not all that the reply takes was taken, and nothing was given
 pub record TakesShort (service : Service) (n : ℕ) (given bytes : List ℕ) : Type 0 where
@@ -53,7 +54,8 @@ pub record GivesShort (service : Service) (n : ℕ) (given bytes : List ℕ) : T
 
 -- what was taken and given before a call on the guest failed
 abbrev pub IsBroken : Service → ℕ → List ℕ → List ℕ → Type 0
-IsBroken service n given bytes = TakesShort service n given bytes ⊎ GivesShort service n given bytes
+IsBroken service n given bytes = TakesShort service n given bytes
+    ⊎ GivesShort service n given bytes
 
 -- a call on the guest failed, once its stream had lost n bytes and it was given these
 pub record Broke (service : Service) (old new : World) : Type 0 where
@@ -80,8 +82,8 @@ pub record HasReply (service : Service) (guest out : List ℕ) : Type 0 where
   pub met : Met
   pub replies : Replies service guest met out
 
--- what a guest was given, by the count of Guest as it came in and at its end: its whole reply where no call on it failed,
--- else nothing, or a front of the reply
+-- what a guest was given, by the count of Guest as it came in and at its end: its whole reply where
+-- no call on it failed, else nothing, or a front of the reply
 abbrev pub IsServed : Service → List ℕ → List ℕ → ℕ → ℕ → Type 0
 IsServed service guest out before after = ((after ≡ before) × HasReply service guest out)
     ⊎ (Rose before after × ((out ≡ []) ⊎ IsFrontOfReply service out guest))

@@ -1,5 +1,6 @@
--- What a server answers to the bytes of a guest: the frame, and what the guest was met with, in Shamir's scheme (Goldberg
--- 2007) and in the XOR scheme (Chor, Goldreich, Kushilevitz and Sudan 1995).
+-- What a server answers to the bytes of a guest: the frame, and what the guest was met with, in
+-- Shamir's scheme (Goldberg 2007) and in the XOR scheme (Chor, Goldreich, Kushilevitz and Sudan
+-- 1995).
 use Rattle.std.specs.Prelude.{◌≡◌, ◌≢◌, ◌⊎◌, ℕ, ◌<◌, ◌≤◌, Bool, true, false, List, [], ◌++◌, length, take, drop}
 use Rattle.gf256.specs.Product.{product}
 use Rattle.wire_frames.specs.declared.sizes.TheConstants.{FRAME_HEADER_LEN}
@@ -55,7 +56,8 @@ pub record Suits (service : Service) (bytes : List ℕ) : Type 0 where
   pub scheme : query.scheme ≡ service.scheme
   pub shape : IsShaped service query
 
--- a query is refused by its header: with status 1 where it is malformed, 3 for its scheme, 2 for its shape
+-- a query is refused by its header: with status 1 where it is malformed, 3 for its scheme, 2 for
+-- its shape
 abbrev pub RefusedByHeader : Service → List ℕ → ℕ → Type 0
 RefusedByHeader service bytes status = ((status ≡ 1) × Malformed bytes)
     ⊎ ((status ≡ 3) × OtherScheme service bytes)
@@ -70,14 +72,16 @@ abbrev pub sets_unused : Scheme → Database → List ℕ → Bool
 sets_unused Shamir database query = false
 sets_unused Xor database query = has_unused (length database.rows) query
 
--- the answer to a payload: the product of the payload and the database, or the sum of the chosen rows
+-- the answer to a payload: the product of the payload and the database, or the sum of the chosen
+-- rows
 abbrev pub answer : Scheme → Database → List ℕ → List ℕ
 answer Shamir database query = product database.rows database.width query
 answer Xor database query = chosen database query
 
 -- the frame of an answer: the header of status 0, and the answer to the payload
 abbrev pub answer_frame : Service → List ℕ → List ℕ → List ℕ
-answer_frame service header query = answer_to header 0 ++ answer (scheme_of service.scheme) service.database query
+answer_frame service header query = answer_to header 0
+    ++ answer (scheme_of service.scheme) service.database query
 
 -- the bytes are a whole query that suits
 pub record IsWhole (service : Service) (bytes : List ℕ) : Type 0 where
@@ -87,7 +91,8 @@ pub record IsWhole (service : Service) (bytes : List ℕ) : Type 0 where
 -- they are one whose payload sets an unused bit or none, as this says
 pub record IsWholeWith (unused : Bool) (service : Service) (bytes : List ℕ) : Type 0 where
   pub whole : IsWhole service bytes
-  pub unused_is : sets_unused (scheme_of service.scheme) service.database (payload service bytes) ≡ unused
+  pub unused_is : sets_unused (scheme_of service.scheme) service.database (payload service bytes)
+      ≡ unused
 
 -- a whole query is refused by its payload: with status 1 where it sets an unused bit
 abbrev pub RefusedByPayload : Service → List ℕ → ℕ → Type 0
@@ -95,7 +100,8 @@ RefusedByPayload service bytes status = (status ≡ 1) × IsWholeWith true servi
 
 -- a query is answered by this status alone
 abbrev pub Refuses : Service → List ℕ → ℕ → Type 0
-Refuses service bytes status = RefusedByHeader service bytes status ⊎ RefusedByPayload service bytes status
+Refuses service bytes status = RefusedByHeader service bytes status
+    ⊎ RefusedByPayload service bytes status
 
 -- the bytes end before the query does
 abbrev pub IsCut : Service → List ℕ → Type 0
@@ -106,20 +112,22 @@ IsCut service bytes = (length bytes < FRAME_HEADER_LEN)
 abbrev pub Replies : Service → List ℕ → Met → List ℕ → Type 0
 Replies service bytes Served frame = IsWholeWith false service bytes
     × (frame ≡ answer_frame service (header_of bytes) (payload service bytes))
-Replies service bytes (Refused status) frame = Refuses service bytes status × (frame ≡ answer_to (header_of bytes) status)
+Replies service bytes (Refused status) frame = Refuses service bytes status
+    × (frame ≡ answer_to (header_of bytes) status)
 Replies service bytes Gone frame = IsCut service bytes × (frame ≡ [])
 Replies service bytes GuestFault frame = ⊥
 
 -- the bytes ask for one reply alone
 abbrev pub AsksForOneReply : Service → List ℕ → Type 0
-AsksForOneReply service bytes = (met other : Met) (frame out : List ℕ) → Replies service bytes met frame
-    → Replies service bytes other out → (met ≡ other) × (frame ≡ out)
+AsksForOneReply service bytes = (met other : Met) (frame out : List ℕ)
+    → Replies service bytes met frame → Replies service bytes other out → (met ≡ other) × (frame ≡ out)
 
--- the reply takes so many of the guest's bytes: the whole query where its payload is judged, only the header where that is
--- refused, and all of a query that is cut
+-- the reply takes so many of the guest's bytes: the whole query where its payload is judged, only
+-- the header where that is refused, and all of a query that is cut
 abbrev pub ReplyTakes : Service → List ℕ → Met → ℕ → Type 0
 ReplyTakes service bytes Served n = n ≡ query_len service
-ReplyTakes service bytes (Refused status) n = (RefusedByHeader service bytes status × (n ≡ FRAME_HEADER_LEN))
+ReplyTakes service bytes (Refused status) n =
+    (RefusedByHeader service bytes status × (n ≡ FRAME_HEADER_LEN))
     ⊎ (RefusedByPayload service bytes status × (n ≡ query_len service))
 ReplyTakes service bytes Gone n = n ≡ length bytes
 ReplyTakes service bytes GuestFault n = ⊥

@@ -22,20 +22,23 @@ pub record IsOfScheme (service : Service) (header : List ℕ) (query : QueryHead
 
 -- what is judged of the bytes of a header
 abbrev pub Judges : Service → List ℕ → Result (Unit {0}) Refusal → Type 0
-Judges service header (Ok _) = (query : QueryHeader) × IsOfScheme service header query × IsShaped service query
+Judges service header (Ok _) = (query : QueryHeader)
+    × IsOfScheme service header query × IsShaped service query
 Judges service header (Err Malformed) = (query : QueryHeader) → IsQueryHeader header query → ⊥
 Judges service header (Err OtherScheme) = (query : QueryHeader)
     × IsQueryHeader header query × (query.scheme ≢ service.scheme)
 Judges service header (Err OtherShape) = (query : QueryHeader)
     × IsOfScheme service header query × (IsShaped service query → ⊥)
 
--- the guest was given the frame, and is met with `met`; or a call failed when it had taken a proper front of the frame
+-- the guest was given the frame, and is met with `met`; or a call failed when it had taken a proper
+-- front of the frame
 abbrev pub Gives : Met → List ℕ → Met → World → World → Type 0
 Gives met frame result old new = ((result ≡ met) × (new.at GUEST ≡ gave frame (old.at GUEST)))
     ⊎ ((result ≡ GuestFault) × FailsWithin GUEST frame old new)
 
 -- the payload of a query was taken whole, and it sets an unused bit or none, as this says
-pub record TakesPayload (unused : Bool) (service : Service) (query : List ℕ) (old new : World) : Type 0 where
+pub record TakesPayload (unused : Bool) (service : Service) (query : List ℕ) (old new : World)
+    : Type 0 where
   pub before : List ℕ
   pub size : length query ≡ payload_len_for service
   pub hands : Hands GUEST (length before) before query old new
@@ -43,14 +46,16 @@ pub record TakesPayload (unused : Bool) (service : Service) (query : List ℕ) (
   pub unused_is : sets_unused (scheme_of service.scheme) service.database query ≡ unused
 
 -- the payload of a query was taken, and its answer given
-pub record Finishes (service : Service) (header : List ℕ) (met : Met) (old new : World) : Type 0 where
+pub record Finishes (service : Service) (header : List ℕ) (met : Met) (old new : World)
+    : Type 0 where
   pub query : List ℕ
   pub mid : World
   pub takes : TakesPayload false service query old mid
   pub gives : Gives Served (answer_frame service header query) met mid new
 
 -- the payload of a query was taken, and refused
-pub record Declines (service : Service) (header : List ℕ) (met : Met) (old new : World) : Type 0 where
+pub record Declines (service : Service) (header : List ℕ) (met : Met) (old new : World)
+    : Type 0 where
   pub query : List ℕ
   pub mid : World
   pub takes : TakesPayload true service query old mid

@@ -44,7 +44,8 @@ fn write_payload<R: Threads + Sync, G: Gate + Sync>(
     requires query { length query.now ≡ payload_len_for service.now }
     requires scratch { length scratch.old ≡ service.now.workers * service.now.database.width }
     requires room { length out.old ≡ service.now.database.width }
-    ensures answer { out.new ≡ answer (scheme_of service.now.scheme) service.now.database query.now }
+    ensures answer { out.new
+        ≡ answer (scheme_of service.now.scheme) service.now.database query.now }
     ensures scratch { length scratch.new ≡ length scratch.old }
 {
     let matrix = service.matrix();
@@ -73,7 +74,8 @@ fn write_frame<R: Threads + Sync, G: Gate + Sync>(
     gate: &G,
 )
     requires { Fits service.now room.old }
-    ensures frame { room.new.frame.items ≡ answer_frame service.now header.now room.old.query.items }
+    ensures frame { room.new.frame.items
+        ≡ answer_frame service.now header.now room.old.query.items }
     ensures query { room.new.query ≡ room.old.query }
     ensures fits { Fits service.now room.new }
 {
@@ -83,7 +85,8 @@ fn write_frame<R: Threads + Sync, G: Gate + Sync>(
     write_payload(rt, service, &room.query, &mut room.scratch, gate, payload);
 }
 
-/// Takes the payload of a query with this header, which suits, and gives the guest the answer, or refuses the payload.
+/// Takes the payload of a query with this header, which suits, and gives the guest the answer, or
+/// refuses the payload.
 pub(crate) fn answer_query<R: Threads + Sync, G: Gate + Sync, P: Ports>(
     rt: &R,
     service: &Service,
@@ -94,7 +97,8 @@ pub(crate) fn answer_query<R: Threads + Sync, G: Gate + Sync, P: Ports>(
 ) -> Met
     requires { Fits service.now room.old }
     ensures fits { Fits service.now room.new }
-    ensures handles { HandlesPayload service.now header.now result (P.world ports.old) (P.world ports.new) }
+    ensures handles { HandlesPayload service.now header.now result
+        (P.world ports.old) (P.world ports.new) }
     ensures others { Touches GUEST (P.world ports.old) (P.world ports.new) }
 {
     // A query has a byte at least, since a database has a row.

@@ -20,8 +20,9 @@ use std::marker::Model;
 use std::thread::Threads;
 use wire_frames::FRAME_HEADER_LEN;
 
-/// A database with all that it takes to serve it: room for the payload of a query, for the sums of each worker and for the
-/// frame of an answer. Contracts see the database, the scheme and the number of workers.
+/// A database with all that it takes to serve it: room for the payload of a query, for the sums of
+/// each worker and for the frame of an answer. Contracts see the database, the scheme and the
+/// number of workers.
 ///
 /// ```
 /// let matrix = Matrix::from_bytes(alloc, bytes, 64)?;
@@ -48,10 +49,11 @@ impl Model for Desk {
 }
 
 impl Desk {
-    /// Opens a desk for a database and a scheme, 1 for Shamir's sharing and 2 for the XOR scheme, with from 1 to
-    /// [`MOST_WORKERS`](crate::MOST_WORKERS) workers to sum the rows. It takes all the memory that serving takes: the payload
-    /// of a query, which has a byte for each row or, in the XOR scheme, for each eight rows; a row for each worker; and a
-    /// whole answer. The database is dropped where that isn't found.
+    /// Opens a desk for a database and a scheme, 1 for Shamir's sharing and 2 for the XOR scheme,
+    /// with from 1 to [`MOST_WORKERS`](crate::MOST_WORKERS) workers to sum the rows. It takes all
+    /// the memory that serving takes: the payload of a query, which has a byte for each row or, in
+    /// the XOR scheme, for each eight rows; a row for each worker; and a whole answer. The database
+    /// is dropped where that isn't found.
     ///
     /// # Errors
     ///
@@ -60,7 +62,8 @@ impl Desk {
         requires scheme { (scheme ≡ SHAMIR) ⊎ (scheme ≡ XOR) }
         requires some { 1 ≤ workers }
         requires few { workers ≤ MOST_WORKERS }
-        ensures { IfOk result (λ d. d ≡ record { database = matrix; scheme = scheme; workers = workers }) }
+        ensures { IfOk result (λ d.
+            d ≡ record { database = matrix; scheme = scheme; workers = workers }) }
     {
         let service = Service::new(matrix, scheme, workers);
         let room = Room::new(alloc, &service)?;
@@ -78,7 +81,8 @@ impl Desk {
         judge_header(&self.service, header)
     }
 
-    /// Takes the payload of a query with this header, which suits, and gives the guest the answer, or refuses the payload.
+    /// Takes the payload of a query with this header, which suits, and gives the guest the answer,
+    /// or refuses the payload.
     pub(crate) fn answer<R: Threads + Sync, G: Gate + Sync, P: Ports>(
         &mut self,
         rt: &R,
@@ -86,7 +90,8 @@ impl Desk {
         ports: &mut P,
         gate: &G,
     ) -> Met
-        ensures handles { HandlesPayload self.old header.now result (P.world ports.old) (P.world ports.new) }
+        ensures handles { HandlesPayload self.old header.now result
+            (P.world ports.old) (P.world ports.new) }
         ensures others { Touches GUEST (P.world ports.old) (P.world ports.new) }
         ensures kept { self.new ≡ self.old }
     {

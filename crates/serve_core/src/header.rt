@@ -5,8 +5,8 @@ use crate::refusal::Refusal;
 use crate::service::Service;
 use wire_frames::{FRAME_HEADER_LEN, read_query_header};
 
-/// Whether a query with this header suits the service. That it is malformed goes before its scheme, and its scheme before
-/// its shape.
+/// Whether a query with this header suits the service. That it is malformed goes before its scheme,
+/// and its scheme before its shape.
 ///
 /// # Errors
 ///

@@ -31,7 +31,8 @@ impl Model for Service {
 }
 
 impl Service {
-    /// A database that is served in a scheme, by from 1 to [`MOST_WORKERS`](crate::MOST_WORKERS) workers.
+    /// A database that is served in a scheme, by from 1 to [`MOST_WORKERS`](crate::MOST_WORKERS)
+    /// workers.
     pub(crate) fn new(matrix: Matrix, scheme: u8, workers: u8) -> Service
         requires scheme { (scheme ≡ SHAMIR) ⊎ (scheme ≡ XOR) }
         requires some { 1 ≤ workers }
