@@ -60,9 +60,8 @@ fn write_header(header: &[u8; FRAME_HEADER_LEN], frame: &mut [u8])
     requires { FRAME_HEADER_LEN ≤ length frame.old }
     ensures { frame.new ≡ answer_to header.now 0 ++ drop FRAME_HEADER_LEN frame.old }
 {
-    if let Some((head, _payload)) = frame.split_first_chunk_mut() {
-        write_answer_header(header, 0, head);
-    }
+    let head = frame.first_chunk_mut().unwrap();
+    write_answer_header(header, 0, head);
 }
 
 /// Writes the frame of the answer to the query that is in the room.
