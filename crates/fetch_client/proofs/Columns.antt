@@ -8,7 +8,7 @@ use Rattle.wire_frames.specs.declared.session.SessionParams.{SessionParams}
 use Rattle.wire_frames.specs.Answer.{answers_from, with_answer, usable, asked}
 use Rattle.wire_frames.specs.Session.{Transcript}
 use Rattle.wire_frames.specs.Answer.{answers}
-use Rattle.block_decoder.specs.Choices.{binomial}
+use Rattle.uni_poly.specs.Binomial.{binomial}
 use Rattle.fetch_client.specs.declared.plan.FetchPlan.{FetchPlan}
 use Rattle.fetch_client.specs.Fetched.{most_columns}
 

@@ -9,7 +9,7 @@ use Rattle.pir_ports.specs.Touched.{One, From, TouchesOnly}
 use Rattle.wire_frames.specs.Sizes.{answer_len}
 use Rattle.wire_frames.specs.Answer.{answers}
 use Rattle.wire_frames.specs.Session.{Transcript}
-use Rattle.block_decoder.specs.Choices.{binomial}
+use Rattle.uni_poly.specs.Binomial.{binomial}
 use Rattle.block_decoder.specs.Verdict.{IsVerdict}
 use Rattle.block_decoder.specs.declared.verdict.Verdict.{Verdict}
 use Rattle.fetch_client.specs.declared.plan.FetchPlan.{FetchPlan}

@@ -1,3 +1,5 @@
+mod Frame
 pub mod OneReply
 mod Replying
 pub mod ServingOne
+pub mod ServingNext

@@ -1,17 +1,19 @@
 -- The guest that is in, seen as one of a server's guests.
-use Rattle.std.proofs.Common.{inl, inr, ℕ, List, ◌++◌, ◌∙◌, ap, subst}
-use Rattle.std.specs.Prelude.{Option, IfSome}
+use Rattle.std.proofs.Common.{◌≡◌, inl, inr, ℕ, ◌≤◌, List, [], ◌++◌, length, ◌∙◌, ap, subst, arith}
+use Rattle.std.specs.Prelude.{◌⊎◌, Option, IfSome}
 use Rattle.std.specs.Option.{option_map}
 use Rattle.pir_ports.specs.World.{Cell, World}
 use Rattle.pir_ports.specs.Number.{GUEST}
 use Rattle.pir_ports.specs.Serving.{ServesOne}
-use Rattle.serve_core.specs.Service.{Service}
-use Rattle.serve_core.specs.Attended.{IsReply, Answered, IsBroken, Broke, Attends, HasReply, IsServed}
+use Rattle.wire_frames.specs.declared.sizes.TheConstants.{FRAME_HEADER_LEN}
+use Rattle.serve_core.specs.Service.{Service, query_len}
+use Rattle.serve_core.specs.Reply.{ReplyTakes, Suits}
+use Rattle.serve_core.specs.Attended.{IsReply, Replied, IsFrontOfReply, IsShort, IsBroken, Broke, Attends, HasReply, IsServed}
 use Rattle.serve_core.specs.declared.met.Met.{Met}
 use Rattle.serve_core.specs.declared.met.Met.TheVariants.{Served, Refused, Gone, GuestFault}
 
 -- the guest had its whole reply
-serves_whole : (service : Service) (met : Met) (w v : World) → Answered service met w v → ServesOne (IsServed service) (w.at GUEST) (v.at GUEST)
+serves_whole : (service : Service) (met : Met) (w v : World) → Replied service met w v → ServesOne (IsServed service) (w.at GUEST) (v.at GUEST)
 serves_whole service met w v a = record {
   told = λ guest holds accepted.
       let reply = subst (λ (o : Option (List ℕ)). IfSome o (IsReply service met a.n a.frame)) holds a.told in
@@ -22,6 +24,41 @@ serves_whole service met w v a = record {
       };
 }
 
+-- what was given before a call failed: nothing, or a front of the reply
+front_of : (service : Service) (n : ℕ) (given bytes : List ℕ) → IsBroken service n given bytes
+    → (given ≡ []) ⊎ IsFrontOfReply service given bytes
+front_of service n given bytes (inl short) = inl short.nothing
+front_of service n given bytes (inr short) = inr (record {
+  met = short.met;
+  frame = short.frame;
+  n = short.size;
+  replies = short.reply.replies;
+  proper = short.proper;
+  front_is = short.front_is;
+})
+
+-- no more was taken than a header, and the payload of one that suits
+pub takes_at_most : (service : Service) (n : ℕ) (given bytes : List ℕ) → IsBroken service n given bytes
+    → (n ≤ FRAME_HEADER_LEN) ⊎ (Suits service bytes × (n ≤ query_len service))
+takes_at_most service n given bytes (inl short) = by_short short.short
+  where
+    by_short : IsShort service n bytes → (n ≤ FRAME_HEADER_LEN) ⊎ (Suits service bytes × (n ≤ query_len service))
+    by_short (inl fewer) = inl (omega (arith, fewer))
+    by_short (inr (suits, fewer)) = inr (suits, omega (arith, fewer))
+takes_at_most service n given bytes (inr short) = by_met short.met short.reply
+  where
+    by_met : (met : Met) → IsReply service met n short.frame bytes
+        → (n ≤ FRAME_HEADER_LEN) ⊎ (Suits service bytes × (n ≤ query_len service))
+    by_met Served reply = inr (reply.replies.0.whole.suits, omega (arith, reply.takes))
+    by_met (Refused status) reply = by_refusal reply.takes
+      where
+        by_refusal : ReplyTakes service bytes (Refused status) n
+            → (n ≤ FRAME_HEADER_LEN) ⊎ (Suits service bytes × (n ≤ query_len service))
+        by_refusal (inl (refused, all)) = inl (omega (arith, all))
+        by_refusal (inr (refused, all)) = inr (refused.1.whole.suits, omega (arith, all))
+    by_met Gone reply = absurd (omega (arith, short.proper, ap length reply.replies.1))
+    by_met GuestFault reply = absurd reply.takes
+
 -- a call on the guest failed
 serves_broken : (service : Service) (w v : World) → Broke service w v → ServesOne (IsServed service) (w.at GUEST) (v.at GUEST)
 serves_broken service w v b = record {
@@ -30,7 +67,7 @@ serves_broken service w v b = record {
       record {
         out = b.given;
         accepted = ap (λ (c : Cell). c.accepted) b.cell ∙ ap (λ (o : Option (List ℕ)). option_map (λ x. x ++ b.given) o) accepted;
-        by = inr (b.rose, broken.gives);
+        by = inr (b.rose, front_of service b.n b.given guest broken);
       };
 }
 
@@ -42,7 +79,7 @@ serves_one service Gone w v a = serves_whole service Gone w v a
 serves_one service GuestFault w v a = serves_broken service w v a
 
 -- where no call failed, it was given its whole reply
-pub replies_one : (service : Service) (met : Met) (w v : World) → Answered service met w v → ServesOne (λ guest out before after. HasReply service guest out) (w.at GUEST) (v.at GUEST)
+pub replies_one : (service : Service) (met : Met) (w v : World) → Replied service met w v → ServesOne (λ guest out before after. HasReply service guest out) (w.at GUEST) (v.at GUEST)
 replies_one service met w v a = record {
   told = λ guest holds accepted.
       let reply = subst (λ (o : Option (List ℕ)). IfSome o (IsReply service met a.n a.frame)) holds a.told in

@@ -1,28 +1,29 @@
 -- What a server does with the guest that is in.
-use Rattle.std.specs.Prelude.{◌≡◌, ◌⊎◌, ℕ, ◌+◌, ◌<◌, ◌≤◌, List, [], length, take, IfSome}
+use Rattle.std.specs.Prelude.{◌≡◌, ◌⊎◌, ℕ, ◌<◌, ◌≤◌, List, [], length, take, IfSome}
 use Rattle.pir_ports.specs.World.{World}
 use Rattle.pir_ports.specs.Number.{GUEST}
-use Rattle.pir_ports.specs.Moves.{Rose, took, gave, counted}
+use Rattle.pir_ports.specs.Guests.{Meets}
+use Rattle.pir_ports.specs.Moves.{Rose, Touches, took, gave, counted}
 use Rattle.wire_frames.specs.declared.sizes.TheConstants.{FRAME_HEADER_LEN}
-use Rattle.serve_core.specs.Service.{Service}
-use Rattle.serve_core.specs.Reply.{Replies, Suits, Takes, payload_size}
+use Rattle.serve_core.specs.Service.{Service, query_len}
+use Rattle.serve_core.specs.Reply.{Replies, ReplyTakes, Suits}
 use Rattle.serve_core.specs.declared.met.Met.{Met}
 use Rattle.serve_core.specs.declared.met.Met.TheVariants.{GuestFault}
 
 -- the reply to these bytes takes so many of them and is this frame
 pub record IsReply (service : Service) (met : Met) (n : ℕ) (frame bytes : List ℕ) : Type 0 where
   pub replies : Replies service bytes met frame
-  pub takes : Takes service bytes met n
+  pub takes : ReplyTakes service bytes met n
   pub there : n ≤ length bytes
 
--- the guest was given the whole reply, and no byte was taken that the reply doesn't take
-pub record Answered (service : Service) (met : Met) (old new : World) : Type 0 where
+-- the guest was given the whole reply, and its stream lost the n bytes that the reply takes
+pub record Replied (service : Service) (met : Met) (old new : World) : Type 0 where
   pub n : ℕ
   pub frame : List ℕ
   pub cell : new.at GUEST ≡ gave frame (took n (old.at GUEST))
   pub told : IfSome (old.at GUEST).holds (IsReply service met n frame)
 
--- a front of the reply to these bytes: nothing, or n bytes of its frame
+-- a proper front of the reply to these bytes: n bytes of its frame
 pub record IsFrontOfReply (service : Service) (front bytes : List ℕ) : Type 0 where
   pub met : Met
   pub frame : List ℕ
@@ -31,17 +32,32 @@ pub record IsFrontOfReply (service : Service) (front bytes : List ℕ) : Type 0 
   pub proper : n < length frame
   pub front_is : front ≡ take n frame
 
--- no more was taken than a header, and the payload of one that suits
-abbrev pub MayTake : Service → ℕ → List ℕ → Type 0
-MayTake service n bytes = (n ≤ FRAME_HEADER_LEN) ⊎ (Suits service bytes × (n ≤ FRAME_HEADER_LEN + payload_size service.scheme service.database))
+-- fewer than the bytes of a header, or of a query whose header suits
+abbrev pub IsShort : Service → ℕ → List ℕ → Type 0
+IsShort service n bytes = (n < FRAME_HEADER_LEN)
+    ⊎ (Suits service bytes × (n < query_len service))
+
+-- taking failed: not all that the reply takes was taken, and nothing was given
+pub record TakesShort (service : Service) (n : ℕ) (given bytes : List ℕ) : Type 0 where
+  pub short : IsShort service n bytes
+  pub there : n ≤ length bytes
+  pub nothing : given ≡ []
+
+-- giving failed: all that the reply takes was taken, and a proper front of its frame was given
+pub record GivesShort (service : Service) (n : ℕ) (given bytes : List ℕ) : Type 0 where
+  pub met : Met
+  pub frame : List ℕ
+  pub size : ℕ
+  pub reply : IsReply service met n frame bytes
+  pub proper : size < length frame
+  pub front_is : given ≡ take size frame
 
 -- what was taken and given before a call on the guest failed
-pub record IsBroken (service : Service) (n : ℕ) (given bytes : List ℕ) : Type 0 where
-  pub takes : MayTake service n bytes
-  pub there : n ≤ length bytes
-  pub gives : (given ≡ []) ⊎ IsFrontOfReply service given bytes
+abbrev pub IsBroken : Service → ℕ → List ℕ → List ℕ → Type 0
+IsBroken service n given bytes = TakesShort service n given bytes
+    ⊎ GivesShort service n given bytes
 
--- a call on the guest failed: it was given nothing, or a front of the reply
+-- a call on the guest failed, once its stream had lost n bytes and it was given these
 pub record Broke (service : Service) (old new : World) : Type 0 where
   pub n : ℕ
   pub given : List ℕ
@@ -52,14 +68,22 @@ pub record Broke (service : Service) (old new : World) : Type 0 where
 -- what was done with the guest, by what it was met with
 abbrev pub Attends : Service → Met → World → World → Type 0
 Attends service GuestFault old new = Broke service old new
-Attends service met old new = Answered service met old new
+Attends service met old new = Replied service met old new
+
+-- the next guest came in, and was attended to, by which nothing but Guest was touched
+pub record AttendsNext (service : Service) (met : Met) (old new : World) : Type 0 where
+  pub mid : World
+  pub meets : Meets old mid
+  pub attends : Attends service met mid new
+  pub others : Touches GUEST mid new
 
 -- the guest with these bytes was given its whole reply
 pub record HasReply (service : Service) (guest out : List ℕ) : Type 0 where
   pub met : Met
   pub replies : Replies service guest met out
 
--- what a guest was given, by the count of Guest as it came in and at its end: its whole reply where no call on it failed,
--- else nothing, or a front of the reply
+-- what a guest was given, by the count of Guest as it came in and at its end: its whole reply where
+-- no call on it failed, else nothing, or a front of the reply
 abbrev pub IsServed : Service → List ℕ → List ℕ → ℕ → ℕ → Type 0
-IsServed service guest out before after = ((after ≡ before) × HasReply service guest out) ⊎ (Rose before after × ((out ≡ []) ⊎ IsFrontOfReply service out guest))
+IsServed service guest out before after = ((after ≡ before) × HasReply service guest out)
+    ⊎ (Rose before after × ((out ≡ []) ⊎ IsFrontOfReply service out guest))

@@ -1,32 +1,40 @@
--- What a server answers to the bytes of a guest: the frame, and what the guest was met with. Scheme 1 is Shamir's sharing
--- (Goldberg 2007), and 2 the XOR scheme (Chor, Goldreich, Kushilevitz and Sudan 1995).
-use Rattle.std.specs.Prelude.{◌≡◌, ◌≢◌, ◌⊎◌, ℕ, ◌+◌, ◌<◌, ◌≤◌, Bool, true, false, ◌==◌, ◌&&◌, if◌then◌else◌, List, [], ◌++◌, length, take, drop}
+-- What a server answers to the bytes of a guest: the frame, and what the guest was met with, in
+-- Shamir's scheme (Goldberg 2007) and in the XOR scheme (Chor, Goldreich, Kushilevitz and Sudan
+-- 1995).
+use Rattle.std.specs.Prelude.{◌≡◌, ◌≢◌, ◌⊎◌, ℕ, ◌<◌, ◌≤◌, Bool, true, false, List, [], ◌++◌, length, take, drop}
 use Rattle.gf256.specs.Product.{product}
 use Rattle.wire_frames.specs.declared.sizes.TheConstants.{FRAME_HEADER_LEN}
+use Rattle.wire_frames.specs.declared.scheme.Scheme.{Scheme}
+use Rattle.wire_frames.specs.declared.scheme.Scheme.TheVariants.{Shamir, Xor}
 use Rattle.wire_frames.specs.declared.header.QueryHeader.{QueryHeader}
+use Rattle.wire_frames.specs.Scheme.{scheme_of}
 use Rattle.wire_frames.specs.Header.{answer_to}
 use Rattle.wire_frames.specs.Query.{IsQueryHeader}
 use Rattle.block_matrix.specs.Database.{Database}
-use Rattle.chor_xor.specs.Bitmap.{has_unused, size_of}
+use Rattle.chor_xor.specs.Bitmap.{has_unused}
 use Rattle.chor_xor.specs.Chosen.{chosen}
-use Rattle.serve_core.specs.Service.{Service}
+use Rattle.serve_core.specs.Service.{Service, payload_len_for, query_len}
 use Rattle.serve_core.specs.declared.met.Met.{Met}
 use Rattle.serve_core.specs.declared.met.Met.TheVariants.{Served, Refused, Gone, GuestFault}
 
--- the first 24 bytes are the header of this query
+-- the header of a query, in front of a guest's bytes
+abbrev pub header_of : List ℕ → List ℕ
+header_of bytes = take FRAME_HEADER_LEN bytes
+
+-- the first bytes are the header of this query
 pub record Asks (bytes : List ℕ) (query : QueryHeader) : Type 0 where
   pub whole : FRAME_HEADER_LEN ≤ length bytes
-  pub header : IsQueryHeader (take FRAME_HEADER_LEN bytes) query
+  pub header : IsQueryHeader (header_of bytes) query
 
 -- the query is for a database of this shape
 pub record IsShaped (service : Service) (query : QueryHeader) : Type 0 where
   pub rows : query.r ≡ length service.database.rows
   pub width : query.s ≡ service.database.width
 
--- the first 24 bytes are no header of a query
+-- the first bytes are no header of a query
 pub record Malformed (bytes : List ℕ) : Type 0 where
   pub whole : FRAME_HEADER_LEN ≤ length bytes
-  pub none : (query : QueryHeader) → IsQueryHeader (take FRAME_HEADER_LEN bytes) query → ⊥
+  pub none : (query : QueryHeader) → IsQueryHeader (header_of bytes) query → ⊥
 
 -- they are that of a query of another scheme
 pub record OtherScheme (service : Service) (bytes : List ℕ) : Type 0 where
@@ -48,39 +56,43 @@ pub record Suits (service : Service) (bytes : List ℕ) : Type 0 where
   pub scheme : query.scheme ≡ service.scheme
   pub shape : IsShaped service query
 
--- a query is refused by its header: with status 1 where it is malformed, 3 for its scheme, 2 for its shape
+-- a query is refused by its header: with status 1 where it is malformed, 3 for its scheme, 2 for
+-- its shape
 abbrev pub RefusedByHeader : Service → List ℕ → ℕ → Type 0
-RefusedByHeader service bytes status = ((status ≡ 1) × Malformed bytes) ⊎ ((status ≡ 3) × OtherScheme service bytes) ⊎ ((status ≡ 2) × OtherShape service bytes)
-
--- how many bytes the payload of a query has: one for each row, and in the XOR scheme a bit for each row
-unfoldable pub payload_size : ℕ → Database → ℕ
-payload_size scheme database = if scheme == 2 then size_of (length database.rows) else length database.rows
+RefusedByHeader service bytes status = ((status ≡ 1) × Malformed bytes)
+    ⊎ ((status ≡ 3) × OtherScheme service bytes)
+    ⊎ ((status ≡ 2) × OtherShape service bytes)
 
 -- the payload of a query, behind the header
 abbrev pub payload : Service → List ℕ → List ℕ
-payload service bytes = take (payload_size service.scheme service.database) (drop FRAME_HEADER_LEN bytes)
+payload service bytes = take (payload_len_for service) (drop FRAME_HEADER_LEN bytes)
 
--- a payload of the XOR scheme sets a bit past those of the rows
-unfoldable pub sets_unused : ℕ → Database → List ℕ → Bool
-sets_unused scheme database query = scheme == 2 && has_unused (length database.rows) query
+-- a payload sets a bit past those of the rows, as one of the XOR scheme can
+abbrev pub sets_unused : Scheme → Database → List ℕ → Bool
+sets_unused Shamir database query = false
+sets_unused Xor database query = has_unused (length database.rows) query
 
--- the answer to a payload: the product of the payload and the database, and in the XOR scheme the sum of the chosen rows
-unfoldable pub answer : ℕ → Database → List ℕ → List ℕ
-answer scheme database query = if scheme == 2 then chosen database query else product database.rows database.width query
+-- the answer to a payload: the product of the payload and the database, or the sum of the chosen
+-- rows
+abbrev pub answer : Scheme → Database → List ℕ → List ℕ
+answer Shamir database query = product database.rows database.width query
+answer Xor database query = chosen database query
 
 -- the frame of an answer: the header of status 0, and the answer to the payload
-abbrev pub answer_frame : ℕ → Database → List ℕ → List ℕ → List ℕ
-answer_frame scheme database header query = answer_to header 0 ++ answer scheme database query
+abbrev pub answer_frame : Service → List ℕ → List ℕ → List ℕ
+answer_frame service header query = answer_to header 0
+    ++ answer (scheme_of service.scheme) service.database query
 
 -- the bytes are a whole query that suits
 pub record IsWhole (service : Service) (bytes : List ℕ) : Type 0 where
   pub suits : Suits service bytes
-  pub enough : FRAME_HEADER_LEN + payload_size service.scheme service.database ≤ length bytes
+  pub enough : query_len service ≤ length bytes
 
 -- they are one whose payload sets an unused bit or none, as this says
 pub record IsWholeWith (unused : Bool) (service : Service) (bytes : List ℕ) : Type 0 where
   pub whole : IsWhole service bytes
-  pub unused_is : sets_unused service.scheme service.database (payload service bytes) ≡ unused
+  pub unused_is : sets_unused (scheme_of service.scheme) service.database (payload service bytes)
+      ≡ unused
 
 -- a whole query is refused by its payload: with status 1 where it sets an unused bit
 abbrev pub RefusedByPayload : Service → List ℕ → ℕ → Type 0
@@ -88,27 +100,34 @@ RefusedByPayload service bytes status = (status ≡ 1) × IsWholeWith true servi
 
 -- a query is answered by this status alone
 abbrev pub Refuses : Service → List ℕ → ℕ → Type 0
-Refuses service bytes status = RefusedByHeader service bytes status ⊎ RefusedByPayload service bytes status
+Refuses service bytes status = RefusedByHeader service bytes status
+    ⊎ RefusedByPayload service bytes status
 
 -- the bytes end before the query does
 abbrev pub IsCut : Service → List ℕ → Type 0
-IsCut service bytes = (length bytes < FRAME_HEADER_LEN) ⊎ (Suits service bytes × (length bytes < FRAME_HEADER_LEN + payload_size service.scheme service.database))
+IsCut service bytes = (length bytes < FRAME_HEADER_LEN)
+    ⊎ (Suits service bytes × (length bytes < query_len service))
 
 -- the reply to a guest with these bytes: what it is met with, and the frame
 abbrev pub Replies : Service → List ℕ → Met → List ℕ → Type 0
-Replies service bytes Served frame = IsWholeWith false service bytes × (frame ≡ answer_frame service.scheme service.database (take FRAME_HEADER_LEN bytes) (payload service bytes))
-Replies service bytes (Refused status) frame = Refuses service bytes status × (frame ≡ answer_to (take FRAME_HEADER_LEN bytes) status)
+Replies service bytes Served frame = IsWholeWith false service bytes
+    × (frame ≡ answer_frame service (header_of bytes) (payload service bytes))
+Replies service bytes (Refused status) frame = Refuses service bytes status
+    × (frame ≡ answer_to (header_of bytes) status)
 Replies service bytes Gone frame = IsCut service bytes × (frame ≡ [])
 Replies service bytes GuestFault frame = ⊥
 
 -- the bytes ask for one reply alone
 abbrev pub AsksForOneReply : Service → List ℕ → Type 0
-AsksForOneReply service bytes = (met other : Met) (frame out : List ℕ) → Replies service bytes met frame → Replies service bytes other out → (met ≡ other) × (frame ≡ out)
+AsksForOneReply service bytes = (met other : Met) (frame out : List ℕ)
+    → Replies service bytes met frame → Replies service bytes other out → (met ≡ other) × (frame ≡ out)
 
--- the reply takes so many of the guest's bytes: the whole query where its payload is judged, and only the header where that
--- is refused
-abbrev pub Takes : Service → List ℕ → Met → ℕ → Type 0
-Takes service bytes Served n = n ≡ FRAME_HEADER_LEN + payload_size service.scheme service.database
-Takes service bytes (Refused status) n = (RefusedByHeader service bytes status × (n ≡ FRAME_HEADER_LEN)) ⊎ (RefusedByPayload service bytes status × (n ≡ FRAME_HEADER_LEN + payload_size service.scheme service.database))
-Takes service bytes Gone n = n ≡ length bytes
-Takes service bytes GuestFault n = ⊥
+-- the reply takes so many of the guest's bytes: the whole query where its payload is judged, only
+-- the header where that is refused, and all of a query that is cut
+abbrev pub ReplyTakes : Service → List ℕ → Met → ℕ → Type 0
+ReplyTakes service bytes Served n = n ≡ query_len service
+ReplyTakes service bytes (Refused status) n =
+    (RefusedByHeader service bytes status × (n ≡ FRAME_HEADER_LEN))
+    ⊎ (RefusedByPayload service bytes status × (n ≡ query_len service))
+ReplyTakes service bytes Gone n = n ≡ length bytes
+ReplyTakes service bytes GuestFault n = ⊥

@@ -1,5 +1,7 @@
 -- What a server serves.
-use Rattle.std.specs.Prelude.{ℕ}
+use Rattle.std.specs.Prelude.{ℕ, ◌+◌, length}
+use Rattle.wire_frames.specs.declared.sizes.TheConstants.{FRAME_HEADER_LEN}
+use Rattle.wire_frames.specs.Scheme.{scheme_of, payload_len}
 use Rattle.block_matrix.specs.Database.{Database}
 
 -- the database, the number of the scheme, and how many workers sum the rows
@@ -7,3 +9,11 @@ pub record Service : Type 0 where
   pub database : Database
   pub scheme : ℕ
   pub workers : ℕ
+
+-- how many bytes the payload of a query to it has
+abbrev pub payload_len_for : Service → ℕ
+payload_len_for service = payload_len (scheme_of service.scheme) (length service.database.rows)
+
+-- how many bytes a whole query to it has: the header, and the payload
+abbrev pub query_len : Service → ℕ
+query_len service = FRAME_HEADER_LEN + payload_len_for service

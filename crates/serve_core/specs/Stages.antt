@@ -5,71 +5,73 @@ use Rattle.pir_ports.specs.Number.{GUEST}
 use Rattle.pir_ports.specs.Moves.{Hands, gave}
 use Rattle.pir_ports.specs.Whole.{Ends, FailsShort, FailsWithin}
 use Rattle.wire_frames.specs.declared.header.QueryHeader.{QueryHeader}
-use Rattle.wire_frames.specs.Query.{IsQueryHeader}
-use Rattle.block_matrix.specs.Database.{Database}
-use Rattle.serve_core.specs.Service.{Service}
 use Rattle.wire_frames.specs.Header.{answer_to}
-use Rattle.serve_core.specs.Reply.{IsShaped, answer_frame, payload_size, sets_unused}
+use Rattle.wire_frames.specs.Query.{IsQueryHeader}
+use Rattle.wire_frames.specs.Scheme.{scheme_of}
+use Rattle.serve_core.specs.Service.{Service, payload_len_for}
+use Rattle.serve_core.specs.Reply.{IsShaped, answer_frame, sets_unused}
 use Rattle.serve_core.specs.declared.met.Met.{Met}
 use Rattle.serve_core.specs.declared.met.Met.TheVariants.{Served, Refused, Gone, GuestFault}
-use Rattle.serve_core.specs.declared.header.Refusal.{Refusal}
-use Rattle.serve_core.specs.declared.header.Refusal.TheVariants.{Malformed, OtherScheme, OtherShape}
+use Rattle.serve_core.specs.declared.refusal.Refusal.{Refusal}
+use Rattle.serve_core.specs.declared.refusal.Refusal.TheVariants.{Malformed, OtherScheme, OtherShape}
 
--- the status of a refusal
-abbrev pub status_of : Refusal → ℕ
-status_of Malformed = 1
-status_of OtherShape = 2
-status_of OtherScheme = 3
-
--- the 24 bytes are the header of this query, and it is the scheme's
+-- the bytes are the header of this query, and it is the scheme's
 pub record IsOfScheme (service : Service) (header : List ℕ) (query : QueryHeader) : Type 0 where
   pub is : IsQueryHeader header query
   pub scheme : query.scheme ≡ service.scheme
 
--- what is judged of the 24 bytes of a header
+-- what is judged of the bytes of a header
 abbrev pub Judges : Service → List ℕ → Result (Unit {0}) Refusal → Type 0
-Judges service header (Ok _) = (query : QueryHeader) × IsOfScheme service header query × IsShaped service query
+Judges service header (Ok _) = (query : QueryHeader)
+    × IsOfScheme service header query × IsShaped service query
 Judges service header (Err Malformed) = (query : QueryHeader) → IsQueryHeader header query → ⊥
-Judges service header (Err OtherScheme) = (query : QueryHeader) × IsQueryHeader header query × (query.scheme ≢ service.scheme)
-Judges service header (Err OtherShape) = (query : QueryHeader) × IsOfScheme service header query × (IsShaped service query → ⊥)
+Judges service header (Err OtherScheme) = (query : QueryHeader)
+    × IsQueryHeader header query × (query.scheme ≢ service.scheme)
+Judges service header (Err OtherShape) = (query : QueryHeader)
+    × IsOfScheme service header query × (IsShaped service query → ⊥)
 
--- the guest was given the frame, and is met with `met`; or a call failed when it had taken a proper front of the frame
+-- the guest was given the frame, and is met with `met`; or a call failed when it had taken a proper
+-- front of the frame
 abbrev pub Gives : Met → List ℕ → Met → World → World → Type 0
-Gives met frame result old new = ((result ≡ met) × (new.at GUEST ≡ gave frame (old.at GUEST))) ⊎ ((result ≡ GuestFault) × FailsWithin GUEST frame old new)
+Gives met frame result old new = ((result ≡ met) × (new.at GUEST ≡ gave frame (old.at GUEST)))
+    ⊎ ((result ≡ GuestFault) × FailsWithin GUEST frame old new)
 
 -- the payload of a query was taken whole, and it sets an unused bit or none, as this says
-pub record TakesPayload (unused : Bool) (scheme : ℕ) (database : Database) (query : List ℕ) (old new : World) : Type 0 where
+pub record TakesPayload (unused : Bool) (service : Service) (query : List ℕ) (old new : World)
+    : Type 0 where
   pub before : List ℕ
-  pub size : length query ≡ payload_size scheme database
+  pub size : length query ≡ payload_len_for service
   pub hands : Hands GUEST (length before) before query old new
   pub full : length before ≡ length query
-  pub unused_is : sets_unused scheme database query ≡ unused
+  pub unused_is : sets_unused (scheme_of service.scheme) service.database query ≡ unused
 
 -- the payload of a query was taken, and its answer given
-pub record Finishes (scheme : ℕ) (database : Database) (header : List ℕ) (met : Met) (old new : World) : Type 0 where
+pub record Finishes (service : Service) (header : List ℕ) (met : Met) (old new : World)
+    : Type 0 where
   pub query : List ℕ
   pub mid : World
-  pub takes : TakesPayload false scheme database query old mid
-  pub gives : Gives Served (answer_frame scheme database header query) met mid new
+  pub takes : TakesPayload false service query old mid
+  pub gives : Gives Served (answer_frame service header query) met mid new
 
 -- the payload of a query was taken, and refused
-pub record Declines (scheme : ℕ) (database : Database) (header : List ℕ) (met : Met) (old new : World) : Type 0 where
+pub record Declines (service : Service) (header : List ℕ) (met : Met) (old new : World)
+    : Type 0 where
   pub query : List ℕ
   pub mid : World
-  pub takes : TakesPayload true scheme database query old mid
+  pub takes : TakesPayload true service query old mid
   pub gives : Gives (Refused 1) (answer_to header 1) met mid new
 
 -- the guest ended before its payload was whole
-pub record Stops (scheme : ℕ) (database : Database) (old new : World) : Type 0 where
+pub record Stops (service : Service) (old new : World) : Type 0 where
   pub n : ℕ
   pub before : List ℕ
   pub after : List ℕ
-  pub size : length before ≡ payload_size scheme database
+  pub size : length before ≡ payload_len_for service
   pub ends : Ends GUEST n before after old new
 
--- what is done once the header suits
-abbrev pub Answers : ℕ → Database → List ℕ → Met → World → World → Type 0
-Answers scheme database header met old new = Finishes scheme database header met old new
-    ⊎ Declines scheme database header met old new
-    ⊎ ((met ≡ Gone) × Stops scheme database old new)
-    ⊎ ((met ≡ GuestFault) × FailsShort GUEST (payload_size scheme database) old new)
+-- what is done with the payload, once the header suits
+abbrev pub HandlesPayload : Service → List ℕ → Met → World → World → Type 0
+HandlesPayload service header met old new = Finishes service header met old new
+    ⊎ Declines service header met old new
+    ⊎ ((met ≡ Gone) × Stops service old new)
+    ⊎ ((met ≡ GuestFault) × FailsShort GUEST (payload_len_for service) old new)

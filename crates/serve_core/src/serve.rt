@@ -4,9 +4,8 @@ ghost use Rattle.pir_ports.specs.Number.{GUEST};
 ghost use Rattle.pir_ports.specs.Moves.{Touches};
 ghost use Rattle.serve_core.specs.Attended.{Attends};
 
-use crate::answer::refuse;
 use crate::desk::Desk;
-use crate::header::judge_header;
+use crate::give::refuse;
 use crate::met::Met;
 use pir_ports::{Filled, Port, Ports, read_exactly};
 use server_product::Gate;
@@ -15,16 +14,19 @@ use wire_frames::FRAME_HEADER_LEN;
 
 /// Serves the guest that is in, and says how it was met.
 ///
-/// The bytes of a header are taken. They are refused where they are no header of a query (status 1), one of another scheme (3), or one
-/// for a database of another shape (2), and nothing more is taken then. Else the payload is taken, and the answer is given,
-/// in one piece as far as the guest takes it: the header of status 0, and the answer to the payload.
+/// The bytes of a header are taken. They are refused where they are no header of a query (status
+/// 1), one of another scheme (3), or one for a database of another shape (2), and nothing more is
+/// taken then. Else the payload is taken, and the answer is given, in one piece as far as the guest
+/// takes it: the header of status 0, and the answer to the payload.
 ///
-/// In Shamir's scheme the payload has a byte for each row, and the answer is the product of the payload and the database,
-/// which the desk's workers sum. Each of them passes `gate` once. In the XOR scheme the payload is a bitmap of a bit for
-/// each row, and the answer the XOR of the rows whose bit is set. It is refused (1) where it sets a bit past those.
+/// In Shamir's scheme the payload has a byte for each row, and the answer is the product of the
+/// payload and the database, which the desk's workers sum. Each of them passes `gate` once. In the
+/// XOR scheme the payload is a bitmap of a bit for each row, and the answer the XOR of the rows
+/// whose bit is set. It is refused (1) where it sets a bit past those.
 ///
-/// A guest that ends before that is gone, and is given nothing. Where a call on the guest fails, it was given a front of
-/// the reply. The desk is the same after every guest. No memory is taken.
+/// A guest that ends before that is gone, and is given nothing. Where a call on the guest fails, it
+/// was given nothing unless all that the reply takes was taken, and then a proper front of the
+/// reply. The desk is the same after every guest. No memory is taken.
 pub fn serve_one<R: Threads + Sync, G: Gate + Sync, P: Ports>(
     rt: &R,
     desk: &mut Desk,
@@ -41,7 +43,7 @@ pub fn serve_one<R: Threads + Sync, G: Gate + Sync, P: Ports>(
         Filled::Ended(_) => return Met::Gone,
         Filled::Failed => return Met::GuestFault,
     }
-    match judge_header(desk, &header) {
+    match desk.judge(&header) {
         Ok(()) => desk.answer(rt, &header, ports, gate),
         Err(refusal) => refuse(ports, &header, refusal),
     }

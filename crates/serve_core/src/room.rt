@@ -1,0 +1,34 @@
+//! The room that serving takes.
+ghost use Rattle.std.specs.Prelude.{IfOk};
+ghost use Rattle.serve_core.specs.Room.{Fits};
+
+use crate::service::Service;
+use std::alloc::{AllocError, Global};
+use wire_frames::answer_len;
+
+/// Room for the payload of a query, for the sums of each worker, and for the frame of an answer.
+#[derive(Drop)]
+pub(crate) struct Room {
+    pub(crate) query: Vec<u8>,
+    pub(crate) scratch: Vec<u8>,
+    pub(crate) frame: Vec<u8>,
+}
+
+impl Room {
+    /// As much room as the service takes.
+    ///
+    /// # Errors
+    ///
+    /// `AllocError` for want of memory.
+    pub(crate) fn new(alloc: Global, service: &Service) -> Result<Room, AllocError>
+        ensures { IfOk result (Fits service.now) }
+    {
+        let width = service.matrix().width();
+        let sums = usize::from(service.workers()) * width as usize;
+        Ok(Room {
+            query: vec![in alloc; 0; service.payload_len()]?,
+            scratch: vec![in alloc; 0; sums]?,
+            frame: vec![in alloc; 0; answer_len(width)]?,
+        })
+    }
+}

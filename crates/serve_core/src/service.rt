@@ -1,0 +1,86 @@
+//! What is served.
+ghost use Rattle.std.specs.Prelude.{◌≡◌, ◌≤◌, ◌⊎◌, length};
+ghost use Rattle.wire_frames.specs.declared.TheConstants.{MOST_WIDTH};
+ghost use Rattle.wire_frames.specs.declared.scheme.TheConstants.{SHAMIR, XOR};
+ghost use Rattle.wire_frames.specs.Scheme.{scheme_of};
+ghost use Rattle.serve_core.specs.declared.TheConstants.{MOST_WORKERS};
+ghost use Rattle.serve_core.specs.Service.{payload_len_for};
+
+use block_matrix::Matrix;
+use std::marker::Model;
+use wire_frames::Scheme;
+
+/// A database, the number of the scheme in which it is served, and how many workers sum the rows.
+#[derive(Drop)]
+pub(crate) struct Service {
+    matrix: Matrix,
+    scheme: u8,
+    workers: u8,
+}
+
+impl Model for Service {
+    ghost use Rattle.serve_core.specs.Service.{Service};
+
+    ghost Value = { Service };
+
+    ghost use Rattle.serve_core.specs.Servable.{IsServable};
+
+    ghost view = { λ s. record { database = s.matrix; scheme = s.scheme; workers = s.workers } };
+
+    ghost invariant = { IsServable };
+}
+
+impl Service {
+    /// A database that is served in a scheme, by from 1 to [`MOST_WORKERS`](crate::MOST_WORKERS)
+    /// workers.
+    pub(crate) fn new(matrix: Matrix, scheme: u8, workers: u8) -> Service
+        requires scheme { (scheme ≡ SHAMIR) ⊎ (scheme ≡ XOR) }
+        requires some { 1 ≤ workers }
+        requires few { workers ≤ MOST_WORKERS }
+        ensures { result ≡ record { database = matrix; scheme = scheme; workers = workers } }
+    {
+        Service {
+            matrix,
+            scheme,
+            workers,
+        }
+    }
+
+    /// The rows of the database.
+    pub(crate) fn matrix(&self) -> &Matrix
+        ensures { result.now ≡ self.now.database }
+    {
+        &self.matrix
+    }
+
+    /// The number of the scheme.
+    pub(crate) fn scheme_number(&self) -> u8
+        ensures { result ≡ self.now.scheme }
+    {
+        self.scheme
+    }
+
+    /// The scheme.
+    pub(crate) fn scheme(&self) -> Scheme
+        ensures { result ≡ scheme_of self.now.scheme }
+    {
+        Scheme::of(self.scheme)
+    }
+
+    /// How many workers sum the rows.
+    pub(crate) fn workers(&self) -> u8
+        ensures is { result ≡ self.now.workers }
+        ensures some { 1 ≤ result }
+        ensures few { result ≤ MOST_WORKERS }
+    {
+        self.workers
+    }
+
+    /// How many bytes the payload of a query has.
+    pub(crate) fn payload_len(&self) -> usize
+        ensures is { result ≡ payload_len_for self.now }
+        ensures some { 1 ≤ result }
+    {
+        self.scheme().payload_len(self.matrix.rows())
+    }
+}
