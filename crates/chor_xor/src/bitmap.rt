@@ -1,6 +1,7 @@
 //! The bitmaps that a client sends.
 
 ghost use Rattle.std.specs.Prelude.{◌≡◌, ℕ, ◌+◌, ◌-◌, ◌*◌, ◌<◌, ◌≤◌, ◌^◌, MatchBool, length, slice_index, if◌then◌else◌};
+ghost use Rattle.wire_frames.specs.declared.TheConstants.{MOST_ROWS};
 ghost use Rattle.gf256.specs.Sums.{sum_to};
 ghost use Rattle.chor_xor.specs.Bitmap.{IsTrim, bit_of, bitmap, cleared, has_unused, size_of, unused_bits};
 
@@ -97,7 +98,7 @@ pub(crate) fn is_set(bitmap: &[u8], j: u32) -> bool
 pub(crate) fn next_set(bitmap: &[u8], from: u32, to: u32) -> u32
     requires order { from ≤ to }
     requires within { to ≤ 8 * length bitmap.now }
-    requires few { to ≤ 2 ^ 20 }
+    requires few { to ≤ MOST_ROWS }
     ensures from { from ≤ result }
     ensures to { result ≤ to }
     ensures others { (j : ℕ) → from ≤ j → j < result → bit_of bitmap.now j ≡ 0 }

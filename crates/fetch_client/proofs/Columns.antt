@@ -27,7 +27,7 @@ more_choices k (suc n) m few = elim (cases_lt k (suc n)) [
 ]
 
 -- there are no more answers than records
-few_from : (i : ℕ) (p : SessionParams) (records : List (Option (List ℕ))) → length (answers_from i p records) ≤ length records
+pub few_from : (i : ℕ) (p : SessionParams) (records : List (Option (List ℕ))) → length (answers_from i p records) ≤ length records
 few_from i p [] = omega arith
 few_from i p (None ∷ records) = omega (arith, few_from (i + 1) p records)
 few_from i p (Some bytes ∷ records) = omega (arith, few_from (i + 1) p records, at_most_one (usable bytes (asked p i)))

@@ -5,7 +5,7 @@
 mod tests;
 
 use os_ports::OsPorts;
-use pir_tool::{Status, code, line, run};
+use pir_tool::{Ending, Status, ending_of, run};
 use std::env;
 use std::io::{self, ErrorKind, Input, Print};
 use std::net::Net;
@@ -61,11 +61,11 @@ fn main(rt: HostRuntime) -> ExitCode {
         },
         Err(error) => status_without_ports(&error),
     };
-    let text = line(&status);
-    if !text.is_empty() {
-        let _ = eprintln!(rt; "{text}");
+    let Ending { code, line } = ending_of(&status);
+    if !line.is_empty() {
+        let _ = eprintln!(rt; "{line}");
     }
-    ExitCode::from(code(&status))
+    code
 }
 
 // No test of its own, but what a child of a demonstration runs. It is started with the words of `serve`, and tests are

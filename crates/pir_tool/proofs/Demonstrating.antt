@@ -93,6 +93,7 @@ module _ (o : FetchOrder) (w v z : World) (same : (q : ℕ) → q < 1024 → v.a
       fetched = in_session_before r.settled.coins r.session r.settled.fetched;
       judged = r.settled.judged;
       found = r.settled.found;
+      held = r.settled.held;
     };
     status_is = r.status_is;
     recorded = recorded_before o.keep r.session w v z (same 4 (lit< tt)) r.recorded;

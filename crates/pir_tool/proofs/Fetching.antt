@@ -11,15 +11,16 @@ use Rattle.wire_frames.specs.Session.{Transcript, session_bytes}
 use Rattle.block_decoder.specs.declared.verdict.Verdict.{Verdict}
 use Rattle.block_decoder.specs.declared.verdict.Verdict.TheVariants.{Listed as IsListed, TooFew as IsTooFew, TooWeak as IsTooWeak}
 use Rattle.block_decoder.specs.Text.{text}
-use Rattle.fetch_client.specs.Plan.{need}
+use Rattle.fetch_client.specs.Plan.{IsPlan, need}
 use Rattle.fetch_client.specs.Sent.{sent}
-use Rattle.fetch_client.specs.Asked.{Asked}
+use Rattle.fetch_client.specs.Link.{LinkAsked}
 use Rattle.fetch_client.specs.Fetched.{AsksWith, Concludes, TouchesLinks}
 use Rattle.pir_words.specs.declared.asked.Asked.{Asked as Command}
 use Rattle.pir_tool.specs.Table.{status_of}
 use Rattle.pir_tool.specs.FetchOrder.{FetchOrder}
 use Rattle.pir_tool.specs.Outcome.{order_of}
 use Rattle.pir_tool.specs.FetchOutcome.{InSession, Settled, Recorded, Unrecorded, FetchReported, FetchEnds, Reports, TouchesFiles}
+use Rattle.pir_tool.proofs.HeldRow.{held_row}
 use Rattle.pir_tool.specs.declared.status.Status.{Status}
 
 -- words ask for one command
@@ -52,7 +53,7 @@ asked_within o coins session w v u z fits is_open touch asks files =
       asked = record {
         params = asks.asked.params;
         whole = asks.asked.whole;
-        links = each_within (λ (i : ℕ). Asked (slice_index_or o.addresses i []) (sent p coins (i + 1)) (answer_len p.s) (slice_index_or session.records i None)) (link 1) p.n w v u z
+        links = each_within (λ (i : ℕ). LinkAsked (slice_index_or o.addresses i []) (sent p coins (i + 1)) (answer_len p.s) (slice_index_or session.records i None)) (link 1) p.n w v u z
             (λ i l. touch.others ((link 1) + i) (omega arith) (λ e. omega (arith, e)))
             (λ i l. files.others ((link 1) + i) (omega arith) (λ e. omega (arith, e)) (λ e. omega (arith, e))) asks.asked.links;
       };
@@ -85,9 +86,9 @@ ends_as o (IsTooFew k h) w z said = said
 ends_as o (IsTooWeak k t h) w z said = said
 
 -- Coins was opened, every server was asked, and the session was reported
-pub ends_with_report : (o : FetchOrder) (session : Transcript) (verdict : Verdict) (status : Status) (w v u z : World) → (link 1) + o.plan.n ≤ 1024 → v.at COINS ≡ named o.coins (w.at COINS) → Touches COINS w v
+pub ends_with_report : (o : FetchOrder) (session : Transcript) (verdict : Verdict) (status : Status) (w v u z : World) → IsPlan o.plan → v.at COINS ≡ named o.coins (w.at COINS) → Touches COINS w v
     → Concludes o.plan o.addresses session verdict v u → TouchesLinks o.plan.n v u → Reports o.keep session verdict status u z → TouchesFiles u z → FetchEnds o status w z
-ends_with_report o session verdict status w v u z fits is_open touch fetched links reports files = elim reports [
+ends_with_report o session verdict status w v u z plan is_open touch fetched links reports files = elim reports [
   | inl told ↦ elim told.1 [
     | inl whole ↦
         subst (λ (s : Status). FetchEnds o s w z) (sym whole.0) (ends_as o verdict w z record {
@@ -124,9 +125,10 @@ ends_with_report o session verdict status w v u z fits is_open touch fetched lin
     settled : Settled o session verdict w z
     settled = record {
       coins = fetched.coins;
-      fetched = asked_within o fetched.coins session w v u z fits is_open touch fetched.asked files;
+      fetched = asked_within o fetched.coins session w v u z (omega (arith, plan.numbers.few_servers)) is_open touch fetched.asked files;
       judged = fetched.judged;
       found = fetched.found;
+      held = held_row o.plan fetched.coins session plan fetched.asked.tossed.size fetched.asked.tossed.bytes fetched.asked.asked.params fetched.asked.asked.whole verdict fetched.found;
     }
 
     still : (q : ℕ) → q < 256 → q ≢ COINS → u.at q ≡ w.at q

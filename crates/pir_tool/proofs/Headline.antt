@@ -4,7 +4,7 @@ use Rattle.std.specs.Prelude.{Option, Some, None}
 use Rattle.std.proofs.lemmas.List.{length-take}
 use Rattle.pir_ports.specs.World.{World}
 use Rattle.pir_ports.specs.Number.{INPUT, OUTPUT, COINS}
-use Rattle.pir_ports.specs.Moves.{gave}
+use Rattle.pir_ports.specs.Moves.{gave, named}
 use Rattle.wire_frames.specs.Limits.{IsInRange}
 use Rattle.wire_frames.specs.Session.{Transcript, IsSession}
 use Rattle.wire_frames.proofs.OneSession.{one_session}
@@ -12,7 +12,7 @@ use Rattle.block_decoder.specs.Verdict.{IsVerdict}
 use Rattle.block_decoder.specs.Text.{text}
 use Rattle.block_decoder.specs.declared.verdict.Verdict.{Verdict}
 use Rattle.block_decoder.proofs.OneVerdict.{one_verdict}
-use Rattle.replay.specs.Replayed.{Judged, NoSession}
+use Rattle.replay.specs.Replayed.{Judged, NoSession, ReadsWhole}
 use Rattle.replay.proofs.Readings.{at_told}
 use Rattle.fetch_client.specs.Plan.{need}
 use Rattle.pir_tool.specs.declared.status.Status.{Status}
@@ -24,10 +24,14 @@ use Rattle.pir_tool.specs.ReplayOutcome.{ReplayEnds, ReplayPromise, Reported, An
 use Rattle.pir_tool.specs.FetchOrder.{FetchOrder}
 use Rattle.pir_tool.specs.FetchOutcome.{FetchEnds, FetchPromise, FetchReported, Unrecorded, files_of, record_port}
 
+-- what was read whole is what Input held
+judged_by : (name : List ℕ) (old new : World) (bytes : List ℕ) (verdict : Verdict) → (old.at INPUT).holds ≡ Some bytes → ReadsWhole (Judged verdict) (named name (old.at INPUT)) (new.at INPUT) → Judged verdict bytes
+judged_by name old new bytes verdict told r = subst (Judged verdict) (at_told (λ (h : List ℕ). r.read ≡ h) (old.at INPUT).holds bytes told r.all) r.is
+
 -- the verdict reported is that of the session
 answered_by : (name : List ℕ) (status : Status) (old new : World) (bytes : List ℕ) (session : Transcript) → (old.at INPUT).holds ≡ Some bytes → IsSession bytes session → Reported name status old new → Answered session status old new
 answered_by name status old new bytes session told whole said =
-    let judged = at_told (Judged said.verdict) (old.at INPUT).holds bytes told said.judged in
+    let judged = judged_by name old new bytes said.verdict told said.read in
     record {
       verdict = said.verdict;
       judged = subst (λ (t : Transcript). IsVerdict t said.verdict) (one_session bytes judged.session session judged.whole whole) judged.judged;
@@ -44,20 +48,20 @@ answered name NoBlock old new bytes session told whole none said = inl (answered
 answered name Several old new bytes session told whole none said = inl (answered_by name Several old new bytes session told whole said)
 answered name (TooFew k h) old new bytes session told whole none said = inl (answered_by name (TooFew k h) old new bytes session told whole said)
 answered name (TooWeak k t h) old new bytes session told whole none said = inl (answered_by name (TooWeak k t h) old new bytes session told whole said)
-answered name ReadFault old new bytes session told whole none said = absurd (none.0 said.input.rose)
+answered name ReadFault old new bytes session told whole none said = absurd (none.0 said.rose)
 answered name WriteFault old new bytes session told whole none said = absurd (none.1.0 said.written.rose)
 answered name (BadInput EmptyFile) old new bytes session told whole none said = absurd said
 answered name (BadInput (TooBig limit)) old new bytes session told whole none said = absurd said
 answered name DoorFault old new bytes session told whole none said = absurd said
 answered name ChildFault old new bytes session told whole none said = absurd said
-answered name (BadInput (Session place)) old new bytes session told whole none said = absurd ((at_told (NoSession place) (old.at INPUT).holds bytes told said.none).none session whole)
+answered name (BadInput (Session place)) old new bytes session told whole none said = absurd ((at_told (NoSession place) (old.at INPUT).holds bytes told said.read.none).none session whole)
 answered name (BadInput (CoinsEnded taken)) old new bytes session told whole none said = absurd said
 answered name Memory old new bytes session told whole none said = inr refl
 
 -- nothing is reported where there is no session
 no_report : (name : List ℕ) (status : Status) (old new : World) (bytes : List ℕ) → (old.at INPUT).holds ≡ Some bytes → ((session : Transcript) → IsSession bytes session → ⊥) → Reported name status old new → ⊥
 no_report name status old new bytes told nothing said =
-    let judged = at_told (Judged said.verdict) (old.at INPUT).holds bytes told said.judged in nothing judged.session judged.whole
+    let judged = judged_by name old new bytes said.verdict told said.read in nothing judged.session judged.whole
 
 -- where there is no session, that is said
 refused : (name : List ℕ) (status : Status) (old new : World) (bytes : List ℕ) → (old.at INPUT).holds ≡ Some bytes → ((session : Transcript) → IsSession bytes session → ⊥) → NoneRose streams old new
@@ -68,13 +72,13 @@ refused name NoBlock old new bytes told nothing none said = absurd (no_report na
 refused name Several old new bytes told nothing none said = absurd (no_report name Several old new bytes told nothing said)
 refused name (TooFew k h) old new bytes told nothing none said = absurd (no_report name (TooFew k h) old new bytes told nothing said)
 refused name (TooWeak k t h) old new bytes told nothing none said = absurd (no_report name (TooWeak k t h) old new bytes told nothing said)
-refused name ReadFault old new bytes told nothing none said = absurd (none.0 said.input.rose)
+refused name ReadFault old new bytes told nothing none said = absurd (none.0 said.rose)
 refused name WriteFault old new bytes told nothing none said = absurd (none.1.0 said.written.rose)
 refused name (BadInput EmptyFile) old new bytes told nothing none said = absurd said
 refused name (BadInput (TooBig limit)) old new bytes told nothing none said = absurd said
 refused name DoorFault old new bytes told nothing none said = absurd said
 refused name ChildFault old new bytes told nothing none said = absurd said
-refused name (BadInput (Session place)) old new bytes told nothing none said = inl (place, refl, at_told (NoSession place) (old.at INPUT).holds bytes told said.none)
+refused name (BadInput (Session place)) old new bytes told nothing none said = inl (place, refl, at_told (NoSession place) (old.at INPUT).holds bytes told said.read.none)
 refused name (BadInput (CoinsEnded taken)) old new bytes told nothing none said = absurd said
 refused name Memory old new bytes told nothing none said = inr refl
 

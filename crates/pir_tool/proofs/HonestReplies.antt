@@ -1,13 +1,14 @@
 -- A server's reply to the query of a fetch.
 use Rattle.std.proofs.Common.{◌≡◌, Bool, true, false, ◌&&◌, ◌==◌, inl, inr, ℕ, ◌+◌, ◌<◌, ◌≤◌, ◌^◌, List, ◌++◌, length, take, drop, get_or, refl, sym, ◌∙◌, ap, ap₂, subst, arith, length-append, All}
-use Rattle.std.specs.Prelude.{if◌then◌else◌}
 use Rattle.std.proofs.Math.Seq.{take-append_seam, drop-append_seam}
 use Rattle.std.proofs.lemmas.Bool.{false≢true}
 use Rattle.std.proofs.lemmas.List.{take_all}
 use Rattle.gf256.specs.Product.{IsMatrix}
 use Rattle.wire_frames.specs.declared.sizes.TheConstants.{FRAME_HEADER_LEN}
-use Rattle.shamir_share.specs.Query.{query}
-use Rattle.chor_xor.specs.Bitmap.{bitmap, has_unused, size_of}
+use Rattle.chor_xor.specs.Bitmap.{bitmap, has_unused}
+use Rattle.wire_frames.specs.declared.scheme.Scheme.{Scheme}
+use Rattle.wire_frames.specs.declared.scheme.Scheme.TheVariants.{Shamir, Xor}
+use Rattle.wire_frames.specs.Scheme.{scheme_of, payload_len}
 use Rattle.wire_frames.specs.declared.header.QueryHeader.{QueryHeader}
 use Rattle.wire_frames.specs.declared.session.SessionParams.{SessionParams}
 use Rattle.wire_frames.specs.Header.{query_header, answer_to}
@@ -17,12 +18,11 @@ use Rattle.wire_frames.proofs.Parsing.{same_digits}
 use Rattle.wire_frames.proofs.Servers.{scheme_in}
 use Rattle.fetch_client.specs.declared.plan.FetchPlan.{FetchPlan}
 use Rattle.fetch_client.specs.Plan.{IsPlan, params_of, need}
-use Rattle.fetch_client.specs.Sent.{session_number, header_to, payload_to, sent}
-use Rattle.fetch_client.specs.Sent.{payload_size as query_size}
-use Rattle.fetch_client.specs.Honest.{honest_answer, honest_frame}
+use Rattle.fetch_client.specs.Sent.{frame_len, header_to, payload_in, payload_to, queries_from, sent, session_number}
+use Rattle.fetch_client.specs.Honest.{answer_in, honest_answer, honest_frame}
 use Rattle.fetch_client.proofs.Schemes.{length-payload_to}
-use Rattle.serve_core.specs.Service.{Service}
-use Rattle.serve_core.specs.Reply.{Asks, IsShaped, Suits, RefusedByHeader, Replies, answer, answer_frame, payload, payload_size, sets_unused}
+use Rattle.serve_core.specs.Service.{Service, payload_len_for}
+use Rattle.serve_core.specs.Reply.{Asks, IsShaped, Suits, RefusedByHeader, Replies, answer, answer_frame, payload, sets_unused}
 use Rattle.serve_core.specs.declared.met.Met.{Met}
 use Rattle.serve_core.specs.declared.met.Met.TheVariants.{Served, Refused, Gone, GuestFault}
 use Rattle.pir_tool.specs.HonestReply.{service_with, frame_of, RepliesHonestly}
@@ -47,7 +47,7 @@ module _ (p : FetchPlan) (within : p.block < p.r) (coins : List ℕ) (i : ℕ) (
   header = header_to p coins i
 
   abbrev asked_for : List ℕ
-  asked_for = payload_to params (drop 8 coins) p.block i
+  asked_for = payload_to params (queries_from coins) p.block i
 
   front : take FRAME_HEADER_LEN (sent p coins i) ≡ query_header header
   unfolding sent
@@ -57,9 +57,9 @@ module _ (p : FetchPlan) (within : p.block < p.r) (coins : List ℕ) (i : ℕ) (
   unfolding sent
   rest = drop-append_seam (query_header header) asked_for
 
-  size : length (sent p coins i) ≡ FRAME_HEADER_LEN + query_size params
+  size : length (sent p coins i) ≡ frame_len p
   unfolding sent
-  size = length-append (query_header header) asked_for ∙ ap (λ n. FRAME_HEADER_LEN + n) (length-payload_to params (drop 8 coins) p.block i)
+  size = length-append (query_header header) asked_for ∙ ap (λ n. FRAME_HEADER_LEN + n) (length-payload_to params (queries_from coins) p.block i)
 
   abbrev service : Service
   service = service_with p matrix workers
@@ -73,30 +73,33 @@ module _ (p : FetchPlan) (within : p.block < p.r) (coins : List ℕ) (i : ℕ) (
   }
 
   -- its payload is as long as the server takes it to be
-  size_is : payload_size service.scheme service.database ≡ query_size params
-  unfolding payload_size query_size
-  size_is = ap (λ (r : ℕ). if p.scheme == 2 then size_of r else r) is.rows
+  size_is : payload_len_for service ≡ payload_len (scheme_of p.scheme) p.r
+  size_is = ap (payload_len (scheme_of p.scheme)) is.rows
 
   query_is : payload service (sent p coins i) ≡ asked_for
-  query_is = ap₂ take size_is rest ∙ take_all (query_size params) asked_for (let n = length-payload_to params (drop 8 coins) p.block i in omega (arith, n))
+  query_is = ap₂ take size_is rest ∙ take_all (payload_len (scheme_of p.scheme) p.r) asked_for (let n = length-payload_to params (queries_from coins) p.block i in omega (arith, n))
 
   -- and sets no unused bit, of which only bitmaps have some
-  trim : sets_unused service.scheme service.database (payload service (sent p coins i)) ≡ false
-  unfolding sets_unused payload_to
-  trim = ap₂ (λ (r : ℕ) (l : List ℕ). p.scheme == 2 && has_unused r l) is.rows query_is ∙ by_scheme (p.scheme == 2)
+  trim : sets_unused (scheme_of service.scheme) service.database (payload service (sent p coins i)) ≡ false
+  unfolding payload_to
+  trim = ap (sets_unused (scheme_of p.scheme) service.database) query_is ∙ by_scheme (scheme_of p.scheme)
     where
-      by_scheme : (b : Bool) → (b && has_unused p.r (if b then bitmap (drop 8 coins) p.n p.r p.block i else query (drop 8 coins) p.t p.r p.block i)) ≡ false
-      by_scheme true = none_unused (drop 8 coins) p.n p.r p.block i within
-      by_scheme false = refl
+      by_scheme : (s : Scheme) → sets_unused s service.database (payload_in s params (queries_from coins) p.block i) ≡ false
+      by_scheme Shamir = refl
+      by_scheme Xor = ap (λ (r : ℕ). has_unused r (bitmap (queries_from coins) p.n p.r p.block i)) is.rows ∙ none_unused (queries_from coins) p.n p.r p.block i within
 
   -- the server's answer is the honest one
-  answer_is : answer service.scheme service.database asked_for ≡ honest_answer params matrix asked_for
-  unfolding answer honest_answer
-  answer_is = refl
+  answer_is : answer (scheme_of service.scheme) service.database asked_for ≡ honest_answer params matrix asked_for
+  unfolding honest_answer
+  answer_is = by_scheme (scheme_of p.scheme)
+    where
+      by_scheme : (s : Scheme) → answer s service.database asked_for ≡ answer_in s params matrix asked_for
+      by_scheme Shamir = refl
+      by_scheme Xor = refl
 
-  frame_is : answer_frame service.scheme service.database (take FRAME_HEADER_LEN (sent p coins i)) (payload service (sent p coins i)) ≡ frame_of p coins matrix i
+  frame_is : answer_frame service (take FRAME_HEADER_LEN (sent p coins i)) (payload service (sent p coins i)) ≡ frame_of p coins matrix i
   unfolding honest_frame
-  frame_is = ap₂ (answer_frame service.scheme service.database) front query_is ∙ ap (λ (l : List ℕ). answer_to (query_header header) 0 ++ l) answer_is
+  frame_is = ap₂ (answer_frame service) front query_is ∙ ap (λ (l : List ℕ). answer_to (query_header header) 0 ++ l) answer_is
 
   -- another header has the same bytes, but is of another query: there is none
   no_other : (other : QueryHeader) → IsQueryHeader (take FRAME_HEADER_LEN (sent p coins i)) other → (other.scheme ≡ p.scheme) × IsShaped service other

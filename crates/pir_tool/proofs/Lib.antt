@@ -5,6 +5,8 @@ mod Serving
 mod ServeHeadline
 mod UnusedBits
 mod HonestReplies
+mod HeldRow
+mod InTurn
 mod SameFrames
 pub mod Fetching
 mod StreamBytes

@@ -5,6 +5,7 @@ use Rattle.std.proofs.lemmas.List.{length-take-le, take-append-drop}
 use Rattle.std.proofs.lemmas.List.Elements.{All-take, All-drop, All-append}
 use Rattle.shamir_share.specs.Query.{query}
 use Rattle.chor_xor.specs.Bitmap.{bitmap, size_of}
+use Rattle.wire_frames.specs.declared.scheme.TheConstants.{SHAMIR, XOR}
 use Rattle.wire_frames.specs.Header.{query_header}
 use Rattle.fetch_client.specs.declared.plan.FetchPlan.{FetchPlan}
 use Rattle.fetch_client.specs.Plan.{params_of, query_coins, need}
@@ -81,7 +82,7 @@ same_frame p other i coins rest is same =
     (ap (λ (l : List ℕ). payload_to (params_of p 0) l other i) (rest_of (take 8 coins) rest front) ∙ same)
 
 -- in Shamir's sharing the frames are the same where the queries are
-module _ (p : FetchPlan) (one : p.scheme ≡ 1) (coalition : List ℕ) (other : ℕ) where
+module _ (p : FetchPlan) (one : p.scheme ≡ SHAMIR) (coalition : List ℕ) (other : ℕ) where
   pub bijection_in_shamir : IsBijection (p.r * p.t) (λ coins. partner coins p.t coalition p.block other) → IsBijection (need p) (λ coins. partner_coins p coalition other coins)
   unfolding partner_coins
   bijection_in_shamir b =
@@ -100,7 +101,7 @@ module _ (p : FetchPlan) (one : p.scheme ≡ 1) (coalition : List ℕ) (other : 
       (payload_of_shamir params one rest other i ∙ same (drop 8 coins) coins_behind k d l ∙ sym (payload_of_shamir params one (drop 8 coins) p.block i))
 
 -- in the XOR scheme they are where the bitmaps are
-module _ (p : FetchPlan) (two : p.scheme ≡ 2) (left_out other : ℕ) where
+module _ (p : FetchPlan) (two : p.scheme ≡ XOR) (left_out other : ℕ) where
   pub bijection_in_xor : IsBijection ((p.n - 1) * size_of p.r) (λ coins. partner_xor coins p.n p.r left_out p.block other) → IsBijection (need p) (λ coins. partner_coins_xor p left_out other coins)
   unfolding partner_coins_xor
   bijection_in_xor b =

@@ -10,14 +10,14 @@ use Rattle.pir_ports.specs.Serving.{Served as IsServing}
 use Rattle.pir_ports.proofs.Served.{served_none, served_still, served_more}
 use Rattle.block_matrix.specs.Database.{Database}
 use Rattle.serve_core.specs.Service.{Service}
-use Rattle.serve_core.specs.Attended.{Answered, Broke, Attends, HasReply, IsServed}
+use Rattle.serve_core.specs.Attended.{Replied, Broke, Attends, HasReply, IsServed}
 use Rattle.serve_core.specs.declared.met.Met.{Met}
 use Rattle.serve_core.specs.declared.met.Met.TheVariants.{Served, Refused, Gone, GuestFault}
 use Rattle.serve_core.proofs.ServingOne.{serves_one, replies_one}
 use Rattle.pir_tool.specs.Told.{DidRise}
 use Rattle.pir_tool.specs.ServeOrder.{ServeOrder, service_of}
 use Rattle.pir_tool.specs.declared.status.Status.TheVariants.{WriteFault, DoorFault}
-use Rattle.pir_tool.specs.ServeSteps.{ready, Loaded, OpensDesk, Listens, TouchesDoor, ServesGuests, RepliesToGuests, RunsDry, TouchesGuests}
+use Rattle.pir_tool.specs.ServeSteps.{ready, AttendsInTurn, Loaded, OpensDesk, Listens, TouchesDoor, ServesGuests, RepliesToGuests, RunsDry, TouchesGuests}
 use Rattle.pir_tool.specs.ServeOutcome.{Nobody, ServedAll, NoFurtherGuest, CannotListen, CannotSayReady, TouchesServer}
 
 -- no guest was served yet
@@ -37,7 +37,7 @@ replying_none service w = record {
 }
 
 -- one guest more, which was given its whole reply
-replying_answered : (service : Service) (met : Met) (n : ℕ) (w v m u : World) → Replying service n w v → Meets v m → Touches GUEST m u → Answered service met m u → Replying service (n + 1) w u
+replying_answered : (service : Service) (met : Met) (n : ℕ) (w v m u : World) → Replying service n w v → Meets v m → Touches GUEST m u → Replied service met m u → Replying service (n + 1) w u
 replying_answered service met n w v m u r meets touch a =
     let same : (u.at GUEST).faults ≡ (v.at GUEST).faults = ap (λ (c : Cell). c.faults) a.cell ∙ meets.faults in
     record {
@@ -83,11 +83,15 @@ pub guests_door : (w v m u : World) → v.at DOOR ≡ w.at DOOR → Meets v m �
 guests_door w v m u same meets touch = touch.others 5 (omega arith) (omega arith) ∙ meets.others 5 (omega arith) (omega arith) ∙ same
 
 -- no further guest comes in
-pub guests_dry : (service : Service) (n served : ℕ) (w v u : World) → served < n → v.at DOOR ≡ w.at DOOR → ServesGuests service served w v → Fails DOOR v u → Touches DOOR v u → RunsDry service n w u
-guests_dry service n served w v u fewer same s fails touch = record {
+pub guests_dry : (service : Service) (n served : ℕ) (w v u : World) → served < n → v.at DOOR ≡ w.at DOOR → ServesGuests service served w v → AttendsInTurn service served w v → Fails DOOR v u → Touches DOOR v u → RunsDry service n w u
+guests_dry service n served w v u fewer same s turns fails touch = record {
   served = served;
   fewer = fewer;
   guests = served_still (IsServed service) served 5 w v u s touch (omega arith);
+  last = v;
+  turns = turns;
+  none = fails;
+  others = touch;
   door = fails.cell ∙ ap (counted (u.at DOOR).faults) same;
   rose = subst (λ (c : Cell). Rose c.faults (u.at DOOR).faults) same fails.rose;
 }
@@ -176,13 +180,19 @@ module _ (o : ServeOrder) (service : Service) (w v : World) (opens : OpensDesk o
     door_opened : u.at DOOR ≡ named o.listen (w.at DOOR)
     door_opened = l.door ∙ ap (named o.listen) door_is
 
+    turns_from : (n : ℕ) (y : World) → AttendsInTurn service n u y → AttendsInTurn (service_of o database) n u y
+    turns_from n y turns = subst (λ (d : Service). AttendsInTurn d n u y) service_is turns
+
     -- all guests were served
-    pub served_all : ServesGuests service o.guests u x → ((DidRise GUEST u x → ⊥) → RepliesToGuests service o.guests u x) → x.at DOOR ≡ u.at DOOR → ServedAll o w x
-    served_all s r same = record {
+    pub served_all : ServesGuests service o.guests u x → AttendsInTurn service o.guests u x → ((DidRise GUEST u x → ⊥) → RepliesToGuests service o.guests u x) → x.at DOOR ≡ u.at DOOR → ServedAll o w x
+    served_all s turns r same = record {
       database = database;
       loaded = loaded_at_end;
       door = same ∙ door_opened;
       written = output_is;
+      open = u;
+      nobody = nobody u t;
+      turns = turns_from o.guests x turns;
       guests = guests_from o.guests s;
       replied = λ stayed.
           let none = nobody u t in
@@ -200,6 +210,12 @@ module _ (o : ServeOrder) (service : Service) (w v : World) (opens : OpensDesk o
       written = output_is;
       served = dry.served;
       fewer = dry.fewer;
+      open = u;
+      nobody = nobody u t;
+      last = dry.last;
+      turns = turns_from dry.served dry.last dry.turns;
+      none = dry.none;
+      others = dry.others;
       guests = guests_from dry.served dry.guests;
     }
 

@@ -1,5 +1,5 @@
 -- What `fetch` does to the outside, by the status that it ends with.
-use Rattle.std.specs.Prelude.{◌≡◌, ◌⊎◌, ℕ, ◌<◌, ◌≤◌, List, [], ◌∷◌, length, drop, Option, Some, None, Result, Ok, Err}
+use Rattle.std.specs.Prelude.{◌≡◌, ◌⊎◌, ℕ, ◌<◌, ◌≤◌, List, [], ◌∷◌, length, Option, Some, None, Result, Ok, Err}
 use Rattle.pir_ports.specs.World.{World}
 use Rattle.pir_ports.specs.Number.{OUTPUT, COINS, RECORD, link}
 use Rattle.pir_ports.specs.Moves.{Touches, gave, named}
@@ -10,9 +10,11 @@ use Rattle.block_decoder.specs.Verdict.{IsVerdict}
 use Rattle.block_decoder.specs.Text.{text}
 use Rattle.block_decoder.specs.declared.verdict.Verdict.{Verdict}
 use Rattle.fetch_client.specs.Plan.{need}
+use Rattle.fetch_client.specs.Sent.{queries_from}
 use Rattle.fetch_client.specs.Tossed.{Tossed, RunsOut}
 use Rattle.fetch_client.specs.Honest.{FindsHonestBlock}
 use Rattle.fetch_client.specs.Fetched.{AsksAll}
+use Rattle.pir_tool.specs.HeldRow.{FindsHeldRow}
 use Rattle.pir_tool.specs.Table.{status_of}
 use Rattle.pir_ports.specs.declared.port.Failed.{Failed}
 use Rattle.pir_tool.specs.Told.{NoneRose, Told, Unread, Unwritten}
@@ -26,12 +28,14 @@ pub record InSession (o : FetchOrder) (coins : List ℕ) (session : Transcript) 
   pub tossed : Tossed (need o.plan) coins (named o.coins (old.at COINS)) (new.at COINS)
   pub asked : AsksAll o.plan o.addresses coins session old new
 
--- every server was asked in this session, and this is its verdict, which has the block of honest servers
+-- every server was asked in this session, and this is its verdict, which has the block of honest servers, and the row that
+-- enough servers hold
 pub record Settled (o : FetchOrder) (session : Transcript) (verdict : Verdict) (old new : World) : Type 0 where
   pub coins : List ℕ
   pub fetched : InSession o coins session old new
   pub judged : IsVerdict session verdict
-  pub found : FindsHonestBlock session (drop 8 coins) o.plan.block verdict
+  pub found : FindsHonestBlock session (queries_from coins) o.plan.block verdict
+  pub held : FindsHeldRow o.plan coins session verdict
 
 -- Record was opened by this name, and has taken the file of the session
 pub record IsRecorded (name : List ℕ) (session : Transcript) (old new : World) : Type 0 where
@@ -67,7 +71,7 @@ pub record FetchCutShort (o : FetchOrder) (old new : World) : Type 0 where
 
 -- the coins can't be read, and no server was asked
 pub record FetchUnreadable (o : FetchOrder) (old new : World) : Type 0 where
-  pub unread : Unread COINS o.coins old new
+  pub unread : Unread COINS o.coins (need o.plan) old new
   pub others : Touches COINS old new
 
 -- there are too few coins, and no server was asked

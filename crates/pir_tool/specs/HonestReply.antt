@@ -1,9 +1,9 @@
 -- What a server that holds the database replies to the query of a fetch.
-use Rattle.std.specs.Prelude.{◌≡◌, ◌↔◌, ℕ, List, drop}
+use Rattle.std.specs.Prelude.{◌≡◌, ◌↔◌, ℕ, List}
 use Rattle.gf256.specs.Product.{IsMatrix}
 use Rattle.fetch_client.specs.declared.plan.FetchPlan.{FetchPlan}
 use Rattle.fetch_client.specs.Plan.{params_of}
-use Rattle.fetch_client.specs.Sent.{session_number, sent}
+use Rattle.fetch_client.specs.Sent.{queries_from, session_number, sent}
 use Rattle.fetch_client.specs.Honest.{honest_frame}
 use Rattle.serve_core.specs.Service.{Service}
 use Rattle.serve_core.specs.Reply.{Replies}
@@ -16,7 +16,7 @@ service_with p matrix workers = record { database = record { rows = matrix; widt
 
 -- the frame of honest server i in the session that is fetched with these coins
 abbrev pub frame_of : FetchPlan → List ℕ → List (List ℕ) → ℕ → List ℕ
-frame_of p coins matrix i = honest_frame (params_of p (session_number coins)) matrix (drop 8 coins) p.block i
+frame_of p coins matrix i = honest_frame (params_of p (session_number coins)) matrix (queries_from coins) p.block i
 
 -- its reply to what it is sent is this frame, and nothing else
 abbrev pub RepliesHonestly : FetchPlan → List ℕ → ℕ → List (List ℕ) → ℕ → Type 0

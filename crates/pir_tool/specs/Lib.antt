@@ -9,6 +9,7 @@ pub mod ServeOrder
 pub mod ServeSteps
 pub mod ServeOutcome
 pub mod HonestReply
+pub mod HeldRow
 pub mod Privacy
 pub mod Outcome
 pub mod Stream

@@ -1,55 +1,48 @@
 -- What `replay FILE` does to the outside, by the status that it ends with.
-use Rattle.std.specs.Prelude.{◌≡◌, ◌⊎◌, ℕ, List, [], ◌∷◌, Some, IfSome}
+use Rattle.std.specs.Prelude.{◌≡◌, ◌⊎◌, ℕ, List, [], ◌∷◌, Some}
 use Rattle.pir_ports.specs.World.{World}
 use Rattle.pir_ports.specs.Number.{INPUT, OUTPUT}
-use Rattle.pir_ports.specs.Moves.{took, gave, named}
+use Rattle.pir_ports.specs.Moves.{gave, named, counted}
 use Rattle.pir_ports.specs.Touched.{One, TouchesOnly}
 use Rattle.pir_ports.specs.Whole.{FailsWithin}
 use Rattle.wire_frames.specs.Session.{Transcript, IsSession}
 use Rattle.block_decoder.specs.Verdict.{IsVerdict}
 use Rattle.block_decoder.specs.Text.{text}
 use Rattle.block_decoder.specs.declared.verdict.Verdict.{Verdict}
-use Rattle.replay.specs.Replayed.{Judged, NoSession}
+use Rattle.replay.specs.Replayed.{BreaksOff, Judged, NoSession, ReadsLittle, ReadsWhole, Refuses, SpellsOne}
 use Rattle.pir_tool.specs.Table.{status_of}
-use Rattle.pir_tool.specs.Told.{NoneRose, ToldWhole, Unread}
+use Rattle.pir_tool.specs.Told.{DidRise, NoneRose, ToldWhole}
 use Rattle.pir_tool.specs.declared.status.Status.{Status}
 use Rattle.pir_tool.specs.declared.status.Status.TheVariants.{Usage, ReadFault, WriteFault, BadInput, DoorFault, ChildFault, Memory}
 use Rattle.pir_tool.specs.declared.status.Bad.TheVariants.{Session, EmptyFile, TooBig, CoinsEnded}
 
--- Input was opened under this name, and some of its bytes were taken
-pub record Opened (name : List ℕ) (old new : World) : Type 0 where
-  pub n : ℕ
-  pub input : new.at INPUT ≡ took n (named name (old.at INPUT))
-
--- the verdict on what Input held is written whole, and nothing else
+-- the verdict on all that Input held, which was opened by this name, is written whole, and nothing else
 pub record Reported (name : List ℕ) (status : Status) (old new : World) : Type 0 where
   pub verdict : Verdict
   pub status_is : status ≡ status_of verdict
-  pub read : Opened name old new
-  pub judged : IfSome (old.at INPUT).holds (Judged verdict)
+  pub read : ReadsWhole (Judged verdict) (named name (old.at INPUT)) (new.at INPUT)
   pub written : new.at OUTPUT ≡ gave (text verdict) (old.at OUTPUT)
 
 -- a call on Output failed, which has taken a proper front of the verdict's text
 pub record CutShort (name : List ℕ) (old new : World) : Type 0 where
   pub verdict : Verdict
-  pub read : Opened name old new
-  pub judged : IfSome (old.at INPUT).holds (Judged verdict)
+  pub read : ReadsWhole (Judged verdict) (named name (old.at INPUT)) (new.at INPUT)
   pub written : FailsWithin OUTPUT (text verdict) old new
 
--- Input holds no session, and nothing is written
+-- Input holds no session, which was seen no more than a piece past the place, and nothing is written
 pub record Refused (name : List ℕ) (place : ℕ) (old new : World) : Type 0 where
-  pub read : Opened name old new
-  pub none : IfSome (old.at INPUT).holds (NoSession place)
+  pub read : Refuses place (named name (old.at INPUT)) (new.at INPUT)
   pub output : new.at OUTPUT ≡ old.at OUTPUT
 
--- Input can't be read, and nothing is written
+-- Input can't be opened; or it was, and a call failed when what begins a session was taken. Nothing is written
 pub record Unreadable (name : List ℕ) (old new : World) : Type 0 where
-  pub input : Unread INPUT name old new
+  pub input : (new.at INPUT ≡ counted (new.at INPUT).faults (old.at INPUT)) ⊎ BreaksOff (named name (old.at INPUT)) (new.at INPUT)
+  pub rose : DidRise INPUT old new
   pub output : new.at OUTPUT ≡ old.at OUTPUT
 
--- memory ran out before anything was written
+-- memory ran out, early or when a whole session was read, and nothing is written
 pub record Unfinished (name : List ℕ) (old new : World) : Type 0 where
-  pub read : Opened name old new
+  pub read : ReadsLittle (named name (old.at INPUT)) (new.at INPUT) ⊎ ReadsWhole SpellsOne (named name (old.at INPUT)) (new.at INPUT)
   pub output : new.at OUTPUT ≡ old.at OUTPUT
 
 -- what `replay FILE` did, by its status

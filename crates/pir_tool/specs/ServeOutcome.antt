@@ -2,13 +2,14 @@
 use Rattle.std.specs.Prelude.{◌≡◌, ◌⊎◌, ℕ, ◌<◌, ◌≤◌, List, [], ◌∷◌, length, Some}
 use Rattle.pir_ports.specs.World.{World}
 use Rattle.pir_ports.specs.Number.{OUTPUT, DATABASE, DOOR, GUEST}
-use Rattle.pir_ports.specs.Moves.{Touches, gave, named, counted}
+use Rattle.pir_ports.specs.Moves.{Fails, Touches, gave, named, counted}
 use Rattle.pir_ports.specs.Whole.{FailsWithin}
 use Rattle.pir_ports.specs.Touched.{One, Crowd, TouchesOnly}
 use Rattle.block_matrix.specs.Database.{Database, limit}
+use Rattle.block_matrix.specs.Loading.{asked_for}
 use Rattle.pir_tool.specs.Told.{DidRise, NoneRose, Unread}
 use Rattle.pir_tool.specs.ServeOrder.{ServeOrder, service_of}
-use Rattle.pir_tool.specs.ServeSteps.{ready, Loaded, HasNoBytes, HasTooMany, HasBegun, ServesGuests, RepliesToGuests}
+use Rattle.pir_tool.specs.ServeSteps.{ready, Loaded, HasNoBytes, HasTooMany, HasBegun, AttendsInTurn, ServesGuests, RepliesToGuests}
 use Rattle.pir_tool.specs.declared.status.Status.{Status}
 use Rattle.pir_tool.specs.declared.status.Status.TheVariants.{One, ReadFault, WriteFault, BadInput, DoorFault, Memory}
 use Rattle.pir_tool.specs.declared.status.Bad.TheVariants.{EmptyFile, TooBig}
@@ -18,13 +19,16 @@ pub record Nobody (old new : World) : Type 0 where
   pub guest : new.at GUEST ≡ old.at GUEST
   pub crowd : new.crowd ≡ old.crowd
 
--- the database was loaded, guests could come in and that is written whole, and all of them were served. Where no call on a
--- guest failed, each was given its whole reply
+-- the database was loaded, guests could come in and that is written whole, and then all of them were served, in turn: so much
+-- was taken from each and given to it. Where no call on a guest failed, each was given its whole reply
 pub record ServedAll (o : ServeOrder) (old new : World) : Type 0 where
   pub database : Database
   pub loaded : Loaded o.database o.width database old new
   pub door : new.at DOOR ≡ named o.listen (old.at DOOR)
   pub written : new.at OUTPUT ≡ gave ready (old.at OUTPUT)
+  pub open : World
+  pub nobody : Nobody old open
+  pub turns : AttendsInTurn (service_of o database) o.guests open new
   pub guests : ServesGuests (service_of o database) o.guests old new
   pub replied : (DidRise GUEST old new → ⊥) → RepliesToGuests (service_of o database) o.guests old new
 
@@ -37,6 +41,12 @@ pub record NoFurtherGuest (o : ServeOrder) (old new : World) : Type 0 where
   pub written : new.at OUTPUT ≡ gave ready (old.at OUTPUT)
   pub served : ℕ
   pub fewer : served < o.guests
+  pub open : World
+  pub nobody : Nobody old open
+  pub last : World
+  pub turns : AttendsInTurn (service_of o database) served open last
+  pub none : Fails DOOR last new
+  pub others : Touches DOOR last new
   pub guests : ServesGuests (service_of o database) served old new
 
 -- the database was loaded, and Door could not be opened: nothing is written, and nobody came in
@@ -59,22 +69,23 @@ pub record CannotSayReady (o : ServeOrder) (old new : World) : Type 0 where
 -- what `serve` did, by its status
 abbrev pub ServeEnds : ServeOrder → Status → World → World → Type 0
 ServeEnds o One old new = ServedAll o old new
-ServeEnds o ReadFault old new = Unread DATABASE o.database old new × Touches DATABASE old new
+ServeEnds o ReadFault old new = Unread DATABASE o.database (asked_for o.width) old new × Touches DATABASE old new
 ServeEnds o WriteFault old new = CannotSayReady o old new
 ServeEnds o (BadInput EmptyFile) old new = HasNoBytes o.database old new × Touches DATABASE old new
 ServeEnds o (BadInput (TooBig most)) old new = HasTooMany o.database o.width most old new × Touches DATABASE old new
 ServeEnds o DoorFault old new = CannotListen o old new ⊎ NoFurtherGuest o old new
-ServeEnds o Memory old new = HasBegun o.database old new × Touches DATABASE old new
+ServeEnds o Memory old new = HasBegun o.database o.width old new × Touches DATABASE old new
 ServeEnds o status old new = ⊥
 
 -- Output, Database, Door and Guest alone are touched, and guests come and go
 abbrev pub TouchesServer : World → World → Type 0
 TouchesServer old new = TouchesOnly (One OUTPUT ∷ One DATABASE ∷ One DOOR ∷ One GUEST ∷ Crowd ∷ []) old new
 
--- what `serve` did, and that it did no more
+-- what `serve` did, and that it did no more; Guest is opened by no name
 pub record ServeOutcome (o : ServeOrder) (status : Status) (old new : World) : Type 0 where
   pub ends : ServeEnds o status old new
   pub others : TouchesServer old new
+  pub unnamed : (new.at GUEST).opened ≡ (old.at GUEST).opened
 
 -- the ports that `serve` uses but that of its guests
 abbrev pub files : List ℕ

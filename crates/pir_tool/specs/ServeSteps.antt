@@ -1,15 +1,16 @@
 -- The steps of `serve`, and what each does to the outside.
-use Rattle.std.specs.Prelude.{◌≡◌, ℕ, ◌+◌, ◌<◌, List, [], length, codes, IfSome, Result, Ok, Err, ◌∷◌}
+use Rattle.std.specs.Prelude.{◌≡◌, ℕ, ◌+◌, ◌<◌, List, [], codes, Result, Ok, Err, ◌∷◌}
 use Rattle.pir_ports.specs.World.{World}
 use Rattle.pir_ports.specs.Number.{OUTPUT, DATABASE, DOOR, GUEST}
-use Rattle.pir_ports.specs.Moves.{took, gave, named, counted}
+use Rattle.pir_ports.specs.Moves.{Fails, Touches, gave, named, counted}
 use Rattle.pir_ports.specs.Whole.{FailsWithin}
 use Rattle.pir_ports.specs.Touched.{One, Crowd, TouchesOnly}
 use Rattle.pir_ports.specs.Serving.{Served}
 use Rattle.block_matrix.specs.Database.{Database, limit}
-use Rattle.block_matrix.specs.Loaded.{IsFileOf}
+use Rattle.block_matrix.specs.Loading.{Holds, HoldsMore, HoldsNone, Stopped, asked_for}
 use Rattle.serve_core.specs.Service.{Service}
-use Rattle.serve_core.specs.Attended.{HasReply, IsServed}
+use Rattle.serve_core.specs.Attended.{AttendsNext, HasReply, IsServed}
+use Rattle.serve_core.specs.declared.met.Met.{Met}
 use Rattle.pir_tool.specs.Told.{DidRise, Unread}
 use Rattle.pir_tool.specs.ServeOrder.{ServeOrder}
 use Rattle.pir_tool.specs.declared.status.Status.{Status}
@@ -21,35 +22,28 @@ abbrev pub ready : List ℕ
 ready = codes "ready\n"
 
 -- Database was opened by its name and read to its end, and this is the database in it
-pub record Loaded (name : List ℕ) (width : ℕ) (database : Database) (old new : World) : Type 0 where
-  pub read : List ℕ
-  pub cell : new.at DATABASE ≡ took (length read) (named name (old.at DATABASE))
-  pub file : IsFileOf width read database
-  pub all : IfSome (old.at DATABASE).holds (λ h. read ≡ h)
+abbrev pub Loaded : List ℕ → ℕ → Database → World → World → Type 0
+Loaded name width database old new = Holds width database (named name (old.at DATABASE)) (new.at DATABASE)
 
 -- it holds no bytes
-pub record HasNoBytes (name : List ℕ) (old new : World) : Type 0 where
-  pub cell : new.at DATABASE ≡ named name (old.at DATABASE)
-  pub none : IfSome (old.at DATABASE).holds (λ h. h ≡ [])
+abbrev pub HasNoBytes : List ℕ → World → World → Type 0
+HasNoBytes name old new = HoldsNone (named name (old.at DATABASE)) (new.at DATABASE)
 
 -- it holds more bytes than a database of that width may have, which is the limit
-pub record HasTooMany (name : List ℕ) (width most : ℕ) (old new : World) : Type 0 where
-  pub limit_is : most ≡ limit width
-  pub cell : new.at DATABASE ≡ took (most + 1) (named name (old.at DATABASE))
-  pub more : IfSome (old.at DATABASE).holds (λ h. most < length h)
+abbrev pub HasTooMany : List ℕ → ℕ → ℕ → World → World → Type 0
+HasTooMany name width most old new = (most ≡ limit width) × HoldsMore width (named name (old.at DATABASE)) (new.at DATABASE)
 
--- it was opened, and some of its bytes were taken
-pub record HasBegun (name : List ℕ) (old new : World) : Type 0 where
-  pub n : ℕ
-  pub cell : new.at DATABASE ≡ took n (named name (old.at DATABASE))
+-- it was opened, and no more of its bytes were taken than were asked for
+abbrev pub HasBegun : List ℕ → ℕ → World → World → Type 0
+HasBegun name width old new = Stopped (asked_for width) (named name (old.at DATABASE)) (new.at DATABASE)
 
 -- opening a desk: the database is loaded, or the run ends with this status
 abbrev pub OpensDesk : ServeOrder → Result Service Status → World → World → Type 0
 OpensDesk o (Ok service) old new = (service.scheme ≡ o.scheme) × (service.workers ≡ o.workers) × Loaded o.database o.width service.database old new
-OpensDesk o (Err ReadFault) old new = Unread DATABASE o.database old new
+OpensDesk o (Err ReadFault) old new = Unread DATABASE o.database (asked_for o.width) old new
 OpensDesk o (Err (BadInput EmptyFile)) old new = HasNoBytes o.database old new
 OpensDesk o (Err (BadInput (TooBig most))) old new = HasTooMany o.database o.width most old new
-OpensDesk o (Err Memory) old new = HasBegun o.database old new
+OpensDesk o (Err Memory) old new = HasBegun o.database o.width old new
 OpensDesk o (Err status) old new = ⊥
 
 -- Door was opened at this address, and that is written
@@ -87,11 +81,23 @@ ServesGuests service n old new = Served (IsServed service) n old new
 abbrev pub RepliesToGuests : Service → ℕ → World → World → Type 0
 RepliesToGuests service n old new = Served (λ guest out before after. HasReply service guest out) n old new
 
+-- n guests came in, and each was attended to, one after the other: the worlds between them, and what each was met with
+pub record AttendsInTurn (service : Service) (n : ℕ) (old new : World) : Type 0 where
+  pub worlds : ℕ → World
+  pub mets : ℕ → Met
+  pub first : worlds 0 ≡ old
+  pub last : worlds n ≡ new
+  pub each : (i : ℕ) → i < n → AttendsNext service (mets i) (worlds i) (worlds (i + 1))
+
 -- when some of n guests were served, no further one came in
 pub record RunsDry (service : Service) (n : ℕ) (old new : World) : Type 0 where
   pub served : ℕ
   pub fewer : served < n
   pub guests : ServesGuests service served old new
+  pub last : World
+  pub turns : AttendsInTurn service served old last
+  pub none : Fails DOOR last new
+  pub others : Touches DOOR last new
   pub door : new.at DOOR ≡ counted (new.at DOOR).faults (old.at DOOR)
   pub rose : DidRise DOOR old new
 

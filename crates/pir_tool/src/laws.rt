@@ -1,6 +1,7 @@
 //! Laws that join the client and the server, each as a call whose contract is the law. A call changes nothing.
 
 ghost use Rattle.std.specs.Prelude.{◌≡◌, ◌≢◌, ◌<◌, ◌≤◌, ℕ, List, length, All};
+ghost use Rattle.wire_frames.specs.declared.scheme.TheConstants.{SHAMIR, XOR};
 ghost use Rattle.fetch_client.specs.Plan.{IsPlan, need};
 ghost use Rattle.pir_tool.specs.HonestReply.{RepliesHonestly};
 ghost use Rattle.privacy_law.specs.Bijection.{IsBijection};
@@ -25,7 +26,7 @@ pub fn reply_is_the_honest_frame(plan: &FetchPlan, coins: &[u8], index: u8)
 /// coins lead to what they see for one block as for another: where the coins are uniform, secret and used once, what they see
 /// doesn't tell the block (Goldberg 2007; Shamir 1979). `coalition` has the indices of these servers.
 pub fn coalition_is_sent_the_same(plan: &FetchPlan, coalition: &[u8], other: u32)
-    requires scheme { plan.now.scheme ≡ 1 }
+    requires scheme { plan.now.scheme ≡ SHAMIR }
     requires bound { length coalition.now ≤ plan.now.t }
     requires nonzero { All (λ a. a ≢ 0) coalition.now }
     ensures bijection { IsBijection (need plan.now) (λ coins. partner_coins plan.now coalition.now other coins) }
@@ -38,7 +39,7 @@ pub fn coalition_is_sent_the_same(plan: &FetchPlan, coalition: &[u8], other: u32
 /// are sent for any other block from other coins, byte for byte, the session's number included; and a bijection of all coins
 /// takes the one to the other (Chor, Goldreich, Kushilevitz and Sudan 1995). `left_out` is the index of the one.
 pub fn all_but_one_are_sent_the_same(plan: &FetchPlan, left_out: u8, other: u32)
-    requires scheme { plan.now.scheme ≡ 2 }
+    requires scheme { plan.now.scheme ≡ XOR }
     requires first { 1 ≤ left_out }
     requires last { left_out ≤ plan.now.n }
     requires block { plan.now.block < plan.now.r }

@@ -15,5 +15,5 @@ mod stream;
 mod top;
 mod workload;
 
-pub use status::{Bad, Status, code, line};
+pub use status::{Bad, Ending, Status, code, ending_of, line};
 pub use top::run;

@@ -43,7 +43,7 @@ pub(crate) struct Serving<'a> {
 
 impl<'a> Model for Serving<'a> {
     ghost use Rattle.std.specs.Prelude.{◌≡◌, ◌⊎◌, ◌≤◌};
-    ghost use Rattle.wire_frames.specs.declared.TheConstants.{MOST_WIDTH};
+    ghost use Rattle.wire_frames.specs.declared.TheConstants.{MOST_WIDTH, MOST_WORKERS};
     ghost use Rattle.wire_frames.specs.declared.scheme.TheConstants.{SHAMIR, XOR};
     ghost use Rattle.pir_tool.specs.ServeOrder.{ServeOrder};
 
@@ -59,7 +59,7 @@ impl<'a> Model for Serving<'a> {
     } };
 
     ghost invariant = { λ s. ((s.scheme ≡ SHAMIR) ⊎ (s.scheme ≡ XOR)) × (1 ≤ s.width)
-        × (s.width ≤ MOST_WIDTH) × (1 ≤ s.workers) × (s.workers ≤ 16) };
+        × (s.width ≤ MOST_WIDTH) × (1 ≤ s.workers) × (s.workers ≤ MOST_WORKERS) };
 }
 
 /// What is fetched, from which children, and with which coins.
@@ -122,6 +122,7 @@ pub(crate) struct Selfrunning {
 
 impl Model for Selfrunning {
     ghost use Rattle.std.specs.Prelude.{◌≤◌};
+    ghost use Rattle.wire_frames.specs.declared.TheConstants.{MOST_WORKERS};
     ghost use Rattle.pir_tool.specs.SelfrunOrder.{SelfrunOrder};
     ghost use Rattle.pir_tool.specs.Workload.{IsWorkload};
 
@@ -129,5 +130,5 @@ impl Model for Selfrunning {
 
     ghost view = { λ s. record { load = s.load; workers = s.workers } };
 
-    ghost invariant = { λ s. IsWorkload s.load × (1 ≤ s.workers) × (s.workers ≤ 16) };
+    ghost invariant = { λ s. IsWorkload s.load × (1 ≤ s.workers) × (s.workers ≤ MOST_WORKERS) };
 }

@@ -4,7 +4,7 @@ ghost use Rattle.std.specs.Prelude.{◌≡◌, OnOk, OnErr};
 ghost use Rattle.pir_ports.specs.Number.{DATABASE, DOOR, GUEST};
 ghost use Rattle.pir_ports.specs.Moves.{Touches};
 ghost use Rattle.pir_tool.specs.Told.{DidRise};
-ghost use Rattle.pir_tool.specs.ServeSteps.{OpensDesk, Listens, ServesGuests, RepliesToGuests, RunsDry, TouchesGuests, TouchesDoor};
+ghost use Rattle.pir_tool.specs.ServeSteps.{AttendsInTurn, OpensDesk, Listens, ServesGuests, RepliesToGuests, RunsDry, TouchesGuests, TouchesDoor};
 ghost use Rattle.pir_tool.specs.ServeOutcome.{ServeEnds, TouchesServer};
 
 use crate::orders::Serving;
@@ -72,6 +72,8 @@ fn serve_guests<R: Threads + Sync, P: Ports>(
 ) -> Result<(), Failed>
     ensures ok { OnOk result (ServesGuests desk.old guests (P.world ports.old) (P.world ports.new)) }
     ensures replied { OnOk result ((DidRise GUEST (P.world ports.old) (P.world ports.new) → ⊥) → RepliesToGuests desk.old guests (P.world ports.old) (P.world ports.new)) }
+    ensures turns { OnOk result (AttendsInTurn desk.old guests (P.world ports.old) (P.world ports.new)) }
+    ensures unnamed { ((P.world ports.new).at GUEST).opened ≡ ((P.world ports.old).at GUEST).opened }
     ensures door { OnOk result ((P.world ports.new).at DOOR ≡ (P.world ports.old).at DOOR) }
     ensures failed { OnErr result (RunsDry desk.old guests (P.world ports.old) (P.world ports.new)) }
     ensures others { TouchesGuests (P.world ports.old) (P.world ports.new) }
@@ -94,6 +96,7 @@ pub(crate) fn serve_file<R: Threads + Sync, P: Ports>(
 ) -> Status
     ensures ends { ServeEnds order.now result (P.world ports.old) (P.world ports.new) }
     ensures others { TouchesServer (P.world ports.old) (P.world ports.new) }
+    ensures unnamed { ((P.world ports.new).at GUEST).opened ≡ ((P.world ports.old).at GUEST).opened }
 {
     let mut desk = match open_desk(alloc, order, ports) {
         Ok(desk) => desk,

@@ -1,7 +1,10 @@
 //! How a run ends.
 
 ghost use Rattle.std.specs.Prelude.{◌≡◌};
+ghost use Rattle.std.specs.Process.{exit_status};
 ghost use Rattle.pir_tool.specs.Table.{code_of, line_of};
+
+use std::process::ExitCode;
 
 /// What is wrong with the input.
 #[derive(Clone, Copy, Debug, PartialEq, Eq)]
@@ -82,5 +85,25 @@ pub fn line(status: &Status) -> &'static str
         Status::DoorFault => "pir: door fault",
         Status::Memory => "pir: no memory",
         Status::ChildFault => "pir: child fault",
+    }
+}
+
+/// What a program ends with.
+#[derive(Drop)]
+pub struct Ending {
+    /// Its exit code.
+    pub code: ExitCode,
+    /// The line that it writes to standard error, without its newline; empty where it writes none.
+    pub line: &'static str,
+}
+
+/// What the program ends with for a status: the exit code and the line of the table.
+pub fn ending_of(status: &Status) -> Ending
+    ensures code { exit_status result.code ≡ code_of status.now }
+    ensures line { result.line.now ≡ line_of status.now }
+{
+    Ending {
+        code: ExitCode::from(code(status)),
+        line: line(status),
     }
 }

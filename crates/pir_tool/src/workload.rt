@@ -2,6 +2,7 @@
 
 ghost use Rattle.std.specs.Prelude.{◌≡◌, ◌+◌, ◌*◌, ◌<◌, ◌≤◌, length, take, drop, vec_len, IfOk};
 ghost use Rattle.std.specs.List.{range_with_len};
+ghost use Rattle.wire_frames.specs.declared.TheConstants.{MOST_WORKERS};
 ghost use Rattle.block_decoder.specs.Agreed.{answers_of};
 ghost use Rattle.pir_tool.specs.Workload.{IsWorkload, all_answers, honest_payload, payload};
 ghost use Rattle.pir_tool.specs.Drawn.{IsDrawn};
@@ -72,7 +73,7 @@ fn answer_honestly<R: Threads + Sync>(
 )
     requires numbers { IsWorkload load.now }
     requires some { 1 ≤ workers }
-    requires few { workers ≤ 16 }
+    requires few { workers ≤ MOST_WORKERS }
     requires drawn { IsDrawn load.now draw.now }
     requires index { 1 ≤ index }
     requires query { length query.old ≡ load.now.rows }
@@ -107,7 +108,7 @@ fn answer_into<R: Threads + Sync>(
 )
     requires numbers { IsWorkload load.now }
     requires some { 1 ≤ workers }
-    requires few { workers ≤ 16 }
+    requires few { workers ≤ MOST_WORKERS }
     requires drawn { IsDrawn load.now draw.now }
     requires index { 1 ≤ index }
     requires server { index ≤ load.now.servers }
@@ -138,7 +139,7 @@ pub(crate) fn answer_all<R: Threads + Sync>(
 ) -> Result<AllAnswers, AllocError>
     requires numbers { IsWorkload load.now }
     requires some { 1 ≤ workers }
-    requires few { workers ≤ 16 }
+    requires few { workers ≤ MOST_WORKERS }
     ensures indices { IfOk result (λ all. all.indices.items ≡ range_with_len 1 load.now.servers) }
     ensures size { IfOk result (λ all. vec_len all.payloads ≡ load.now.servers * load.now.width) }
     ensures answers { IfOk result (λ all. answers_of load.now.width all.indices.items all.payloads.items ≡ all_answers load.now) }

@@ -3,7 +3,7 @@ ghost use Rattle.std.specs.Prelude.{◌≡◌, ◌⊎◌, ◌≤◌, IfOk};
 ghost use Rattle.pir_ports.specs.Number.{GUEST};
 ghost use Rattle.pir_ports.specs.Moves.{Touches};
 ghost use Rattle.wire_frames.specs.declared.scheme.TheConstants.{SHAMIR, XOR};
-ghost use Rattle.serve_core.specs.declared.TheConstants.{MOST_WORKERS};
+ghost use Rattle.wire_frames.specs.declared.TheConstants.{MOST_WORKERS};
 ghost use Rattle.serve_core.specs.Stages.{HandlesPayload, Judges};
 
 use crate::answer::answer_query;
@@ -50,7 +50,7 @@ impl Model for Desk {
 
 impl Desk {
     /// Opens a desk for a database and a scheme, 1 for Shamir's sharing and 2 for the XOR scheme,
-    /// with from 1 to [`MOST_WORKERS`](crate::MOST_WORKERS) workers to sum the rows. It takes all
+    /// with from 1 to [`MOST_WORKERS`](wire_frames::MOST_WORKERS) workers to sum the rows. It takes all
     /// the memory that serving takes: the payload of a query, which has a byte for each row or, in
     /// the XOR scheme, for each eight rows; a row for each worker; and a whole answer. The database
     /// is dropped where that isn't found.

@@ -27,5 +27,3 @@ pub use desk::Desk;
 pub use met::Met;
 pub use serve::serve_one;
 
-/// The greatest number of workers who sum the rows.
-pub const MOST_WORKERS: u8 = 16;

@@ -3,7 +3,7 @@ ghost use Rattle.std.specs.Prelude.{◌≡◌, ◌≤◌, ◌⊎◌, length};
 ghost use Rattle.wire_frames.specs.declared.TheConstants.{MOST_WIDTH};
 ghost use Rattle.wire_frames.specs.declared.scheme.TheConstants.{SHAMIR, XOR};
 ghost use Rattle.wire_frames.specs.Scheme.{scheme_of};
-ghost use Rattle.serve_core.specs.declared.TheConstants.{MOST_WORKERS};
+ghost use Rattle.wire_frames.specs.declared.TheConstants.{MOST_WORKERS};
 ghost use Rattle.serve_core.specs.Service.{payload_len_for};
 
 use block_matrix::Matrix;
@@ -31,7 +31,7 @@ impl Model for Service {
 }
 
 impl Service {
-    /// A database that is served in a scheme, by from 1 to [`MOST_WORKERS`](crate::MOST_WORKERS)
+    /// A database that is served in a scheme, by from 1 to [`MOST_WORKERS`](wire_frames::MOST_WORKERS)
     /// workers.
     pub(crate) fn new(matrix: Matrix, scheme: u8, workers: u8) -> Service
         requires scheme { (scheme ≡ SHAMIR) ⊎ (scheme ≡ XOR) }

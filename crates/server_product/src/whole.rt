@@ -2,6 +2,7 @@
 
 ghost use Rattle.std.specs.Prelude.{◌≡◌, ℕ, ◌≤◌, ◌<◌, ◌+◌, ◌-◌, ◌*◌, ◌^◌, length, slice_index};
 ghost use Rattle.gf256.specs.Field.{◌⊕◌};
+ghost use Rattle.wire_frames.specs.declared.TheConstants.{MOST_ROWS, MOST_WORKERS};
 ghost use Rattle.gf256.specs.Product.{product};
 ghost use Rattle.std.specs.Thread.{IsSync};
 ghost use Rattle.server_product.specs.Parts.{part, HasParts};
@@ -28,7 +29,7 @@ pub fn product_into<R: Threads + Sync, G: Gate + Sync>(
     out: &mut [u8],
 )
     requires some { 1 ≤ workers }
-    requires few { workers ≤ 16 }
+    requires few { workers ≤ MOST_WORKERS }
     requires query { length q.now ≡ length matrix.now.rows }
     requires scratch { length scratch.old ≡ workers * matrix.now.width }
     requires room { length out.old ≡ matrix.now.width }
@@ -54,9 +55,9 @@ fn sum_parts<R: Threads + Sync, G: Gate + Sync>(
     scratch: &mut [u8],
     gate: &G,
 )
-    requires rows { length matrix.now.rows ≤ 2 ^ 20 }
+    requires rows { length matrix.now.rows ≤ MOST_ROWS }
     requires some { 1 ≤ workers }
-    requires few { workers ≤ 16 }
+    requires few { workers ≤ MOST_WORKERS }
     requires query { length q.now ≡ length matrix.now.rows }
     requires scratch { length scratch.old ≡ workers * matrix.now.width }
     ensures { (worker k : ℕ) → worker < workers → k < matrix.now.width
@@ -78,8 +79,8 @@ fn sum_from<R: Threads + Sync, G: Gate + Sync>(
     gate: &G,
     scratch: &mut [u8],
 )
-    requires rows { length matrix.now.rows ≤ 2 ^ 20 }
-    requires few { workers ≤ 16 }
+    requires rows { length matrix.now.rows ≤ MOST_ROWS }
+    requires few { workers ≤ MOST_WORKERS }
     requires first { first < workers }
     requires query { length q.now ≡ length matrix.now.rows }
     requires scratch { length scratch.old ≡ (workers - first) * matrix.now.width }
@@ -104,8 +105,8 @@ fn sum_both<R: Threads + Sync, G: Gate + Sync>(
     own: &mut [u8],
     others: &mut [u8],
 )
-    requires rows { length matrix.now.rows ≤ 2 ^ 20 }
-    requires few { workers ≤ 16 }
+    requires rows { length matrix.now.rows ≤ MOST_ROWS }
+    requires few { workers ≤ MOST_WORKERS }
     requires more { first + 1 < workers }
     requires query { length q.now ≡ length matrix.now.rows }
     requires own { length own.old ≡ matrix.now.width }
@@ -114,13 +115,13 @@ fn sum_both<R: Threads + Sync, G: Gate + Sync>(
     ensures others { HasParts others.new matrix.now.width q.now matrix.now.rows workers (first + 1) }
 {
     let mut front = ||
-        requires { IsSync G.row × (length matrix.now.rows ≤ 2 ^ 20) × (workers ≤ 16) × (first < workers)
+        requires { IsSync G.row × (length matrix.now.rows ≤ MOST_ROWS) × (workers ≤ MOST_WORKERS) × (first < workers)
             × (length q.now ≡ length matrix.now.rows) × (length own.now ≡ matrix.now.width) }
         ensures { (k : ℕ) → slice_index own.exit.now k
             ≡ part q.entry.now matrix.entry.now.rows workers first k }
     { sum_part(matrix, q, workers, first, gate, own) };
     let mut back = ||
-        requires { IsSync R.row × IsSync G.row × (length matrix.now.rows ≤ 2 ^ 20) × (workers ≤ 16)
+        requires { IsSync R.row × IsSync G.row × (length matrix.now.rows ≤ MOST_ROWS) × (workers ≤ MOST_WORKERS)
             × (first + 1 < workers) × (length q.now ≡ length matrix.now.rows)
             × (length others.now ≡ (workers - (first + 1)) * matrix.now.width) }
         ensures { HasParts others.exit.now matrix.entry.now.width q.entry.now matrix.entry.now.rows
@@ -138,8 +139,8 @@ fn sum_part<G: Gate>(
     gate: &G,
     sums: &mut [u8],
 )
-    requires rows { length matrix.now.rows ≤ 2 ^ 20 }
-    requires few { workers ≤ 16 }
+    requires rows { length matrix.now.rows ≤ MOST_ROWS }
+    requires few { workers ≤ MOST_WORKERS }
     requires within { worker < workers }
     requires query { length q.now ≡ length matrix.now.rows }
     requires room { length sums.old ≡ matrix.now.width }

@@ -1,4 +1,4 @@
-use Rattle.std.proofs.Common.{subst, arith}
+use Rattle.std.proofs.Common.{subst}
 use Rattle.pir_tool.specs.FetchOrder.{FetchOrder}
 use Rattle.pir_tool.specs.FetchOutcome.{FetchEnds}
 use Rattle.pir_tool.proofs.Fetching.{ends_with_report}
@@ -7,4 +7,4 @@ use Rattle.pir_tool.proofs.fetch_command.fetch_block.Goals as goal
 pub returns-in-Ok-fetch_once-clause-ends : goal.returns-in-Ok-fetch_once-clause-ends
 returns-in-Ok-fetch_once-clause-ends g c =
     subst (λ (o : FetchOrder). FetchEnds o c.report_session.result (g.P.Ports.world c.args.ports.now) (g.P.Ports.world c.report_session.new.ports)) c.order.view_is
-    (ends_with_report _ _ _ _ _ _ _ _ (omega (arith, c.order.invariant.0.numbers.few_servers)) c.in-Ok.ensures.ok c.open.ensures.others c.in-Ok-fetch_once.ensures.fetched c.fetch_once.ensures.others c.report_session.ensures.reports c.report_session.ensures.others)
+    (ends_with_report _ _ _ _ _ _ _ _ c.order.invariant.0 c.in-Ok.ensures.ok c.open.ensures.others c.in-Ok-fetch_once.ensures.fetched c.fetch_once.ensures.others c.report_session.ensures.reports c.report_session.ensures.others)

@@ -12,7 +12,7 @@ returns-in-Ok-serve_guests-clause-ends g c =
     let end = g.P.Ports.world c.serve_guests.new.ports in
     let opens = subst (λ (o : ServeOrder). OpensDesk o (Ok c.in-Ok.desk) start loaded) (sym c.order.view_is) c.in-Ok.ensures.opens in
     subst (λ (o : ServeOrder). ServedAll o start end) c.order.view_is
-    (served_all _ _ _ loaded opens c.open_desk.ensures.others (g.P.Ports.world c.listen.new.ports) end c.in-Ok-listen.ensures.listens c.listen.ensures.others c.serve_guests.ensures.others c.in-Ok-serve_guests.ensures.ok c.in-Ok-serve_guests.ensures.replied c.in-Ok-serve_guests.ensures.door)
+    (served_all _ _ _ loaded opens c.open_desk.ensures.others (g.P.Ports.world c.listen.new.ports) end c.in-Ok-listen.ensures.listens c.listen.ensures.others c.serve_guests.ensures.others c.in-Ok-serve_guests.ensures.ok c.in-Ok-serve_guests.ensures.turns c.in-Ok-serve_guests.ensures.replied c.in-Ok-serve_guests.ensures.door)
 
 pub returns-clause-ends : goal.returns-clause-ends
 returns-clause-ends g c =

@@ -1,6 +1,6 @@
 use Rattle.std.proofs.Common.{◌≡◌}
-use Rattle.pir_ports.specs.Number.{DOOR}
-use Rattle.pir_tool.specs.ServeSteps.{ServesGuests, TouchesGuests}
+use Rattle.pir_ports.specs.Number.{DOOR, GUEST}
+use Rattle.pir_tool.specs.ServeSteps.{AttendsInTurn, ServesGuests, TouchesGuests}
 use Rattle.pir_tool.proofs.Serving.{Replying}
 use Rattle.pir_tool.proofs.serve_command.serve_guests.Given as goal
 
@@ -9,6 +9,8 @@ invariant-guests g l = record {
   desk : l.desk ≡ l.initial.desk;
   served : ServesGuests l.initial.desk l.counter (g.P.Ports.world l.initial.ports) (g.P.Ports.world l.ports);
   replying : Replying l.initial.desk l.counter (g.P.Ports.world l.initial.ports) (g.P.Ports.world l.ports);
+  turns : AttendsInTurn l.initial.desk l.counter (g.P.Ports.world l.initial.ports) (g.P.Ports.world l.ports);
+  unnamed : ((g.P.Ports.world l.ports).at GUEST).opened ≡ ((g.P.Ports.world l.initial.ports).at GUEST).opened;
   door : (g.P.Ports.world l.ports).at DOOR ≡ (g.P.Ports.world l.initial.ports).at DOOR;
   others : TouchesGuests (g.P.Ports.world l.initial.ports) (g.P.Ports.world l.ports);
 }
