@@ -36,7 +36,8 @@ last_byte coins n r block k = sum_to (λ i. random_byte coins r i k) (n - 1) ⊕
 
 -- the bitmap of each of n servers, which are counted from 1: those before the last get a piece of the coins each
 unfoldable pub bitmap : List ℕ → ℕ → ℕ → ℕ → ℕ → List ℕ
-bitmap coins n r block index = map (λ k. if index == n then last_byte coins n r block k else random_byte coins r (index - 1) k) (range_with_len 0 (size_of r))
+bitmap coins n r block index =
+    map (λ k. if index == n then last_byte coins n r block k else random_byte coins r (index - 1) k) (range_with_len 0 (size_of r))
 
 -- no bit past those of the r rows is set
 abbrev pub IsTrim : ℕ → List ℕ → Type 0

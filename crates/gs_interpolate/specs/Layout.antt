@@ -18,7 +18,8 @@ pub record IsLayout (lengths : List ℕ) (size t d : ℕ) : Type 0 where
 -- row r of the table says the condition of the coefficients of a polynomial: at the place of the coefficient at
 -- x ^ i * y ^ j it has the derivative of x ^ i * y ^ j
 abbrev pub IsEquation : Matrix → ℕ → List ℕ → Condition → Type 0
-IsEquation m r lengths c = (j i : ℕ) → j < length lengths → i < slice_index lengths j → entry m r (start lengths j + i) ≡ derivative_of c i j
+IsEquation m r lengths c = (j i : ℕ) → j < length lengths → i < slice_index lengths j
+    → entry m r (start lengths j + i) ≡ derivative_of c i j
 
 -- q has rows of these lengths, that one after the other are the vector
 pub record IsCut (q : List (List ℕ)) (lengths v : List ℕ) : Type 0 where

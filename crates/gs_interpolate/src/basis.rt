@@ -53,7 +53,8 @@ fn clear(g: &mut BiPoly, pivot: &BiPoly, factor: u8) -> Result<(), AllocError>
 fn clear_all(polynomials: &mut [BiPoly], pivot: &BiPoly, factors: &[u8]) -> Result<(), AllocError>
     requires size { length factors.now ≡ length polynomials.old }
     requires rows { (j : ℕ) → j < length polynomials.old → length pivot.now ≤ length (polynomial polynomials.old j) }
-    ensures { IfOk result (λ _. (j : ℕ) → IsCleared (polynomial polynomials.new j) (polynomial polynomials.old j) pivot.now (slice_index factors.now j)) }
+    ensures { IfOk result (λ _. (j : ℕ)
+        → IsCleared (polynomial polynomials.new j) (polynomial polynomials.old j) pivot.now (slice_index factors.now j)) }
 {
     for j in 0..factors.len() {
         clear(&mut polynomials[j], pivot, factors[j])?;

@@ -38,13 +38,15 @@ pub record IsReduced (new old columns : List ℕ) (rows : List (List ℕ)) (c : 
   pub inside : c < length old
   pub one : component new c ≡ 1
   pub none : (t : ℕ) → t < length rows → component new (slice_index columns t) ≡ 0
-  pub stands : (v : List ℕ) → SendToZero rows (length old) v → inner (component new) v (length old) ≡ 0 → inner (component old) v (length old) ≡ 0
+  pub stands : (v : List ℕ) → SendToZero rows (length old) v → inner (component new) v (length old) ≡ 0
+      → inner (component old) v (length old) ≡ 0
 
 -- the rows after one more row was taken in: a vector that they send to zero is sent there by the rows before and by that row
 pub record IsTaken (columns : List ℕ) (rows before : List (List ℕ)) (row : List ℕ) : Type 0 where
   pub echelon : IsEchelon columns rows (length row)
   pub grows : length rows ≤ length before + 1
-  pub sends_to_zero : (v : List ℕ) → SendToZero rows (length row) v → SendToZero before (length row) v × (inner (component row) v (length row) ≡ 0)
+  pub sends_to_zero : (v : List ℕ) → SendToZero rows (length row) v
+      → SendToZero before (length row) v × (inner (component row) v (length row) ≡ 0)
 
 -- k is in range, and none of the columns
 pub record IsFree (columns : List ℕ) (width k : ℕ) : Type 0 where

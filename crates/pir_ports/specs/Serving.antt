@@ -27,7 +27,8 @@ pub record Serving (F : List ℕ → List ℕ → ℕ → ℕ → Type 0) (gs ot
   pub accepted : (w.at GUEST).accepted ≡ Some present
   pub outs_size : length outs ≡ j
   pub counts_size : length counts ≡ j
-  pub each : (i : ℕ) → i < j → F (get_or gs i []) (get_or outs i []) (get_or counts i 0) (get_or (counts ++ (w.at GUEST).faults ∷ []) (i + 1) 0)
+  pub each : (i : ℕ) → i < j
+      → F (get_or gs i []) (get_or outs i []) (get_or counts i 0) (get_or (counts ++ (w.at GUEST).faults ∷ []) (i + 1) 0)
 
 -- j guests were served, each by F, where the guests are told
 pub record Served (F : List ℕ → List ℕ → ℕ → ℕ → Type 0) (j : ℕ) (old new : World) : Type 0 where

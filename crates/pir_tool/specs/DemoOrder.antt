@@ -26,7 +26,15 @@ asked_to_demonstrate o = Demo o.port o.database o.rows o.width o.block o.servers
 
 -- a plan in Shamir's scheme
 abbrev pub plan_with : ℕ → ℕ → ℕ → ℕ → ℕ → ℕ → FetchPlan
-plan_with rows width block servers degree agree = record { scheme = SHAMIR; t = degree; h = agree; n = servers; r = rows; s = width; block = block }
+plan_with rows width block servers degree agree = record {
+  scheme = SHAMIR;
+  t = degree;
+  h = agree;
+  n = servers;
+  r = rows;
+  s = width;
+  block = block;
+}
 
 -- the plan of the fetch
 abbrev pub plan_of : DemoOrder → FetchPlan
@@ -44,7 +52,8 @@ addresses_from port n = map (address_from port) (range_with_len 1 n)
 unfoldable pub words_to_serve : List ℕ → ℕ → List ℕ → List (List ℕ)
 words_to_serve database width address =
     codes "serve"
-    ∷ (codes "--database" ∷ (database ∷ (codes "--width" ∷ (decimal width ∷ (codes "--conns" ∷ (codes "1" ∷ (codes "--listen" ∷ (address ∷ []))))))))
+    ∷ (codes "--database" ∷ (database ∷ (codes "--width"
+        ∷ (decimal width ∷ (codes "--conns" ∷ (codes "1" ∷ (codes "--listen" ∷ (address ∷ []))))))))
 
 -- the words that each child is started with, in their order
 abbrev pub words_of_children : DemoOrder → List (List (List ℕ))

@@ -67,7 +67,8 @@ pub record FetchCutShort (o : FetchOrder) (old new : World) : Type 0 where
   pub session : Transcript
   pub verdict : Verdict
   pub settled : Settled o session verdict old new
-  pub cut : (Unrecorded o.keep session old new × (new.at OUTPUT ≡ old.at OUTPUT)) ⊎ (Recorded o.keep session old new × FailsWithin OUTPUT (text verdict) old new)
+  pub cut : (Unrecorded o.keep session old new × (new.at OUTPUT ≡ old.at OUTPUT))
+      ⊎ (Recorded o.keep session old new × FailsWithin OUTPUT (text verdict) old new)
 
 -- the coins can't be read, and no server was asked
 pub record FetchUnreadable (o : FetchOrder) (old new : World) : Type 0 where
@@ -125,7 +126,8 @@ TouchesFiles old new = TouchesOnly (One OUTPUT ∷ One RECORD ∷ []) old new
 
 -- the session is recorded and its verdict written; or one of them was cut short, and nothing was written after it
 abbrev pub Reports : Option (List ℕ) → Transcript → Verdict → Status → World → World → Type 0
-Reports keep session verdict status old new = (Recorded keep session old new × Told verdict status old new) ⊎ (Unrecorded keep session old new × (status ≡ WriteFault) × (new.at OUTPUT ≡ old.at OUTPUT))
+Reports keep session verdict status old new = (Recorded keep session old new × Told verdict status old new)
+    ⊎ (Unrecorded keep session old new × (status ≡ WriteFault) × (new.at OUTPUT ≡ old.at OUTPUT))
 
 -- the port of a record, where one is kept
 abbrev pub record_port : Option (List ℕ) → List ℕ

@@ -21,4 +21,6 @@ frame_of p coins matrix i = honest_frame (params_of p (session_number coins)) ma
 -- its reply to what it is sent is this frame, and nothing else
 abbrev pub RepliesHonestly : FetchPlan → List ℕ → ℕ → List (List ℕ) → ℕ → Type 0
 RepliesHonestly p coins i matrix workers = IsMatrix matrix p.r p.s
-    → (met : Met) (frame : List ℕ) → Replies (service_with p matrix workers) (sent p coins i) met frame ↔ ((met ≡ Served) × (frame ≡ frame_of p coins matrix i))
+    → (met : Met) (frame : List ℕ)
+    → Replies (service_with p matrix workers) (sent p coins i) met frame
+      ↔ ((met ≡ Served) × (frame ≡ frame_of p coins matrix i))

@@ -25,10 +25,36 @@ order_of scheme rows width block degree agree coins keep addresses = record {
 -- what the command did, by its status
 abbrev pub Outcome : Asked → Status → World → World → Type 0
 Outcome (Replay file) status old new = ReplayOutcome file status old new
-Outcome (Fetch scheme rows width block degree agree coins keep addresses) status old new = FetchOutcome (order_of scheme rows width block degree agree coins keep addresses) status old new
-Outcome (Serve scheme database width guests listen workers) status old new = ServeOutcome (record { scheme = scheme; database = database; width = width; guests = guests; listen = listen; workers = workers }) status old new
-Outcome (Selfrun seed rows width servers degree agree liars workers) status old new = SelfrunOutcome (record { seed = seed; rows = rows; width = width; servers = servers; degree = degree; agree = agree; liars = liars }) status old new
-Outcome (Demo port database rows width block servers degree agree coins) status old new = DemoOutcome (record { port = port; database = database; rows = rows; width = width; block = block; servers = servers; degree = degree; agree = agree; coins = coins }) status old new
+Outcome (Fetch scheme rows width block degree agree coins keep addresses) status old new =
+    FetchOutcome (order_of scheme rows width block degree agree coins keep addresses) status old new
+Outcome (Serve scheme database width guests listen workers) status old new = ServeOutcome (record {
+  scheme = scheme;
+  database = database;
+  width = width;
+  guests = guests;
+  listen = listen;
+  workers = workers;
+}) status old new
+Outcome (Selfrun seed rows width servers degree agree liars workers) status old new = SelfrunOutcome (record {
+  seed = seed;
+  rows = rows;
+  width = width;
+  servers = servers;
+  degree = degree;
+  agree = agree;
+  liars = liars;
+}) status old new
+Outcome (Demo port database rows width block servers degree agree coins) status old new = DemoOutcome (record {
+  port = port;
+  database = database;
+  rows = rows;
+  width = width;
+  block = block;
+  servers = servers;
+  degree = degree;
+  agree = agree;
+  coins = coins;
+}) status old new
 
 -- memory ran out before the command, which nothing was touched for; or this is what the command did
 abbrev pub Runs : Asked → Status → World → World → Type 0

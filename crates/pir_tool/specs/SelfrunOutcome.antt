@@ -32,19 +32,25 @@ pub record IsVerdictOn (w : Workload) (verdict : Verdict) : Type 0 where
 -- the numbers of the servers, each behind its name: all n answer, so that k is n
 abbrev pub words_of_servers : Workload → List (List ℕ)
 words_of_servers w =
-    codes "selfrun n " ∷ decimal w.servers ∷ codes " k " ∷ decimal w.servers ∷ codes " t " ∷ decimal w.degree ∷ codes " h " ∷ decimal w.agree ∷ []
+    codes "selfrun n " ∷ decimal w.servers ∷ codes " k " ∷ decimal w.servers
+    ∷ codes " t " ∷ decimal w.degree ∷ codes " h " ∷ decimal w.agree ∷ []
 
 -- how many of them lie, and two numbers of the decoder
 abbrev pub words_of_decoding : Workload → ℕ → ℕ → List (List ℕ)
-words_of_decoding w cost bound = codes " liars " ∷ decimal w.liars ∷ codes " cost " ∷ decimal cost ∷ codes " bound " ∷ decimal bound ∷ codes "\n" ∷ []
+words_of_decoding w cost bound =
+    codes " liars " ∷ decimal w.liars ∷ codes " cost " ∷ decimal cost ∷ codes " bound " ∷ decimal bound ∷ codes "\n" ∷ []
 
 -- the line of the numbers
 abbrev pub numbers_line : Workload → ℕ → ℕ → List ℕ
 numbers_line w cost bound = concat (words_of_servers w ++ words_of_decoding w cost bound)
 
+-- that of a workload, by the cost and the bound of its numbers
+abbrev pub line_of_numbers : Workload → List ℕ
+line_of_numbers w = numbers_line w (cost w.servers w.degree w.agree) (bound_of w.servers w.degree w.agree)
+
 -- what follows the text of the verdict: that line where blocks are listed, or none, and nothing else
 abbrev pub ending : Workload → Verdict → List ℕ
-ending w (Listed blocks) = numbers_line w (cost w.servers w.degree w.agree) (bound_of w.servers w.degree w.agree)
+ending w (Listed blocks) = line_of_numbers w
 ending w verdict = []
 
 -- all that is written

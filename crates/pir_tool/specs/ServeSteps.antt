@@ -39,7 +39,8 @@ HasBegun name width old new = Stopped (asked_for width) (named name (old.at DATA
 
 -- opening a desk: the database is loaded, or the run ends with this status
 abbrev pub OpensDesk : ServeOrder → Result Service Status → World → World → Type 0
-OpensDesk o (Ok service) old new = (service.scheme ≡ o.scheme) × (service.workers ≡ o.workers) × Loaded o.database o.width service.database old new
+OpensDesk o (Ok service) old new = (service.scheme ≡ o.scheme) × (service.workers ≡ o.workers)
+    × Loaded o.database o.width service.database old new
 OpensDesk o (Err ReadFault) old new = Unread DATABASE o.database (asked_for o.width) old new
 OpensDesk o (Err (BadInput EmptyFile)) old new = HasNoBytes o.database old new
 OpensDesk o (Err (BadInput (TooBig most))) old new = HasTooMany o.database o.width most old new

@@ -36,7 +36,8 @@ pub record Unread (p : ℕ) (name : List ℕ) (most : ℕ) (old new : World) : T
 pub record Unwritten (p : ℕ) (name bytes : List ℕ) (old new : World) : Type 0 where
   pub n : ℕ
   pub proper : n < length bytes
-  pub cell : (new.at p ≡ counted (new.at p).faults (old.at p)) ⊎ (new.at p ≡ counted (new.at p).faults (gave (take n bytes) (named name (old.at p))))
+  pub cell : (new.at p ≡ counted (new.at p).faults (old.at p))
+      ⊎ (new.at p ≡ counted (new.at p).faults (gave (take n bytes) (named name (old.at p))))
   pub rose : DidRise p old new
 
 -- the text of the verdict is written whole, and the status is its own
@@ -46,4 +47,5 @@ pub record ToldWhole (verdict : Verdict) (status : Status) (old new : World) : T
 
 -- the text of the verdict is written whole, and the status is its own; or a call on Output failed
 abbrev pub Told : Verdict → Status → World → World → Type 0
-Told verdict status old new = ((status ≡ status_of verdict) × (new.at OUTPUT ≡ gave (text verdict) (old.at OUTPUT))) ⊎ ((status ≡ WriteFault) × FailsWithin OUTPUT (text verdict) old new)
+Told verdict status old new = ((status ≡ status_of verdict) × (new.at OUTPUT ≡ gave (text verdict) (old.at OUTPUT)))
+    ⊎ ((status ≡ WriteFault) × FailsWithin OUTPUT (text verdict) old new)

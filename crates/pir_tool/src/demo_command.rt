@@ -90,7 +90,8 @@ fn words_of_children(
     width: u32,
     addresses: &[String],
 ) -> Result<Vec<Vec<String>>, AllocError>
-    ensures { IfOk result (λ lists. map (λ words. map string_bytes words.items) lists.items ≡ map (words_to_serve database.now width) (map string_bytes addresses.now)) }
+    ensures { IfOk result (λ lists. map (λ words. map string_bytes words.items) lists.items
+        ≡ map (words_to_serve database.now width) (map string_bytes addresses.now)) }
 {
     let mut lists = Vec::new(alloc);
     'children: for address in addresses {
@@ -107,7 +108,8 @@ fn words_of_children(
 fn start_children<P: Ports>(ports: &mut P, lists: &[Vec<String>]) -> Result<(), Failed>
     requires { length lists.now < 256 }
     ensures ok { OnOk result (StartsAll (map (λ words. map string_bytes words.items) lists.now) (P.world ports.old) (P.world ports.new)) }
-    ensures failed { OnErr result (StartsSome (map (λ words. map string_bytes words.items) lists.now) (P.world ports.old) (P.world ports.new)) }
+    ensures failed { OnErr result
+        (StartsSome (map (λ words. map string_bytes words.items) lists.now) (P.world ports.old) (P.world ports.new)) }
 {
     let mut i = 0u8;
     'children: for words in lists {

@@ -5,11 +5,9 @@ ghost use Rattle.std.specs.List.{concat};
 ghost use Rattle.pir_ports.specs.Number.{OUTPUT};
 ghost use Rattle.pir_ports.specs.Moves.{Touches};
 ghost use Rattle.pir_ports.specs.Written.{Written};
-ghost use Rattle.column_lists.specs.Numbers.{cost};
-ghost use Rattle.block_decoder.specs.Numbers.{bound_of};
 ghost use Rattle.block_decoder.specs.Text.{text};
 ghost use Rattle.pir_tool.specs.Workload.{IsWorkload};
-ghost use Rattle.pir_tool.specs.SelfrunOutcome.{IsVerdictOn, words_of_servers, words_of_decoding, numbers_line, ending, SelfrunEnds};
+ghost use Rattle.pir_tool.specs.SelfrunOutcome.{IsVerdictOn, words_of_servers, words_of_decoding, numbers_line, line_of_numbers, ending, SelfrunEnds};
 
 use crate::orders::{Selfrunning, Workload};
 use crate::report::status_by;
@@ -84,7 +82,7 @@ fn format_line(alloc: Global, load: &Workload, cost: u64, bound: u32) -> Result<
 fn format_numbers(alloc: Global, load: &Workload) -> Result<String, AllocError>
     requires numbers { IsWorkload load.now }
     requires strong { load.now.servers * load.now.degree < load.now.agree * load.now.agree }
-    ensures { IfOk result (λ line. string_bytes line ≡ numbers_line load.now (cost load.now.servers load.now.degree load.now.agree) (bound_of load.now.servers load.now.degree load.now.agree)) }
+    ensures { IfOk result (λ line. string_bytes line ≡ line_of_numbers load.now) }
 {
     let n = u32::from(load.servers);
     let t = u32::from(load.degree);

@@ -71,7 +71,8 @@ fn serve_guests<R: Threads + Sync, P: Ports>(
     ports: &mut P,
 ) -> Result<(), Failed>
     ensures ok { OnOk result (ServesGuests desk.old guests (P.world ports.old) (P.world ports.new)) }
-    ensures replied { OnOk result ((DidRise GUEST (P.world ports.old) (P.world ports.new) → ⊥) → RepliesToGuests desk.old guests (P.world ports.old) (P.world ports.new)) }
+    ensures replied { OnOk result ((DidRise GUEST (P.world ports.old) (P.world ports.new) → ⊥)
+        → RepliesToGuests desk.old guests (P.world ports.old) (P.world ports.new)) }
     ensures turns { OnOk result (AttendsInTurn desk.old guests (P.world ports.old) (P.world ports.new)) }
     ensures unnamed { ((P.world ports.new).at GUEST).opened ≡ ((P.world ports.old).at GUEST).opened }
     ensures door { OnOk result ((P.world ports.new).at DOOR ≡ (P.world ports.old).at DOOR) }
