@@ -91,7 +91,8 @@ expansion (c ∷ p) a (suc m) (suc j) l =
     expansion-cons c p a m (suc j) (omega arith)
     ∙ ap₂ ◌⊕◌ (mul_zero _) (expansion p a m j (omega arith)) ∙ zero_add _
 
--- two variables: each coefficient of q is that of the sum of its Hasse derivatives times the powers of x - a and y - b
+-- two variables: each coefficient of q is that of the sum of its Hasse derivatives times the powers
+-- of x - a and y - b
 pub expansion2 : (q : List (List ℕ)) (a b n j i : ℕ) → ((k : ℕ) → length (row q k) ≤ n) → cell q j i < 256 → expansion_coef q a b n j i ≡ cell q j i
 unfolding cell derivatives
 expansion2 q a b n j i l h =

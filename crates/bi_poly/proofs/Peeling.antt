@@ -1,4 +1,5 @@
--- What stands for y in q(x, x * y + gamma) stands for y in q after gamma, one place on (Roth and Ruckenstein 2000).
+-- What stands for y in q(x, x * y + gamma) stands for y in q after gamma, one place on (Roth and
+-- Ruckenstein 2000).
 use Rattle.std.proofs.Common.{◌≡◌, ℕ, zero, suc, ◌+◌, ◌-◌, ◌<◌, ◌≤◌, List, [], ◌∷◌, length, drop, le_refl, refl, sym, ap, ap₂, subst, ◌∙◌, arith, inl, inr}
 use Rattle.std.proofs.lemmas.Bool.{cases_lt}
 use Rattle.std.proofs.lemmas.List.{length-map, get_or-map}
@@ -224,8 +225,8 @@ cell-divided q d h j e =
           ap (cell q j) k ∙ sym (spread-high (cell (without_first d q) j) d e high ∙ cell-without_first d q j (e - d))
     ]
 
--- where x ^ d divides q, q(x, phi(x)) is x ^ d times that of the quotient: so what stands for y where one is 0 does where
--- the other is
+-- where x ^ d divides q, q(x, phi(x)) is x ^ d times that of the quotient: so what stands for y
+-- where one is 0 does where the other is
 pub stripped-at_poly : (q : List (List ℕ)) (d : ℕ) (phi : List ℕ) → IsOrderInX q d → (e : ℕ) → at_poly_coef q phi e ≡ spread (at_poly_coef (without_first d q) phi) d e
 stripped-at_poly q d phi h e =
     let s = without_first d q in

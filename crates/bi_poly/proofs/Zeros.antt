@@ -1,5 +1,5 @@
--- Where phi(a) is b, a zero of q at (a, b) is a root at a of q(x, phi(x)), of the same multiplicity (Guruswami and Sudan
--- 1999).
+-- Where phi(a) is b, a zero of q at (a, b) is a root at a of q(x, phi(x)), of the same multiplicity
+-- (Guruswami and Sudan 1999).
 use Rattle.std.proofs.Common.{◌≡◌, ℕ, zero, suc, ◌+◌, ◌<◌, ◌≤◌, List, [], ◌∷◌, length, refl, sym, ap, ap₂, ◌∙◌, arith}
 use Rattle.gf256.specs.Field.{◌⊕◌, ◌⊗◌}
 use Rattle.gf256.proofs.Xor.{sums, add_comm, add_zero, zero_add, add_self}

@@ -18,7 +18,8 @@ pub record IsWeightedDegree (q : List (List ℕ)) (t w : ℕ) : Type 0 where
   pub reached : (j : ℕ) × (i : ℕ) × (cell q j i ≢ 0) × (i + t * j ≡ w)
   pub greatest : (j i : ℕ) → cell q j i ≢ 0 → i + t * j ≤ w
 
--- x ^ d is the lowest power of x with a coefficient of q that is not 0, so the greatest that divides q
+-- x ^ d is the lowest power of x with a coefficient of q that is not 0, so the greatest that
+-- divides q
 pub record IsOrderInX (q : List (List ℕ)) (d : ℕ) : Type 0 where
   pub reached : (j : ℕ) × (cell q j d ≢ 0)
   pub lowest : (j i : ℕ) → i < d → cell q j i ≡ 0

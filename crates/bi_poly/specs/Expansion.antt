@@ -10,7 +10,9 @@ use Rattle.bi_poly.specs.Hasse.{hasse}
 abbrev pub linear_power : ℕ → ℕ → ℕ → ℕ
 linear_power a u i = coef (times_linear (1 ∷ []) a u) i
 
--- the coefficient at x ^ i * y ^ j of the sum, over u below n and each row v, of hasse(u, v) times (x - a) ^ u * (y - b) ^ v
+-- the coefficient at x ^ i * y ^ j of the sum, over u below n and each row v, of hasse(u, v) times
+-- (x - a) ^ u * (y - b) ^ v
 abbrev pub expansion_coef : List (List ℕ) → ℕ → ℕ → ℕ → ℕ → ℕ → ℕ
 expansion_coef q a b n j i =
-    sum_to (λ u. sum_to (λ v. hasse q u v a b ⊗ linear_power b v j) (length q) ⊗ linear_power a u i) n
+    sum_to (λ u.
+    sum_to (λ v. hasse q u v a b ⊗ linear_power b v j) (length q) ⊗ linear_power a u i) n

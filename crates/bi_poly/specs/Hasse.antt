@@ -1,5 +1,5 @@
--- Hasse derivatives (Hasse 1936), which serve in characteristic 2, where the usual derivatives vanish, and zeros with
--- their multiplicities (Guruswami and Sudan 1999).
+-- Hasse derivatives (Hasse 1936), which serve in characteristic 2, where the usual derivatives
+-- vanish, and zeros with their multiplicities (Guruswami and Sudan 1999).
 use Rattle.std.specs.Prelude.{◌≡◌, ℕ, ◌+◌, ◌-◌, ◌%◌, ◌<◌, List, length}
 use Rattle.gf256.specs.Field.{◌⊗◌, power}
 use Rattle.gf256.specs.Sums.{sum_to}
@@ -11,17 +11,19 @@ use Rattle.bi_poly.specs.Rows.{row, cell}
 unfoldable pub binomial_parity : ℕ → ℕ → ℕ
 binomial_parity n k = binomial n k % 2
 
--- the Hasse derivative of order u of a polynomial in one variable at a: the sum over i of C(i, u) * p_i * a^(i - u),
--- with the binomials modulo 2, which are 0 where i < u
+-- the Hasse derivative of order u of a polynomial in one variable at a: the sum over i of
+-- C(i, u) * p_i * a^(i - u), with the binomials modulo 2, which are 0 where i < u
 unfoldable pub derivative : List ℕ → ℕ → ℕ → ℕ
 derivative p a u = sum_to (λ i. binomial_parity i u ⊗ (coef p i ⊗ power a (i - u))) (length p)
 
--- the Hasse derivative of order (u, v) at (a, b): the sum over i and j of C(i, u) * C(j, v) * q_ij * a^(i - u) * b^(j - v)
--- with the binomials modulo 2, which are 0 where i < u or j < v
+-- the Hasse derivative of order (u, v) at (a, b): the sum over i and j of
+-- C(i, u) * C(j, v) * q_ij * a^(i - u) * b^(j - v) with the binomials modulo 2, which are 0 where
+-- i < u or j < v
 unfoldable pub hasse : List (List ℕ) → ℕ → ℕ → ℕ → ℕ → ℕ
 hasse q u v a b =
     sum_to (λ j.
-    sum_to (λ i. binomial_parity i u ⊗ binomial_parity j v ⊗ cell q j i ⊗ power a (i - u) ⊗ power b (j - v)) (length (row q j)))
+    sum_to (λ i. binomial_parity i u ⊗ binomial_parity j v ⊗ cell q j i ⊗ power a (i - u) ⊗ power b (j - v))
+    (length (row q j)))
     (length q)
 
 -- q has a zero of multiplicity m or more at (a, b)

@@ -1,5 +1,6 @@
--- Polynomials in two variables. A list of rows is the polynomial whose row j, a polynomial in x, stands before y ^ j, so
--- that zeros at the end of a row, and rows of zeros at the end, change nothing.
+-- Polynomials in two variables. A list of rows is the polynomial whose row j, a polynomial in x,
+-- stands before y ^ j, so that zeros at the end of a row, and rows of zeros at the end, change
+-- nothing.
 use Rattle.std.specs.Prelude.{◌≡◌, ℕ, ◌<◌, ◌≤◌, List, [], length, map, slice_index_or}
 use Rattle.gf256.specs.Polynomial.{coef}
 

@@ -20,14 +20,16 @@ at_poly_coef q phi e = sum_to (λ j. coef (times_power (row q j) phi j) e) (leng
 abbrev pub IsAtPoly : List (List ℕ) → List ℕ → List ℕ → Type 0
 IsAtPoly q phi p = (e : ℕ) → coef p e ≡ at_poly_coef q phi e
 
--- s is q(x, x * y + gamma), with as many rows as q, row j at most j longer than the longest row of q. Column i of q is a
--- polynomial in y; its coefficient at y ^ j, once y + gamma stands for y, is that at x ^ (i + j) * y ^ j of s
+-- s is q(x, x * y + gamma), with as many rows as q, row j at most j longer than the longest row of
+-- q. Column i of q is a polynomial in y; its coefficient at y ^ j, once y + gamma stands for y, is
+-- that at x ^ (i + j) * y ^ j of s
 pub record IsShiftedRoot (q : List (List ℕ)) (gamma : ℕ) (s : List (List ℕ)) : Type 0 where
   pub rows : length s ≡ length q
   pub each : (j i : ℕ) → cell s j (i + j) ≡ taylor (column q i) gamma j
   pub low : (j i : ℕ) → i < j → cell s j i ≡ 0
   pub size : (j n : ℕ) → ((k : ℕ) → length (row q k) ≤ n) → length (row s j) ≤ n + j
 
--- row j of q(x, x * y + gamma), from the columns of q: j zeros, and then the Hasse derivatives of order j of the columns
+-- row j of q(x, x * y + gamma), from the columns of q: j zeros, and then the Hasse derivatives of
+-- order j of the columns
 abbrev pub shifted_row : List (List ℕ) → ℕ → ℕ → List ℕ
 shifted_row columns gamma j = replicate j 0 ++ map (λ c. derivative c gamma j) columns

@@ -1,13 +1,16 @@
-//! Polynomials in two variables over GF(256), as the list decoding of Guruswami and Sudan (1999) uses them.
+//! Polynomials in two variables over GF(256), as the list decoding of Guruswami and Sudan (1999)
+//! uses them.
 //!
-//! Promised: a [`BiPoly`] has exactly the Hasse derivatives, the weighted degree, the greatest power of x that divides it
-//! and the substitutions for y that the contracts name. Want of memory is the only error, and `from_rows`, `rows`,
-//! `hasse`, `weighted_degree` and `strip_x` take none. [`laws`] has what the decoder rests on: a polynomial is the sum of
-//! its Hasse derivatives at a point times the powers about it, and a zero of multiplicity m becomes a factor `(x - a)^m`
-//! once a polynomial through that point stands for y.
+//! Promised: a [`BiPoly`] has exactly the Hasse derivatives, the weighted degree, the greatest
+//! power of x that divides it and the substitutions for y that the contracts name. Want of memory
+//! is the only error, and `from_rows`, `rows`, `hasse`, `weighted_degree` and `strip_x` take none.
+//! [`laws`] has what the decoder rests on: a polynomial is the sum of its Hasse derivatives at a
+//! point times the powers about it, and a zero of multiplicity m becomes a factor `(x - a)^m` once
+//! a polynomial through that point stands for y.
 //!
-//! Not promised: anything of time. `shift_root` takes, for each pair of rows, as many products as the longest row has
-//! coefficients, and `at_poly` for each row as many as the product has coefficients times those of `phi`.
+//! Not promised: anything of time. `shift_root` takes, for each pair of rows, as many products as
+//! the longest row has coefficients, and `at_poly` for each row as many as the product has
+//! coefficients times those of `phi`.
 #![tactic(auto)]
 
 pub mod laws;
@@ -28,9 +31,9 @@ use crate::row::{add_scaled, coefficient, degree, derivative, drop_first, order}
 use std::alloc::{AllocError, Global};
 use std::marker::Model;
 
-/// A polynomial in x and y. Contracts see the list of its rows, row j being the polynomial in x before `y^j`, as the
-/// list of its coefficients from that of `x^0` on. Zeros at the end of a row, and rows of zeros at the end, change
-/// nothing.
+/// A polynomial in x and y. Contracts see the list of its rows, row j being the polynomial in x
+/// before `y^j`, as the list of its coefficients from that of `x^0` on. Zeros at the end of a row,
+/// and rows of zeros at the end, change nothing.
 #[derive(Drop)]
 pub struct BiPoly {
     rows: Vec<Vec<u8>>,
@@ -45,7 +48,8 @@ impl Model for BiPoly {
 }
 
 impl BiPoly {
-    /// The polynomial whose row j is `rows[j]`: rows `00 01`, `01 01` and `01` are `y^2 + (1 + x)*y + x`.
+    /// The polynomial whose row j is `rows[j]`: rows `00 01`, `01 01` and `01` are
+    /// `y^2 + (1 + x)*y + x`.
     pub fn from_rows(rows: Vec<Vec<u8>>) -> BiPoly
         ensures { result ≡ map (λ r. r.items) rows.items }
     {
@@ -75,8 +79,9 @@ impl BiPoly {
     }
 
     /// The Hasse derivative of order `(u, v)` at `(a, b)` (Hasse 1936): the sum over i and j of
-    /// `C(i, u) * C(j, v) * q_ij * a^(i - u) * b^(j - v)`, where a binomial coefficient counts as 1 where it is odd and as 0
-    /// where it is even. That of order `(1, 0)` at `(00, 03)` of `y^2 + (1 + x)*y + x` is `02`.
+    /// `C(i, u) * C(j, v) * q_ij * a^(i - u) * b^(j - v)`, where a binomial coefficient counts as 1
+    /// where it is odd and as 0 where it is even. That of order `(1, 0)` at `(00, 03)` of
+    /// `y^2 + (1 + x)*y + x` is `02`.
     ///
     /// Where it is 0 for each `u + v < m`, the polynomial has a zero of multiplicity m at `(a, b)`.
     pub fn hasse(&self, u: u32, v: u32, a: u8, b: u8) -> u8
@@ -94,11 +99,13 @@ impl BiPoly {
         sum
     }
 
-    /// Adds `factor` times `p`, which must have no more rows. A row of `p` that is longer makes this one's longer.
+    /// Adds `factor` times `p`, which must have no more rows. A row of `p` that is longer makes
+    /// this one's longer.
     ///
     /// # Errors
     ///
-    /// `AllocError` where there is no memory for a longer row. Some rows have their sums then, and the others have not.
+    /// `AllocError` where there is no memory for a longer row. Some rows have their sums then, and
+    /// the others have not.
     pub fn add_scaled(&mut self, p: &BiPoly, factor: u8) -> Result<(), AllocError>
         requires { length p.now ≤ length self.old }
         ensures { IfOk result (λ _. IsScaledSum2 self.new self.old p.now factor) }
@@ -109,8 +116,8 @@ impl BiPoly {
         Ok(())
     }
 
-    /// The product with `x - a`, each of whose rows is one longer: that of `y^2 + (1 + x)*y + x` and `x - 1` is
-    /// `(1 + x)*y^2 + (1 + x^2)*y + x + x^2`.
+    /// The product with `x - a`, each of whose rows is one longer: that of `y^2 + (1 + x)*y + x`
+    /// and `x - 1` is `(1 + x)*y^2 + (1 + x^2)*y + x + x^2`.
     ///
     /// # Errors
     ///
@@ -125,9 +132,10 @@ impl BiPoly {
         Ok(BiPoly { rows })
     }
 
-    /// The weighted degree, x having the weight 1 and y the weight `t`, at most 254: the greatest `i + t*j` of a
-    /// coefficient, at `x^i * y^j`, that is not 0 (Guruswami and Sudan 1999). `None` exactly where all are 0. There may be
-    /// at most 2^16 + 1 rows, of at most 2^31 coefficients each. That of `y^2 + (1 + x)*y + x` for `t` 1 is 2.
+    /// The weighted degree, x having the weight 1 and y the weight `t`, at most 254: the greatest
+    /// `i + t*j` of a coefficient, at `x^i * y^j`, that is not 0 (Guruswami and Sudan 1999). `None`
+    /// exactly where all are 0. There may be at most 2^16 + 1 rows, of at most 2^31 coefficients
+    /// each. That of `y^2 + (1 + x)*y + x` for `t` 1 is 2.
     pub fn weighted_degree(&self, t: u32) -> Option<u64>
         requires limits { IsWithinLimits self.now }
         requires weight { t ≤ 254 }
@@ -143,7 +151,8 @@ impl BiPoly {
         greatest
     }
 
-    /// The exponent of the greatest power of x that divides the polynomial; `None` exactly where it is 0.
+    /// The exponent of the greatest power of x that divides the polynomial; `None` exactly where it
+    /// is 0.
     fn order_in_x(&self) -> Option<usize>
         ensures { MatchOption result (IsZero self.now) (IsOrderInX self.now) }
     {
@@ -156,8 +165,9 @@ impl BiPoly {
         least
     }
 
-    /// Divides the polynomial, which must not be 0, by the greatest power of x that divides it, and gives its exponent: of
-    /// `x^2*y^2 + (x + x^2)*y` it leaves `x*y^2 + (1 + x)*y`, and gives 1. The number of rows stays, and none gets longer.
+    /// Divides the polynomial, which must not be 0, by the greatest power of x that divides it, and
+    /// gives its exponent: of `x^2*y^2 + (x + x^2)*y` it leaves `x*y^2 + (1 + x)*y`, and gives 1.
+    /// The number of rows stays, and none gets longer.
     pub fn strip_x(&mut self) -> u64
         requires { ¬ IsZero self.old }
         ensures order { IsOrderInX self.old result }
@@ -184,7 +194,8 @@ impl BiPoly {
         Ok(made)
     }
 
-    /// The polynomial in y where x is 0, one byte for each row: that of `x*y^2 + (1 + x)*y` is `00 01 00`.
+    /// The polynomial in y where x is 0, one byte for each row: that of `x*y^2 + (1 + x)*y` is
+    /// `00 01 00`.
     ///
     /// # Errors
     ///
@@ -195,7 +206,8 @@ impl BiPoly {
         self.column(alloc, 0)
     }
 
-    /// The polynomial in x where `phi` stands for y, by Horner's rule. Zeros may stand at its end. Where all are 0, `phi` is a y-root (Roth and Ruckenstein 2000), as `01` is of
+    /// The polynomial in x where `phi` stands for y, by Horner's rule. Zeros may stand at its end.
+    /// Where all are 0, `phi` is a y-root (Roth and Ruckenstein 2000), as `01` is of
     /// `y^2 + (1 + x)*y + x`.
     ///
     /// # Errors
@@ -233,7 +245,8 @@ impl BiPoly {
         Ok(BiPoly { rows: columns })
     }
 
-    /// Row `j` of what [`BiPoly::shift_root`] gives, where this is the transpose of what it is called on.
+    /// Row `j` of what [`BiPoly::shift_root`] gives, where this is the transpose of what it is
+    /// called on.
     fn shifted_row(&self, alloc: Global, j: usize, gamma: u8) -> Result<Vec<u8>, AllocError>
         ensures { IfOk result (λ v. v.items ≡ shifted_row self.now gamma j) }
     {
@@ -255,9 +268,10 @@ impl BiPoly {
         Ok(BiPoly { rows })
     }
 
-    /// The polynomial where `x*y + gamma` stands for y (Roth and Ruckenstein 2000): its y-roots are the y-roots of this one
-    /// that have the constant `gamma`, without it and divided by x. It has as many rows, row j at most j longer than the
-    /// longest of this one. With `gamma` 1, `y^2 + (1 + x)*y + x` becomes `x^2*y^2 + (x + x^2)*y`.
+    /// The polynomial where `x*y + gamma` stands for y (Roth and Ruckenstein 2000): its y-roots are
+    /// the y-roots of this one that have the constant `gamma`, without it and divided by x. It has
+    /// as many rows, row j at most j longer than the longest of this one. With `gamma` 1,
+    /// `y^2 + (1 + x)*y + x` becomes `x^2*y^2 + (x + x^2)*y`.
     ///
     /// # Errors
     ///

@@ -20,13 +20,15 @@ fn product_coefficient(p: &[u8], q: &[u8], e: usize) -> u8
     sum
 }
 
-/// The product of `p` and `q`, plus `r`. Its time grows with the length of `p` times that of the whole.
+/// The product of `p` and `q`, plus `r`. Its time grows with the length of `p` times that of the
+/// whole.
 ///
 /// # Errors
 ///
 /// `AllocError` where there is no memory for the coefficients.
 pub fn multiply_and_add(alloc: Global, p: &[u8], q: &[u8], r: &[u8]) -> Result<Vec<u8>, AllocError>
-    ensures { IfOk result (λ v. (e : ℕ) → coef v.items e ≡ product_coef p.now q.now e ⊕ coef r.now e) }
+    ensures { IfOk result (λ v. (e : ℕ) →
+        coef v.items e ≡ product_coef p.now q.now e ⊕ coef r.now e) }
 {
     let len = (p.len() + q.len()).saturating_sub(1).max(r.len());
     let mut made = Vec::new(alloc);

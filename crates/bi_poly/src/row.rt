@@ -11,15 +11,16 @@ ghost use Rattle.bi_poly.specs.Hasse.{binomial_parity, derivative};
 use gf256::rows::add_scaled_row;
 use std::alloc::AllocError;
 
-/// Whether the binomial coefficient of `n` over `k` is odd: exactly where the bits of `k` are among those of `n` (Lucas
-/// 1878).
+/// Whether the binomial coefficient of `n` over `k` is odd: exactly where the bits of `k` are among
+/// those of `n` (Lucas 1878).
 pub fn is_odd_binomial(n: usize, k: usize) -> bool
     ensures { binomial_parity n k ≡ (if result then 1 else 0) }
 {
     n & k == k
 }
 
-/// The Hasse derivative of order `u` of `p` at `a` (Hasse 1936), which is the coefficient at `x^u` of `p(x + a)`.
+/// The Hasse derivative of order `u` of `p` at `a` (Hasse 1936), which is the coefficient at `x^u`
+/// of `p(x + a)`.
 pub fn derivative(p: &[u8], u: usize, a: u8) -> u8
     ensures { result ≡ derivative p.now a u }
 {

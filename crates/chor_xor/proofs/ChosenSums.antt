@@ -108,7 +108,8 @@ length-answers : (m : Database) (coins : List ℕ) (n block : ℕ) → length (a
 unfolding answers
 length-answers m coins n block = length-map-range_with_len (λ j. chosen m (bitmap coins n (length m.rows) block j)) 1 n
 
--- a list that has the sum of the payloads in each place is what they give together; so a client's fold from zeros ends
+-- a list that has the sum of the payloads in each place is what they give together; so a client's
+-- fold from zeros ends
 pub combined-is : (payloads : List (List ℕ)) (sum : List ℕ) (width : ℕ) → length sum ≡ width
     → ((c : ℕ) → get_or sum c 0 ≡ combined_at payloads c) → sum ≡ combined width payloads
 unfolding combined

@@ -9,7 +9,8 @@ use Rattle.std.proofs.lemmas.Nat.Bits.{bit_at-zero, bit_at_above, ones_shr}
 use Rattle.chor_xor.specs.Bitmap.{bit_of}
 use Rattle.chor_xor.proofs.Bits.{low-bit}
 
--- no row from `from` on before a byte has its bit set, and `rest` has the bits of this byte from `from` on
+-- no row from `from` on before a byte has its bit set, and `rest` has the bits of this byte from
+-- `from` on
 pub record IsRest (bitmap : List ℕ) (from byte rest : ℕ) : Type 0 where
   pub begun : from < 8 * byte + 8
   pub passed : (j : ℕ) → from ≤ j → j < 8 * byte → bit_of bitmap j ≡ 0

@@ -25,7 +25,8 @@ run-step bitmap row rows r s c from j next is l le lt bit e none =
     ∙ add_zero _
     ∙ ap (◌⊕◌ (run_sum (given bitmap rows c) from j)) (sym (given-chosen bitmap row rows r s c j is l bit e))
 
--- the rows of the four quarters that are added, up to one place in each; the last takes the rows that are left over
+-- the rows of the four quarters that are added, up to one place in each; the last takes the rows
+-- that are left over
 unfoldable pub quarters : List ℕ → List (List ℕ) → ℕ → ℕ → ℕ → ℕ → ℕ → ℕ → ℕ
 quarters bitmap rows k quarter a b c d =
     run_sum (given bitmap rows k) 0 a ⊕ run_sum (given bitmap rows k) quarter b ⊕ run_sum (given bitmap rows k) (2 * quarter) c ⊕ run_sum (given bitmap rows k) (3 * quarter) d
@@ -46,7 +47,8 @@ quarters-none bitmap rows k quarter a b c d na nb nc nd =
     ap₂ ◌⊕◌ (ap₂ ◌⊕◌ (ap₂ ◌⊕◌ (run-left bitmap rows k 0 a na) (run-left bitmap rows k quarter b nb)) (run-left bitmap rows k (2 * quarter) c nc)) (run-left bitmap rows k (3 * quarter) d nd)
     ∙ (let e : 0 ⊕ 0 ⊕ 0 ⊕ 0 ≡ 0 = simp add_zero in e)
 
--- row j of a quarter that begins with row `from` is read, and the next of its rows whose bit is set is `next`, if there is one
+-- row j of a quarter that begins with row `from` is read, and the next of its rows whose bit is set
+-- is `next`, if there is one
 pub record IsStep (bitmap row : List ℕ) (rows : List (List ℕ)) (from j next : ℕ) : Type 0 where
   pub begun : from ≤ j
   pub on : j + 1 ≤ next

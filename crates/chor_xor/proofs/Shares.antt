@@ -85,7 +85,8 @@ unit-added xs block within k =
     add-nothing : (a : ℕ) → bit_xor a 0 ≡ a
     add-nothing a = add_zero a
 
--- the sum of all pieces with the unused bits cleared, and the unit vector, are the bitmap of the last
+-- the sum of all pieces with the unused bits cleared, and the unit vector, are the bitmap of the
+-- last
 pub last-is : (coins sum trim : List ℕ) (n r block size : ℕ) → size ≡ size_of r → block < r → length trim ≡ size
     → ((k : ℕ) → k < size → get_or sum k 0 ≡ sum_to (λ i. get_or coins (i * size + k) 0) (n - 1))
     → ((k : ℕ) → get_or trim k 0 ≡ cleared r k (get_or sum k 0))

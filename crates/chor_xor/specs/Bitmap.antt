@@ -1,5 +1,5 @@
--- Bitmaps, which say of each row of a database whether a server is asked for it (Chor, Goldreich, Kushilevitz and
--- Sudan 1995).
+-- Bitmaps, which say of each row of a database whether a server is asked for it (Chor, Goldreich,
+-- Kushilevitz and Sudan 1995).
 use Rattle.std.specs.Prelude.{◌≡◌, ℕ, ◌+◌, ◌-◌, ◌*◌, ◌/◌, ◌%◌, ◌^◌, ◌≤◌, Bool, not, List, map, slice_index, ◌==◌, if◌then◌else◌}
 use Rattle.std.specs.List.{range_with_len}
 use Rattle.std.specs.Int.{bit_at, div_ceil}
@@ -34,10 +34,12 @@ unit_byte block k = if k == block / 8 then 2 ^ (7 - block % 8) else 0
 unfoldable pub last_byte : List ℕ → ℕ → ℕ → ℕ → ℕ → ℕ
 last_byte coins n r block k = sum_to (λ i. random_byte coins r i k) (n - 1) ⊕ unit_byte block k
 
--- the bitmap of each of n servers, which are counted from 1: those before the last get a piece of the coins each
+-- the bitmap of each of n servers, which are counted from 1: those before the last get a piece of
+-- the coins each
 unfoldable pub bitmap : List ℕ → ℕ → ℕ → ℕ → ℕ → List ℕ
 bitmap coins n r block index =
-    map (λ k. if index == n then last_byte coins n r block k else random_byte coins r (index - 1) k) (range_with_len 0 (size_of r))
+    map (λ k. if index == n then last_byte coins n r block k else random_byte coins r (index - 1) k)
+    (range_with_len 0 (size_of r))
 
 -- no bit past those of the r rows is set
 abbrev pub IsTrim : ℕ → List ℕ → Type 0
@@ -45,4 +47,5 @@ IsTrim r bitmap = (j : ℕ) → r ≤ j → bit_of bitmap j ≡ 0
 
 -- the same as a test of the last byte: it has an unused bit that is set
 unfoldable pub has_unused : ℕ → List ℕ → Bool
-has_unused r bitmap = not (slice_index bitmap (size_of r - 1) % 2 ^ unused_bits r (size_of r - 1) == 0)
+has_unused r bitmap =
+    not (slice_index bitmap (size_of r - 1) % 2 ^ unused_bits r (size_of r - 1) == 0)

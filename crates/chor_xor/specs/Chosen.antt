@@ -1,4 +1,5 @@
--- What a server answers to a bitmap, and what the answers give together (Chor, Goldreich, Kushilevitz and Sudan 1995).
+-- What a server answers to a bitmap, and what the answers give together (Chor, Goldreich,
+-- Kushilevitz and Sudan 1995).
 use Rattle.std.specs.Prelude.{ℕ, List, [], length, map, slice_index, slice_index_or}
 use Rattle.std.specs.List.{range_with_len}
 use Rattle.gf256.specs.Field.{◌⊗◌}
@@ -20,11 +21,13 @@ chosen m bitmap = map (chosen_at bitmap m.rows) (range_with_len 0 m.width)
 
 -- what n honest servers answer, in the order of their numbers, where they are asked for a block
 unfoldable pub answers : Database → List ℕ → ℕ → ℕ → List (List ℕ)
-answers m coins n block = map (λ i. chosen m (bitmap coins n (length m.rows) block i)) (range_with_len 1 n)
+answers m coins n block =
+    map (λ i. chosen m (bitmap coins n (length m.rows) block i)) (range_with_len 1 n)
 
 -- column c of the sum of payloads
 unfoldable pub combined_at : List (List ℕ) → ℕ → ℕ
-combined_at payloads c = sum_to (λ i. slice_index (slice_index_or payloads i []) c) (length payloads)
+combined_at payloads c =
+    sum_to (λ i. slice_index (slice_index_or payloads i []) c) (length payloads)
 
 -- the sum of payloads of so many bytes
 unfoldable pub combined : ℕ → List (List ℕ) → List ℕ

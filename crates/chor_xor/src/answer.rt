@@ -10,11 +10,12 @@ use crate::bitmap::{is_set, next_set};
 use block_matrix::Matrix;
 use gf256::rows::{add_row, clear};
 
-/// Makes `out` the XOR of the rows whose bit is set: a byte for each column. Of the rows `41 42` and `43 44` the bitmap
-/// `c0` has the answer `02 06`.
+/// Makes `out` the XOR of the rows whose bit is set: a byte for each column. Of the rows `41 42`
+/// and `43 44` the bitmap `c0` has the answer `02 06`.
 ///
-/// The bitmap has a bit for each row, and so `ceil(rows / 8)` bytes; unused bits aren't read. It takes no memory. It goes
-/// over the rows of four quarters side by side, so that the memory is read in four streams.
+/// The bitmap has a bit for each row, and so `ceil(rows / 8)` bytes; unused bits aren't read. It
+/// takes no memory. It goes over the rows of four quarters side by side, so that the memory is read
+/// in four streams.
 pub fn answer_into(matrix: &Matrix, bitmap: &[u8], out: &mut [u8])
     requires bitmap { length bitmap.now ≡ size_of (length matrix.now.rows) }
     requires room { length out.old ≡ matrix.now.width }
@@ -52,7 +53,8 @@ fn add_rows(matrix: &Matrix, bitmap: &[u8], from: u32, to: u32, sum: &mut [u8])
     requires within { to ≤ length matrix.now.rows }
     requires bitmap { length bitmap.now ≡ size_of (length matrix.now.rows) }
     requires room { length sum.old ≡ matrix.now.width }
-    ensures { (k : ℕ) → slice_index sum.new k ≡ slice_index sum.old k ⊕ run_sum (given bitmap.now matrix.now.rows k) from to }
+    ensures { (k : ℕ) → slice_index sum.new k
+        ≡ slice_index sum.old k ⊕ run_sum (given bitmap.now matrix.now.rows k) from to }
 {
     // Its contract says that the rows are bytes.
     let _rows = matrix.rows();
@@ -69,16 +71,16 @@ fn add_four_rows(acc: &mut [u8], a: &[u8], b: &[u8], c: &[u8], d: &[u8])
     requires b { length b.now ≡ length acc.old }
     requires c { length c.now ≡ length acc.old }
     requires d { length d.now ≡ length acc.old }
-    ensures { (k : ℕ) → slice_index acc.new k
-        ≡ slice_index acc.old k ⊕ (slice_index a.now k ⊕ slice_index b.now k ⊕ slice_index c.now k ⊕ slice_index d.now k) }
+    ensures { (k : ℕ) → slice_index acc.new k ≡ slice_index acc.old k
+        ⊕ (slice_index a.now k ⊕ slice_index b.now k ⊕ slice_index c.now k ⊕ slice_index d.now k) }
 {
     for i in 0..acc.len() {
         acc[i] ^= a[i] ^ b[i] ^ c[i] ^ d[i];
     }
 }
 
-/// Adds the payload of a server to the sum of the others, byte by byte by XOR: each is as long. After all servers' payloads
-/// a sum that began as zeros is the block.
+/// Adds the payload of a server to the sum of the others, byte by byte by XOR: each is as long.
+/// After all servers' payloads a sum that began as zeros is the block.
 pub fn combine_into(acc: &mut [u8], payload: &[u8])
     requires { length payload.now ≡ length acc.old }
     ensures { (k : ℕ) → slice_index acc.new k ≡ slice_index acc.old k ⊕ slice_index payload.now k }

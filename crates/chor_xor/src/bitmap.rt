@@ -7,12 +7,14 @@ ghost use Rattle.chor_xor.specs.Bitmap.{IsTrim, bit_of, bitmap, cleared, has_unu
 
 use gf256::rows::{add_row, clear};
 
-/// Writes the bitmap of server `index`, counted from 1, where `n` servers are asked for the row `block` of `r` rows.
+/// Writes the bitmap of server `index`, counted from 1, where `n` servers are asked for the row
+/// `block` of `r` rows.
 ///
-/// There are two servers or more, the index is from 1 to `n`, and the block is one of the rows. There are
-/// `(n - 1) * ceil(r / 8)` coins, and `out` has `ceil(r / 8)` bytes. Each server before the last gets a piece of the coins as
-/// its bitmap, with the unused low bits of the last byte cleared; the last gets the XOR of all those and of the bit of the
-/// block (Chor, Goldreich, Kushilevitz and Sudan 1995). It takes no memory.
+/// There are two servers or more, the index is from 1 to `n`, and the block is one of the rows.
+/// There are `(n - 1) * ceil(r / 8)` coins, and `out` has `ceil(r / 8)` bytes. Each server before
+/// the last gets a piece of the coins as its bitmap, with the unused low bits of the last byte
+/// cleared; the last gets the XOR of all those and of the bit of the block (Chor, Goldreich,
+/// Kushilevitz and Sudan 1995). It takes no memory.
 ///
 /// ```
 /// // Two servers, two rows, block 1: the bitmaps are `80` and `c0`.
@@ -44,8 +46,8 @@ pub fn bitmap_into(coins: &[u8], n: u32, r: u32, block: u32, index: u8, out: &mu
 /// Makes `out` the XOR of so many pieces of the coins, each as long as it is.
 fn sum_pieces(coins: &[u8], count: usize, out: &mut [u8])
     requires { length coins.now ≡ count * length out.old }
-    ensures { (k : ℕ) → k < length out.old
-        → slice_index out.new k ≡ sum_to (λ i. slice_index coins.now (i * length out.old + k)) count }
+    ensures { (k : ℕ) → k < length out.old → slice_index out.new k
+        ≡ sum_to (λ i. slice_index coins.now (i * length out.old + k)) count }
 {
     clear(out);
     let size = out.len();
@@ -73,8 +75,9 @@ fn unused_in_last(r: u32) -> u32
     (8 - r % 8) % 8
 }
 
-/// Whether a bit past those of the `r` rows is set, for which a server refuses a query. There is a row or more, and the
-/// bitmap has `ceil(r / 8)` bytes. With two rows `c0` has none, and `a0` has one.
+/// Whether a bit past those of the `r` rows is set, for which a server refuses a query. There is a
+/// row or more, and the bitmap has `ceil(r / 8)` bytes. With two rows `c0` has none, and `a0` has
+/// one.
 pub fn has_unused_bits(bitmap: &[u8], r: u32) -> bool
     requires some { 1 ≤ r }
     requires size { length bitmap.now ≡ size_of r }

@@ -7,8 +7,9 @@ ghost use Rattle.block_matrix.specs.Database.{Database};
 ghost use Rattle.chor_xor.specs.Bitmap.{bitmap};
 ghost use Rattle.chor_xor.specs.Chosen.{answers, chosen, combined};
 
-/// The answers of `n` servers that hold one matrix of `r` rows, each to its own bitmap for the row `block`, have that row
-/// as their sum, whatever the coins (Chor, Goldreich, Kushilevitz and Sudan 1995): in each column, and as lists.
+/// The answers of `n` servers that hold one matrix of `r` rows, each to its own bitmap for the row
+/// `block`, have that row as their sum, whatever the coins (Chor, Goldreich, Kushilevitz and Sudan
+/// 1995): in each column, and as lists.
 pub fn answers_sum_to_the_block(coins: &[u8], n: u32, r: u32, block: u32)
     requires servers { 2 ≤ n }
     requires block { block < r }

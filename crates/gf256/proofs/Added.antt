@@ -48,7 +48,8 @@ added-place acc old g from n x m l e done =
       after = λ k h. get_or-set_other acc n k y 0 (λ same. omega arith) ∙ done.after k (omega arith);
     }
 
--- 16 places at once, of which some may be done, and some may stand before the first that is added to
+-- 16 places at once, of which some may be done, and some may stand before the first that is added
+-- to
 pub added-lanes : (acc old lanes : List ℕ) (g h : ℕ → ℕ) (from start n : ℕ)
     → start + 16 ≤ length acc → AreLanes lanes h start → from ≤ start + 16 → start ≤ n → n ≤ start + 16
     → ((k : ℕ) → start ≤ k → k < from → h k ≡ get_or old k 0)

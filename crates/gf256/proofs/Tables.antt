@@ -1,4 +1,5 @@
--- The products of one factor with 0 to 15 and with 0, 16, .. 240, by tables for the halves of the factor.
+-- The products of one factor with 0 to 15 and with 0, 16, .. 240, by tables for the halves of the
+-- factor.
 use Rattle.std.proofs.Common.{◌≡◌, ℕ, ◌+◌, ◌*◌, ◌/◌, ◌%◌, ◌<◌, List, length, map, get_or, bit_and, bit_xor, nat_eq, true, eqb-true, refl, sym, ap, ap₂, ◌∙◌, arith, lit<}
 use Rattle.std.specs.List.{range_with_len}
 use Rattle.std.specs.Simd.Lanes.{zip2, chunk}

@@ -1,5 +1,5 @@
--- Polynomials in one variable over the field. A list is the polynomial that has coefficient e at place e, so
--- that zeros at the end change nothing.
+-- Polynomials in one variable over the field. A list is the polynomial that has coefficient e at
+-- place e, so that zeros at the end change nothing.
 use Rattle.std.specs.Prelude.{◌≡◌, ℕ, ◌+◌, ◌<◌, List, length, slice_index, All}
 use Rattle.gf256.specs.Field.{◌⊗◌, power}
 use Rattle.gf256.specs.Sums.{sum_to}

@@ -1,9 +1,10 @@
 //! Rows of bytes: cleared, added to each other, and times one factor, 16 bytes at once.
 //!
-//! A byte is the sum of its low four bits and its high four. So its product with the factor is the sum of one of 16
-//! products and one of 16 others, which two vectors keep, and a swizzle takes from such a vector for 16 bytes at once
-//! (Plank, Greenan and Miller 2013). The two vectors are themselves sums, by the halves of the factor, of rows of three
-//! small tables, so that they cost little where a row is short.
+//! A byte is the sum of its low four bits and its high four. So its product with the factor is the
+//! sum of one of 16 products and one of 16 others, which two vectors keep, and a swizzle takes from
+//! such a vector for 16 bytes at once (Plank, Greenan and Miller 2013). The two vectors are
+//! themselves sums, by the halves of the factor, of rows of three small tables, so that they cost
+//! little where a row is short.
 
 ghost use Rattle.std.specs.Prelude.{◌≡◌, ℕ, ◌+◌, ◌*◌, ◌<◌, ◌≤◌, length, map, slice_index};
 ghost use Rattle.std.specs.List.{range_with_len};
@@ -129,7 +130,8 @@ fn row_of(table: &[u8; 256], j: u8) -> u8x16
     u8x16::from_slice(&table[j as usize * 16..])
 }
 
-/// The products of the factor with 0 to 15: the sum of those of its low four bits and those of its high four.
+/// The products of the factor with 0 to 15: the sum of those of its low four bits and those of its
+/// high four.
 #[inline(always)]
 fn low_products(factor: u8) -> u8x16
     ensures { result ≡ map (λ i. factor ⊗ i) (range_with_len 0 16) }
@@ -154,8 +156,8 @@ pub fn clear(row: &mut [u8])
     }
 }
 
-/// Adds `row` to `acc`, which is as long: `acc[i]` becomes `acc[i] + row[i]`, for each place i. Adding `57 83` to `83 83`
-/// makes it `d4 00`.
+/// Adds `row` to `acc`, which is as long: `acc[i]` becomes `acc[i] + row[i]`, for each place i.
+/// Adding `57 83` to `83 83` makes it `d4 00`.
 pub fn add_row(acc: &mut [u8], row: &[u8])
     requires { length row.now ≡ length acc.old }
     ensures { (k : ℕ) → slice_index acc.new k ≡ slice_index acc.old k ⊕ slice_index row.now k }
@@ -165,11 +167,13 @@ pub fn add_row(acc: &mut [u8], row: &[u8])
     }
 }
 
-/// Adds `factor` times `row` to `acc`, which is as long: `acc[i]` becomes `acc[i] + factor * row[i]`, for each place i.
-/// Adding `83` times `57 57` to `00 01` makes it `c1 c0`.
+/// Adds `factor` times `row` to `acc`, which is as long: `acc[i]` becomes
+/// `acc[i] + factor * row[i]`, for each place i. Adding `83` times `57 57` to `00 01` makes it
+/// `c1 c0`.
 pub fn add_scaled_row(acc: &mut [u8], row: &[u8], factor: u8)
     requires { length row.now ≡ length acc.old }
-    ensures { (k : ℕ) → slice_index acc.new k ≡ slice_index acc.old k ⊕ factor ⊗ slice_index row.now k }
+    ensures { (k : ℕ) →
+        slice_index acc.new k ≡ slice_index acc.old k ⊕ factor ⊗ slice_index row.now k }
 {
     let products = Products::of(factor);
     let mut at = 0;
@@ -181,8 +185,8 @@ pub fn add_scaled_row(acc: &mut [u8], row: &[u8], factor: u8)
     add_rest(acc, row, &products, at);
 }
 
-/// Adds the products of the bytes of `row` from place `at` on, which are fewer than 16, to those of `acc`: all at once, in
-/// the last 16 places.
+/// Adds the products of the bytes of `row` from place `at` on, which are fewer than 16, to those of
+/// `acc`: all at once, in the last 16 places.
 fn add_rest(acc: &mut [u8], row: &[u8], products: &Products, at: usize)
     requires same { length row.now ≡ length acc.old }
     requires within { at ≤ length acc.old }

@@ -1,4 +1,5 @@
--- The hiding polynomial is the vanishing polynomial of the coalition, scaled so that its constant is 1.
+-- The hiding polynomial is the vanishing polynomial of the coalition, scaled so that its constant
+-- is 1.
 use Rattle.std.proofs.Common.{◌≡◌, ◌≢◌, ℕ, zero, suc, ◌+◌, ◌-◌, ◌<◌, List, [], ◌∷◌, length, map, get_or, fold, drop, All, refl, sym, ap, ap₂, ◌∙◌, arith, lit<, Contains}
 use Rattle.std.proofs.lemmas.List.{drop_more, length-map}
 use Rattle.std.proofs.lemmas.List.Elements.{All-head, All-tail}

@@ -1,4 +1,5 @@
--- What all servers but one see in the XOR scheme: the same of the partner for one block as of the coins for the other.
+-- What all servers but one see in the XOR scheme: the same of the partner for one block as of the
+-- coins for the other.
 use Rattle.std.proofs.Common.{◌≡◌, ◌≢◌, ℕ, ◌+◌, ◌-◌, ◌*◌, ◌/◌, ◌%◌, ◌^◌, ◌<◌, ◌≤◌, ◌==◌, if◌then◌else◌, Bool, List, length, get_or, refl, sym, ap, ap₂, subst, ◌∙◌, arith, inl, inr, lit<, pow-add, div-add-mod', bit_xor, set, length-set, get_or-set_same, get_or-set_other}
 use Rattle.std.proofs.Math.Nat.{add-mul, mul-le-mul_right, mul-div_left}
 use Rattle.std.proofs.lemmas.Bool.{cases_eq, eq-eqb, ne_eqb}

@@ -1,4 +1,5 @@
--- The polynomial that hides a block from a coalition: it is 1 at 0, and 0 at each member (Shamir 1979).
+-- The polynomial that hides a block from a coalition: it is 1 at 0, and 0 at each member (Shamir
+-- 1979).
 use Rattle.std.specs.Prelude.{ℕ, List, [], ◌∷◌, fold}
 use Rattle.gf256.specs.Field.{inverse}
 use Rattle.uni_poly.specs.Product.{product}

@@ -9,4 +9,5 @@ addend f size piece i = if i / size == piece then f (i % size) else 0
 
 -- the coins with f e added to byte e of one piece, for each e
 unfoldable pub added : List ℕ → ℕ → ℕ → (ℕ → ℕ) → List ℕ
-added coins size piece f = map (λ i. slice_index coins i ⊕ addend f size piece i) (range_with_len 0 (length coins))
+added coins size piece f =
+    map (λ i. slice_index coins i ⊕ addend f size piece i) (range_with_len 0 (length coins))

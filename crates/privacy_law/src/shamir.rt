@@ -8,17 +8,19 @@ ghost use Rattle.privacy_law.specs.Partner.{added_to_row, partner};
 
 use std::alloc::{AllocError, Global};
 
-/// The partner of the coins of a query, for a coalition of servers and two blocks `b` and `b2`: from the partner each member
-/// of the coalition is sent for block `b2` exactly what it is sent from the coins for block `b`. The partner of the
-/// partner, with the blocks exchanged, is the coins. So the call is a bijection of the coins, under which the two blocks
-/// look the same to the coalition.
+/// The partner of the coins of a query, for a coalition of servers and two blocks `b` and `b2`:
+/// from the partner each member of the coalition is sent for block `b2` exactly what it is sent
+/// from the coins for block `b`. The partner of the partner, with the blocks exchanged, is the
+/// coins. So the call is a bijection of the coins, under which the two blocks look the same to the
+/// coalition.
 ///
-/// The coins are `t` for each of the `r` rows, as `shamir_share::query_into` takes them, and both blocks are rows. The
-/// coalition is given by the servers' indices, at most `t` of them and none 0, in any order.
+/// The coins are `t` for each of the `r` rows, as `shamir_share::query_into` takes them, and both
+/// blocks are rows. The coalition is given by the servers' indices, at most `t` of them and none 0,
+/// in any order.
 ///
-/// To the coins of row `b`, and to those of row `b2`, coefficients 1 to `t` of the polynomial `g(x)` are added that is the
-/// product of `1 - x/a` over the members `a` (Shamir 1979). It is 1 at 0 and 0 at each member, so that the two constants
-/// exchange and no member's value changes.
+/// To the coins of row `b`, and to those of row `b2`, coefficients 1 to `t` of the polynomial
+/// `g(x)` are added that is the product of `1 - x/a` over the members `a` (Shamir 1979). It is 1 at
+/// 0 and 0 at each member, so that the two constants exchange and no member's value changes.
 ///
 /// Want of memory is the only error.
 ///
@@ -41,7 +43,8 @@ pub fn partner(
     requires block { b < r }
     requires other { b2 < r }
     ensures is { IfOk result (λ v. v.items ≡ partner coins.now t coalition.now b b2) }
-    ensures queries { IfOk result (λ v. All (λ a. query v.items t r b2 a ≡ query coins.now t r b a) coalition.now) }
+    ensures queries { IfOk result (λ v.
+        All (λ a. query v.items t r b2 a ≡ query coins.now t r b a) coalition.now) }
     ensures length { IfOk result (λ v. length v.items ≡ length coins.now) }
     ensures own_inverse { IfOk result (λ v. partner v.items t coalition.now b2 b ≡ coins.now) }
 {

@@ -7,15 +7,18 @@ ghost use Rattle.privacy_law.specs.Pieces.{added};
 
 use std::alloc::{AllocError, Global};
 
-/// The partner of the coins of a query in the XOR scheme, for all of `n` servers but `left_out`, which are counted from 1, and
-/// two blocks `b` and `b2`: from the partner each of these servers is sent for block `b2` exactly the bitmap that it is
-/// sent from the coins for block `b`. The partner of the partner, with the blocks exchanged, is the coins.
+/// The partner of the coins of a query in the XOR scheme, for all of `n` servers but `left_out`,
+/// which are counted from 1, and two blocks `b` and `b2`: from the partner each of these servers is
+/// sent for block `b2` exactly the bitmap that it is sent from the coins for block `b`. The partner
+/// of the partner, with the blocks exchanged, is the coins.
 ///
-/// There are `(n - 1) * ceil(r / 8)` coins, as `chor_xor::bitmap_into` takes them, and both blocks are among the `r` rows.
+/// There are `(n - 1) * ceil(r / 8)` coins, as `chor_xor::bitmap_into` takes them, and both blocks
+/// are among the `r` rows.
 ///
-/// The last server is sent the XOR of all other bitmaps and the block's bit. Where it is left out, nobody else is sent
-/// anything of the block, and the coins stay. Else the bits of both blocks are flipped in the bitmap that is left out, and
-/// so in the XOR, where each undoes the change of a block's bit. Unused bits stay as they are.
+/// The last server is sent the XOR of all other bitmaps and the block's bit. Where it is left out,
+/// nobody else is sent anything of the block, and the coins stay. Else the bits of both blocks are
+/// flipped in the bitmap that is left out, and so in the XOR, where each undoes the change of a
+/// block's bit. Unused bits stay as they are.
 ///
 /// Want of memory is the only error.
 ///

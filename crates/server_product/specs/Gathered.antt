@@ -9,7 +9,8 @@ use Rattle.server_product.specs.declared.gather.Few.TheVariants.{Empty, One, Two
 
 -- what three rows give to column c
 unfoldable pub three_sum : List ℕ → List (List ℕ) → ℕ → Three → ℕ
-three_sum query rows c three = term query rows c three.a ⊕ term query rows c three.b ⊕ term query rows c three.c
+three_sum query rows c three =
+    term query rows c three.a ⊕ term query rows c three.b ⊕ term query rows c three.c
 
 -- what a few rows give to it
 unfoldable pub few_sum : List ℕ → List (List ℕ) → ℕ → Few → ℕ
@@ -30,7 +31,8 @@ rest_sum query rows c rest = held_sum query rows c rest.three ⊕ few_sum query 
 -- what all rows that wait give to it
 unfoldable pub waiting_sum : List ℕ → List (List ℕ) → ℕ → List Few → ℕ
 waiting_sum query rows c [] = 0
-waiting_sum query rows c (few ∷ waiting) = few_sum query rows c few ⊕ waiting_sum query rows c waiting
+waiting_sum query rows c (few ∷ waiting) =
+    few_sum query rows c few ⊕ waiting_sum query rows c waiting
 
 -- a row for which the query has a byte, which is f
 abbrev pub IsOf : List ℕ → ℕ → ℕ → Type 0
@@ -56,7 +58,8 @@ HeldAreAlike query (Some three) = AreOf query (slice_index query three.a) three
 
 -- three rows for which the query has bytes
 abbrev pub ThreeAreRows : List ℕ → Three → Type 0
-ThreeAreRows query three = (three.a < length query) × (three.b < length query) × (three.c < length query)
+ThreeAreRows query three =
+    (three.a < length query) × (three.b < length query) × (three.c < length query)
 
 -- a few rows for which it has bytes
 abbrev pub AreRows : List ℕ → Few → Type 0

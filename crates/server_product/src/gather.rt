@@ -1,8 +1,8 @@
 //! The sum over a run of rows, in trios of the same factor.
 //!
-//! Each row waits for others whose byte of the query is the same, so that three cost one product: the rows of a factor are
-//! added up before they are multiplied, as in the buckets of Pippenger (1976). What is left over at the end is added six
-//! rows at once.
+//! Each row waits for others whose byte of the query is the same, so that three cost one product:
+//! the rows of a factor are added up before they are multiplied, as in the buckets of Pippenger
+//! (1976). What is left over at the end is added six rows at once.
 
 ghost use Rattle.std.specs.Prelude.{◌≡◌, ℕ, ◌<◌, ◌≤◌, List, length, replicate, slice_index, slice_index_or};
 ghost use Rattle.gf256.specs.Field.{◌⊕◌};
@@ -70,8 +70,8 @@ fn none_waiting() -> [Few; 256]
     [Few::Empty; 256]
 }
 
-/// Lets row `j` wait for others of its factor. Where three wait already, they go first: they are held, or added with the
-/// three that are held.
+/// Lets row `j` wait for others of its factor. Where three wait already, they go first: they are
+/// held, or added with the three that are held.
 fn gather(
     matrix: &Matrix,
     q: &[u8],
@@ -84,12 +84,16 @@ fn gather(
     requires query { length q.now ≡ length matrix.now.rows }
     requires room { length sums.old ≡ matrix.now.width }
     requires held { HeldAreAlike q.now held }
-    requires waiting { (f : ℕ) → f < 256 → FewAreOf q.now f (slice_index_or waiting.old f Few.Empty) }
+    requires waiting { (f : ℕ) → f < 256
+        → FewAreOf q.now f (slice_index_or waiting.old f Few.Empty) }
     ensures held { HeldAreAlike q.now result }
-    ensures waiting { (f : ℕ) → f < 256 → FewAreOf q.now f (slice_index_or waiting.new f Few.Empty) }
+    ensures waiting { (f : ℕ) → f < 256
+        → FewAreOf q.now f (slice_index_or waiting.new f Few.Empty) }
     ensures sum { (k : ℕ) →
-        slice_index sums.new k ⊕ held_sum q.now matrix.now.rows k result ⊕ waiting_sum q.now matrix.now.rows k waiting.new
-        ≡ slice_index sums.old k ⊕ held_sum q.now matrix.now.rows k held ⊕ waiting_sum q.now matrix.now.rows k waiting.old
+        slice_index sums.new k ⊕ held_sum q.now matrix.now.rows k result
+        ⊕ waiting_sum q.now matrix.now.rows k waiting.new
+        ≡ slice_index sums.old k ⊕ held_sum q.now matrix.now.rows k held
+        ⊕ waiting_sum q.now matrix.now.rows k waiting.old
         ⊕ term q.now matrix.now.rows k j }
 {
     let factor = usize::from(q[j as usize]);
@@ -120,7 +124,8 @@ fn hold(
     requires three { AreOf q.now (slice_index q.now three.a) three }
     ensures held { HeldAreAlike q.now result }
     ensures sum { (k : ℕ) → slice_index sums.new k ⊕ held_sum q.now matrix.now.rows k result
-        ≡ slice_index sums.old k ⊕ held_sum q.now matrix.now.rows k held ⊕ three_sum q.now matrix.now.rows k three }
+        ≡ slice_index sums.old k ⊕ held_sum q.now matrix.now.rows k held
+        ⊕ three_sum q.now matrix.now.rows k three }
 {
     match held {
         None => Some(three),
@@ -150,7 +155,8 @@ fn trio_of<'a>(matrix: &'a Matrix, q: &[u8], three: Three) -> Trio<'a>
     }
 }
 
-/// Rows that are still to be added, each by itself: three, if there are some, and up to three others.
+/// Rows that are still to be added, each by itself: three, if there are some, and up to three
+/// others.
 #[derive(Clone, Copy, Drop)]
 struct Rest {
     three: Option<Three>,
@@ -175,7 +181,8 @@ fn add_waiting(
     requires query { length q.now ≡ length matrix.now.rows }
     requires room { length sums.old ≡ matrix.now.width }
     requires held { HeldAreAlike q.now held }
-    requires waiting { (f : ℕ) → f < 256 → FewAreOf q.now f (slice_index_or waiting.now f Few.Empty) }
+    requires waiting { (f : ℕ) → f < 256
+        → FewAreOf q.now f (slice_index_or waiting.now f Few.Empty) }
     ensures { (k : ℕ) → slice_index sums.new k ≡ slice_index sums.old k
         ⊕ held_sum q.now matrix.now.rows k held ⊕ waiting_sum q.now matrix.now.rows k waiting.now }
 {
@@ -211,8 +218,10 @@ fn add_or_leave(
     ensures held { HeldAreAlike q.now result.held }
     ensures rest { RestAreRows q.now result.rest }
     ensures sum { (k : ℕ) →
-        slice_index sums.new k ⊕ held_sum q.now matrix.now.rows k result.held ⊕ rest_sum q.now matrix.now.rows k result.rest
-        ≡ slice_index sums.old k ⊕ held_sum q.now matrix.now.rows k left.held ⊕ rest_sum q.now matrix.now.rows k left.rest
+        slice_index sums.new k ⊕ held_sum q.now matrix.now.rows k result.held
+        ⊕ rest_sum q.now matrix.now.rows k result.rest
+        ≡ slice_index sums.old k ⊕ held_sum q.now matrix.now.rows k left.held
+        ⊕ rest_sum q.now matrix.now.rows k left.rest
         ⊕ few_sum q.now matrix.now.rows k few }
 {
     let Left { held, rest } = left;
@@ -239,7 +248,8 @@ fn add_or_leave(
 /// The three rows, where there are some.
 fn few_of(held: Option<Three>) -> Few
     ensures rows { (query : List ℕ) → HeldAreRows query held → AreRows query result }
-    ensures sum { (query : List ℕ) → (rows : List (List ℕ)) → (k : ℕ) → few_sum query rows k result ≡ held_sum query rows k held }
+    ensures sum { (query : List ℕ) → (rows : List (List ℕ)) → (k : ℕ)
+        → few_sum query rows k result ≡ held_sum query rows k held }
 {
     match held {
         None => Few::Empty,
@@ -255,7 +265,8 @@ fn add_to_rest(matrix: &Matrix, q: &[u8], rest: Rest, j: u32, sums: &mut [u8]) -
     requires rest { RestAreRows q.now rest }
     ensures rest { RestAreRows q.now result }
     ensures sum { (k : ℕ) → slice_index sums.new k ⊕ rest_sum q.now matrix.now.rows k result
-        ≡ slice_index sums.old k ⊕ rest_sum q.now matrix.now.rows k rest ⊕ term q.now matrix.now.rows k j }
+        ≡ slice_index sums.old k ⊕ rest_sum q.now matrix.now.rows k rest
+        ⊕ term q.now matrix.now.rows k j }
 {
     let Rest { three, few } = rest;
     let few = match few {
@@ -286,7 +297,8 @@ fn add_six(
     requires three { ThreeAreRows q.now three }
     ensures left { HeldAreRows q.now result }
     ensures sum { (k : ℕ) → slice_index sums.new k ⊕ held_sum q.now matrix.now.rows k result
-        ≡ slice_index sums.old k ⊕ held_sum q.now matrix.now.rows k left ⊕ three_sum q.now matrix.now.rows k three }
+        ≡ slice_index sums.old k ⊕ held_sum q.now matrix.now.rows k left
+        ⊕ three_sum q.now matrix.now.rows k three }
 {
     match left {
         None => Some(three),
@@ -310,7 +322,8 @@ fn add_few(matrix: &Matrix, q: &[u8], few: Few, sums: &mut [u8])
     requires query { length q.now ≡ length matrix.now.rows }
     requires room { length sums.old ≡ matrix.now.width }
     requires few { AreRows q.now few }
-    ensures { (k : ℕ) → slice_index sums.new k ≡ slice_index sums.old k ⊕ few_sum q.now matrix.now.rows k few }
+    ensures { (k : ℕ) →
+        slice_index sums.new k ≡ slice_index sums.old k ⊕ few_sum q.now matrix.now.rows k few }
 {
     match few {
         Few::Empty => {}

@@ -1,11 +1,12 @@
-//! The server's product of a query and a database (Goldberg 2007): in each column the sum over all rows of the query's
-//! byte for the row times the row's byte.
+//! The server's product of a query and a database (Goldberg 2007): in each column the sum over all
+//! rows of the query's byte for the row times the row's byte.
 //!
-//! Promised: [`product_into`] gives exactly this product, for each shape of a database and each number of workers from 1 to
-//! 16; it is the product that [`plain_into`] computes byte by byte. No call takes memory, and none can fail.
+//! Promised: [`product_into`] gives exactly this product, for each shape of a database and each
+//! number of workers from 1 to 16; it is the product that [`plain_into`] computes byte by byte.
+//! [`mul_add_row`] adds one row times one byte. No call takes memory, and none can fail.
 //!
-//! Not promised: that the workers run at the same time, or anything of time. Each query reads the whole database, but which
-//! entries of the field's tables it reads depends on its bytes.
+//! Not promised: that the workers run at the same time, or anything of time. Each query reads the
+//! whole database, but which entries of the field's tables it reads depends on its bytes.
 #![tactic(auto)]
 
 mod gate;

@@ -6,7 +6,8 @@ ghost use Rattle.gf256.specs.Product.{product_at, product};
 use block_matrix::Matrix;
 use gf256::{add, mul};
 
-/// Makes `out` the product of the query `q`, a byte for each row, and the matrix: a byte for each column.
+/// Makes `out` the product of the query `q`, a byte for each row, and the matrix: a byte for each
+/// column.
 ///
 /// Each byte of the matrix costs one product by itself. This is the yardstick for
 /// [`product_into`](crate::product_into), whose contract says the same.

@@ -29,7 +29,8 @@ pub fn scaled_row<'a>(matrix: &'a Matrix, q: &[u8], j: u32) -> Scaled<'a>
     }
 }
 
-/// Adds `c` times `row` to `acc`, which is as long. Adding `83` times `57 57` to `00 01` makes it `c1 c0`.
+/// Adds `c` times `row` to `acc`, which is as long. Adding `83` times `57 57` to `00 01` makes it
+/// `c1 c0`.
 pub fn mul_add_row(acc: &mut [u8], row: &[u8], c: u8)
     requires { length row.now ≡ length acc.old }
     ensures { (k : ℕ) → slice_index acc.new k ≡ slice_index acc.old k ⊕ c ⊗ slice_index row.now k }
@@ -42,7 +43,8 @@ pub fn add_term(matrix: &Matrix, q: &[u8], j: u32, sums: &mut [u8])
     requires within { j < length matrix.now.rows }
     requires query { length q.now ≡ length matrix.now.rows }
     requires room { length sums.old ≡ matrix.now.width }
-    ensures { (k : ℕ) → slice_index sums.new k ≡ slice_index sums.old k ⊕ term q.now matrix.now.rows k j }
+    ensures { (k : ℕ) →
+        slice_index sums.new k ≡ slice_index sums.old k ⊕ term q.now matrix.now.rows k j }
 {
     mul_add_row(sums, matrix.row(j), q[j as usize]);
 }

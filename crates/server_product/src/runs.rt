@@ -9,12 +9,14 @@ use crate::sixths::add_in_sixths;
 use block_matrix::Matrix;
 use gf256::rows::clear;
 
-/// From how many bytes on a row is so wide that going from one to any other costs little beside reading it.
+/// From how many bytes on a row is so wide that going from one to any other costs little beside
+/// reading it.
 const WIDE: u32 = 8192;
 
-/// Makes `sums` the sum over the rows from `from` up to `to`. Rows of one factor are looked for where they are wide; narrow
-/// rows are read in the order in which they stand, and summed on the worker's own stack: the parts of two workers may share
-/// a cache line, which is slow to write where both do it for each row.
+/// Makes `sums` the sum over the rows from `from` up to `to`. Rows of one factor are looked for
+/// where they are wide; narrow rows are read in the order in which they stand, and summed on the
+/// worker's own stack: the parts of two workers may share a cache line, which is slow to write
+/// where both do it for each row.
 pub fn sum_rows(matrix: &Matrix, q: &[u8], from: u32, to: u32, sums: &mut [u8])
     requires order { from ≤ to }
     requires within { to ≤ length matrix.now.rows }

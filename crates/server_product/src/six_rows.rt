@@ -1,4 +1,5 @@
-//! Six rows at once, each times a factor of its own, so that the sums are read and written once for the six.
+//! Six rows at once, each times a factor of its own, so that the sums are read and written once for
+//! the six.
 
 ghost use Rattle.std.specs.Prelude.{◌≡◌, ℕ, ◌+◌, ◌<◌, ◌≤◌, length, slice_index};
 ghost use Rattle.gf256.specs.Field.{◌⊕◌, ◌⊗◌};
@@ -19,8 +20,9 @@ fn products_at(row: &[u8], products: &Products, at: usize) -> u8x16
     products.times(u8x16::from_slice(&row[at..]))
 }
 
-/// Adds the six rows, each times its factor, to `acc`: each is as long. Where the last places are fewer than 16, the last
-/// 16 are added at once: some of them are done before, so their sums are taken from what stood there at first.
+/// Adds the six rows, each times its factor, to `acc`: each is as long. Where the last places are
+/// fewer than 16, the last 16 are added at once: some of them are done before, so their sums are
+/// taken from what stood there at first.
 pub fn add_six_rows(
     acc: &mut [u8],
     a: Scaled,
@@ -37,8 +39,10 @@ pub fn add_six_rows(
     requires e { length e.row.now ≡ length acc.old }
     requires f { length f.row.now ≡ length acc.old }
     ensures { (k : ℕ) → slice_index acc.new k ≡ slice_index acc.old k
-        ⊕ six_at a.entry.row.now b.entry.row.now c.entry.row.now d.entry.row.now e.entry.row.now f.entry.row.now
-        a.entry.factor b.entry.factor c.entry.factor d.entry.factor e.entry.factor f.entry.factor k }
+        ⊕ six_at a.entry.row.now b.entry.row.now c.entry.row.now
+        d.entry.row.now e.entry.row.now f.entry.row.now
+        a.entry.factor b.entry.factor c.entry.factor
+        d.entry.factor e.entry.factor f.entry.factor k }
 {
     if acc.len() < 16 {
         return add_six_short(acc, a, b, c, d, e, f);
@@ -84,8 +88,10 @@ fn add_six_short(acc: &mut [u8], a: Scaled, b: Scaled, c: Scaled, d: Scaled, e: 
     requires e { length e.row.now ≡ length acc.old }
     requires f { length f.row.now ≡ length acc.old }
     ensures { (k : ℕ) → slice_index acc.new k ≡ slice_index acc.old k
-        ⊕ six_at a.entry.row.now b.entry.row.now c.entry.row.now d.entry.row.now e.entry.row.now f.entry.row.now
-        a.entry.factor b.entry.factor c.entry.factor d.entry.factor e.entry.factor f.entry.factor k }
+        ⊕ six_at a.entry.row.now b.entry.row.now c.entry.row.now
+        d.entry.row.now e.entry.row.now f.entry.row.now
+        a.entry.factor b.entry.factor c.entry.factor
+        d.entry.factor e.entry.factor f.entry.factor k }
 {
     for i in 0..acc.len() {
         acc[i] ^= mul(a.factor, a.row[i])

@@ -25,9 +25,10 @@ pub fn add_in_sixths(matrix: &Matrix, q: &[u8], from: u32, to: u32, sums: &mut [
     }
 }
 
-/// How many rows each of the six streams takes of so many rows of this width: a sixth, or up to a sixteenth fewer. Streams
-/// that stand at the same place of their pages, of 4096 bytes, come to new pages at the same time, which makes them slower; so
-/// it looks for a number of rows that keeps each stream 512 bytes or more apart there from the three after it.
+/// How many rows each of the six streams takes of so many rows of this width: a sixth, or up to a
+/// sixteenth fewer. Streams that stand at the same place of their pages, of 4096 bytes, come to new
+/// pages at the same time, which makes them slower; so it looks for a number of rows that keeps
+/// each stream 512 bytes or more apart there from the three after it.
 fn sixth_of(rows: u32, width: u32) -> u32
     ensures { 6 * result ≤ rows }
 {
@@ -47,8 +48,8 @@ fn is_apart(distance: u64) -> bool {
     512 <= place && place <= 3584
 }
 
-/// Adds the rows from `from` on, six times `sixth` of them: one from each sixth at once, so that the memory is read in
-/// six streams.
+/// Adds the rows from `from` on, six times `sixth` of them: one from each sixth at once, so that
+/// the memory is read in six streams.
 fn add_sixths(matrix: &Matrix, q: &[u8], from: u32, sixth: u32, sums: &mut [u8])
     requires within { from + 6 * sixth ≤ length matrix.now.rows }
     requires query { length q.now ≡ length matrix.now.rows }

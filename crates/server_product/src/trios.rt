@@ -1,4 +1,5 @@
-//! Three rows of the same factor at once: their sum is multiplied, which costs one product for the three.
+//! Three rows of the same factor at once: their sum is multiplied, which costs one product for the
+//! three.
 
 ghost use Rattle.std.specs.Prelude.{◌≡◌, ℕ, ◌+◌, ◌≤◌, length, slice_index};
 ghost use Rattle.std.specs.Simd.Lanes.{chunk};
@@ -67,9 +68,9 @@ fn add_places(acc: &mut [u8], trio: Trio, products: &Products, from: usize, to: 
     }
 }
 
-/// Adds the rows of two trios, each times its factor, to `acc`: each row is as long. The second trio stays half a page
-/// behind the first. So not all six rows come to a new page at the same time, as rows of whole pages do otherwise, which
-/// makes them slower.
+/// Adds the rows of two trios, each times its factor, to `acc`: each row is as long. The second
+/// trio stays half a page behind the first. So not all six rows come to a new page at the same
+/// time, as rows of whole pages do otherwise, which makes them slower.
 pub fn add_two_trios(acc: &mut [u8], first: Trio, second: Trio)
     requires first_a { length first.a.now ≡ length acc.old }
     requires first_b { length first.b.now ≡ length acc.old }

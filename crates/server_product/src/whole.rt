@@ -13,12 +13,13 @@ use block_matrix::Matrix;
 use gf256::rows::{add_row, clear};
 use std::thread::{Threads, join_mut};
 
-/// Makes `out` the product of the query `q`, a byte for each row, and the matrix: a byte for each column. The query `01 02`
-/// and the rows `05 00` and `00 03` have the product `05 06`.
+/// Makes `out` the product of the query `q`, a byte for each row, and the matrix: a byte for each
+/// column. The query `01 02` and the rows `05 00` and `00 03` have the product `05 06`.
 ///
-/// With r rows, worker w, counted from 0, passes the gate once and sums the rows from `w * r / workers` up to
-/// `(w + 1) * r / workers` into its own part of `scratch`, which has `workers` times the width bytes and is written over.
-/// The parts are added when all workers have ended. One worker runs on the caller's thread.
+/// With r rows, worker w, counted from 0, passes the gate once and sums the rows from
+/// `w * r / workers` up to `(w + 1) * r / workers` into its own part of `scratch`, which has
+/// `workers` times the width bytes and is written over. The parts are added when all workers have
+/// ended. One worker runs on the caller's thread.
 pub fn product_into<R: Threads + Sync, G: Gate + Sync>(
     rt: &R,
     matrix: &Matrix,
@@ -67,8 +68,8 @@ fn sum_parts<R: Threads + Sync, G: Gate + Sync>(
     sum_from(rt, matrix, q, workers, 0, gate, scratch);
 }
 
-/// The sums of the workers from `first` on, each on a thread of its own, but the last on this one. This thread starts all
-/// others, so that none of them has to wait until another is running.
+/// The sums of the workers from `first` on, each on a thread of its own, but the last on this one.
+/// This thread starts all others, so that none of them has to wait until another is running.
 #[cycle(starts)]
 fn sum_from<R: Threads + Sync, G: Gate + Sync>(
     rt: &R,
@@ -115,8 +116,9 @@ fn sum_both<R: Threads + Sync, G: Gate + Sync>(
     ensures others { HasParts others.new matrix.now.width q.now matrix.now.rows workers (first + 1) }
 {
     let mut front = ||
-        requires { IsSync G.row × (length matrix.now.rows ≤ MOST_ROWS) × (workers ≤ MOST_WORKERS) × (first < workers)
-            × (length q.now ≡ length matrix.now.rows) × (length own.now ≡ matrix.now.width) }
+        requires { IsSync G.row × (length matrix.now.rows ≤ MOST_ROWS) × (workers ≤ MOST_WORKERS)
+            × (first < workers) × (length q.now ≡ length matrix.now.rows)
+            × (length own.now ≡ matrix.now.width) }
         ensures { (k : ℕ) → slice_index own.exit.now k
             ≡ part q.entry.now matrix.entry.now.rows workers first k }
     { sum_part(matrix, q, workers, first, gate, own) };

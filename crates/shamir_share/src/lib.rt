@@ -1,14 +1,15 @@
-//! The queries of Shamir's sharing (Shamir 1979; Goldberg 2007): what a client sends to each server that it asks for one
-//! block of a database.
+//! The queries of Shamir's sharing (Shamir 1979; Goldberg 2007): what a client sends to each server
+//! that it asks for one block of a database.
 //!
-//! Each row of the database has a polynomial of degree at most `t`, whose constant is 1 for the block that is asked for
-//! and 0 for the others, and whose other coefficients are the row's coins. A server's query is the value of each at the
-//! server's index.
+//! Each row of the database has a polynomial of degree at most `t`, whose constant is 1 for the
+//! block that is asked for and 0 for the others, and whose other coefficients are the row's coins.
+//! A server's query is the value of each at the server's index.
 //!
 //! Promised, for all coins: [`query_into`] writes exactly these values, and takes no memory.
 //!
-//! Not promised: that up to `t` servers together learn nothing. That holds where the coins are uniform, secret and used
-//! once, which the caller sees to. Nor is anything said of time: the places that are read of a table depend on the coins.
+//! Not promised: that up to `t` servers together learn nothing. That holds where the coins are
+//! uniform, secret and used once, which the caller sees to. Nor is anything said of time: the
+//! places that are read of a table depend on the coins.
 #![tactic(auto)]
 
 mod masks;
@@ -20,11 +21,12 @@ ghost use Rattle.shamir_share.specs.Query.{query};
 use crate::masks::masks_into;
 use crate::products::ProductTable;
 
-/// Writes the query of one server: at `j` the value at `index` of the polynomial of row `j`, with the constant 1 where
-/// `j` is `block` and 0 elsewhere, and then the `t` coins of the row, at `j * t` and on.
+/// Writes the query of one server: at `j` the value at `index` of the polynomial of row `j`, with
+/// the constant 1 where `j` is `block` and 0 elsewhere, and then the `t` coins of the row, at
+/// `j * t` and on.
 ///
-/// There are `r * t` coins, `out` is `r` long, the block is one of the `r` rows, the index isn't 0, and the degree `t` is
-/// from 1 to 31. It takes no memory.
+/// There are `r * t` coins, `out` is `r` long, the block is one of the `r` rows, the index isn't 0,
+/// and the degree `t` is from 1 to 31. It takes no memory.
 ///
 /// ```
 /// // Two rows and degree 1: the polynomials are `05 x` and `01 + 07 x`.

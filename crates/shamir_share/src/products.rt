@@ -6,8 +6,8 @@ use gf256::rows;
 use std::marker::Model;
 use std::simd::prelude::*;
 
-/// The products of one byte, the factor, and every byte: looked up for one, and by [`rows::Products`] for 16 at once.
-/// Contracts see the factor.
+/// The products of one byte, the factor, and every byte: looked up for one, and by
+/// [`rows::Products`] for 16 at once. Contracts see the factor.
 #[derive(Drop)]
 pub(crate) struct ProductTable {
     // The product with each byte.

@@ -1,4 +1,5 @@
--- A step of Newton's interpolation: a multiple of the vanishing polynomial of the points so far is added.
+-- A step of Newton's interpolation: a multiple of the vanishing polynomial of the points so far is
+-- added.
 use Rattle.std.proofs.Common.{◌≡◌, ℕ, ◌<◌, ◌≤◌, List, length, ap, ◌∙◌}
 use Rattle.gf256.specs.Field.{◌⊕◌, ◌⊗◌}
 use Rattle.gf256.specs.Polynomial.{val}

@@ -1,4 +1,5 @@
--- A polynomial whose degree is less than the number of its zeros, each counted with its multiplicity, is 0.
+-- A polynomial whose degree is less than the number of its zeros, each counted with its
+-- multiplicity, is 0.
 use Rattle.std.proofs.Common.{◌≡◌, ◌≢◌, ℕ, zero, suc, ◌+◌, ◌*◌, ◌<◌, List, [], ◌∷◌, length, replicate, sum, All, AllPairs, sym, subst, ◌∙◌, arith, mul-one}
 use Rattle.std.specs.List.{AllZip}
 use Rattle.std.proofs.lemmas.List.Sums.{sum_by-cons}
@@ -36,7 +37,8 @@ one_by_one (suc m) a k xs ms p ha far rest h z o =
     (zeros-quotient xs ms p a ha v far o))
     v
 
--- a polynomial with zeros at xs, whose multiplicities beside them add up to more than its degree, is 0
+-- a polynomial with zeros at xs, whose multiplicities beside them add up to more than its degree,
+-- is 0
 pub too_many_zeros : (xs ms : List ℕ) (p : List ℕ) → All (λ x. x < 256) xs → AllPairs (λ x y. x ≢ y) xs → AllZip (VanishesAt p) xs ms
     → HasDegreeBelow p (sum ms) → IsLowZero p
 too_many_zeros [] [] p bytes d z h = IsLowZero-from_zero p (λ e. h e (omega arith))

@@ -1,4 +1,5 @@
--- The product of polynomials: it is that of their series, so the polynomials are a commutative ring.
+-- The product of polynomials: it is that of their series, so the polynomials are a commutative
+-- ring.
 use Rattle.std.proofs.Common.{◌≡◌, ℕ, zero, suc, ◌+◌, ◌-◌, ◌≤◌, inl, inr, List, [], ◌∷◌, map, length, refl, sym, ap, ap₂, ◌∙◌, arith, add-one, zero-add}
 use Rattle.std.specs.List.{range_with_len}
 use Rattle.std.proofs.lemmas.Bool.{cases_lt}

@@ -1,4 +1,5 @@
--- The quotient of a polynomial by x - r, as long as the polynomial itself: its last coefficient is 0.
+-- The quotient of a polynomial by x - r, as long as the polynomial itself: its last coefficient is
+-- 0.
 use Rattle.std.proofs.Common.{◌≡◌, ◌≢◌, ℕ, zero, suc, ◌<◌, List, [], ◌∷◌, refl, sym, ap, ap₂, ◌∙◌, arith, lit<}
 use Rattle.gf256.specs.Field.{◌⊕◌, ◌⊗◌}
 use Rattle.gf256.specs.Polynomial.{coef, val}

@@ -1,5 +1,6 @@
--- The Taylor series of a polynomial at a point: the coefficients of p(x + a). They are the Hasse derivatives of p at a
--- (Hasse 1936), which serve in characteristic 2, where the usual derivatives vanish.
+-- The Taylor series of a polynomial at a point: the coefficients of p(x + a). They are the Hasse
+-- derivatives of p at a (Hasse 1936), which serve in characteristic 2, where the usual derivatives
+-- vanish.
 use Rattle.std.specs.Prelude.{◌≡◌, ℕ, zero, suc, ◌<◌, List, [], ◌∷◌}
 use Rattle.gf256.specs.Field.{◌⊕◌, ◌⊗◌}
 

@@ -1,4 +1,5 @@
-//! The laws of polynomials, each as a call whose contract is the law. A call does nothing when it runs.
+//! The laws of polynomials, each as a call whose contract is the law. A call does nothing when it
+//! runs.
 
 ghost use Rattle.std.specs.Prelude.{◌≡◌, ◌≢◌, ◌↔◌, ◌≤◌, ◌+◌, length, All, AllPairs, Contains, sum};
 ghost use Rattle.std.specs.List.{AllZip};
@@ -38,8 +39,8 @@ pub fn roots_are_few(p: &[u8], degree: usize, roots: &[u8])
     ensures { length roots.now ≤ degree }
 {}
 
-/// A nonzero polynomial of degree at most `degree` has at most `degree` roots, each counted with its multiplicity, that
-/// at its place in `multiplicities`.
+/// A nonzero polynomial of degree at most `degree` has at most `degree` roots, each counted with
+/// its multiplicity, that at its place in `multiplicities`.
 pub fn roots_with_multiplicities_are_few(
     p: &[u8],
     degree: usize,

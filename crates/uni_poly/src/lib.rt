@@ -1,16 +1,17 @@
 //! Polynomials in one variable over GF(256).
 //!
-//! A polynomial is a slice of bytes, its coefficient at `x^e` at place `e`. Zeros at the end are allowed and change
-//! nothing.
+//! A polynomial is a slice of bytes, its coefficient at `x^e` at place `e`. Zeros at the end are
+//! allowed and change nothing.
 //!
-//! Promised: each call gives exactly the sum, product, quotient, value or interpolating polynomial that its contract
-//! names, and want of memory is its only error. [`laws`] has the laws of the product and of roots: how many there are, each
-//! counted with its multiplicity, and that interpolation has one answer.
+//! Promised: each call gives exactly the sum, product, quotient, value or interpolating polynomial
+//! that its contract names, and want of memory is its only error. [`laws`] has the laws of the
+//! product and of roots: how many there are, each counted with its multiplicity, and that
+//! interpolation has one answer.
 //!
 //! [`steps`] has the counter by which the crates above bound their work.
 //!
-//! Not promised: anything of time. The methods are the schoolbook's, and `interpolate` and `vanishing` take a number of
-//! products that grows with the square of the number of points.
+//! Not promised: anything of time. The methods are the schoolbook's, and `interpolate` and
+//! `vanishing` take a number of products that grows with the square of the number of points.
 #![tactic(auto)]
 
 pub mod laws;
@@ -25,7 +26,8 @@ ghost use Rattle.uni_poly.specs.Product.{linear, product, vanishing};
 
 use std::alloc::{AllocError, Global};
 
-/// The value of `p` at `a`, by Horner's rule: that of `01 03` (the polynomial `1 + 3x`) at `02` is `07`.
+/// The value of `p` at `a`, by Horner's rule: that of `01 03` (the polynomial `1 + 3x`) at `02` is
+/// `07`.
 pub fn eval(p: &[u8], a: u8) -> u8
     ensures { result ≡ val p.now a }
 {
@@ -58,8 +60,8 @@ pub fn mul_by_linear(alloc: Global, p: &[u8], root: u8) -> Result<Vec<u8>, Alloc
     Ok(made)
 }
 
-/// The quotient of `p` by `x - root`, one shorter than `p`, and the rest, which is the value of `p` at `root`. `p` must
-/// not be empty. `02 03 01` by `x - 1` is `02 01` with rest `00`.
+/// The quotient of `p` by `x - root`, one shorter than `p`, and the rest, which is the value of `p`
+/// at `root`. `p` must not be empty. `02 03 01` by `x - 1` is `02 01` with rest `00`.
 pub fn divide_by_linear(alloc: Global, p: &[u8], root: u8) -> Result<(Vec<u8>, u8), AllocError>
     requires { 0 < length p.now }
     ensures divided { IfOk result (λ r. IsDivided p.now root r.0.items r.1) }
@@ -75,8 +77,8 @@ pub fn divide_by_linear(alloc: Global, p: &[u8], root: u8) -> Result<(Vec<u8>, u
     Ok((quotient, rest))
 }
 
-/// The vanishing polynomial of `xs`, the product of `x - a` over its members `a`: that of `01 02` is `02 03 01`. It is
-/// one longer than `xs`.
+/// The vanishing polynomial of `xs`, the product of `x - a` over its members `a`: that of `01 02`
+/// is `02 03 01`. It is one longer than `xs`.
 pub fn vanishing(alloc: Global, xs: &[u8]) -> Result<Vec<u8>, AllocError>
     ensures { IfOk result (λ v. v.items ≡ vanishing xs.now) }
 {
@@ -97,8 +99,8 @@ fn add_scaled(acc: &mut [u8], p: &[u8], factor: u8)
     }
 }
 
-/// Adds a multiple of `basis`, which is not 0 at `x`, to `made`, so that its value at `x` becomes `y`. Where `basis` is
-/// 0, the value stays.
+/// Adds a multiple of `basis`, which is not 0 at `x`, to `made`, so that its value at `x` becomes
+/// `y`. Where `basis` is 0, the value stays.
 fn meet(made: &mut [u8], basis: &[u8], x: u8, y: u8)
     requires room { length basis.now ≤ length made.old }
     requires apart { val basis.now x ≢ 0 }
@@ -111,10 +113,10 @@ fn meet(made: &mut [u8], basis: &[u8], x: u8, y: u8)
     add_scaled(made, basis, gf256::mul(missing, inverse));
 }
 
-/// The one polynomial of degree below the number of points that takes the value `ys[i]` at each `xs[i]`, with as many
-/// coefficients as there are points. There must be a point, and no two may have one `x`. That through `(01, cf)` and
-/// `(02, 40)` is `43 8c`. The method is Newton's: each point adds a multiple of the vanishing polynomial of those
-/// before.
+/// The one polynomial of degree below the number of points that takes the value `ys[i]` at each
+/// `xs[i]`, with as many coefficients as there are points. There must be a point, and no two may
+/// have one `x`. That through `(01, cf)` and `(02, 40)` is `43 8c`. The method is Newton's: each
+/// point adds a multiple of the vanishing polynomial of those before.
 pub fn interpolate(alloc: Global, xs: &[u8], ys: &[u8]) -> Result<Vec<u8>, AllocError>
     requires same_length { length xs.now ≡ length ys.now }
     requires some { 0 < length xs.now }

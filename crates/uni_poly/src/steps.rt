@@ -5,8 +5,9 @@ ghost use Rattle.std.specs.Prelude.{◌≡◌, ◌+◌, ◌<◌};
 use std::marker::Model;
 use std::sync::ledger::{Blank, Book, Ledger, Share};
 
-/// How many steps were taken, of which kind the one who takes it says. It takes no memory and no time, and nothing but
-/// [`Steps::tick`] changes it, so that contracts can bound the work of a call. Contracts see it as a number.
+/// How many steps were taken, of which kind the one who takes it says. It takes no memory and no
+/// time, and nothing but [`Steps::tick`] changes it, so that contracts can bound the work of a
+/// call. Contracts see it as a number.
 #[derive(Drop)]
 pub struct Steps<L: Ledger> {
     book: Book<L>,
@@ -24,8 +25,8 @@ impl<L: Ledger> Model for Steps<L> {
 }
 
 impl<L: Ledger> Steps<L> {
-    /// No step yet. The blank, of one part or more, is the ledger's own: a caller that makes both takes the blank as
-    /// an argument, and is called at the ledger `Brand`.
+    /// No step yet. The blank, of one part or more, is the ledger's own: a caller that makes both
+    /// takes the blank as an argument, and is called at the ledger `Brand`.
     pub fn new(blank: Blank) -> Steps<L>
         requires name { blank.name ≡ L.name }
         requires parts { blank.parts ≡ L.parts }
