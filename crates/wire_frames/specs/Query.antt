@@ -1,5 +1,5 @@
 -- The header of a query, and what a reading of one answers.
-use Rattle.std.specs.Prelude.{◌≡◌, ℕ, ◌+◌, ◌<◌, ◌≤◌, List, take, drop, Result, Ok, Err}
+use Rattle.std.specs.Prelude.{◌≡◌, ℕ, ◌<◌, ◌≤◌, List, take, drop, Result, Ok, Err}
 use Rattle.wire_frames.specs.declared.field.Number.{Number}
 use Rattle.wire_frames.specs.declared.header.QueryHeader.{QueryHeader}
 use Rattle.wire_frames.specs.declared.query.Field.{Field}
