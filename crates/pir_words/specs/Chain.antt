@@ -1,4 +1,5 @@
--- Readings one after another: each `do` block of the forms has a value that is given, or a test, on each line.
+-- Readings one after another: each `do` block of the forms has a value that is given, or a test, on
+-- each line.
 use Rattle.std.specs.Prelude.{Bool, Option, None, option_and_then, if◌then◌else◌}
 
 infixr 10 ◌>>=◌

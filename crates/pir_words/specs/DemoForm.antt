@@ -21,7 +21,8 @@ demo_of m = do
   block ← block_in sizes.rows m
   servers ← servers_in m
   (sharing : Sharing) ← sharing_in servers m
-  Some (Demo port database sizes.rows sizes.width block servers sharing.degree sharing.agree (coins_in m))
+  Some (Demo port database sizes.rows sizes.width block servers
+      sharing.degree sharing.agree (coins_in m))
 
 -- the values of `demo` are those of a fetch from n servers in Shamir's scheme, and a port
 pub record IsDemo (port r s b t h n : ℕ) : Type 0 where

@@ -19,7 +19,8 @@ addresses_in m = do
   nat_le (length addresses) MOST_SERVERS
   Some addresses
 
--- in the XOR scheme neither degree nor agreement is given: of n servers all have to answer, and all but one learn nothing
+-- in the XOR scheme neither degree nor agreement is given: of n servers all have to answer, and all
+-- but one learn nothing
 unfoldable pub xor_sharing_in : ℕ → List Row → Option Sharing
 xor_sharing_in n m = do
   is_none (first_of (codes "degree") m) && is_none (first_of (codes "agree") m)
@@ -39,7 +40,8 @@ fetch_of m = do
   scheme ← scheme_in m
   addresses ← addresses_in m
   (sharing : Sharing) ← fetch_sharing_in scheme (length addresses) m
-  Some (Fetch (number_of scheme) sizes.rows sizes.width block sharing.degree sharing.agree (coins_in m) (first_of (codes "record") m) addresses)
+  Some (Fetch (number_of scheme) sizes.rows sizes.width block sharing.degree sharing.agree
+      (coins_in m) (first_of (codes "record") m) addresses)
 
 -- the values of `fetch` with n addresses are those of a session, and the block is one of the rows
 pub record IsFetch (scheme r s b t h n : ℕ) : Type 0 where

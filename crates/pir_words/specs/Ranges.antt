@@ -29,7 +29,8 @@ block_in rows m = do
 -- the scheme of this name
 unfoldable pub scheme_named : Text → Option Scheme
 scheme_named name =
-    if bytes_eq name (codes "shamir") then Some Shamir else (if bytes_eq name (codes "xor") then Some Xor else None)
+    if bytes_eq name (codes "shamir") then Some Shamir
+    else (if bytes_eq name (codes "xor") then Some Xor else None)
 
 -- the scheme, Shamir's where none is named
 unfoldable pub scheme_in : List Row → Option Scheme
@@ -47,10 +48,11 @@ sharing_in n m = do
   nat_lt t h && nat_le h n
   Some (record { degree = t; agree = h })
 
--- a session may have these numbers, whatever its own is: degree t and agreement h of n servers in a scheme, and r rows of s
--- bytes
+-- a session may have these numbers, whatever its own is: degree t and agreement h of n servers in a
+-- scheme, and r rows of s bytes
 abbrev pub FitsSession : ℕ → ℕ → ℕ → ℕ → ℕ → ℕ → Type 0
-FitsSession scheme t h n r s = IsInRange (record { scheme = scheme; t = t; h = h; n = n; session = 0; r = r; s = s })
+FitsSession scheme t h n r s =
+    IsInRange (record { scheme = scheme; t = t; h = h; n = n; session = 0; r = r; s = s })
 
 -- the number of workers, one where it isn't given
 unfoldable pub workers_in : List Row → Option ℕ

@@ -15,8 +15,10 @@ fn with_option<'a>(
     name: &'a str,
     required: bool,
 ) -> Result<Command<'a>, AllocError>
-    ensures app { IfOk result (λ c. app_of c ≡ with_option (app_of command.entry) name.entry.now required) }
-    ensures local { IfOk result (λ c. (out-Command c).has_globals ≡ (out-Command command.entry).has_globals) }
+    ensures app { IfOk result (λ c.
+        app_of c ≡ with_option (app_of command.entry) name.entry.now required) }
+    ensures local { IfOk result (λ c.
+        (out-Command c).has_globals ≡ (out-Command command.entry).has_globals) }
 {
     let option = Arg::new(alloc, name)
         .long(name)

@@ -1,14 +1,16 @@
 //! The words of the command line, read to a command.
 //!
-//! Promised: words give a command with its values exactly where they have its form, and are a faulty command line
-//! exactly where they have none, want of memory aside. The form is what `clap` takes by the commands that are built
-//! here, with each value in its range; so each value of a command that was read is in its range.
+//! Promised: words give a command with its values exactly where they have its form, and are a
+//! faulty command line exactly where they have none, want of memory aside. The form is what `clap`
+//! takes by the commands that are built here, with each value in its range; so each value of a
+//! command that was read is in its range.
 //!
-//! Not promised: that a file or an address is one. Any text is a name, the empty one too. `help`, `--help` and
-//! `--version` are a faulty command line.
+//! Not promised: that a file or an address is one. Any text is a name, the empty one too. `help`,
+//! `--help` and `--version` are a faulty command line.
 //!
-//! A command that is to come takes a variant of [`Asked`], an app in `specs/Command.antt` and a function that builds it
-//! in `command`, a form in `specs/` and a module that reads it, and an arm of `read_command`.
+//! A command that is to come takes a variant of [`Asked`], an app in `specs/Command.antt` and a
+//! function that builds it in `command`, a form in `specs/` and a module that reads it, and an arm
+//! of `read_command`.
 #![tactic(auto)]
 
 ghost use Rattle.std.specs.Prelude.{◌≡◌, true, false, IfErr, IfOk, map, string_bytes};
@@ -48,8 +50,10 @@ pub const MOST_PORT: u16 = 65000;
 /// The matches of the words, where they have some.
 fn parse<'a>(alloc: Global, words: &'a [String]) -> Result<ArgMatches<'a>, WordsFault>
     ensures taken { IfOk result (λ m. are_taken (map string_bytes words.entry.now) ≡ true) }
-    ensures entered { IfOk result (λ m. subcommand_rows_of m ≡ subcommand_of pir (map string_bytes words.entry.now)) }
-    ensures err { IfErr result (λ e. e ≡ WordsFault.Usage → are_taken (map string_bytes words.entry.now) ≡ false) }
+    ensures entered { IfOk result (λ m.
+        subcommand_rows_of m ≡ subcommand_of pir (map string_bytes words.entry.now)) }
+    ensures err { IfErr result (λ e.
+        e ≡ WordsFault.Usage → are_taken (map string_bytes words.entry.now) ≡ false) }
 {
     let command = pir_command(alloc)?;
     Ok(command.try_get_matches_from(words)?)
@@ -91,19 +95,22 @@ fn read_matches(alloc: Global, matches: &ArgMatches) -> Result<Asked, WordsFault
 /// | `selfrun` | `--seed SEED --rows R --width S --servers N --degree T --agree H --liars V` | `--workers W` (1) |
 /// | `demo` | `--port P --database FILE --rows R --width S --block B --servers N --degree T --agree H` | `--coins FILE` (`/dev/urandom`) |
 ///
-/// Options come in any order, each once, as `--rows 2` or `--rows=2`, and addresses may stand between them. What follows
-/// the word `--` is no option. A value that begins with `-` is written `--coins=-x`; `-` alone is a value.
+/// Options come in any order, each once, as `--rows 2` or `--rows=2`, and addresses may stand
+/// between them. What follows the word `--` is no option. A value that begins with `-` is written
+/// `--coins=-x`; `-` alone is a value.
 ///
-/// A number is one or more ASCII decimal digits, of a value below `2^64`: `002` is good, and `+2` is not. Any such number
-/// is a seed. The numbers R of rows and S of their bytes are at least 1 and at most
-/// [`MOST_ROWS`](wire_frames::MOST_ROWS) and [`MOST_WIDTH`](wire_frames::MOST_WIDTH), their product is at most
-/// [`MOST_CELLS`](wire_frames::MOST_CELLS), and the block B is below R. There are at least [`LEAST_SERVERS`](wire_frames::LEAST_SERVERS) servers
-/// and at most [`MOST_SERVERS`](wire_frames::MOST_SERVERS), as many as `--servers` says or addresses stand. Degree and agreement of N
-/// servers have `1 <= T < H <= N`, and T is at most [`MOST_DEGREE`](wire_frames::MOST_DEGREE). In the XOR scheme neither
-/// may stand: the degree is N - 1 and the agreement N. At most all servers are liars. The number of guests is at least 1 and
-/// at most [`MOST_GUESTS`](wire_frames::MOST_GUESTS), the number W of workers at least 1 and at most
-/// [`MOST_WORKERS`](wire_frames::MOST_WORKERS), and the port P at least
-/// [`LEAST_PORT`] and at most [`MOST_PORT`].
+/// A number is one or more ASCII decimal digits, of a value below `2^64`: `002` is good, and `+2`
+/// is not. Any such number is a seed. The numbers R of rows and S of their bytes are at least 1 and
+/// at most [`MOST_ROWS`](wire_frames::MOST_ROWS) and [`MOST_WIDTH`](wire_frames::MOST_WIDTH), their
+/// product is at most [`MOST_CELLS`](wire_frames::MOST_CELLS), and the block B is below R. There
+/// are at least [`LEAST_SERVERS`](wire_frames::LEAST_SERVERS) servers and at most
+/// [`MOST_SERVERS`](wire_frames::MOST_SERVERS), as many as `--servers` says or addresses stand.
+/// Degree and agreement of N servers have `1 <= T < H <= N`, and T is at most
+/// [`MOST_DEGREE`](wire_frames::MOST_DEGREE). In the XOR scheme neither may stand: the agreement is
+/// N, and the degree one less. At most all servers are liars. The number of guests is at least 1 and
+/// at most [`MOST_GUESTS`](wire_frames::MOST_GUESTS), the number W of workers at least 1 and at
+/// most [`MOST_WORKERS`](wire_frames::MOST_WORKERS), and the port P at least [`LEAST_PORT`] and at
+/// most [`MOST_PORT`].
 ///
 /// # Errors
 ///

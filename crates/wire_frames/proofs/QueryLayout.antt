@@ -120,8 +120,7 @@ any_session bytes at all enough =
     let front = take 8 (drop at bytes) in
     let long : length front ≡ 8 = length-take 8 (drop at bytes) ∙ omega (arith, length-drop at bytes) in
     let are = All-take IsByte 8 (drop at bytes) (All-drop IsByte at bytes all) in
-    let below : number front < 18446744073709551616 = subst (λ (k : ℕ). number front < 256 ^ k) long (number_below front are) in
-    (
+    let below : number front < 18446744073709551616 = subst (λ (k : ℕ). number front < 256 ^ k) long (number_below front are) in (
       long,
       record {
         least = omega arith;

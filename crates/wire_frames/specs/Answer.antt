@@ -7,10 +7,12 @@ use Rattle.wire_frames.specs.declared.session.SessionParams.{SessionParams}
 use Rattle.wire_frames.specs.Header.{answer_header}
 use Rattle.wire_frames.specs.Session.{Transcript}
 
--- the payload, where the bytes are an answer of status 0 to the query with this header: the header of that
--- answer, and exactly s bytes
+-- the payload, where the bytes are an answer of status 0 to the query with this header: the header
+-- of that answer, and exactly s bytes
 abbrev pub usable : List ℕ → QueryHeader → Option (List ℕ)
-usable bytes q = if bytes_eq (take FRAME_HEADER_LEN bytes) (answer_header q 0) && (length bytes == answer_len q.s) then Some (drop FRAME_HEADER_LEN bytes) else None
+usable bytes q =
+    if bytes_eq (take FRAME_HEADER_LEN bytes) (answer_header q 0) && (length bytes == answer_len q.s)
+    then Some (drop FRAME_HEADER_LEN bytes) else None
 
 -- what one server answered: its index, and its payload
 pub record Answer : Type 0 where
@@ -30,7 +32,8 @@ with_answer i (Some payload) rest = record { index = i; payload = payload } ∷ 
 abbrev pub answers_from : ℕ → SessionParams → List (Option (List ℕ)) → List Answer
 answers_from i p [] = []
 answers_from i p (None ∷ records) = answers_from (i + 1) p records
-answers_from i p (Some bytes ∷ records) = with_answer i (usable bytes (asked p i)) (answers_from (i + 1) p records)
+answers_from i p (Some bytes ∷ records) =
+    with_answer i (usable bytes (asked p i)) (answers_from (i + 1) p records)
 
 -- the usable answers of a session, in the order of their indices
 abbrev pub answers : Transcript → List Answer

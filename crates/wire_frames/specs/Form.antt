@@ -19,7 +19,9 @@ Reads Form bytes (Ok value) = Form bytes value
 Reads {A} Form bytes (Err place) = StopsAt Form bytes place × ((value : A) → Form bytes value → ⊥)
 
 -- the bytes from one place on, of which there are enough or not, are right up to another
-pub record StopsWithin {A : Type 0} (Form : List ℕ → A → Type 0) (at width : ℕ) (bytes : List ℕ) (place : ℕ) : Type 0 where
+pub record StopsWithin
+    {A : Type 0} (Form : List ℕ → A → Type 0) (at width : ℕ) (bytes : List ℕ) (place : ℕ)
+    : Type 0 where
   pub after : at ≤ place
   pub before : place < at + width
   pub stops : StopsAt Form (take width (drop at bytes)) (place - at)

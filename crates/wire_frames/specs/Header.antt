@@ -19,9 +19,9 @@ query_header q = frame_header (codes "PIRQ") q 0
 abbrev pub answer_header : QueryHeader → ℕ → List ℕ
 answer_header q status = frame_header (codes "PIRA") q status
 
--- the header of the answer with this status to bytes that stand for a query's header, right or not: `PIRA`, the version,
--- their scheme and index, the status, and their bytes from the session on
+-- the header of the answer with this status to bytes that stand for a query's header, right or not:
+-- `PIRA`, the version, their scheme and index, the status, and their bytes from the session on
 abbrev pub answer_to : List ℕ → ℕ → List ℕ
 answer_to bytes status =
-    codes "PIRA" ++ (VERSION ∷ take (FRAME_STATUS_PLACE - FRAME_SCHEME_PLACE) (drop FRAME_SCHEME_PLACE bytes))
-    ++ (status ∷ drop FRAME_SESSION_PLACE bytes)
+    let scheme_and_index = take (FRAME_STATUS_PLACE - FRAME_SCHEME_PLACE) (drop FRAME_SCHEME_PLACE bytes) in
+    codes "PIRA" ++ (VERSION ∷ scheme_and_index) ++ (status ∷ drop FRAME_SESSION_PLACE bytes)

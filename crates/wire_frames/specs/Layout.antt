@@ -1,4 +1,5 @@
--- The parts of a session file that are numbers: its header, and what stands before the bytes of a record.
+-- The parts of a session file that are numbers: its header, and what stands before the bytes of a
+-- record.
 use Rattle.std.specs.Prelude.{◌≡◌, ℕ, ◌≤◌, List, ◌∷◌, Option, Some, None, IfSome}
 use Rattle.std.specs.Int.{bytes_high_first}
 use Rattle.wire_frames.specs.declared.session.SessionParams.{SessionParams}

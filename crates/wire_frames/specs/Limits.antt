@@ -1,4 +1,5 @@
--- The ranges of the numbers in frames and session files. Each limit is a constant of the crate's root.
+-- The ranges of the numbers in frames and session files. Each limit is a constant of the crate's
+-- root.
 use Rattle.std.specs.Prelude.{ℕ, ◌+◌, ◌*◌, ◌^◌, ◌<◌, ◌≤◌, ◌≡◌, ◌⊎◌}
 use Rattle.wire_frames.specs.declared.TheConstants.{MOST_DEGREE, MOST_SERVERS, MOST_ROWS, MOST_WIDTH, MOST_CELLS}
 use Rattle.wire_frames.specs.declared.scheme.TheConstants.{SHAMIR, XOR}
@@ -13,8 +14,8 @@ pub record IsShape (r s : ℕ) : Type 0 where
   pub few_bytes : s ≤ MOST_WIDTH
   pub few_cells : r * s ≤ MOST_CELLS
 
--- the numbers that a session may have: a scheme, with 1 <= t < h <= n; in the XOR scheme all servers have to
--- answer, and all of them but one learn nothing
+-- the numbers that a session may have: a scheme, with 1 <= t < h <= n; in the XOR scheme all
+-- servers have to answer, and all of them but one learn nothing
 pub record IsInRange (p : SessionParams) : Type 0 where
   pub scheme : (p.scheme ≡ SHAMIR) ⊎ (p.scheme ≡ XOR)
   pub private : 1 ≤ p.t

@@ -1,5 +1,5 @@
 -- The header of a query, and what a reading of one answers.
-use Rattle.std.specs.Prelude.{◌≡◌, ℕ, ◌+◌, ◌<◌, ◌≤◌, List, take, drop, Result, Ok, Err}
+use Rattle.std.specs.Prelude.{◌≡◌, ℕ, ◌<◌, ◌≤◌, List, take, drop, Result, Ok, Err}
 use Rattle.wire_frames.specs.declared.field.Number.{Number}
 use Rattle.wire_frames.specs.declared.header.QueryHeader.{QueryHeader}
 use Rattle.wire_frames.specs.declared.query.Field.{Field}
@@ -37,7 +37,8 @@ end_place Zero = FRAME_SESSION_PLACE
 end_place Rows = FRAME_WIDTH_PLACE
 end_place Width = FRAME_HEADER_LEN
 
--- the bytes begin a query's header up to the fault's place and not further, and that place is in the fault's field
+-- the bytes begin a query's header up to the fault's place and not further, and that place is in
+-- the fault's field
 pub record IsFault (bytes : List ℕ) (fault : FrameFault) : Type 0 where
   pub stops : StopsAt IsQueryHeader bytes fault.place
   pub after : first_place fault.field ≤ fault.place
@@ -50,5 +51,8 @@ ReadsQuery bytes (Err fault) = IsFault bytes fault × ((q : QueryHeader) → IsQ
 
 -- the same of the number of one field
 abbrev pub ReadsField : Number → Field → List ℕ → Result ℕ FrameFault → Type 0
-ReadsField number field bytes (Ok value) = IsNumber number (take number.width (drop (first_place field) bytes)) value
-ReadsField number field bytes (Err fault) = StopsWithin (IsNumber number) (first_place field) number.width bytes fault.place × (fault.field ≡ field)
+ReadsField number field bytes (Ok value) =
+    IsNumber number (take number.width (drop (first_place field) bytes)) value
+ReadsField number field bytes (Err fault) =
+    StopsWithin (IsNumber number) (first_place field) number.width bytes fault.place
+    × (fault.field ≡ field)

@@ -16,11 +16,16 @@ pub data Reading : Type 0 where
 abbrev pub Feeds : Reading → List ℕ → Result (Unit {0}) FeedFault → Reading → Type 0
 Feeds (Refused place) piece result new = (result ≡ Err (BadSession place)) × (new ≡ Refused place)
 Feeds (SoFar bytes) piece (Ok _) new = Begins (bytes ++ piece) × (new ≡ SoFar (bytes ++ piece))
-Feeds (SoFar bytes) piece (Err (BadSession place)) new = IsPlace (bytes ++ piece) place × (place < length (bytes ++ piece)) × (new ≡ Refused place)
-Feeds (SoFar bytes) piece (Err Memory) new = (new ≡ SoFar bytes) × (length bytes < SESSION_HEADER_LEN) × (SESSION_HEADER_LEN ≤ length (bytes ++ piece))
+Feeds (SoFar bytes) piece (Err (BadSession place)) new =
+    IsPlace (bytes ++ piece) place × (place < length (bytes ++ piece)) × (new ≡ Refused place)
+Feeds (SoFar bytes) piece (Err Memory) new =
+    (new ≡ SoFar bytes)
+    × (length bytes < SESSION_HEADER_LEN) × (SESSION_HEADER_LEN ≤ length (bytes ++ piece))
 
 -- what `end` answers
 abbrev pub Ends : Reading → Result Transcript SessionFault → Type 0
 Ends (Refused place) result = result ≡ Err (record { place = place })
 Ends (SoFar bytes) (Ok session) = IsSession bytes session
-Ends (SoFar bytes) (Err fault) = IsPlace bytes fault.place × (fault.place ≡ length bytes) × ((session : Transcript) → IsSession bytes session → ⊥)
+Ends (SoFar bytes) (Err fault) =
+    IsPlace bytes fault.place × (fault.place ≡ length bytes)
+    × ((session : Transcript) → IsSession bytes session → ⊥)

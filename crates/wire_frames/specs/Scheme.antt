@@ -14,7 +14,8 @@ abbrev pub number_of : Scheme → ℕ
 number_of Shamir = SHAMIR
 number_of Xor = XOR
 
--- how many bytes the payload of a query has: one for each row, and in the XOR scheme a bit for each row
+-- how many bytes the payload of a query has: one for each row, and in the XOR scheme a bit for each
+-- row
 abbrev pub payload_len : Scheme → ℕ → ℕ
 payload_len Shamir rows = rows
 payload_len Xor rows = div_ceil rows 8

@@ -7,12 +7,14 @@ use Rattle.wire_frames.specs.declared.session.SessionParams.{SessionParams}
 use Rattle.wire_frames.specs.Limits.{IsInRange}
 use Rattle.wire_frames.specs.Records.{Kept}
 
--- the numbers of a session, and a record for each server so far: the bytes that came, or none where a call failed
+-- the numbers of a session, and a record for each server so far: the bytes that came, or none where
+-- a call failed
 pub record Transcript : Type 0 where
   pub params : SessionParams
   pub records : List (Option (List ℕ))
 
--- the header: `PIRS`, the version, scheme, degree, agreement and servers, three zeros, and session, rows and width
+-- the header: `PIRS`, the version, scheme, degree, agreement and servers, three zeros, and session,
+-- rows and width
 abbrev pub header_bytes : SessionParams → List ℕ
 header_bytes p =
     codes "PIRS" ++ (VERSION ∷ p.scheme ∷ p.t ∷ p.h ∷ p.n ∷ 0 ∷ 0 ∷ 0 ∷ [])
@@ -50,4 +52,4 @@ pub record IsUnderWay (p : SessionParams) (k : Kept) : Type 0 where
   pub fits : All (Fits (answer_len p.s)) k.closed
   pub none_begun : k.current ≡ []
   pub record_room : p.n ≤ length k.closed + k.record_room
-  pub byte_room : p.n * (answer_len p.s) ≤ length k.closed * (answer_len p.s) + k.byte_room
+  pub byte_room : p.n * answer_len p.s ≤ length k.closed * answer_len p.s + k.byte_room

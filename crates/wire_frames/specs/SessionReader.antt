@@ -20,7 +20,8 @@ reading_of taken Stopped = Refused taken
 
 -- a state has seen these bytes, and they are right
 abbrev pub Sees : State → List ℕ → Type 0
-Sees (Header head) bytes = (head ≡ bytes) × (length head < SESSION_HEADER_LEN) × Starts IsHeader head
+Sees (Header head) bytes =
+    (head ≡ bytes) × (length head < SESSION_HEADER_LEN) × Starts IsHeader head
 Sees (Records r) bytes = (bytes_so_far r ≡ bytes) × IsOpen r
 Sees Stopped bytes = ⊥
 
@@ -38,8 +39,10 @@ IsSound taken Stopped = Unit {0}
 
 -- what a part of a header makes of a piece: it goes on, or the records begin
 abbrev pub FeedsHeader : List ℕ → List ℕ → Result (Option RecordsReader) Stop → List ℕ → Type 0
-FeedsHeader old piece (Ok None) new = (new ≡ old ++ piece) × (length new < SESSION_HEADER_LEN) × Starts IsHeader new
-FeedsHeader old piece (Ok (Some r)) new = IsOpen r × (bytes_so_far r ≡ old ++ piece) × Starts IsSession (bytes_so_far r)
+FeedsHeader old piece (Ok None) new =
+    (new ≡ old ++ piece) × (length new < SESSION_HEADER_LEN) × Starts IsHeader new
+FeedsHeader old piece (Ok (Some r)) new =
+    IsOpen r × (bytes_so_far r ≡ old ++ piece) × Starts IsSession (bytes_so_far r)
 FeedsHeader old piece (Err (Wrong right)) new = Refuses old piece right
 FeedsHeader old piece (Err Memory) new = (new ≡ old) × (SESSION_HEADER_LEN ≤ length (old ++ piece))
 
@@ -47,7 +50,9 @@ FeedsHeader old piece (Err Memory) new = (new ≡ old) × (SESSION_HEADER_LEN �
 abbrev pub TakesPiece : State → List ℕ → List ℕ → Result (Unit {0}) Stop → State → Type 0
 TakesPiece old bytes piece (Ok _) new = Sees new (bytes ++ piece)
 TakesPiece old bytes piece (Err (Wrong right)) new = Refuses bytes piece right
-TakesPiece old bytes piece (Err Memory) new = (new ≡ old) × (length bytes < SESSION_HEADER_LEN) × (SESSION_HEADER_LEN ≤ length (bytes ++ piece))
+TakesPiece old bytes piece (Err Memory) new =
+    (new ≡ old)
+    × (length bytes < SESSION_HEADER_LEN) × (SESSION_HEADER_LEN ≤ length (bytes ++ piece))
 
 -- what any state does
 abbrev pub FeedsState : State → List ℕ → Result (Unit {0}) Stop → State → Type 0

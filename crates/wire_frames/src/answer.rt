@@ -22,9 +22,10 @@ impl SessionParams {
     }
 }
 
-/// The payload, where the bytes are the answer of status 0 to the query with this header: the header `PIRA`, version 1,
-/// the query's scheme and index, 0, the query's session, rows and width, and then exactly `s` bytes, which are the
-/// payload. `None` for all other bytes: what is wrong with them isn't told apart. It takes no memory.
+/// The payload, where the bytes are the answer of status 0 to the query with this header: the
+/// header `PIRA`, version 1, the query's scheme and index, 0, the query's session, rows and width,
+/// and then exactly `s` bytes, which are the payload. `None` for all other bytes: what is wrong
+/// with them isn't told apart. It takes no memory.
 pub fn usable_answer<'a>(bytes: &'a [u8], header: &QueryHeader) -> Option<&'a [u8]>
     ensures { option_copied result ≡ usable bytes.now header.now }
 {

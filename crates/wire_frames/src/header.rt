@@ -5,8 +5,8 @@ ghost use Rattle.wire_frames.specs.Header.{frame_header, query_header, answer_he
 ghost use Rattle.wire_frames.specs.Limits.{IsQuery};
 
 use crate::places::{
-    FRAME_INDEX_PLACE, FRAME_MAGIC_PLACE, FRAME_ROWS_PLACE, FRAME_SCHEME_PLACE, FRAME_SESSION_PLACE,
-    FRAME_STATUS_PLACE, FRAME_VERSION_PLACE, FRAME_WIDTH_PLACE,
+    FRAME_INDEX_PLACE, FRAME_MAGIC_PLACE, FRAME_ROWS_PLACE, FRAME_SCHEME_PLACE,
+    FRAME_SESSION_PLACE, FRAME_STATUS_PLACE, FRAME_VERSION_PLACE, FRAME_WIDTH_PLACE,
 };
 use crate::sizes::FRAME_HEADER_LEN;
 use byteorder::{BigEndian, ByteOrder};
@@ -58,9 +58,10 @@ pub fn answer_header(query: &QueryHeader, status: u8) -> [u8; FRAME_HEADER_LEN]
     frame_header(ANSWER_MAGIC, query, status)
 }
 
-/// Writes the bytes that begin a query: `PIRQ`, version 1, the scheme, the index, 0, the session, the rows and the
-/// width. The header's numbers must be in their ranges: scheme 1 or 2, an index that is not 0, from 1 to `MOST_ROWS` rows
-/// of from 1 to `MOST_WIDTH` bytes, of at most `MOST_CELLS` bytes together. It takes no memory.
+/// Writes the bytes that begin a query: `PIRQ`, version 1, the scheme, the index, 0, the session,
+/// the rows and the width. The header's numbers must be in their ranges: scheme 1 or 2, an index
+/// that is not 0, from 1 to `MOST_ROWS` rows of from 1 to `MOST_WIDTH` bytes, of at most
+/// `MOST_CELLS` bytes together. It takes no memory.
 pub fn write_query_header(header: &QueryHeader, out: &mut [u8; FRAME_HEADER_LEN])
     requires { IsQuery header.now }
     ensures { out.new ≡ query_header header.now }
@@ -68,10 +69,14 @@ pub fn write_query_header(header: &QueryHeader, out: &mut [u8; FRAME_HEADER_LEN]
     *out = frame_header(QUERY_MAGIC, header, 0);
 }
 
-/// Writes the bytes that begin the answer with this status to a query: `PIRA`, version 1, the query's scheme and
-/// index, the status, and the query's session, rows and width. The query's bytes are taken as they came, whether they are
-/// the header of a query or not. It takes no memory.
-pub fn write_answer_header(query: &[u8; FRAME_HEADER_LEN], status: u8, out: &mut [u8; FRAME_HEADER_LEN])
+/// Writes the bytes that begin the answer with this status to a query: `PIRA`, version 1, the
+/// query's scheme and index, the status, and the query's session, rows and width. The query's bytes
+/// are taken as they came, whether they are the header of a query or not. It takes no memory.
+pub fn write_answer_header(
+    query: &[u8; FRAME_HEADER_LEN],
+    status: u8,
+    out: &mut [u8; FRAME_HEADER_LEN],
+)
     ensures { out.new ≡ answer_to query.now status }
 {
     *out = *query;

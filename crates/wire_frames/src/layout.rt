@@ -151,7 +151,11 @@ pub(crate) fn read_header(bytes: &[u8]) -> Result<SessionParams, usize>
     number_at(bytes, SESSION_VERSION_PLACE, VERSION_FIELD)?;
     let scheme = number_at(bytes, SESSION_SCHEME_PLACE, SCHEME)?;
     let t = number_at(bytes, SESSION_DEGREE_PLACE, DEGREE)?;
-    let h = number_at(bytes, SESSION_AGREEMENT_PLACE, servers_field(scheme as u8, t + 1))?;
+    let h = number_at(
+        bytes,
+        SESSION_AGREEMENT_PLACE,
+        servers_field(scheme as u8, t + 1),
+    )?;
     let n = number_at(bytes, SESSION_SERVERS_PLACE, servers_field(scheme as u8, h))?;
     number_at(bytes, SESSION_ZERO_PLACE, ZERO)?;
     let session = number_at(bytes, SESSION_NUMBER_PLACE, SESSION)?;
@@ -168,8 +172,8 @@ pub(crate) fn read_header(bytes: &[u8]) -> Result<SessionParams, usize>
     })
 }
 
-/// What stands before the bytes of record `index`: how many bytes it has, or that it is absent. Else
-/// the place up to which the bytes begin such a header.
+/// What stands before the bytes of record `index`: how many bytes it has, or that it is absent.
+/// Else the place up to which the bytes begin such a header.
 pub(crate) fn read_record_header(bytes: &[u8], index: u8, most: u32) -> Result<Option<u32>, usize>
     requires { length bytes.now ≤ RECORD_HEADER_LEN }
     ensures { Reads (IsRecordHeader index most) bytes.now result }

@@ -1,11 +1,13 @@
-//! Frames and session files: which bytes stand for which fields. Numbers of more than one byte are big endian.
+//! Frames and session files: which bytes stand for which fields. Numbers of more than one byte are
+//! big endian.
 //!
-//! An answer is usable exactly where it is the whole answer of status 0 to the query at hand, and a session holds the
-//! numbers and the records that it was given, in their order. Nothing is said of where the bytes come from: a server
-//! that lies behind a right header gives a usable answer.
+//! An answer is usable exactly where it is the whole answer of status 0 to the query at hand, and a
+//! session holds the numbers and the records that it was given, in their order. Nothing is said of
+//! where the bytes come from: a server that lies behind a right header gives a usable answer.
 //!
-//! A reader of sessions takes a session's file in pieces, cut anywhere: the same answers come for every cut. It refuses
-//! other bytes in the first call after which they begin no session, with the length of their longest prefix that does.
+//! A reader of sessions takes a session's file in pieces, cut anywhere: the same answers come for
+//! every cut. It refuses other bytes in the first call after which they begin no session, with the
+//! length of their longest prefix that does.
 #![tactic(auto)]
 
 mod answer;
@@ -36,28 +38,28 @@ pub use write::write_session;
 /// The least number of servers: one alone would learn the block.
 pub const LEAST_SERVERS: u8 = 2;
 
-/// The greatest number of servers. An index is one byte, so 255 is the end; the choices of answers that
-/// a verdict tries grow with it.
+/// The greatest number of servers. An index is one byte, so 255 is the end; the choices of answers
+/// that a verdict tries grow with it.
 pub const MOST_SERVERS: u8 = 8;
 
 /// The greatest degree of a query's polynomials, so how many servers together may learn nothing. It
 /// goes with [`MOST_SERVERS`]: one server more has to agree.
 pub const MOST_DEGREE: u8 = MOST_SERVERS - 1;
 
-/// The greatest number of rows of a database. Its field has four bytes; [`MOST_CELLS`] has to allow one
-/// byte a row.
+/// The greatest number of rows of a database. Its field has four bytes; [`MOST_CELLS`] has to allow
+/// one byte a row.
 pub const MOST_ROWS: u32 = 1 << 20;
 
 /// The greatest width of a row, in bytes. The length of an answer, [`answer_len`], has to fit four
 /// bytes.
 pub const MOST_WIDTH: u32 = 1 << 16;
 
-/// The greatest size of a database, in bytes. A server holds so much memory, and a number of rows times
-/// a width has to stay below 2^64.
+/// The greatest size of a database, in bytes. A server holds so much memory, and a number of rows
+/// times a width has to stay below 2^64.
 pub const MOST_CELLS: u64 = 1 << 30;
 
-/// The greatest number of workers that share the work on an answer. Each is a thread of its own; it is
-/// kept in one byte.
+/// The greatest number of workers that share the work on an answer. Each is a thread of its own; it
+/// is kept in one byte.
 pub const MOST_WORKERS: u8 = 16;
 
 /// The greatest number of guests that a server takes before it ends. It is kept in four bytes.

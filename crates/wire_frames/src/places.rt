@@ -38,25 +38,43 @@
 //! | 2..5 | length |
 
 pub(crate) const FRAME_MAGIC_PLACE: usize = 0;
+
 pub(crate) const FRAME_VERSION_PLACE: usize = 4;
+
 pub(crate) const FRAME_SCHEME_PLACE: usize = 5;
+
 pub(crate) const FRAME_INDEX_PLACE: usize = 6;
+
 pub(crate) const FRAME_STATUS_PLACE: usize = 7;
+
 pub(crate) const FRAME_SESSION_PLACE: usize = 8;
+
 pub(crate) const FRAME_ROWS_PLACE: usize = 16;
+
 pub(crate) const FRAME_WIDTH_PLACE: usize = 20;
 
 pub(crate) const SESSION_MAGIC_PLACE: usize = 0;
+
 pub(crate) const SESSION_VERSION_PLACE: usize = 4;
+
 pub(crate) const SESSION_SCHEME_PLACE: usize = 5;
+
 pub(crate) const SESSION_DEGREE_PLACE: usize = 6;
+
 pub(crate) const SESSION_AGREEMENT_PLACE: usize = 7;
+
 pub(crate) const SESSION_SERVERS_PLACE: usize = 8;
+
 pub(crate) const SESSION_ZERO_PLACE: usize = 9;
+
 pub(crate) const SESSION_NUMBER_PLACE: usize = 12;
+
 pub(crate) const SESSION_ROWS_PLACE: usize = 20;
+
 pub(crate) const SESSION_WIDTH_PLACE: usize = 24;
 
 pub(crate) const RECORD_INDEX_PLACE: usize = 0;
+
 pub(crate) const RECORD_PRESENT_PLACE: usize = 1;
+
 pub(crate) const RECORD_LENGTH_PLACE: usize = 2;

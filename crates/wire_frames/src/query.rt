@@ -19,8 +19,8 @@ use crate::field::{Number, number_at};
 use crate::header::{QUERY_MAGIC, QueryHeader};
 use crate::layout::{ROWS, SCHEME, SESSION, VERSION_FIELD, width_field};
 use crate::places::{
-    FRAME_INDEX_PLACE, FRAME_MAGIC_PLACE, FRAME_ROWS_PLACE, FRAME_SCHEME_PLACE, FRAME_SESSION_PLACE,
-    FRAME_STATUS_PLACE, FRAME_VERSION_PLACE, FRAME_WIDTH_PLACE,
+    FRAME_INDEX_PLACE, FRAME_MAGIC_PLACE, FRAME_ROWS_PLACE, FRAME_SCHEME_PLACE,
+    FRAME_SESSION_PLACE, FRAME_STATUS_PLACE, FRAME_VERSION_PLACE, FRAME_WIDTH_PLACE,
 };
 use crate::sizes::FRAME_HEADER_LEN;
 use thiserror::Error;
@@ -61,8 +61,8 @@ impl Field {
     }
 }
 
-/// The bytes are no header of a query: `place` is the length of their longest prefix that begins one, and `field` is the
-/// field at that place.
+/// The bytes are no header of a query: `place` is the length of their longest prefix that begins
+/// one, and `field` is the field at that place.
 #[derive(Clone, Copy, Debug, PartialEq, Eq, Error)]
 #[error("no header of a query: wrong at byte {place}")]
 pub struct FrameFault {
@@ -105,7 +105,8 @@ fn read_field(bytes: &[u8], field: Field, number: Number) -> Result<u64, FrameFa
 
 /// The number of the session, which any bytes are.
 fn read_session(bytes: &[u8; FRAME_HEADER_LEN]) -> u64
-    ensures { IsNumber session_field (take session_field.width (drop FRAME_SESSION_PLACE bytes.now)) result }
+    ensures { IsNumber session_field
+        (take session_field.width (drop FRAME_SESSION_PLACE bytes.now)) result }
 {
     let Ok(session) = number_at(bytes, FRAME_SESSION_PLACE, SESSION) else {
         unreachable!()
@@ -117,9 +118,10 @@ fn read_session(bytes: &[u8; FRAME_HEADER_LEN]) -> u64
 ///
 /// # Errors
 ///
-/// `FrameFault` exactly where the bytes are no header of a query. A number of more bytes than one is right up to a byte as
-/// long as some number in its range begins with the bytes up to there: 2^20 + 1 rows are wrong at their last byte, 2^21
-/// rows at their second. The bytes of the session are never wrong.
+/// `FrameFault` exactly where the bytes are no header of a query. A number of more bytes than one
+/// is right up to a byte as long as some number in its range begins with the bytes up to there:
+/// 2^20 + 1 rows are wrong at their last byte, 2^21 rows at their second. The bytes of the session
+/// are never wrong.
 pub fn read_query_header(bytes: &[u8; FRAME_HEADER_LEN]) -> Result<QueryHeader, FrameFault>
     ensures { ReadsQuery bytes.now result }
 {

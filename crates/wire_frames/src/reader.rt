@@ -7,14 +7,15 @@ ghost use Rattle.wire_frames.specs.SessionReader.{IsRight, FeedsState, FeedsHead
 
 use crate::head::Head;
 use crate::layout::read_header;
-use crate::sizes::SESSION_HEADER_LEN;
 use crate::records_reader::RecordsReader;
 use crate::session::Session;
+use crate::sizes::SESSION_HEADER_LEN;
 use std::alloc::Global;
 use std::marker::Model;
 use thiserror::Error;
 
-/// The bytes are no session: `place` is the length of their longest prefix that begins some session.
+/// The bytes are no session: `place` is the length of their longest prefix that begins some
+/// session.
 #[derive(Clone, Copy, Debug, PartialEq, Eq, Error)]
 #[error("no session: wrong at byte {place}")]
 pub struct BadSession {
@@ -36,8 +37,8 @@ pub enum FeedFault {
     Memory,
 }
 
-/// Reads a session that comes in pieces, cut anywhere. Beside the copy of the records' bytes a piece
-/// costs constant work, and one for each record that it ends.
+/// Reads a session that comes in pieces, cut anywhere. Beside the copy of the records' bytes a
+/// piece costs constant work, and one for each record that it ends.
 ///
 /// ```text
 /// let mut reader = SessionReader::new();
@@ -99,8 +100,9 @@ impl SessionReader {
     /// # Errors
     ///
     /// `BadSession` comes in the first call after which the bytes so far begin no session, with the
-    /// length of their longest prefix that does, and again in each call from then on. `Memory` comes
-    /// only in the call that brings the last byte of the header, and leaves the reader as it was before that call.
+    /// length of their longest prefix that does, and again in each call from then on. `Memory`
+    /// comes only in the call that brings the last byte of the header, and leaves the reader as it
+    /// was before that call.
     pub fn feed(&mut self, alloc: Global, piece: &[u8]) -> Result<(), FeedFault>
         ensures { Feeds self.old piece.now result self.new }
     {

@@ -1,16 +1,16 @@
 //! Reads the records of a session piece by piece.
 ghost use Rattle.std.specs.Prelude.{◌≡◌, ◌+◌, ◌<◌, [], length, IfOk, OnOk, MatchOption, Ok};
-ghost use Rattle.wire_frames.specs.Sizes.{answer_len};
 ghost use Rattle.wire_frames.specs.Layout.{IsRecordHeader};
 ghost use Rattle.wire_frames.specs.Limits.{IsInRange};
 ghost use Rattle.wire_frames.specs.Session.{Transcript, IsSession, header_bytes};
-ghost use Rattle.wire_frames.specs.RecordsReader.{IsOpen, IsSteady, IsInHeader, IsInBytes, Advances, FeedsOn, bytes_so_far};
+ghost use Rattle.wire_frames.specs.RecordsReader.{IsOpen, IsSteady, IsInHeader, IsInBytes};
+ghost use Rattle.wire_frames.specs.RecordsReader.{Advances, FeedsOn, bytes_so_far, record_len};
 
 use crate::head::Head;
 use crate::layout::read_record_header;
 use crate::records::Records;
-use crate::sizes::{RECORD_HEADER_LEN, answer_len};
 use crate::session::{Session, SessionParams};
+use crate::sizes::{RECORD_HEADER_LEN, answer_len};
 use std::alloc::{AllocError, Global};
 
 /// The records of a session as they come in, from the end of the session's header on.
@@ -60,7 +60,8 @@ impl RecordsReader {
     /// The session, where all of its records have come.
     pub(crate) fn end(self) -> Option<Session>
         requires { IsOpen self }
-        ensures { MatchOption result ((t : Transcript) → ¬ IsSession (bytes_so_far self) t) (IsSession (bytes_so_far self)) }
+        ensures { MatchOption result
+            ((t : Transcript) → ¬ IsSession (bytes_so_far self) t) (IsSession (bytes_so_far self)) }
     {
         if self.records.len() < usize::from(self.params.n) {
             return None;
@@ -96,7 +97,11 @@ impl RecordsReader {
         let before = self.head.len();
         let count = self.head.fill(piece, RECORD_HEADER_LEN);
         let index = self.records.len() as u8 + 1;
-        match read_record_header(self.head.as_slice(), index, answer_len(self.params.s) as u32) {
+        match read_record_header(
+            self.head.as_slice(),
+            index,
+            answer_len(self.params.s) as u32,
+        ) {
             Ok(len) => self.begin(len),
             Err(place) => {
                 if place < self.head.len() {
@@ -113,7 +118,8 @@ impl RecordsReader {
         requires few { length self.old.records.closed < self.old.params.n }
         requires none_left { self.old.left ≡ 0 }
         requires none_begun { self.old.records.current ≡ [] }
-        requires header { IsRecordHeader (1 + length self.old.records.closed) (answer_len self.old.params.s) self.old.head len }
+        requires header { IsRecordHeader
+            (1 + length self.old.records.closed) (record_len self.old) self.old.head len }
         ensures open { IsOpen self.new }
         ensures bytes { bytes_so_far self.new ≡ bytes_so_far self.old }
     {

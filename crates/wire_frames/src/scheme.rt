@@ -18,8 +18,8 @@ pub enum Scheme {
 }
 
 impl Scheme {
-    /// The scheme that a number stands for: [`XOR`], or else Shamir's. The numbers of frames, sessions
-    /// and words are those two alone.
+    /// The scheme that a number stands for: [`XOR`], or else Shamir's. The numbers of frames,
+    /// sessions and words are those two alone.
     #[tactic(auto, unfolding(crate::specs::Scheme::scheme_of))]
     pub fn of(number: u8) -> Scheme
         ensures { result ≡ scheme_of number }
@@ -43,8 +43,8 @@ impl Scheme {
         }
     }
 
-    /// How many bytes the payload of a query has, for a database of so many rows: one for each row or,
-    /// in the XOR scheme, a bit for each row.
+    /// How many bytes the payload of a query has, for a database of so many rows: one for each row
+    /// or, in the XOR scheme, a bit for each row.
     pub fn payload_len(self, rows: u32) -> usize
         ensures is { result ≡ payload_len self rows }
         ensures some { 0 < rows → 0 < result }

@@ -15,7 +15,8 @@ use std::marker::Model;
 pub struct SessionParams {
     /// 1 for Shamir's sharing, 2 for the XOR scheme.
     pub scheme: u8,
-    /// How many servers together learn nothing: the degree of the queries' polynomials, and in the XOR scheme all but one.
+    /// How many servers together learn nothing: the degree of the queries' polynomials, and in the
+    /// XOR scheme all but one.
     pub t: u8,
     /// How many answers have to agree: in the XOR scheme all.
     pub h: u8,
@@ -47,8 +48,8 @@ impl Model for Session {
 }
 
 impl Session {
-    /// A session with no record yet. The memory for all `n` records, of at most [`answer_len`] bytes each, is taken here, and
-    /// want of it is the only error.
+    /// A session with no record yet. The memory for all `n` records, of at most [`answer_len`]
+    /// bytes each, is taken here, and want of it is the only error.
     pub fn new(alloc: Global, params: SessionParams) -> Result<Session, AllocError>
         requires { IsInRange params }
         ensures { IfOk result (λ t. t ≡ record { params = params; records = [] }) }
@@ -66,7 +67,8 @@ impl Session {
         Session { params, records }
     }
 
-    /// Sets the number of the session, and nothing else. No record may have been pushed yet. It takes no memory.
+    /// Sets the number of the session, and nothing else. No record may have been pushed yet. It
+    /// takes no memory.
     pub fn set_session(&mut self, session: u64)
         requires { self.old.records ≡ [] }
         ensures { self.new ≡ record self.old { params = record self.old.params { session = session } } }
@@ -74,12 +76,14 @@ impl Session {
         self.params.session = session;
     }
 
-    /// Adds the record of the next server: the bytes that it answered, at most [`answer_len`] of them, or `None` where a call
-    /// failed. An answer of no bytes is present too. It takes no memory.
+    /// Adds the record of the next server: the bytes that it answered, at most [`answer_len`] of
+    /// them, or `None` where a call failed. An answer of no bytes is present too. It takes no
+    /// memory.
     pub fn push_record(&mut self, bytes: Option<&[u8]>)
         requires few { length self.old.records < self.old.params.n }
         requires fits { IfSome (option_copied bytes) (λ b. length b ≤ answer_len self.old.params.s) }
-        ensures { self.new ≡ record self.old { records = self.old.records ++ option_copied bytes.entry ∷ [] } }
+        ensures { self.new
+            ≡ record self.old { records = self.old.records ++ option_copied bytes.entry ∷ [] } }
     {
         match bytes {
             Some(bytes) => self.push_present(bytes),
@@ -130,7 +134,8 @@ impl Session {
         self.params.scheme
     }
 
-    /// How many servers together learn nothing: the degree of the queries' polynomials, and in the XOR scheme all but one.
+    /// How many servers together learn nothing: the degree of the queries' polynomials, and in the
+    /// XOR scheme all but one.
     pub fn t(&self) -> u8
         ensures { result ≡ self.now.params.t }
     {

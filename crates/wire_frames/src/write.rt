@@ -25,7 +25,9 @@ fn header_of(params: &SessionParams) -> [u8; SESSION_HEADER_LEN]
     ensures { result ≡ header_bytes params.now }
 {
     let mut header = [0; SESSION_HEADER_LEN];
-    header[SESSION_MAGIC_PLACE..SESSION_VERSION_PLACE].copy_from_slice(&SESSION_MAGIC.to_be_bytes());
+    header[SESSION_MAGIC_PLACE..SESSION_VERSION_PLACE].copy_from_slice(
+        &SESSION_MAGIC.to_be_bytes(),
+    );
     header[SESSION_VERSION_PLACE] = VERSION;
     header[SESSION_SCHEME_PLACE] = params.scheme;
     header[SESSION_DEGREE_PLACE] = params.t;
@@ -50,10 +52,12 @@ fn record_header_of(index: u8, len: Option<u32>) -> [u8; RECORD_HEADER_LEN]
     header
 }
 
-/// Writes the record of one server to Record: the bytes that it answered, or `None` where a call failed.
+/// Writes the record of one server to Record: the bytes that it answered, or `None` where a call
+/// failed.
 fn write_record<P: Ports>(ports: &mut P, index: u8, bytes: Option<&[u8]>) -> Result<(), Failed>
     requires { IfSome (option_copied bytes) (λ b. length b < 2 ^ 32) }
-    ensures written { Written RECORD (record_bytes index (option_copied bytes.entry)) result (P.world ports.old) (P.world ports.new) }
+    ensures written { Written RECORD (record_bytes index (option_copied bytes.entry)) result
+        (P.world ports.old) (P.world ports.new) }
     ensures others { Touches RECORD (P.world ports.old) (P.world ports.new) }
 {
     match bytes {
@@ -65,7 +69,8 @@ fn write_record<P: Ports>(ports: &mut P, index: u8, bytes: Option<&[u8]>) -> Res
 /// Writes a record that is present.
 fn write_present<P: Ports>(ports: &mut P, index: u8, bytes: &[u8]) -> Result<(), Failed>
     requires { length bytes.now < 2 ^ 32 }
-    ensures written { Written RECORD (record_bytes index (Some bytes.now)) result (P.world ports.old) (P.world ports.new) }
+    ensures written { Written RECORD (record_bytes index (Some bytes.now)) result
+        (P.world ports.old) (P.world ports.new) }
     ensures others { Touches RECORD (P.world ports.old) (P.world ports.new) }
 {
     let header = record_header_of(index, Some(bytes.len() as u32));
@@ -79,7 +84,8 @@ fn write_present<P: Ports>(ports: &mut P, index: u8, bytes: &[u8]) -> Result<(),
 /// Writes the records of the session to Record.
 fn write_records<P: Ports>(ports: &mut P, session: &Session) -> Result<(), Failed>
     requires { IsInRange session.now.params }
-    ensures written { Written RECORD (records_bytes 1 session.now.records) result (P.world ports.old) (P.world ports.new) }
+    ensures written { Written RECORD (records_bytes 1 session.now.records) result
+        (P.world ports.old) (P.world ports.new) }
     ensures others { Touches RECORD (P.world ports.old) (P.world ports.new) }
 {
     for i in 0..session.record_count() {
@@ -88,8 +94,8 @@ fn write_records<P: Ports>(ports: &mut P, session: &Session) -> Result<(), Faile
     Ok(())
 }
 
-/// Writes the file of the session to Record, in pieces; it takes no memory. All `n` records must have been pushed, so that
-/// the bytes are the file of a session.
+/// Writes the file of the session to Record, in pieces; it takes no memory. All `n` records must
+/// have been pushed, so that the bytes are the file of a session.
 ///
 /// The file is read back by [`SessionReader`](crate::SessionReader).
 ///
@@ -98,7 +104,8 @@ fn write_records<P: Ports>(ports: &mut P, session: &Session) -> Result<(), Faile
 /// `Failed` exactly where the count of Record rose; then Record took a proper front of the file.
 pub fn write_session<P: Ports>(ports: &mut P, session: &Session) -> Result<(), Failed>
     requires { length session.now.records ≡ session.now.params.n }
-    ensures written { Written RECORD (session_bytes session.now) result (P.world ports.old) (P.world ports.new) }
+    ensures written { Written RECORD (session_bytes session.now) result
+        (P.world ports.old) (P.world ports.new) }
     ensures file { IsSession (session_bytes session.now) session.now }
     ensures others { Touches RECORD (P.world ports.old) (P.world ports.new) }
 {

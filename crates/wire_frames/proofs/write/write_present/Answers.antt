@@ -15,7 +15,7 @@ returns-in_err-write_all-clause-written g c =
     let before = g.P.Ports.world c.args.ports.now in
     let after = g.P.Ports.world c.write_all.new.ports in
     let cut = subst (λ (l : List ℕ). FailsWithin RECORD l before after) c.record_header_of-header.ensures c.in_err-write_all.ensures.failed in
-    rw p.1 (written_first 4 header c.args.bytes.now before after cut)
+    rw p.1 (written_first RECORD header c.args.bytes.now before after cut)
 
 pub returns-clause-written : goal.returns-clause-written
 returns-clause-written g c =
@@ -23,6 +23,6 @@ returns-clause-written g c =
     let before = g.P.Ports.world c.args.ports.now in
     let between = g.P.Ports.world c.write_all.new.ports in
     let after = g.P.Ports.world c.write_all-2.new.ports in
-    written_next 4 header c.args.bytes.now c.write_all-2.result before between after
+    written_next RECORD header c.args.bytes.now c.write_all-2.result before between after
     (c.in_ok-write_all.ensures.ok ∙ ap (λ (l : List ℕ). gave l (before.at RECORD)) c.record_header_of-header.ensures)
-    (written_both 4 c.args.bytes.now c.write_all-2.result between after c.write_all-2.ensures.ok c.write_all-2.ensures.failed)
+    (written_both RECORD c.args.bytes.now c.write_all-2.result between after c.write_all-2.ensures.ok c.write_all-2.ensures.failed)

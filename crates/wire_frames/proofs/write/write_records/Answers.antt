@@ -41,7 +41,7 @@ returns-in_err-write_record-clause-written g c =
     let is : option_copied c.record_at.result ≡ get_or c.args.session.now.records c.loop-i.i None = c.record_at.ensures ∙ ap (λ k. get_or c.args.session.now.records k None) (omega arith) in
     let whole = records_pieces c.args.session.now.records c.loop-i.i (option_copied c.record_at.result) (omega arith) is in
     let p = err_from_is_err_and c.from_residual.result c.from_residual.ensures.1 in
-    rw (p.1, whole) (written_cut 4 _ _ _ _ _ _ c.loop-i.invariant.so_far c.in_err-write_record.ensures.written)
+    rw (p.1, whole) (written_cut RECORD _ _ _ _ _ _ c.loop-i.invariant.so_far c.in_err-write_record.ensures.written)
 
 pub returns-clause-written : goal.returns-clause-written
 returns-clause-written g c =

@@ -15,7 +15,7 @@ returns-in_err-write_all-clause-written g c =
     let before = g.P.Ports.world c.args.ports.now in
     let after = g.P.Ports.world c.write_all.new.ports in
     let cut = subst (λ (l : List ℕ). FailsWithin RECORD l before after) is c.in_err-write_all.ensures.failed in
-    rw p.1 (written_first 4 (header_bytes session.params) (records_bytes 1 session.records) before after cut)
+    rw p.1 (written_first RECORD (header_bytes session.params) (records_bytes 1 session.records) before after cut)
 
 pub returns-clause-written : goal.returns-clause-written
 returns-clause-written g c =
@@ -24,7 +24,7 @@ returns-clause-written g c =
     let before = g.P.Ports.world c.args.ports.now in
     let between = g.P.Ports.world c.write_all.new.ports in
     let after = g.P.Ports.world c.write_records.new.ports in
-    written_next 4 (header_bytes session.params) (records_bytes 1 session.records) c.write_records.result before between after
+    written_next RECORD (header_bytes session.params) (records_bytes 1 session.records) c.write_records.result before between after
     (c.in_ok-write_all.ensures.ok ∙ ap (λ (l : List ℕ). gave l (before.at RECORD)) is) c.write_records.ensures.written
 
 pub returns-in_err-write_all-clause-file : goal.returns-in_err-write_all-clause-file
