@@ -1,4 +1,4 @@
-use Rattle.std.proofs.Common.{◌+◌, inl, inr}
+use Rattle.std.proofs.Common.{inl, inr}
 use Rattle.wire_frames.specs.Sizes.{answer_len}
 use Rattle.block_decoder.proofs.UsableAnswers.{bytes_from_fits}
 use Rattle.fetch_client.proofs.HonestVerdicts.{finds_in_shamir, finds_in_xor}
