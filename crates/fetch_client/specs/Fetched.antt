@@ -46,7 +46,8 @@ pub record AsksWith (p : FetchPlan) (addresses : List (List ℕ)) (coins : List 
   pub asked : AsksAll p addresses coins session old new
 
 -- what taking the coins and asking every server answers, and what it did then. Without the coins no server is asked
-abbrev pub AsksServers : FetchPlan → List (List ℕ) → Result (Unit {0}) FetchFault → List ℕ → Transcript → World → World → Type 0
+abbrev pub AsksServers : FetchPlan → List (List ℕ) → Result (Unit {0}) FetchFault → List ℕ → Transcript
+    → World → World → Type 0
 AsksServers p addresses (Ok _) coins session old new = AsksWith p addresses coins session old new
 AsksServers p addresses (Err CoinsFault) coins session old new =
     FailsShort COINS (need p) old new × Touches COINS old new
