@@ -1,7 +1,7 @@
 -- Asking one server after the other.
-use Rattle.std.proofs.Common.{◌≡◌, ◌∙◌, inl, inr, ℕ, ◌+◌, ◌<◌, ◌≤◌, List, [], ◌∷◌, ◌++◌, length, take, slice_index_or, sym, ap, ap₂, subst, arith}
+use Rattle.std.proofs.Common.{◌≡◌, ◌∙◌, inl, inr, ℕ, ◌+◌, ◌<◌, ◌≤◌, List, [], ◌∷◌, ◌++◌, length, slice_index_or, sym, ap, ap₂, subst, arith}
 use Rattle.std.specs.Prelude.{Option, None, IfSome}
-use Rattle.std.proofs.lemmas.List.{take_all, get_or_append_left, get_or_push}
+use Rattle.std.proofs.lemmas.List.{get_or_append_left, get_or_push}
 use Rattle.pir_ports.specs.World.{Cell, World}
 use Rattle.pir_ports.specs.Number.{COINS, link}
 use Rattle.pir_ports.specs.Moves.{Rose, Touches, took, gave, named, counted}
@@ -27,11 +27,11 @@ breaks_reading address frame most p old mid v u is_open given failed =
     let m = failed.after.n in
     record {
       how = inr (inr record {
-          m = m;
-          fewer = failed.fewer;
-          held = subst (λ (c : Cell). IfSome c.holds (λ held. m ≤ length held)) before failed.after.held;
-          cell = failed.after.cell ∙ ap (λ (c : Cell). counted (u.at p).faults (took m c)) before;
-        });
+        m = m;
+        fewer = failed.fewer;
+        held = subst (λ (c : Cell). IfSome c.holds (λ held. m ≤ length held)) before failed.after.held;
+        cell = failed.after.cell ∙ ap (λ (c : Cell). counted (u.at p).faults (took m c)) before;
+      });
       rose = subst (λ (c : Cell). Rose c.faults (u.at p).faults) before failed.after.rose;
     }
 

@@ -1,5 +1,5 @@
 -- What a fetch does.
-use Rattle.std.specs.Prelude.{ℕ, ◌≡◌, ◌≢◌, ◌+◌, ◌*◌, ◌<◌, ◌≤◌, ◌⊎◌, ◌++◌, ◌∷◌, List, [], length, Option, None, Result, Ok, Err, slice_index_or}
+use Rattle.std.specs.Prelude.{ℕ, ◌≡◌, ◌+◌, ◌*◌, ◌≤◌, ◌⊎◌, ◌++◌, ◌∷◌, List, [], length, Option, None, Result, Ok, Err, slice_index_or}
 use Rattle.pir_ports.specs.World.{World}
 use Rattle.pir_ports.specs.Number.{COINS, link}
 use Rattle.pir_ports.specs.Moves.{Touches}
@@ -25,11 +25,14 @@ use Rattle.fetch_client.specs.Honest.{FindsHonestBlock}
 pub record AsksNext (p : FetchPlan) (address coins : List ℕ) (before after : Transcript) (old new : World) : Type 0 where
   pub answer : Option (List ℕ)
   pub session : after ≡ record before { records = before.records ++ answer ∷ [] }
-  pub asked : LinkAsked address (sent p coins (length before.records + 1)) (answer_len p.s) answer (old.at (link 1 + length before.records)) (new.at (link 1 + length before.records))
+  pub asked : LinkAsked address (sent p coins (length before.records + 1)) (answer_len p.s) answer
+      (old.at (link 1 + length before.records)) (new.at (link 1 + length before.records))
 
 -- each of the first n servers was asked, by its address, and the session has its record
 abbrev pub AskedEach : FetchPlan → List (List ℕ) → List ℕ → ℕ → Transcript → World → World → Type 0
-AskedEach p addresses coins n session old new = Each (λ i. LinkAsked (slice_index_or addresses i []) (sent p coins (i + 1)) (answer_len p.s) (slice_index_or session.records i None)) (link 1) n old new
+AskedEach p addresses coins n session old new =
+    Each (λ i. LinkAsked (slice_index_or addresses i []) (sent p coins (i + 1)) (answer_len p.s) (slice_index_or session.records i None))
+    (link 1) n old new
 
 -- every server was asked, with these coins, and this is the session
 pub record AsksAll (p : FetchPlan) (addresses : List (List ℕ)) (coins : List ℕ) (session : Transcript) (old new : World) : Type 0 where
@@ -43,10 +46,13 @@ pub record AsksWith (p : FetchPlan) (addresses : List (List ℕ)) (coins : List 
   pub asked : AsksAll p addresses coins session old new
 
 -- what taking the coins and asking every server answers, and what it did then. Without the coins no server is asked
-abbrev pub AsksServers : FetchPlan → List (List ℕ) → Result (Unit {0}) FetchFault → List ℕ → Transcript → World → World → Type 0
+abbrev pub AsksServers : FetchPlan → List (List ℕ) → Result (Unit {0}) FetchFault → List ℕ → Transcript
+    → World → World → Type 0
 AsksServers p addresses (Ok _) coins session old new = AsksWith p addresses coins session old new
-AsksServers p addresses (Err CoinsFault) coins session old new = FailsShort COINS (need p) old new × Touches COINS old new
-AsksServers p addresses (Err (CoinsEnded taken)) coins session old new = RunsOut (need p) taken (old.at COINS) (new.at COINS) × Touches COINS old new
+AsksServers p addresses (Err CoinsFault) coins session old new =
+    FailsShort COINS (need p) old new × Touches COINS old new
+AsksServers p addresses (Err (CoinsEnded taken)) coins session old new =
+    RunsOut (need p) taken (old.at COINS) (new.at COINS) × Touches COINS old new
 AsksServers p addresses (Err Memory) coins session old new = ⊥
 
 -- every server was asked, with some coins and in some session
@@ -66,7 +72,8 @@ pub record Concludes (p : FetchPlan) (addresses : List (List ℕ)) (session : Tr
 abbrev pub Fetches : FetchPlan → List (List ℕ) → Result (Transcript × Verdict) FetchFault → World → World → Type 0
 Fetches p addresses (Ok both) old new = Concludes p addresses both.0 both.1 old new
 Fetches p addresses (Err CoinsFault) old new = FailsShort COINS (need p) old new × Touches COINS old new
-Fetches p addresses (Err (CoinsEnded taken)) old new = RunsOut (need p) taken (old.at COINS) (new.at COINS) × Touches COINS old new
+Fetches p addresses (Err (CoinsEnded taken)) old new =
+    RunsOut (need p) taken (old.at COINS) (new.at COINS) × Touches COINS old new
 Fetches p addresses (Err Memory) old new = (new ≡ old) ⊎ AsksSome p addresses old new
 
 -- the most columns that judging k answers takes: the width times the number of choices of t + 1 of them

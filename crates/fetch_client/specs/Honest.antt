@@ -42,32 +42,58 @@ honest_frame p matrix coins block i = answer_header (asked p i) 0 ++ answer_by p
 -- at least h of a session's usable answers are those of honest servers that hold the matrix
 pub record IsHonest (session : Transcript) (matrix : List (List ℕ)) (coins : List ℕ) (block : ℕ) : Type 0 where
   pub matrix_is : IsMatrix matrix session.params.r session.params.s
-  pub enough : session.params.h ≤ count_by (λ a. bytes_eq a.payload (answer_by session.params matrix coins block a.index)) (answers session)
+  pub enough : session.params.h
+      ≤ count_by (λ a. bytes_eq a.payload (answer_by session.params matrix coins block a.index)) (answers session)
 
 -- whether a server's record is this frame
 abbrev pub is_frame : List ℕ → Option (List ℕ) → Bool
 is_frame frame None = false
 is_frame frame (Some bytes) = bytes_eq bytes frame
 
+-- the record of server i
+abbrev pub record_by : Transcript → ℕ → Option (List ℕ)
+record_by session i = slice_index_or session.records (i - 1) None
+
 -- at least h of a session's records are the frames of honest servers that hold the matrix
 pub record HonestRecords (session : Transcript) (matrix : List (List ℕ)) (coins : List ℕ) (block : ℕ) : Type 0 where
   pub matrix_is : IsMatrix matrix session.params.r session.params.s
-  pub enough : session.params.h ≤ count_by (λ i. is_frame (honest_frame session.params matrix coins block i) (slice_index_or session.records (i - 1) None)) (range_with_len 1 (length session.records))
+  pub enough : session.params.h
+      ≤ count_by (λ i. is_frame (honest_frame session.params matrix coins block i) (record_by session i))
+      (range_with_len 1 (length session.records))
 
 -- each of the session's n records is the frame of an honest server that holds the matrix
 pub record AllHonest (session : Transcript) (matrix : List (List ℕ)) (coins : List ℕ) (block : ℕ) : Type 0 where
   pub matrix_is : IsMatrix matrix session.params.r session.params.s
-  pub each : (i : ℕ) → 1 ≤ i → i ≤ session.params.n → slice_index_or session.records (i - 1) None ≡ Some (honest_frame session.params matrix coins block i)
+  pub each : (i : ℕ) → 1 ≤ i → i ≤ session.params.n
+      → record_by session i ≡ Some (honest_frame session.params matrix coins block i)
+
+-- 2 h > k + t, for k usable answers: so no two blocks are agreed on
+abbrev pub IsClose : Transcript → Type 0
+IsClose session = length (answers session) + session.params.t < 2 * session.params.h
+
+-- where the verdict lists blocks, this one is among them
+abbrev pub ListsAmong : Verdict → List ℕ → Type 0
+ListsAmong verdict block = (blocks : List (List ℕ)) → verdict ≡ Listed blocks → Contains blocks block
+
+-- the verdict lists this block alone
+abbrev pub ListsAlone : Verdict → List ℕ → Type 0
+ListsAlone verdict block = verdict ≡ Listed (block ∷ [])
 
 -- whatever the matrix that enough honest servers hold: where the verdict lists blocks, its block is among them, and
 -- where 2 h > k + t, the verdict lists it alone. The same where enough records are the frames of such servers. Whatever
 -- the answers: where h <= k and 2 h > k + t, one block is listed, or none. In the XOR scheme, where h is n, enough honest
 -- servers are all, and the verdict lists their block alone
 pub record FindsHonestBlock (session : Transcript) (coins : List ℕ) (block : ℕ) (verdict : Verdict) : Type 0 where
-  pub listed : (matrix : List (List ℕ)) → IsHonest session matrix coins block → (blocks : List (List ℕ)) → verdict ≡ Listed blocks → Contains blocks (block_of matrix block)
-  pub alone : (matrix : List (List ℕ)) → IsHonest session matrix coins block → length (answers session) + session.params.t < 2 * session.params.h → verdict ≡ Listed (block_of matrix block ∷ [])
-  pub close : session.params.h ≤ length (answers session) → length (answers session) + session.params.t < 2 * session.params.h → ListsAtMostOne verdict
-  pub listed_by_frames : (matrix : List (List ℕ)) → HonestRecords session matrix coins block → (blocks : List (List ℕ)) → verdict ≡ Listed blocks → Contains blocks (block_of matrix block)
-  pub alone_by_frames : (matrix : List (List ℕ)) → HonestRecords session matrix coins block → length (answers session) + session.params.t < 2 * session.params.h → verdict ≡ Listed (block_of matrix block ∷ [])
-  pub xor : session.params.scheme ≡ XOR → (matrix : List (List ℕ)) → IsHonest session matrix coins block → verdict ≡ Listed (block_of matrix block ∷ [])
-  pub xor_by_frames : session.params.scheme ≡ XOR → (matrix : List (List ℕ)) → AllHonest session matrix coins block → verdict ≡ Listed (block_of matrix block ∷ [])
+  pub listed : (matrix : List (List ℕ)) → IsHonest session matrix coins block
+      → ListsAmong verdict (block_of matrix block)
+  pub alone : (matrix : List (List ℕ)) → IsHonest session matrix coins block → IsClose session
+      → ListsAlone verdict (block_of matrix block)
+  pub close : session.params.h ≤ length (answers session) → IsClose session → ListsAtMostOne verdict
+  pub listed_by_frames : (matrix : List (List ℕ)) → HonestRecords session matrix coins block
+      → ListsAmong verdict (block_of matrix block)
+  pub alone_by_frames : (matrix : List (List ℕ)) → HonestRecords session matrix coins block → IsClose session
+      → ListsAlone verdict (block_of matrix block)
+  pub xor : session.params.scheme ≡ XOR → (matrix : List (List ℕ)) → IsHonest session matrix coins block
+      → ListsAlone verdict (block_of matrix block)
+  pub xor_by_frames : session.params.scheme ≡ XOR → (matrix : List (List ℕ)) → AllHonest session matrix coins block
+      → ListsAlone verdict (block_of matrix block)

@@ -22,8 +22,8 @@ use std::sync::ledger::Ledger;
 use uni_poly::steps::Steps;
 use wire_frames::{Session, answer_len};
 
-// The memory that a fetch takes before anything is touched: a session with no record yet, and room for the coins, for one
-// query and for one answer.
+/// The memory that a fetch takes before anything is touched: a session with no record yet, and room for the coins, for one
+/// query and for one answer.
 #[derive(Drop)]
 struct Room {
     session: Session,
@@ -32,9 +32,11 @@ struct Room {
     answer: Vec<u8>,
 }
 
+/// Takes that memory.
 fn room_for(alloc: Global, plan: &FetchPlan) -> Result<Room, AllocError>
     requires { IsPlan plan.now }
-    ensures session { IfOk result (λ room. room.session ≡ record { params = params_of plan.now 0; records = [] }) }
+    ensures session { IfOk result (λ room.
+        room.session ≡ record { params = params_of plan.now 0; records = [] }) }
     ensures coins { IfOk result (λ room. vec_len room.coins ≡ need plan.now) }
     ensures frame { IfOk result (λ room. vec_len room.frame ≡ frame_len plan.now) }
     ensures answer { IfOk result (λ room. vec_len room.answer ≡ answer_len plan.now.s) }
@@ -67,7 +69,8 @@ fn ask_servers<P: Ports>(
     requires frame { length frame.old ≡ frame_len plan.now }
     requires answer { length answer.old ≡ answer_len plan.now.s }
     requires session { session.old ≡ record { params = params_of plan.now 0; records = [] } }
-    ensures asked { AsksServers plan.now (map string_bytes addresses.now) result coins.new session.new (P.world ports.old) (P.world ports.new) }
+    ensures asked { AsksServers plan.now (map string_bytes addresses.now) result coins.new session.new
+        (P.world ports.old) (P.world ports.new) }
     ensures others { TouchesLinks plan.now.n (P.world ports.old) (P.world ports.new) }
 {
     take_coins(ports, coins)?;
@@ -109,13 +112,14 @@ fn conclude<C: Ledger>(
 /// All memory but that for judging is taken first. Then the coins are taken: 8 bytes for the number of the session, and for
 /// the queries `r * t`, which is `t` for each row, or in the XOR scheme `(n - 1) * ceil(r / 8)`, a bitmap for each server but
 /// the last. Then each server in turn is sent its query, whose payload has r bytes or, in the XOR scheme, `ceil(r / 8)`; and
-/// of its answer as many bytes as a whole one has are taken. A server whose link fails has no record; none is left out, and no byte that
-/// is sent depends on an answer.
+/// of its answer as many bytes as a whole one has are taken. A server whose link fails has no record: nothing is done with a
+/// link after a failed call. None is left out, and no byte that is sent depends on an answer.
 ///
 /// # Errors
 ///
-/// `CoinsFault` only where the count of Coins rose; `CoinsEnded` exactly where there are fewer coins, with their number; at
-/// both no server was asked. `Memory` for want of memory, before anything was touched or when all were asked.
+/// `CoinsFault` only where the count of Coins rose, and then fewer coins were taken than are needed; `CoinsEnded` exactly
+/// where there are fewer coins, with their number; at both no server was asked. `Memory` for want of memory, before anything
+/// was touched or when all were asked.
 pub fn fetch<C: Ledger, P: Ports>(
     alloc: Global,
     plan: &FetchPlan,
@@ -125,7 +129,8 @@ pub fn fetch<C: Ledger, P: Ports>(
 ) -> Result<(Session, Verdict), FetchFault>
     requires plan { IsPlan plan.now }
     requires addresses { length addresses.now ≡ plan.now.n }
-    ensures fetched { Fetches plan.now (map string_bytes addresses.now) result (P.world ports.old) (P.world ports.new) }
+    ensures fetched { Fetches plan.now (map string_bytes addresses.now) result
+        (P.world ports.old) (P.world ports.new) }
     ensures others { TouchesLinks plan.now.n (P.world ports.old) (P.world ports.new) }
     ensures cols { CountsColumns plan.now result cols.old cols.new }
     ensures xor { plan.now.scheme ≡ XOR → cols.new ≡ cols.old }

@@ -22,6 +22,7 @@ pub fn honest_block_is_found(session: &Session, coins: &[u8], block: u32, verdic
     requires verdict { IsVerdict session.now verdict.now }
     ensures { FindsHonestBlock session.now coins.now block verdict.now }
 {
+    // What holds of every session is told by its calls alone.
     session.params();
     session.record_count();
 }
@@ -29,5 +30,6 @@ pub fn honest_block_is_found(session: &Session, coins: &[u8], block: u32, verdic
 /// Where `h` or more of the records of a session are, byte by byte, the frames in which honest servers that hold one
 /// matrix answer, so many of the usable answers are honest.
 pub fn honest_frames_are_usable(session: &Session, coins: &[u8], block: u32)
-    ensures { (matrix : List (List ℕ)) → HonestRecords session.now matrix coins.now block → IsHonest session.now matrix coins.now block }
+    ensures { (matrix : List (List ℕ)) → HonestRecords session.now matrix coins.now block
+        → IsHonest session.now matrix coins.now block }
 {}

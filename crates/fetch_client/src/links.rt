@@ -113,7 +113,8 @@ fn ask_next<P: Ports>(
     requires answer { length answer.old ≡ answer_len plan.now.s }
     requires params { session.old.params ≡ params_of plan.now (session_number coins.now) }
     requires few { length session.old.records < plan.now.n }
-    ensures asked { AsksNext plan.now address.now coins.now session.old session.new (P.world ports.old) (P.world ports.new) }
+    ensures asked { AsksNext plan.now address.now coins.now session.old session.new
+        (P.world ports.old) (P.world ports.new) }
     ensures others { Touches (link 1 + length session.old.records) (P.world ports.old) (P.world ports.new) }
 {
     let index = session.record_count() as u8 + 1;
@@ -144,7 +145,8 @@ pub(crate) fn ask_all<P: Ports>(
     requires fresh { session.old.records ≡ [] }
     ensures params { session.new.params ≡ session.old.params }
     ensures whole { length session.new.records ≡ plan.now.n }
-    ensures links { AskedEach plan.now (map string_bytes addresses.now) coins.now plan.now.n session.new (P.world ports.old) (P.world ports.new) }
+    ensures links { AskedEach plan.now (map string_bytes addresses.now) coins.now plan.now.n session.new
+        (P.world ports.old) (P.world ports.new) }
     ensures others { TouchesRange (link 1) plan.now.n (P.world ports.old) (P.world ports.new) }
 {
     'links: for address in addresses {

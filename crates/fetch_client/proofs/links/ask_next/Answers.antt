@@ -1,4 +1,4 @@
-use Rattle.std.proofs.Common.{◌∙◌, arith}
+use Rattle.std.proofs.Common.{arith}
 use Rattle.std.specs.Prelude.{None}
 use Rattle.fetch_client.proofs.Asking.{asked_next}
 use Rattle.fetch_client.proofs.links.ask_next.Goals as goal
