@@ -15,6 +15,7 @@ use Rattle.fetch_client.specs.Plan.{IsPlan, need, params_of}
 use Rattle.fetch_client.specs.Sent.{queries_from, session_number}
 use Rattle.fetch_client.specs.Honest.{FindsHonestBlock, HonestRecords, block_of, honest_frame, is_frame}
 use Rattle.fetch_client.proofs.Columns.{few_from}
+use Rattle.serve_core.specs.declared.met.Met.TheVariants.{Served}
 use Rattle.pir_tool.specs.HeldRow.{EnoughReply, FindsHeldRow, IsReplyAt}
 use Rattle.pir_tool.specs.HonestReply.{frame_of}
 use Rattle.pir_tool.proofs.HonestReplies.{asks_a_query, replies_honestly}
@@ -33,7 +34,7 @@ module _ (p : FetchPlan) (coins : List ℕ) (session : Transcript) (plan : IsPla
   is_honest : (matrix : List (List ℕ)) (j : ℕ) → IsMatrix matrix p.r p.s → j < length session.records → IsReplyAt p coins matrix session j → test matrix (1 + j) ≡ true
   is_honest matrix j is below r =
       let same : r.frame ≡ frame_of p coins matrix (1 + j) =
-          ((replies_honestly p coins (1 + j) matrix 1 plan.block (asks_a_query p coins (1 + j) plan size bytes (omega arith) (omega (arith, below, whole, plan.numbers.few_servers))) is _ r.frame).0 r.replied).1 in
+          ((replies_honestly p coins (1 + j) matrix 1 plan.block (asks_a_query p coins (1 + j) plan size bytes (omega arith) (omega (arith, below, whole, plan.numbers.few_servers))) is Served r.frame).0 r.replied).1 in
       let here : 1 + j - 1 ≡ j = omega arith in
       ap (λ i. is_frame (frame matrix (1 + j)) (slice_index_or session.records i None)) here
       ∙ ap (is_frame (frame matrix (1 + j))) r.recorded

@@ -10,6 +10,7 @@ use Rattle.wire_frames.specs.Header.{query_header}
 use Rattle.fetch_client.specs.declared.plan.FetchPlan.{FetchPlan}
 use Rattle.fetch_client.specs.Plan.{params_of, query_coins, need}
 use Rattle.fetch_client.specs.Sent.{session_number, payload_to, sent}
+use Rattle.fetch_client.proofs.Asking.{sent_is}
 use Rattle.fetch_client.proofs.Schemes.{coins_of_shamir, payload_of_shamir, coins_of_xor, payload_of_xor}
 use Rattle.privacy_law.specs.Bijection.{AreCoins, IsBijection}
 use Rattle.privacy_law.specs.Partner.{partner, partner_xor}
@@ -72,14 +73,15 @@ module _ (n : ℕ) where
 -- a frame is the same where the payload is
 same_frame : (p : FetchPlan) (other i : ℕ) (coins rest : List ℕ) → AreCoins (need p) coins
     → payload_to (params_of p 0) rest other i ≡ payload_to (params_of p 0) (drop 8 coins) p.block i → sent (with_block p other) (take 8 coins ++ rest) i ≡ sent p coins i
-unfolding sent payload_to
 same_frame p other i coins rest is same =
     let front = (parts (query_coins (params_of p 0)) coins is).0 in
     let number : session_number (take 8 coins ++ rest) ≡ session_number coins =
     sym (session_front (take 8 coins ++ rest)) ∙ ap session_number (front_of (take 8 coins) rest front) ∙ session_front coins in
-    ap₂ (λ (x y : List ℕ). x ++ y)
+    sym (sent_is (with_block p other) (take 8 coins ++ rest) i _ _ refl refl)
+    ∙ ap₂ (λ (x y : List ℕ). x ++ y)
     (ap (λ (n : ℕ). query_header (record { scheme = p.scheme; index = i; session = n; r = p.r; s = p.s })) number)
     (ap (λ (l : List ℕ). payload_to (params_of p 0) l other i) (rest_of (take 8 coins) rest front) ∙ same)
+    ∙ sent_is p coins i _ _ refl refl
 
 -- in Shamir's sharing the frames are the same where the queries are
 module _ (p : FetchPlan) (one : p.scheme ≡ SHAMIR) (coalition : List ℕ) (other : ℕ) where

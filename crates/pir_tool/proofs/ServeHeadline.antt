@@ -34,7 +34,7 @@ module _ (o : ServeOrder) (old new : World) (none : NoneRose files old new) (byt
       let empty = at_told (λ (h : List ℕ). h ≡ []) (old.at DATABASE).holds bytes held said.0.none in
       absurd (omega (arith, ap length empty, some))
   served (BadInput (TooBig most)) some few said =
-      let more = at_told (λ (h : List ℕ). most < length h) (old.at DATABASE).holds bytes held said.0.1.more in
+      let more = at_told (λ (h : List ℕ). limit o.width < length h) (old.at DATABASE).holds bytes held said.0.1.more in
       absurd (omega (arith, more, said.0.0, few))
   served (BadInput (CoinsEnded taken)) some few said = absurd said
   served DoorFault some few said = absurd (door_rose o old new none said)
@@ -62,7 +62,7 @@ module _ (o : ServeOrder) (old new : World) (none : NoneRose files old new) (byt
   empty_file (BadInput (Session place)) size said = absurd said
   empty_file (BadInput EmptyFile) size said = inl refl
   empty_file (BadInput (TooBig most)) size said =
-      let more = at_told (λ (h : List ℕ). most < length h) (old.at DATABASE).holds bytes held said.0.1.more in
+      let more = at_told (λ (h : List ℕ). limit o.width < length h) (old.at DATABASE).holds bytes held said.0.1.more in
       absurd (omega (arith, more, size))
   empty_file (BadInput (CoinsEnded taken)) size said = absurd said
   empty_file DoorFault size said = absurd (door_rose o old new none said)

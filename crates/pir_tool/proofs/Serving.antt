@@ -190,7 +190,7 @@ module _ (o : ServeOrder) (service : Service) (w v : World) (opens : OpensDesk o
       loaded = loaded_at_end;
       door = same ∙ door_opened;
       written = output_is;
-      open = u;
+      listening = u;
       nobody = nobody u t;
       turns = turns_from o.guests x turns;
       guests = guests_from o.guests s;
@@ -210,7 +210,7 @@ module _ (o : ServeOrder) (service : Service) (w v : World) (opens : OpensDesk o
       written = output_is;
       served = dry.served;
       fewer = dry.fewer;
-      open = u;
+      listening = u;
       nobody = nobody u t;
       last = dry.last;
       turns = turns_from dry.served dry.last dry.turns;

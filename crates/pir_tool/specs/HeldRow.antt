@@ -1,15 +1,14 @@
 -- What a fetch finds where enough servers hold the database, by what a server replies to a query.
-use Rattle.std.specs.Prelude.{◌≡◌, ℕ, ◌+◌, ◌*◌, ◌<◌, ◌≤◌, List, [], ◌∷◌, length, slice_index_or, All, Contains, Some, None}
+use Rattle.std.specs.Prelude.{◌≡◌, ℕ, ◌+◌, ◌*◌, ◌<◌, ◌≤◌, List, length, slice_index_or, All, Some, None}
 use Rattle.std.specs.List.Sorted.{IsStrictlyIncreasing}
 use Rattle.gf256.specs.Product.{IsMatrix}
 use Rattle.wire_frames.specs.declared.scheme.TheConstants.{XOR}
 use Rattle.wire_frames.specs.Answer.{answers}
 use Rattle.wire_frames.specs.Session.{Transcript}
 use Rattle.block_decoder.specs.declared.verdict.Verdict.{Verdict}
-use Rattle.block_decoder.specs.declared.verdict.Verdict.TheVariants.{Listed}
 use Rattle.fetch_client.specs.declared.plan.FetchPlan.{FetchPlan}
 use Rattle.fetch_client.specs.Sent.{sent}
-use Rattle.fetch_client.specs.Honest.{block_of}
+use Rattle.fetch_client.specs.Honest.{ListsAlone, ListsAmong, block_of}
 use Rattle.serve_core.specs.Reply.{Replies}
 use Rattle.serve_core.specs.declared.met.Met.TheVariants.{Served}
 use Rattle.pir_tool.specs.HonestReply.{service_with}
@@ -33,8 +32,8 @@ pub record EnoughReply (p : FetchPlan) (coins : List ℕ) (matrix : List (List �
 -- where 2 h > k + t, it is listed alone; so it is in the XOR scheme, where h is n
 pub record FindsHeldRow (p : FetchPlan) (coins : List ℕ) (session : Transcript) (verdict : Verdict) : Type 0 where
   pub listed : (matrix : List (List ℕ)) → EnoughReply p coins matrix session
-      → (blocks : List (List ℕ)) → verdict ≡ Listed blocks → Contains blocks (block_of matrix p.block)
+      → ListsAmong verdict (block_of matrix p.block)
   pub alone : (matrix : List (List ℕ)) → EnoughReply p coins matrix session
-      → length (answers session) + p.t < 2 * p.h → verdict ≡ Listed (block_of matrix p.block ∷ [])
+      → length (answers session) + p.t < 2 * p.h → ListsAlone verdict (block_of matrix p.block)
   pub xor : p.scheme ≡ XOR → (matrix : List (List ℕ)) → EnoughReply p coins matrix session
-      → verdict ≡ Listed (block_of matrix p.block ∷ [])
+      → ListsAlone verdict (block_of matrix p.block)

@@ -26,9 +26,9 @@ pub record ServedAll (o : ServeOrder) (old new : World) : Type 0 where
   pub loaded : Loaded o.database o.width database old new
   pub door : new.at DOOR ≡ named o.listen (old.at DOOR)
   pub written : new.at OUTPUT ≡ gave ready (old.at OUTPUT)
-  pub open : World
-  pub nobody : Nobody old open
-  pub turns : AttendsInTurn (service_of o database) o.guests open new
+  pub listening : World
+  pub nobody : Nobody old listening
+  pub turns : AttendsInTurn (service_of o database) o.guests listening new
   pub guests : ServesGuests (service_of o database) o.guests old new
   pub replied : (DidRise GUEST old new → ⊥) → RepliesToGuests (service_of o database) o.guests old new
 
@@ -41,10 +41,10 @@ pub record NoFurtherGuest (o : ServeOrder) (old new : World) : Type 0 where
   pub written : new.at OUTPUT ≡ gave ready (old.at OUTPUT)
   pub served : ℕ
   pub fewer : served < o.guests
-  pub open : World
-  pub nobody : Nobody old open
+  pub listening : World
+  pub nobody : Nobody old listening
   pub last : World
-  pub turns : AttendsInTurn (service_of o database) served open last
+  pub turns : AttendsInTurn (service_of o database) served listening last
   pub none : Fails DOOR last new
   pub others : Touches DOOR last new
   pub guests : ServesGuests (service_of o database) served old new
