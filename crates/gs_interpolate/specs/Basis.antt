@@ -70,7 +70,7 @@ pub record IsStep (gs : List (List (List ℕ))) (es : List ℕ) (made : List (Li
 abbrev pub IsMeeting : ℕ → List (List (List ℕ)) → List ℕ → List (List (List ℕ)) → List ℕ → List ℕ → ℕ → Type 0
 IsMeeting t gs es made raised values a =
     (((j : ℕ) → slice_index values j ≡ 0) × (made ≡ gs) × (raised ≡ es))
-        ⊎ ((p : ℕ) × IsPivot t es values p × IsStep gs es made raised values a p)
+    ⊎ ((p : ℕ) × IsPivot t es values p × IsStep gs es made raised values a p)
 
 -- made are polynomials with a zero of multiplicity m at (a, b), and with the zeros that gs have; together the exponents rise
 -- by at most one for each condition

@@ -34,7 +34,7 @@ module _ (p : FetchPlan) (coins : List ℕ) (session : Transcript) (plan : IsPla
   is_honest : (matrix : List (List ℕ)) (j : ℕ) → IsMatrix matrix p.r p.s → j < length session.records → IsReplyAt p coins matrix session j → test matrix (1 + j) ≡ true
   is_honest matrix j is below r =
       let same : r.frame ≡ frame_of p coins matrix (1 + j) =
-          ((replies_honestly p coins (1 + j) matrix 1 plan.block (asks_a_query p coins (1 + j) plan size bytes (omega arith) (omega (arith, below, whole, plan.numbers.few_servers))) is Served r.frame).0 r.replied).1 in
+      ((replies_honestly p coins (1 + j) matrix 1 plan.block (asks_a_query p coins (1 + j) plan size bytes (omega arith) (omega (arith, below, whole, plan.numbers.few_servers))) is Served r.frame).0 r.replied).1 in
       let here : 1 + j - 1 ≡ j = omega arith in
       ap (λ i. is_frame (frame matrix (1 + j)) (slice_index_or session.records i None)) here
       ∙ ap (is_frame (frame matrix (1 + j))) r.recorded
@@ -46,11 +46,11 @@ module _ (p : FetchPlan) (coins : List ℕ) (session : Transcript) (plan : IsPla
       let all = range_with_len 1 (length session.records) in
       let many = length-range_with_len 1 (length session.records) in
       let few = few_places (test matrix) all 0 a.places a.ascending
-          (λ k d l. let below = a.within k d l in omega (arith, below, many))
-          (λ k d l.
-              let below = a.within k d l in
-              ap (test matrix) (get_or-range_with_len 1 (length session.records) (get_or a.places k d) 0 (omega (arith, below)))
-              ∙ is_honest matrix (get_or a.places k d) a.matrix_is below (a.each k d l)) in
+      (λ k d l. let below = a.within k d l in omega (arith, below, many))
+      (λ k d l.
+      let below = a.within k d l in
+      ap (test matrix) (get_or-range_with_len 1 (length session.records) (get_or a.places k d) 0 (omega (arith, below)))
+      ∙ is_honest matrix (get_or a.places k d) a.matrix_is below (a.each k d l)) in
       omega (arith, few, a.enough)
 
   honest : (matrix : List (List ℕ)) → EnoughReply p coins matrix session → HonestRecords session matrix (queries_from coins) p.block

@@ -53,7 +53,7 @@ unfoldable pub words_to_serve : List ℕ → ℕ → List ℕ → List (List ℕ
 words_to_serve database width address =
     codes "serve"
     ∷ (codes "--database" ∷ (database ∷ (codes "--width"
-        ∷ (decimal width ∷ (codes "--conns" ∷ (codes "1" ∷ (codes "--listen" ∷ (address ∷ []))))))))
+    ∷ (decimal width ∷ (codes "--conns" ∷ (codes "1" ∷ (codes "--listen" ∷ (address ∷ []))))))))
 
 -- the words that each child is started with, in their order
 abbrev pub words_of_children : DemoOrder → List (List (List ℕ))

@@ -23,4 +23,4 @@ abbrev pub RepliesHonestly : FetchPlan → List ℕ → ℕ → List (List ℕ) 
 RepliesHonestly p coins i matrix workers = IsMatrix matrix p.r p.s
     → (met : Met) (frame : List ℕ)
     → Replies (service_with p matrix workers) (sent p coins i) met frame
-      ↔ ((met ≡ Served) × (frame ≡ frame_of p coins matrix i))
+    ↔ ((met ≡ Served) × (frame ≡ frame_of p coins matrix i))

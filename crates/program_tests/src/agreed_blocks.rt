@@ -163,7 +163,10 @@ fn plainly_listed(
     s: u32,
 ) -> Result<Vec<u8>, AllocError> {
     let mut all = Vec::new(alloc);
-    if indices.len() <= usize::from(MOST_SERVERS) && s <= 2 && bytes.len() == indices.len() * s as usize {
+    if indices.len() <= usize::from(MOST_SERVERS)
+        && s <= 2
+        && bytes.len() == indices.len() * s as usize
+    {
         let listing = plain_listing(alloc, indices, bytes, 1, h, s)?;
         for block in listing.blocks() {
             all.extend_from_slice(block)?;

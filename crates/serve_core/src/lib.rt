@@ -26,4 +26,3 @@ mod service;
 pub use desk::Desk;
 pub use met::Met;
 pub use serve::serve_one;
-
