@@ -1,5 +1,5 @@
 -- Adding a multiple of a polynomial, row by row.
-use Rattle.std.proofs.Common.{◌≡◌, ℕ, ◌+◌, ◌-◌, ◌<◌, ◌≤◌, List, [], ◌++◌, length, set, get_or, take, drop, replicate, refl, sym, ap, ◌∙◌, subst, arith, inl, inr, length-append, length-set, get_or-set_same, get_or-set_other, get_or-take, get_or-drop}
+use Rattle.std.proofs.Common.{◌≡◌, ℕ, ◌+◌, ◌-◌, ◌<◌, ◌≤◌, List, [], ◌++◌, length, set, replicate, refl, sym, ap, ◌∙◌, subst, arith, inl, inr, length-append, length-set, get_or-set_same, get_or-set_other}
 use Rattle.std.proofs.lemmas.List.{get_or_append_left, get_or-append_right, get_or-replicate, length-replicate, get_or_past}
 use Rattle.std.proofs.lemmas.Bool.{cases_lt, cases_eq}
 use Rattle.gf256.specs.Field.{◌⊕◌, ◌⊗◌}
@@ -23,23 +23,6 @@ coef-zeros p n e =
             | inr k ↦ let size = length-replicate {A = ℕ} n 0 in get_or_past (replicate n 0) (e - length p) 0 (omega arith)
           ]
           ∙ sym (get_or_past p e 0 l)
-    ]
-
--- a multiple of p added to as many coefficients as p has, where the others stay
-pub added_to_front : (front acc p : List ℕ) (f : ℕ) → length p ≤ length acc → length front ≡ length p → ((e : ℕ) → coef front e ≡ coef (take (length p) acc) e ⊕ f ⊗ coef p e)
-    → (e : ℕ) → coef (front ++ drop (length p) acc) e ≡ coef acc e ⊕ f ⊗ coef p e
-unfolding coef
-added_to_front front acc p f l size h e =
-    elim (cases_lt e (length p)) [
-      | inl k ↦
-          get_or_append_left front (drop (length p) acc) 0 e (omega arith) ∙ h e
-          ∙ ap (λ x. x ⊕ f ⊗ get_or p e 0) (get_or-take (length p) acc e 0 k)
-      | inr k ↦
-          let at : length p + (e - length p) ≡ e = omega arith in
-          get_or-append_right front (drop (length p) acc) (length p) e 0 size k
-          ∙ get_or-drop (length p) acc (e - length p) 0
-          ∙ ap (λ i. get_or acc i 0) at
-          ∙ sym (ap (λ x. get_or acc e 0 ⊕ f ⊗ x) (get_or_past p e 0 k) ∙ ap (λ x. get_or acc e 0 ⊕ x) (mul_zero f) ∙ add_zero _)
     ]
 
 -- a row to which the multiple was added after it was made as long

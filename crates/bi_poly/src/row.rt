@@ -1,14 +1,12 @@
 //! Polynomials in one variable: the rows and columns of one in two.
 
-ghost use Rattle.std.specs.Prelude.{ℕ, ◌≡◌, ◌≤◌, ◌++◌, ◌-◌, if◌then◌else◌, length, drop, replicate, MatchOption, IfOk};
-ghost use Rattle.gf256.specs.Field.{◌⊕◌, ◌⊗◌};
+ghost use Rattle.std.specs.Prelude.{◌≡◌, ◌++◌, ◌-◌, if◌then◌else◌, length, drop, replicate, MatchOption, IfOk};
 ghost use Rattle.gf256.specs.Polynomial.{coef};
 ghost use Rattle.uni_poly.specs.Coefficients.{IsZero};
 ghost use Rattle.bi_poly.specs.Degree.{IsDegree, IsOrder};
 ghost use Rattle.bi_poly.specs.Combination.{IsScaledSum};
 ghost use Rattle.bi_poly.specs.Hasse.{binomial_parity, derivative};
 
-use gf256::rows::add_scaled_row;
 use std::alloc::AllocError;
 
 /// Whether the binomial coefficient of `n` over `k` is odd: exactly where the bits of `k` are among
@@ -86,19 +84,11 @@ fn lengthen(p: &mut Vec<u8>, n: usize) -> Result<(), AllocError>
     Ok(())
 }
 
-/// Adds `factor` times `p` to the first coefficients of `acc`, which must be at least as long.
-fn add_scaled_within(acc: &mut [u8], p: &[u8], factor: u8)
-    requires { length p.now ≤ length acc.old }
-    ensures { (e : ℕ) → coef acc.new e ≡ coef acc.old e ⊕ factor ⊗ coef p.now e }
-{
-    add_scaled_row(&mut acc[..p.len()], p, factor);
-}
-
 /// Adds `factor` times `p` to `acc`, which becomes as long as `p` where it is shorter.
 pub fn add_scaled(acc: &mut Vec<u8>, p: &[u8], factor: u8) -> Result<(), AllocError>
     ensures { IfOk result (λ _. IsScaledSum acc.new.items acc.old.items p.now factor) }
 {
     lengthen(acc, p.len())?;
-    add_scaled_within(acc, p, factor);
+    uni_poly::add_scaled(acc, p, factor);
     Ok(())
 }

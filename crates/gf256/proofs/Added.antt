@@ -1,8 +1,8 @@
 -- Rows to which something is added, in pieces.
-use Rattle.std.proofs.Common.{◌≡◌, ℕ, ◌+◌, ◌-◌, ◌<◌, ◌≤◌, List, length, get_or, bit_xor, set, refl, sym, ap, ap₂, subst, ◌∙◌, arith, inl, inr}
+use Rattle.std.proofs.Common.{◌≡◌, ℕ, ◌+◌, ◌-◌, ◌<◌, ◌≤◌, List, ◌++◌, length, get_or, take, drop, bit_xor, set, refl, sym, ap, ap₂, subst, ◌∙◌, arith, inl, inr}
 use Rattle.std.specs.Simd.Lanes.{put_chunk}
 use Rattle.std.proofs.lemmas.Bool.{cases_lt}
-use Rattle.std.proofs.lemmas.List.{get_or-set_same, get_or-set_other}
+use Rattle.std.proofs.lemmas.List.{get_or-set_same, get_or-set_other, get_or-take, get_or-drop, get_or_append_left, get_or-append_right}
 use Rattle.std.proofs.lemmas.Simd.{get_or-put_chunk_at, get_or-put_chunk_below, get_or-put_chunk_above}
 use Rattle.gf256.specs.Field.{◌⊕◌}
 use Rattle.gf256.specs.Rows.{IsAdded, AreLanes}
@@ -83,4 +83,20 @@ added-all new old g n past done k =
     elim (cases_lt k n) [
       | inl low ↦ done.added k (omega arith) low
       | inr high ↦ done.after k high ∙ sym (ap (◌⊕◌ (get_or old k 0)) (past k high) ∙ add_zero _)
+    ]
+
+-- the front of a row, where the other places stay
+pub added-front : (front acc : List ℕ) (g : ℕ → ℕ) (n : ℕ) → n ≤ length acc → length front ≡ n → ((k : ℕ) → n ≤ k → g k ≡ 0)
+    → ((k : ℕ) → get_or front k 0 ≡ get_or (take n acc) k 0 ⊕ g k)
+    → (k : ℕ) → get_or (front ++ drop n acc) k 0 ≡ get_or acc k 0 ⊕ g k
+added-front front acc g n within size past is k =
+    elim (cases_lt k n) [
+      | inl low ↦
+          get_or_append_left front (drop n acc) 0 k (omega (arith, low, size)) ∙ is k
+          ∙ ap (λ x. x ⊕ g k) (get_or-take n acc k 0 low)
+      | inr high ↦
+          let place : n + (k - n) ≡ k = omega (arith, high) in
+          get_or-append_right front (drop n acc) n k 0 size high ∙ get_or-drop n acc (k - n) 0
+          ∙ ap (λ j. get_or acc j 0) place
+          ∙ sym (ap (◌⊕◌ (get_or acc k 0)) (past k high) ∙ add_zero _)
     ]

@@ -24,6 +24,7 @@ ghost use Rattle.uni_poly.specs.Division.{IsDivided};
 ghost use Rattle.uni_poly.specs.Interpolation.{Interpolates};
 ghost use Rattle.uni_poly.specs.Product.{linear, product, vanishing};
 
+use gf256::rows::{add_row, add_scaled_row};
 use std::alloc::{AllocError, Global};
 
 /// The value of `p` at `a`, by Horner's rule: that of `01 03` (the polynomial `1 + 3x`) at `02` is
@@ -41,9 +42,7 @@ pub fn add_into(acc: &mut [u8], p: &[u8])
     requires { length p.now ≤ length acc.old }
     ensures { IsSum acc.new acc.old p.now }
 {
-    for (i, &c) in p.iter().enumerate() {
-        acc[i] = gf256::add(acc[i], c);
-    }
+    add_row(&mut acc[..p.len()], p);
 }
 
 /// The product of `p` and `x - root`, one longer than `p`: `02 01` times `x - 1` is `02 03 01`.
@@ -90,13 +89,11 @@ pub fn vanishing(alloc: Global, xs: &[u8]) -> Result<Vec<u8>, AllocError>
 }
 
 /// Adds `factor` times `p` to `acc`, which must be at least as long.
-fn add_scaled(acc: &mut [u8], p: &[u8], factor: u8)
+pub fn add_scaled(acc: &mut [u8], p: &[u8], factor: u8)
     requires { length p.now ≤ length acc.old }
     ensures { IsScaledSum acc.new acc.old p.now factor }
 {
-    for (i, &c) in p.iter().enumerate() {
-        acc[i] = gf256::add(acc[i], gf256::mul(factor, c));
-    }
+    add_scaled_row(&mut acc[..p.len()], p, factor);
 }
 
 /// Adds a multiple of `basis`, which is not 0 at `x`, to `made`, so that its value at `x` becomes
