@@ -1,10 +1,10 @@
 -- How many rows the bytes of a file make, and how many bytes the rows have.
-use Rattle.std.proofs.Common.{◌≡◌, ◌∙◌, ℕ, ◌+◌, ◌-◌, ◌*◌, ◌/◌, ◌<◌, ◌≤◌, ◌^◌, min, List, length, replicate, ap, arith, length-append}
+use Rattle.std.proofs.Common.{◌≡◌, ◌∙◌, ℕ, ◌+◌, ◌-◌, ◌*◌, ◌/◌, ◌<◌, ◌≤◌, min, List, length, replicate, ap, arith, length-append}
 use Rattle.std.specs.Int.{div_ceil}
 use Rattle.std.proofs.Math.Nat.{div-mul-le_self, mul-le-mul_right, lt_of_mul-lt-mul_right, min-le_left, min-le_right}
 use Rattle.std.proofs.lemmas.Grind.{div_ceil_times}
 use Rattle.std.proofs.lemmas.List.{length-replicate}
-use Rattle.wire_frames.specs.declared.TheConstants.{MOST_ROWS, MOST_CELLS}
+use Rattle.wire_frames.specs.declared.TheConstants.{MOST_ROWS, MOST_WIDTH, MOST_CELLS}
 use Rattle.wire_frames.specs.Limits.{IsShape}
 use Rattle.block_matrix.specs.Database.{limit, filled_up}
 
@@ -25,7 +25,7 @@ cells_few count width few =
     omega (arith, most, back)
 
 -- a file that is neither empty nor too big has the shape of a database
-pub shape_of_file : (len width : ℕ) → 1 ≤ width → width ≤ 2 ^ 16 → 0 < len → len ≤ limit width → IsShape (div_ceil len width) width
+pub shape_of_file : (len width : ℕ) → 1 ≤ width → width ≤ MOST_WIDTH → 0 < len → len ≤ limit width → IsShape (div_ceil len width) width
 shape_of_file len width some few bytes within =
     let most = min MOST_ROWS (MOST_CELLS / width) in
     let count = div_ceil len width in

@@ -1,8 +1,9 @@
 //! Reads a database from its file.
-ghost use Rattle.std.specs.Prelude.{◌≡◌, ◌+◌, ◌<◌, ◌≤◌, ◌^◌, length, take, drop, vec_len};
+ghost use Rattle.std.specs.Prelude.{◌≡◌, ◌+◌, ◌<◌, ◌≤◌, length, take, drop, vec_len};
 ghost use Rattle.pir_ports.specs.Number.{DATABASE};
 ghost use Rattle.pir_ports.specs.Moves.{Touches};
 ghost use Rattle.pir_ports.specs.Whole.{Fills};
+ghost use Rattle.wire_frames.specs.declared.TheConstants.{MOST_WIDTH};
 ghost use Rattle.block_matrix.specs.Database.{limit};
 ghost use Rattle.block_matrix.specs.Loading.{Lengthens, ReadsOr, Loads};
 
@@ -84,7 +85,7 @@ fn read_up_to<P: Ports>(alloc: Global, ports: &mut P, most: usize) -> Result<Vec
 /// want of memory.
 pub fn load<P: Ports>(alloc: Global, ports: &mut P, width: u32) -> Result<Matrix, LoadFault>
     requires some { 1 ≤ width }
-    requires few { width ≤ 2 ^ 16 }
+    requires few { width ≤ MOST_WIDTH }
     ensures loads { Loads width result (P.world ports.old) (P.world ports.new) }
     ensures others { Touches DATABASE (P.world ports.old) (P.world ports.new) }
 {

@@ -1,6 +1,7 @@
 //! The rows of a database, in one block of memory.
-ghost use Rattle.std.specs.Prelude.{◌≡◌, ℕ, [], ◌+◌, ◌*◌, ◌<◌, ◌≤◌, ◌^◌, All, length, slice_index_or, vec_len, IfOk, IfErr};
+ghost use Rattle.std.specs.Prelude.{◌≡◌, ℕ, [], ◌+◌, ◌*◌, ◌<◌, ◌≤◌, All, length, slice_index_or, vec_len, IfOk, IfErr};
 ghost use Rattle.gf256.specs.Product.{IsMatrix};
+ghost use Rattle.wire_frames.specs.declared.TheConstants.{MOST_CELLS, MOST_ROWS, MOST_WIDTH};
 ghost use Rattle.block_matrix.specs.Database.{Database, limit, rows_of, database};
 ghost use Rattle.block_matrix.specs.Loaded.{Parses, FillsUp};
 
@@ -61,7 +62,7 @@ fn are_bytes(bytes: &[u8])
 pub fn most_bytes(width: u32) -> u64
     requires { 1 ≤ width }
     ensures is { result ≡ limit width }
-    ensures few { result ≤ 2 ^ 30 }
+    ensures few { result ≤ MOST_CELLS }
 {
     u64::from(width) * u64::from(MOST_ROWS).min(MOST_CELLS / u64::from(width))
 }
@@ -76,7 +77,7 @@ impl Matrix {
     /// times the greatest number of rows of that width; `Memory` for want of memory. The bytes are dropped then.
     pub fn from_bytes(_alloc: Global, mut bytes: Vec<u8>, width: u32) -> Result<Matrix, LoadFault>
         requires some { 1 ≤ width }
-        requires few { width ≤ 2 ^ 16 }
+        requires few { width ≤ MOST_WIDTH }
         ensures { Parses width bytes.items result }
     {
         let limit = most_bytes(width);
@@ -102,8 +103,8 @@ impl Matrix {
     pub fn rows(&self) -> u32
         ensures is { result ≡ length self.now.rows }
         ensures some { 1 ≤ result }
-        ensures few { result ≤ 2 ^ 20 }
-        ensures cells { result * self.now.width ≤ 2 ^ 30 }
+        ensures few { result ≤ MOST_ROWS }
+        ensures cells { result * self.now.width ≤ MOST_CELLS }
         ensures matrix { IsMatrix self.now.rows (length self.now.rows) self.now.width }
     {
         self.rows
@@ -113,8 +114,8 @@ impl Matrix {
     pub fn width(&self) -> u32
         ensures is { result ≡ self.now.width }
         ensures some { 1 ≤ result }
-        ensures few { result ≤ 2 ^ 16 }
-        ensures cells { length self.now.rows * result ≤ 2 ^ 30 }
+        ensures few { result ≤ MOST_WIDTH }
+        ensures cells { length self.now.rows * result ≤ MOST_CELLS }
     {
         self.width
     }

@@ -1,4 +1,5 @@
-use Rattle.std.proofs.Common.{◌*◌, ◌≤◌, ◌^◌, ◌∙◌, ℕ, length, sym, ap, subst}
+use Rattle.std.proofs.Common.{◌*◌, ◌≤◌, ◌∙◌, ℕ, length, sym, ap, subst}
+use Rattle.wire_frames.specs.declared.TheConstants.{MOST_CELLS}
 use Rattle.block_matrix.specs.Database.{Database}
 use Rattle.block_matrix.proofs.Rows.{length-rows_of}
 use Rattle.block_matrix.proofs.matrix.Matrix.width.Goals as goal
@@ -6,4 +7,4 @@ use Rattle.block_matrix.proofs.matrix.Matrix.width.Goals as goal
 pub returns-clause-cells : goal.returns-clause-cells
 returns-clause-cells c =
     let m = c.self.inside in
-    subst (λ (n : ℕ). n * m.width ≤ 2 ^ 30) (sym (length-rows_of m.width m.rows m.bytes.items) ∙ ap (λ (d : Database). length d.rows) c.self.view_is) c.self.invariant.shape.few_cells
+    subst (λ (n : ℕ). n * m.width ≤ MOST_CELLS) (sym (length-rows_of m.width m.rows m.bytes.items) ∙ ap (λ (d : Database). length d.rows) c.self.view_is) c.self.invariant.shape.few_cells
