@@ -1,13 +1,18 @@
 //! Frames and session files: which bytes stand for which fields. Numbers of more than one byte are
 //! big endian.
 //!
-//! An answer is usable exactly where it is the whole answer of status 0 to the query at hand, and a
-//! session holds the numbers and the records that it was given, in their order. Nothing is said of
-//! where the bytes come from: a server that lies behind a right header gives a usable answer.
+//! Promised: an answer is usable exactly where it is the whole answer of status 0 to the query at
+//! hand, and a session holds the numbers and the records that it was given, in their order. A reader
+//! of sessions takes a session's file in pieces, cut anywhere: the same answers come for every cut.
+//! It refuses other bytes in the first call after which they begin no session, with the length of
+//! their longest prefix that does. A file is the file of one session ([`laws`]).
 //!
-//! A reader of sessions takes a session's file in pieces, cut anywhere: the same answers come for
-//! every cut. It refuses other bytes in the first call after which they begin no session, with the
-//! length of their longest prefix that does.
+//! Not promised: where the bytes come from. A server that lies behind a right header gives a usable
+//! answer.
+//!
+//! The sizes of frames, the schemes and the limits of a session and of words stand here, and
+//! definitions and code of every crate take them from here. The places of fields are this crate's
+//! own.
 #![tactic(auto)]
 
 mod answer;
