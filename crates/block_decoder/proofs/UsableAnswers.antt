@@ -95,7 +95,7 @@ in_order_with width i high (Some payload) rest below is order =
     }
 
 bytes_if_usable : (bytes payload : List ℕ) (q : QueryHeader) → All (λ b. b < 256) bytes → usable bytes q ≡ Some payload → All (λ b. b < 256) payload
-bytes_if_usable bytes payload q small e = subst (All (λ b. b < 256)) (usable_payload bytes payload q e) (All-drop (λ b. b < 256) 24 bytes small)
+bytes_if_usable bytes payload q small e = subst (All (λ b. b < 256)) (usable_payload bytes payload q e) (All-drop (λ b. b < 256) FRAME_HEADER_LEN bytes small)
 
 -- a record of bytes has a usable payload of bytes, where it has one
 payload_is : (x : Option (List ℕ)) (payload : List ℕ) (q : QueryHeader) → IfSome x (All (λ b. b < 256)) → option_and_then (λ bytes. usable bytes q) x ≡ Some payload

@@ -48,7 +48,8 @@ Filled width answers = All (λ a. length a.payload ≡ width) answers
 
 -- whether the answer's first bytes are what the polynomials, one for each of its first columns, take at its index
 abbrev pub holds_first : List (List ℕ) → Answer → Bool
-holds_first polynomials answer = bytes_eq (take (length polynomials) answer.payload) (map (λ p. val p answer.index) polynomials)
+holds_first polynomials answer =
+    bytes_eq (take (length polynomials) answer.payload) (map (λ p. val p answer.index) polynomials)
 
 -- how many answers the polynomials hold at, in their first columns
 abbrev pub weight : List (List ℕ) → List Answer → ℕ

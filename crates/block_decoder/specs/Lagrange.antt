@@ -10,7 +10,8 @@ use Rattle.block_decoder.specs.Agreed.{answer_at, Filled, Holds}
 
 -- the sum of coefficient j times byte j
 unfoldable pub combination : List ℕ → List ℕ → ℕ
-combination coefficients bytes = sum_to (λ j. slice_index coefficients j ⊗ slice_index bytes j) (length coefficients)
+combination coefficients bytes =
+    sum_to (λ j. slice_index coefficients j ⊗ slice_index bytes j) (length coefficients)
 
 -- n bytes, all 0 but that at place j, which is 1
 abbrev pub unit : ℕ → ℕ → List ℕ
@@ -27,7 +28,8 @@ indices_at answers places = map (λ place. (answer_at answers place).index) plac
 
 -- the bytes of the answers at these places in a column
 abbrev pub bytes_at : List Answer → List ℕ → ℕ → List ℕ
-bytes_at answers places column = map (λ place. slice_index (answer_at answers place).payload column) places
+bytes_at answers places column =
+    map (λ place. slice_index (answer_at answers place).payload column) places
 
 -- payloads of so many bytes, from different indices
 pub record HasColumns (width : ℕ) (answers : List Answer) : Type 0 where

@@ -8,10 +8,11 @@ use Rattle.block_decoder.specs.declared.verdict.Verdict.TheVariants.{Listed, Too
 unfoldable pub block_line : List ℕ → List ℕ
 block_line block = encode_lower block ++ codes "\n"
 
--- a line: words, and numbers in decimal, each after a space
+-- a number in decimal, after a space
 unfoldable pub number_word : ℕ → List ℕ
 number_word n = codes " " ++ decimal n
 
+-- a line: words, and numbers
 unfoldable pub line_of : List ℕ → List ℕ → List ℕ
 line_of words numbers = words ++ (flat_map number_word numbers ++ codes "\n")
 

@@ -7,7 +7,8 @@ use Rattle.block_decoder.specs.Agreed.{answers_of}
 
 -- the payload of server i, counted from 1, where its answer is usable
 abbrev pub payload_of : Transcript → ℕ → Option (List ℕ)
-payload_of session i = option_and_then (λ bytes. usable bytes (asked session.params i)) (slice_index_or session.records (i - 1) None)
+payload_of session i =
+    option_and_then (λ bytes. usable bytes (asked session.params i)) (slice_index_or session.records (i - 1) None)
 
 -- the indices, and the payloads one after another, are those of the usable answers
 pub record IsCollected (session : Transcript) (indices payloads : List ℕ) : Type 0 where

@@ -8,18 +8,20 @@ use Rattle.block_decoder.specs.Agreed.{Lists}
 use Rattle.block_decoder.specs.declared.verdict.Verdict.{Verdict}
 use Rattle.block_decoder.specs.declared.verdict.Verdict.TheVariants.{Listed, TooFew, TooWeak}
 
--- fewer than h answers; else h answers may agree on too many blocks to list them; else the agreed blocks
+-- fewer than h answers; else too weak an agreement to bound the blocks; else the agreed blocks
 abbrev pub IsDecided : List Answer → ℕ → ℕ → ℕ → Verdict → Type 0
 IsDecided all width t h (TooFew k agree) = (k ≡ length all) × (agree ≡ h) × (length all < h)
 IsDecided all width t h (TooWeak k degree agree) =
     (k ≡ length all) × (degree ≡ t) × (agree ≡ h) × (h ≤ length all) × (h * h ≤ length all * t)
-IsDecided all width t h (Listed blocks) = (h ≤ length all) × (length all * t < h * h) × Lists blocks all width t h
+IsDecided all width t h (Listed blocks) =
+    (h ≤ length all) × (length all * t < h * h) × Lists blocks all width t h
 
 -- the answers of fewer than n servers; else the sum of all is the one block (Chor, Goldreich, Kushilevitz and Sudan 1995)
 abbrev pub IsCombined : List Answer → ℕ → ℕ → ℕ → Verdict → Type 0
 IsCombined all width n h (TooFew k agree) = (k ≡ length all) × (agree ≡ h) × (length all < n)
 IsCombined all width n h (TooWeak k degree agree) = ⊥
-IsCombined all width n h (Listed blocks) = (n ≤ length all) × (blocks ≡ combined width (map (λ a. a.payload) all) ∷ [])
+IsCombined all width n h (Listed blocks) =
+    (n ≤ length all) × (blocks ≡ combined width (map (λ a. a.payload) all) ∷ [])
 
 -- the verdict on a session, by its usable answers: in Shamir's scheme, and in the XOR scheme
 pub record IsVerdict (session : Transcript) (verdict : Verdict) : Type 0 where
@@ -46,7 +48,8 @@ pub record HasVerdict (session : Transcript) : Type 0 where
 
 -- any two verdicts on the session are one
 abbrev pub HasOneVerdict : Transcript → Type 0
-HasOneVerdict session = (one other : Verdict) → IsVerdict session one → IsVerdict session other → one ≡ other
+HasOneVerdict session =
+    (one other : Verdict) → IsVerdict session one → IsVerdict session other → one ≡ other
 
 -- the verdict lists one block, or none
 abbrev pub ListsAtMostOne : Verdict → Type 0

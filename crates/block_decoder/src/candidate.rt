@@ -87,7 +87,8 @@ impl Candidate {
         ensures constants { self.new.constants.items ≡ self.old.constants.items }
         ensures bytes { self.new.bytes.items ≡ self.old.bytes.items }
         ensures size { length self.new.holds.items ≡ length self.old.holds.items }
-        ensures holds { EachIndex self.new.holds.items (λ place. slice_index_or self.new.holds.items place false ≡ true) }
+        ensures holds { EachIndex self.new.holds.items
+            (λ place. slice_index_or self.new.holds.items place false ≡ true) }
     {
         for place in 0..self.holds.len() {
             self.holds[place] = true;
@@ -97,7 +98,8 @@ impl Candidate {
     /// Takes the bytes of the chosen answers in a column.
     fn read(&mut self, answers: &PackedAnswers<'_>, places: &[usize], column: usize)
         requires room { length self.old.bytes.items ≡ length places.now }
-        requires filled { All (λ p. (p < length answers.now) × (column < length (answer_at answers.now p).payload)) places.now }
+        requires filled { All (λ p. (p < length answers.now)
+            × (column < length (answer_at answers.now p).payload)) places.now }
         ensures constants { self.new.constants.items ≡ self.old.constants.items }
         ensures holds { self.new.holds.items ≡ self.old.holds.items }
         ensures bytes { self.new.bytes.items ≡ bytes_at answers.now places.now column }
@@ -111,7 +113,8 @@ impl Candidate {
     fn test(&mut self, answers: &PackedAnswers<'_>, lagrange: &Lagrange, column: usize)
         requires room { length self.old.holds.items ≡ length answers.now }
         requires lagrange { length lagrange.now.at_answers.items ≡ length answers.now }
-        requires sizes { All (λ o. MatchOption o ⊤ (λ v. length v.items ≡ length self.old.bytes.items)) lagrange.now.at_answers.items }
+        requires sizes { All (λ o. MatchOption o ⊤ (λ v. length v.items ≡ length self.old.bytes.items))
+            lagrange.now.at_answers.items }
         requires filled { All (λ a. column < length a.payload) answers.now }
         ensures constants { self.new.constants.items ≡ self.old.constants.items }
         ensures bytes { self.new.bytes.items ≡ self.old.bytes.items }

@@ -15,7 +15,8 @@ use wire_frames::Session;
 /// is the block, and without one of them nothing is known of it. Memory is taken for the block and its listing.
 pub(crate) fn combine_all(alloc: Global, session: &Session) -> Result<Verdict, AllocError>
     requires { length session.now.records ≡ session.now.params.n }
-    ensures { IfOk result (IsCombined (answers session.now) session.now.params.s session.now.params.n session.now.params.h) }
+    ensures { IfOk result (IsCombined (answers session.now)
+        session.now.params.s session.now.params.n session.now.params.h) }
 {
     let params = session.params();
     let mut sum = vec![in alloc; 0; params.s as usize]?;

@@ -105,8 +105,8 @@ fn list_agreed<C: Ledger>(
 }
 
 /// Johnson's count of the blocks on which `h` of `k` answers can agree, with polynomials of degree at most `t`:
-/// `k * (h - t)` over `h * h - k * t`, rounded down. It is the number alone: that a verdict lists no more isn't
-/// shown here. With k 5, t 1, h 3 it is 2.
+/// `k * (h - t)` over `h * h - k * t`, rounded down. There are at most 255 answers, since the number of a server is a
+/// byte and not 0. It is the number alone: that a verdict lists no more isn't shown here. With k 5, t 1, h 3 it is 2.
 pub fn bound(k: u32, t: u32, h: u32) -> u32
     requires degree { (1 ≤ t) × (t < h) }
     requires agreement { (h ≤ k) × (k ≤ 255) }

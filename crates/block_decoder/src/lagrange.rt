@@ -54,7 +54,8 @@ impl Lagrange {
     /// Whether that polynomial takes `byte` at the index of the answer at `place`, as it does at a chosen one.
     pub fn takes(&self, place: usize, bytes: &[u8], byte: u8) -> bool
         requires within { place < length self.now.at_answers.items }
-        requires size { MatchOption (slice_index_or self.now.at_answers.items place None) ⊤ (λ v. length v.items ≡ length bytes.now) }
+        requires size { MatchOption (slice_index_or self.now.at_answers.items place None) ⊤
+            (λ v. length v.items ≡ length bytes.now) }
         ensures { result ≡ takes (slice_index_or self.now.at_answers.items place None) bytes.now byte }
     {
         match &self.at_answers[place] {

@@ -1,4 +1,4 @@
-//! The laws of agreement, each as a call whose contract is the law. A call changes nothing.
+//! The laws of verdicts and of agreement, each as a call whose contract is the law. A call changes nothing.
 
 ghost use Rattle.std.specs.Prelude.{◌≡◌, ◌+◌, ◌*◌, ◌<◌, ◌≤◌, length};
 ghost use Rattle.std.specs.List.Sorted.{IsStrictlyIncreasing};

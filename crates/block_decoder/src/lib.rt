@@ -30,6 +30,6 @@ pub use answers::ServerAnswers;
 pub use decoder::{bound, decide};
 pub use judging::judge;
 pub use listing::Listing;
-pub use plain::plain_listing;
+pub use plain::{MOST_PLAIN_DEGREE, plain_listing};
 pub use verdict::Verdict;
 pub use write::write_verdict;

@@ -7,12 +7,16 @@ ghost use Rattle.std.specs.List.Sorted.{IsStrictlySortedBy};
 ghost use Rattle.std.specs.Ordering.{nat_cmp};
 ghost use Rattle.gf256.specs.Polynomial.{val};
 ghost use Rattle.block_decoder.specs.Agreed.{answers_of, constants_of, holds_first, weight, Filled, Lists};
+ghost use Rattle.block_decoder.specs.declared.plain.TheConstants.{MOST_PLAIN_DEGREE};
 ghost use Rattle.block_decoder.specs.Gains.{Gains};
 ghost use Rattle.block_decoder.specs.Numbered.{numbered, all_numbered, Continues};
 
 use crate::Listing;
 use crate::answers::{Answer, PackedAnswers};
 use std::alloc::{AllocError, Global};
+
+/// The greatest degree that [`plain_listing`] takes: the numbers of its polynomials just fit 64 bits.
+pub const MOST_PLAIN_DEGREE: u32 = 6;
 
 /// What is searched for: polynomials of degree at most `degree`, one for each of `width` columns, that hold at
 /// `agreement` answers or more. A polynomial is written as a number, whose lowest `degree` + 1 bytes are its
@@ -23,7 +27,7 @@ struct Search<'a> {
     degree: u32,
     agreement: usize,
     width: usize,
-    ghost small: { degree ≤ 6 },
+    ghost small: { degree ≤ MOST_PLAIN_DEGREE },
     ghost filled: { Filled width answers },
 }
 
@@ -31,7 +35,7 @@ struct Search<'a> {
 /// every polynomial in every column. It uses no interpolation, no inverse and no law of the field.
 ///
 /// The answers are the `indices` and, in `bytes`, their payloads of `s` bytes one after another; the polynomials
-/// have degree at most `t`. With indices 1, 2, 3, the payloads `cfd2`, `4073`, `cce5` and t 1, h 3, s 2, the
+/// have degree at most `t`, which is at most [`MOST_PLAIN_DEGREE`]. With indices 1, 2, 3, the payloads `cfd2`, `4073`, `cce5` and t 1, h 3, s 2, the
 /// one block is `4344`.
 ///
 /// For small inputs only: for each vector of polynomials in the first columns that still holds at `h` answers,
@@ -50,7 +54,7 @@ pub fn plain_listing(
     s: u32,
 ) -> Result<Listing, AllocError>
     requires fit { length bytes.now ≡ length indices.now * s }
-    requires degree { t ≤ 6 }
+    requires degree { t ≤ MOST_PLAIN_DEGREE }
     ensures { IfOk result (λ l. Lists l (answers_of s indices.now bytes.now) s t h) }
 {
     let search = Search {

@@ -28,7 +28,8 @@ fn write_number<P: Ports>(ports: &mut P, n: u64) -> Result<(), Failed>
 
 /// Numbers in decimal, each after a space.
 fn write_numbers<P: Ports>(ports: &mut P, numbers: &[u64]) -> Result<(), Failed>
-    ensures written { Written OUTPUT (flat_map number_word numbers.now) result (P.world ports.old) (P.world ports.new) }
+    ensures written { Written OUTPUT (flat_map number_word numbers.now)
+        result (P.world ports.old) (P.world ports.new) }
     ensures others { Touches OUTPUT (P.world ports.old) (P.world ports.new) }
 {
     for n in numbers {
@@ -40,7 +41,8 @@ fn write_numbers<P: Ports>(ports: &mut P, numbers: &[u64]) -> Result<(), Failed>
 /// A line of words and numbers.
 fn write_line<P: Ports>(ports: &mut P, words: &str, numbers: &[u64]) -> Result<(), Failed>
     requires { 0 < length words.now }
-    ensures written { Written OUTPUT (line_of words.now numbers.now) result (P.world ports.old) (P.world ports.new) }
+    ensures written { Written OUTPUT (line_of words.now numbers.now)
+        result (P.world ports.old) (P.world ports.new) }
     ensures others { Touches OUTPUT (P.world ports.old) (P.world ports.new) }
 {
     write_all(ports, Port::Output, words.as_bytes())?;
@@ -86,7 +88,8 @@ fn write_block<P: Ports>(ports: &mut P, block: &[u8]) -> Result<(), Failed>
 
 /// The lines of blocks.
 fn write_blocks<P: Ports>(ports: &mut P, blocks: &[Vec<u8>]) -> Result<(), Failed>
-    ensures written { Written OUTPUT (flat_map block_line (map (λ b. b.items) blocks.now)) result (P.world ports.old) (P.world ports.new) }
+    ensures written { Written OUTPUT (flat_map block_line (map (λ b. b.items) blocks.now))
+        result (P.world ports.old) (P.world ports.new) }
     ensures others { Touches OUTPUT (P.world ports.old) (P.world ports.new) }
 {
     for block in blocks {
@@ -97,7 +100,8 @@ fn write_blocks<P: Ports>(ports: &mut P, blocks: &[Vec<u8>]) -> Result<(), Faile
 
 /// The number of blocks, and the lines of them.
 fn write_listing<P: Ports>(ports: &mut P, listing: &Listing) -> Result<(), Failed>
-    ensures written { Written OUTPUT (text (Verdict.Listed listing.now)) result (P.world ports.old) (P.world ports.new) }
+    ensures written { Written OUTPUT (text (Verdict.Listed listing.now))
+        result (P.world ports.old) (P.world ports.new) }
     ensures others { Touches OUTPUT (P.world ports.old) (P.world ports.new) }
 {
     write_line(ports, "blocks", &[listing.len() as u64])?;
