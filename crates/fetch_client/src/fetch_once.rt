@@ -9,7 +9,7 @@ ghost use Rattle.fetch_client.specs.Plan.{IsPlan, params_of, need};
 ghost use Rattle.block_decoder.specs.Verdict.{IsVerdict};
 ghost use Rattle.fetch_client.specs.Sent.{frame_len, queries_from, session_number};
 ghost use Rattle.fetch_client.specs.Honest.{FindsHonestBlock};
-ghost use Rattle.fetch_client.specs.Fetched.{AsksServers, CountsColumns, Fetches, TouchesLinks, most_columns};
+ghost use Rattle.fetch_client.specs.Fetched.{AsksServers, FetchCounts, Fetches, TouchesLinks, columns_of_answers};
 
 use crate::coins::{NUMBER_LEN, session_number_of, take_coins};
 use crate::laws::honest_block_is_found;
@@ -97,7 +97,7 @@ fn conclude<C: Ledger>(
     requires all { length session.now.records ≡ plan.now.n }
     ensures judged { IfOk result (IsVerdict session.now) }
     ensures found { IfOk result (FindsHonestBlock session.now (queries_from coins.now) plan.now.block) }
-    ensures cols { cols.new ≤ cols.old + most_columns plan.now (length (answers session.now)) }
+    ensures cols { cols.new ≤ cols.old + columns_of_answers plan.now (length (answers session.now)) }
     ensures xor { plan.now.scheme ≡ XOR → cols.new ≡ cols.old }
 {
     let verdict = judge(alloc, session, cols)?;
@@ -132,7 +132,7 @@ pub fn fetch<C: Ledger, P: Ports>(
     ensures fetched { Fetches plan.now (map string_bytes addresses.now) result
         (P.world ports.old) (P.world ports.new) }
     ensures others { TouchesLinks plan.now.n (P.world ports.old) (P.world ports.new) }
-    ensures cols { CountsColumns plan.now result cols.old cols.new }
+    ensures cols { FetchCounts plan.now result cols.old cols.new }
     ensures xor { plan.now.scheme ≡ XOR → cols.new ≡ cols.old }
 {
     let mut room = room_for(alloc, plan)?;

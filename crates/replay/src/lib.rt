@@ -11,7 +11,7 @@
 ghost use Rattle.std.specs.Prelude.{◌≡◌, length, vec_len, IfOk};
 ghost use Rattle.pir_ports.specs.Number.{INPUT};
 ghost use Rattle.pir_ports.specs.Moves.{Touches};
-ghost use Rattle.replay.specs.Replayed.{ReadTo, Judged, Spells, CountsColumns, CountsNone};
+ghost use Rattle.replay.specs.Replayed.{ReadTo, Judged, Spells, ReplayCounts, CountsNone};
 
 use block_decoder::{Verdict, judge};
 use pir_ports::{Failed, Port, Ports};
@@ -122,7 +122,7 @@ pub fn replay<C: Ledger, P: Ports>(
 ) -> Result<Verdict, ReplayFault>
     ensures replayed { ReadTo Judged result (P.world ports.old) (P.world ports.new) }
     ensures others { Touches INPUT (P.world ports.old) (P.world ports.new) }
-    ensures cols { CountsColumns ((P.world ports.old).at INPUT).holds cols.old cols.new }
+    ensures cols { ReplayCounts ((P.world ports.old).at INPUT).holds cols.old cols.new }
     ensures unjudged { CountsNone result cols.old cols.new }
 {
     let mut buffer = piece_buffer(alloc)?;
