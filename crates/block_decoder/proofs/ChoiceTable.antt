@@ -1,5 +1,5 @@
 -- The table of choices: its length, that each choice stands in it, and that nothing else does.
-use Rattle.std.proofs.Common.{◌≡◌, ◌≢◌, ℕ, zero, suc, ◌+◌, ◌-◌, ◌<◌, List, [], ◌∷◌, ◌++◌, length, map, take, get_or, All, AllPairs, Contains, refl, sym, ap, ap₂, subst, ◌∙◌, arith, length-append, inl, inr}
+use Rattle.std.proofs.Common.{◌≡◌, ◌≢◌, ℕ, zero, suc, ◌+◌, ◌-◌, ◌<◌, ◌≤◌, List, [], ◌∷◌, ◌++◌, length, map, take, get_or, All, AllPairs, Contains, refl, sym, ap, ap₂, subst, ◌∙◌, arith, length-append, inl, inr}
 use Rattle.std.proofs.lemmas.List.{length-map, take_more, take_all, get_or-take, length-take-le, get_or-map, get_or_default}
 use Rattle.std.proofs.lemmas.List.Elements.{All-append, All-map, All-cons, All-nil, Contains-append_left, Contains-append_right}
 use Rattle.std.proofs.lemmas.List.Quantifiers.{all_pairs_push}
@@ -34,6 +34,13 @@ length-choices zero (suc n) = refl
 length-choices (suc k) (suc n) =
     length-append (choices k (suc n)) (map (λ choice. choice ++ k ∷ []) (choices k n))
     ∙ ap₂ (λ (x y : ℕ). x + y) (length-choices k (suc n)) (length-map (choices k n) (λ choice. choice ++ k ∷ []) ∙ length-choices k n)
+
+-- there is a choice of no more places than there are
+pub some_choices : (k n : ℕ) → n ≤ k → 0 < binomial k n
+unfolding binomial
+some_choices k zero e = omega arith
+some_choices zero (suc n) e = absurd (omega arith)
+some_choices (suc k) (suc n) e = let some = some_choices k n (omega arith) in omega (arith, some)
 
 -- n of the first k places, ascending
 pub record IsChoice (k n : ℕ) (choice : List ℕ) : Type 0 where

@@ -15,3 +15,6 @@ pub mod Weight
 pub mod OneBlock
 pub mod UsableAnswers
 pub mod Continues
+pub mod Members
+pub mod OneVerdict
+pub mod SomeVerdict

@@ -1,9 +1,7 @@
 -- Where the answers that agree are many, they agree on one block at most.
 use Rattle.std.proofs.Common.{◌≡◌, ℕ, ◌+◌, ◌-◌, ◌*◌, ◌<◌, ◌≤◌, ◌&&◌, Bool, true, List, [], length, take, get_or, count_by, All, Contains, sym, ap, subst, ◌∙◌, arith, inl, inr}
-use Rattle.std.specs.declared.cmp.Ordering.{Ordering}
-use Rattle.std.specs.declared.cmp.Ordering.TheVariants.{Less, Greater}
 use Rattle.std.specs.Cmp.Lexicographic.{slice_cmp}
-use Rattle.std.specs.Ordering.{nat_cmp, ordering_reverse}
+use Rattle.std.specs.Ordering.{nat_cmp}
 use Rattle.std.proofs.Math.Nat.{mul-le-mul_left}
 use Rattle.std.proofs.lemmas.Bool.{and_parts, cases_lt}
 use Rattle.std.proofs.lemmas.Cmp.{nat_list_cmp_total}
@@ -22,6 +20,7 @@ use Rattle.block_decoder.specs.declared.verdict.Verdict.{Verdict}
 use Rattle.block_decoder.specs.declared.verdict.Verdict.TheVariants.{Listed, TooFew, TooWeak}
 use Rattle.block_decoder.proofs.Agreement.{filled-at, heavy_from_agreed, holds_first-Decides}
 use Rattle.block_decoder.proofs.Columns.{same_polynomials}
+use Rattle.block_decoder.proofs.Members.{not_before_itself}
 use Rattle.block_decoder.proofs.Places.{places_of, ascending-places_of, within-places_of, pass-places_of, length-places_of, AllPairs-take, count_by_both}
 
 -- polynomials that hold together at more than t answers are equal
@@ -59,12 +58,6 @@ one_block answers width t h one other columns close first second =
     let same = same_from_overlap answers width t p.polynomials q.polynomials columns p.one_a_column q.one_a_column p.degree q.degree (omega (arith, m, n, both, close)) in
     p.constants ∙ ap constants_of same ∙ sym q.constants
 
--- a block does not come before itself
-not_before_itself : (block : List ℕ) → ¬ (slice_cmp nat_cmp block block ≡ Less)
-not_before_itself block e =
-    let turned : ◌≡◌ {A = Ordering} Less Greater = sym e ∙ nat_list_cmp_total.antisymm block block ∙ ap ordering_reverse e in
-    cc
-
 -- and a listing has one block at most
 pub listed_alone : (answers : List Answer) (width t h : ℕ) (blocks : List (List ℕ)) → HasColumns width answers → length answers + t < 2 * h
     → Lists blocks answers width t h → length blocks ≤ 1
@@ -76,7 +69,7 @@ listed_alone answers width t h blocks columns close lists =
           let same = one_block answers width t h (get_or blocks 0 []) (get_or blocks 1 []) columns close
           ((lists.exact (get_or blocks 0 [])).0 first) ((lists.exact (get_or blocks 1 [])).0 second) in
           let before = Less-from_sorted (slice_cmp nat_cmp) blocks 0 1 [] lists.ascending (omega arith) many in
-          absurd (not_before_itself (get_or blocks 1 []) (ap (λ (b : List ℕ). slice_cmp nat_cmp b (get_or blocks 1 [])) (sym same) ∙ before))
+          absurd (not_before_itself nat_list_cmp_total (get_or blocks 1 []) (ap (λ (b : List ℕ). slice_cmp nat_cmp b (get_or blocks 1 [])) (sym same) ∙ before))
       | inr few ↦ few
     ]
 

@@ -9,7 +9,8 @@ use Rattle.wire_frames.specs.Answer.{Answer}
 -- the answers that stand in two slices: the indices, and the payloads of so many bytes one after another
 abbrev pub answers_of : ℕ → List ℕ → List ℕ → List Answer
 answers_of width [] bytes = []
-answers_of width (index ∷ indices) bytes = record { index = index; payload = take width bytes } ∷ answers_of width indices (drop width bytes)
+answers_of width (index ∷ indices) bytes =
+    record { index = index; payload = take width bytes } ∷ answers_of width indices (drop width bytes)
 
 -- the answer at a place
 abbrev pub answer_at : List Answer → ℕ → Answer

@@ -54,11 +54,13 @@ pub record IsLagrange (answers : List Answer) (places at_zero : List ℕ) (at_an
   pub sizes : All (λ o. MatchOption o ⊤ (λ v. length v.items ≡ length places)) at_answers
   pub polynomial : (bytes : List ℕ) → length bytes ≡ length places → All (λ b. b < 256) bytes
       → (p : List ℕ) × Interpolates (indices_at answers places) bytes p × (combination at_zero bytes ≡ coef p 0)
-      × ((place : ℕ) → place < length answers → MatchOption (slice_index_or at_answers place None) (Contains places place) (λ v. combination v.items bytes ≡ val p (answer_at answers place).index))
+      × ((place : ℕ) → place < length answers → MatchOption (slice_index_or at_answers place None) (Contains places place)
+      (λ v. combination v.items bytes ≡ val p (answer_at answers place).index))
 
 -- the polynomials of degree at most t, one for each column, that hold at the chosen answers, and no others do
 pub record IsThrough (answers : List Answer) (width t : ℕ) (places : List ℕ) (polynomials : List (List ℕ)) : Type 0 where
   pub one_a_column : length polynomials ≡ width
   pub degree : All (IsPolynomial t) polynomials
   pub agree : All (λ p. Holds polynomials (answer_at answers p)) places
-  pub only : (other : List (List ℕ)) → length other ≡ width → All (IsPolynomial t) other → All (λ p. Holds other (answer_at answers p)) places → other ≡ polynomials
+  pub only : (other : List (List ℕ)) → length other ≡ width → All (IsPolynomial t) other
+      → All (λ p. Holds other (answer_at answers p)) places → other ≡ polynomials

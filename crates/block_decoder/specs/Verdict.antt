@@ -1,5 +1,6 @@
 -- The verdict on the answers of a session.
-use Rattle.std.specs.Prelude.{◌≡◌, ℕ, ◌*◌, ◌<◌, ◌≤◌, List, [], ◌∷◌, length, map}
+use Rattle.std.specs.Prelude.{◌≡◌, ℕ, ◌*◌, ◌<◌, ◌≤◌, ◌⊎◌, List, [], ◌∷◌, length, map}
+use Rattle.wire_frames.specs.declared.scheme.TheConstants.{SHAMIR, XOR}
 use Rattle.wire_frames.specs.Answer.{Answer, answers}
 use Rattle.wire_frames.specs.Session.{Transcript}
 use Rattle.chor_xor.specs.Chosen.{combined}
@@ -10,7 +11,8 @@ use Rattle.block_decoder.specs.declared.verdict.Verdict.TheVariants.{Listed, Too
 -- fewer than h answers; else h answers may agree on too many blocks to list them; else the agreed blocks
 abbrev pub IsDecided : List Answer → ℕ → ℕ → ℕ → Verdict → Type 0
 IsDecided all width t h (TooFew k agree) = (k ≡ length all) × (agree ≡ h) × (length all < h)
-IsDecided all width t h (TooWeak k degree agree) = (k ≡ length all) × (degree ≡ t) × (agree ≡ h) × (h ≤ length all) × (h * h ≤ length all * t)
+IsDecided all width t h (TooWeak k degree agree) =
+    (k ≡ length all) × (degree ≡ t) × (agree ≡ h) × (h ≤ length all) × (h * h ≤ length all * t)
 IsDecided all width t h (Listed blocks) = (h ≤ length all) × (length all * t < h * h) × Lists blocks all width t h
 
 -- the answers of fewer than n servers; else the sum of all is the one block (Chor, Goldreich, Kushilevitz and Sudan 1995)
@@ -21,8 +23,30 @@ IsCombined all width n h (Listed blocks) = (n ≤ length all) × (blocks ≡ com
 
 -- the verdict on a session, by its usable answers: in Shamir's scheme, and in the XOR scheme
 pub record IsVerdict (session : Transcript) (verdict : Verdict) : Type 0 where
-  pub shamir : session.params.scheme ≡ 1 → IsDecided (answers session) session.params.s session.params.t session.params.h verdict
-  pub xor : session.params.scheme ≡ 2 → IsCombined (answers session) session.params.s session.params.n session.params.h verdict
+  pub shamir : session.params.scheme ≡ SHAMIR
+      → IsDecided (answers session) session.params.s session.params.t session.params.h verdict
+  pub xor : session.params.scheme ≡ XOR
+      → IsCombined (answers session) session.params.s session.params.n session.params.h verdict
+
+-- k answers are fewer than h, or so weak an agreement bounds no list of blocks
+abbrev pub IsUnlisted : ℕ → ℕ → ℕ → Type 0
+IsUnlisted k t h = (k < h) ⊎ (h * h ≤ k * t)
+
+-- how many columns are interpolated at least: one for a listing, and all where it has a block
+abbrev pub least_columns : ℕ → Verdict → ℕ
+least_columns width (TooFew k agree) = 0
+least_columns width (TooWeak k degree agree) = 0
+least_columns width (Listed []) = 1
+least_columns width (Listed (block ∷ blocks)) = width
+
+-- some verdict is that on the session
+pub record HasVerdict (session : Transcript) : Type 0 where
+  pub verdict : Verdict
+  pub is : IsVerdict session verdict
+
+-- any two verdicts on the session are one
+abbrev pub HasOneVerdict : Transcript → Type 0
+HasOneVerdict session = (one other : Verdict) → IsVerdict session one → IsVerdict session other → one ≡ other
 
 -- the verdict lists one block, or none
 abbrev pub ListsAtMostOne : Verdict → Type 0

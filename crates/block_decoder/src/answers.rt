@@ -1,9 +1,19 @@
-//! The answers of a session, as they lie in two slices.
+//! The answers of servers, as [`decide`](crate::decide) takes them: the numbers of the servers, ascending, and the payloads in
+//! the same order, one after another.
 
 ghost use Rattle.std.specs.Prelude.{◌≡◌, ◌*◌, ◌<◌, length, slice_index};
 ghost use Rattle.block_decoder.specs.Agreed.{answers_of, answer_at};
 
 use std::marker::Model;
+
+/// What servers answered.
+#[derive(Drop)]
+pub struct ServerAnswers {
+    /// The numbers of the servers, ascending.
+    pub indices: Vec<u8>,
+    /// Their payloads in the same order, of one width, one after another.
+    pub payloads: Vec<u8>,
+}
 
 /// What one server answered.
 #[derive(Drop)]
@@ -36,15 +46,15 @@ impl<'a> Answer<'a> {
     }
 }
 
-/// Answers of one width.
+/// The same in two slices that are borrowed, with their width, so that each answer can be looked up.
 #[derive(Drop)]
-pub struct Answers<'a> {
+pub struct PackedAnswers<'a> {
     indices: &'a [u8],
     bytes: &'a [u8],
     width: usize,
 }
 
-impl<'a> Model for Answers<'a> {
+impl<'a> Model for PackedAnswers<'a> {
     ghost use Rattle.std.specs.Prelude.{◌≡◌, ◌*◌, List, length};
     ghost use Rattle.wire_frames.specs.Answer.{Answer as ServerAnswer};
     ghost use Rattle.block_decoder.specs.Agreed.{answers_of};
@@ -56,13 +66,13 @@ impl<'a> Model for Answers<'a> {
     ghost invariant = { λ a. length a.bytes.now ≡ length a.indices.now * a.width };
 }
 
-impl<'a> Answers<'a> {
+impl<'a> PackedAnswers<'a> {
     /// The servers' indices, and their payloads of `width` bytes one after another.
     pub fn new(indices: &'a [u8], bytes: &'a [u8], width: usize) -> Self
         requires { length bytes.now ≡ length indices.now * width }
         ensures { result ≡ answers_of width indices.now bytes.now }
     {
-        Answers {
+        PackedAnswers {
             indices,
             bytes,
             width,

@@ -2,10 +2,10 @@
 
 ghost use Rattle.std.specs.Prelude.{◌≡◌, ◌+◌, ◌<◌, ◌≤◌, ◌↔◌, ◌&&◌, ⊤, ℕ, List, true, false, None, MatchOption, All, length, slice_index, slice_index_or, count_by, IsTrue, IfOk, EachIndex};
 ghost use Rattle.block_decoder.specs.Agreed.{answer_at, constants_of, weight, Filled};
-ghost use Rattle.block_decoder.specs.Candidate.{HasRoom};
+ghost use Rattle.block_decoder.specs.Candidate.{HasRoom, KeepsMarks, Tells};
 ghost use Rattle.block_decoder.specs.Lagrange.{bytes_at, takes, AreChosen, HasColumns, IsLagrange, IsThrough};
 
-use crate::answers::Answers;
+use crate::answers::PackedAnswers;
 use crate::lagrange::Lagrange;
 use std::alloc::{AllocError, Global};
 use std::sync::ledger::Ledger;
@@ -16,9 +16,9 @@ use uni_poly::steps::Steps;
 #[derive(Drop)]
 pub struct Candidate {
     constants: Vec<u8>,
-    // The bytes of the chosen answers in the column at hand.
+    /// The bytes of the chosen answers in the column at hand.
     bytes: Vec<u8>,
-    // For each answer, whether the polynomials hold at it in all columns so far.
+    /// For each answer, whether the polynomials hold at it in all columns so far.
     holds: Vec<bool>,
 }
 
@@ -51,7 +51,7 @@ impl Candidate {
     /// again for each other answer that still holds.
     pub fn interpolate<C: Ledger>(
         &mut self,
-        answers: &Answers<'_>,
+        answers: &PackedAnswers<'_>,
         places: &[usize],
         lagrange: &Lagrange,
         h: usize,
@@ -64,9 +64,10 @@ impl Candidate {
         requires lagrange { IsLagrange answers.now places.now lagrange.now.at_zero.items lagrange.now.at_answers.items }
         requires enough { h ≤ length answers.now }
         ensures room { HasRoom (length self.old.constants.items) (length places.now) (length answers.now) self.new }
-        ensures told { (t : ℕ) (polynomials : List (List ℕ)) → length places.now ≡ t + 1 → IsThrough answers.now (length self.old.constants.items) t places.now polynomials
-            → (IsTrue result ↔ (h ≤ weight polynomials answers.now)) × (IsTrue result → self.new.constants.items ≡ constants_of polynomials) }
+        ensures told { Tells answers.now (length self.old.constants.items) h places.now result self.new.constants.items }
         ensures cols { cols.new ≤ cols.old + length self.old.constants.items }
+        ensures some { 0 < length self.old.constants.items → cols.old < cols.new }
+        ensures all { IsTrue result → cols.new ≡ cols.old + length self.old.constants.items }
     {
         self.clear();
         for column in 0..self.constants.len() {
@@ -81,7 +82,7 @@ impl Candidate {
         true
     }
 
-    // Before the first column all answers hold.
+    /// Before the first column all answers hold.
     fn clear(&mut self)
         ensures constants { self.new.constants.items ≡ self.old.constants.items }
         ensures bytes { self.new.bytes.items ≡ self.old.bytes.items }
@@ -93,8 +94,8 @@ impl Candidate {
         }
     }
 
-    // Takes the bytes of the chosen answers in a column.
-    fn read(&mut self, answers: &Answers<'_>, places: &[usize], column: usize)
+    /// Takes the bytes of the chosen answers in a column.
+    fn read(&mut self, answers: &PackedAnswers<'_>, places: &[usize], column: usize)
         requires room { length self.old.bytes.items ≡ length places.now }
         requires filled { All (λ p. (p < length answers.now) × (column < length (answer_at answers.now p).payload)) places.now }
         ensures constants { self.new.constants.items ≡ self.old.constants.items }
@@ -106,8 +107,8 @@ impl Candidate {
         }
     }
 
-    // Takes the mark from the answers that have another byte in the column than the polynomial.
-    fn test(&mut self, answers: &Answers<'_>, lagrange: &Lagrange, column: usize)
+    /// Takes the mark from the answers that have another byte in the column than the polynomial.
+    fn test(&mut self, answers: &PackedAnswers<'_>, lagrange: &Lagrange, column: usize)
         requires room { length self.old.holds.items ≡ length answers.now }
         requires lagrange { length lagrange.now.at_answers.items ≡ length answers.now }
         requires sizes { All (λ o. MatchOption o ⊤ (λ v. length v.items ≡ length self.old.bytes.items)) lagrange.now.at_answers.items }
@@ -115,8 +116,8 @@ impl Candidate {
         ensures constants { self.new.constants.items ≡ self.old.constants.items }
         ensures bytes { self.new.bytes.items ≡ self.old.bytes.items }
         ensures size { length self.new.holds.items ≡ length self.old.holds.items }
-        ensures holds { EachIndex self.new.holds.items (λ place. slice_index_or self.new.holds.items place false ≡ (slice_index_or self.old.holds.items place false
-            && takes (slice_index_or lagrange.now.at_answers.items place None) self.old.bytes.items (slice_index (answer_at answers.now place).payload column))) }
+        ensures holds { KeepsMarks answers.now column self.old.bytes.items lagrange.now.at_answers.items
+            self.old.holds.items self.new.holds.items }
     {
         for place in 0..self.holds.len() {
             if self.holds[place]
@@ -127,7 +128,7 @@ impl Candidate {
         }
     }
 
-    // How many answers the polynomials hold at in the columns so far.
+    /// How many answers the polynomials hold at in the columns so far.
     fn count(&self) -> usize
         ensures { result ≡ count_by (λ h. h) self.now.holds.items }
     {

@@ -25,7 +25,7 @@ pub fn choices_of(alloc: Global, count: usize, chosen: usize) -> Result<Vec<Vec<
     Ok(all)
 }
 
-// The places, and one more after them.
+/// The places, and one more after them.
 fn with_place(alloc: Global, places: &[usize], place: usize) -> Result<Vec<usize>, AllocError>
     ensures { IfOk result (λ v. v.items ≡ places.now ++ place ∷ []) }
 {

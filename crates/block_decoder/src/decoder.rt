@@ -2,13 +2,14 @@
 
 ghost use Rattle.std.specs.Prelude.{◌≡◌, ◌≢◌, ◌+◌, ◌*◌, ◌^◌, ◌<◌, ◌≤◌, ◌⊎◌, length, All, IfOk};
 ghost use Rattle.std.specs.List.Sorted.{IsStrictlyIncreasing};
+ghost use Rattle.wire_frames.specs.declared.TheConstants.{MOST_SERVERS};
 ghost use Rattle.block_decoder.specs.Agreed.{answers_of, Lists};
 ghost use Rattle.block_decoder.specs.Choices.{binomial};
 ghost use Rattle.block_decoder.specs.Lagrange.{HasColumns};
 ghost use Rattle.block_decoder.specs.Numbers.{bound_of};
-ghost use Rattle.block_decoder.specs.Verdict.{IsDecided};
+ghost use Rattle.block_decoder.specs.Verdict.{IsDecided, IsUnlisted, least_columns};
 
-use crate::answers::Answers;
+use crate::answers::PackedAnswers;
 use crate::candidate::Candidate;
 use crate::choices::choices_of;
 use crate::lagrange::Lagrange;
@@ -26,10 +27,13 @@ use uni_poly::steps::Steps;
 /// payloads in the same order, `s` bytes each. The verdict is `TooFew` where k < `h`, else `TooWeak` where
 /// `h * h <= k * t`, else `Listed`.
 ///
-/// It tries each choice of `t` + 1 of the answers, of which there are at most 8, and ends a choice as soon as too few
-/// answers can hold. A step of `cols` is a column interpolated for a choice, which takes `t` + 1 products for the
-/// constant, and as many for each other answer that still holds. Memory is taken for the table of choices, for one
-/// block, for the Lagrange coefficients of a choice, and for the blocks that are listed; none column by column.
+/// It tries each choice of `t` + 1 of the answers, of which there are at most
+/// [`MOST_SERVERS`](wire_frames::MOST_SERVERS), and ends a choice as soon as too few answers can hold. A step of `cols` is
+/// a column interpolated for a choice, which takes `t` + 1 products for the constant, and as many for each other answer
+/// that still holds. So `cols` rises by at most `s` for each choice, also where memory runs out; by at least one for a
+/// listing, and by `s` where a block is listed; and not at all for the other verdicts. Memory is taken for the table of
+/// choices, for one block, for the Lagrange coefficients of a choice, and for the blocks that are listed; none column by
+/// column.
 ///
 /// The answers 1, 2, 3 with the payloads `cfd2`, `4073`, `cce5` (t 1, h 3, s 2) agree on the block `4344`.
 ///
@@ -47,13 +51,15 @@ pub fn decide<C: Ledger>(
 ) -> Result<Verdict, AllocError>
     requires ascending { IsStrictlyIncreasing indices.now }
     requires nonzero { All (λ a. a ≢ 0) indices.now }
-    requires few { length indices.now ≤ 8 }
-    requires agreement { (1 ≤ t) × (t < h) × (h ≤ 32) }
-    requires width { (1 ≤ s) × (s ≤ 2 ^ 16) }
+    requires few { length indices.now ≤ MOST_SERVERS }
+    requires agreement { (1 ≤ t) × (t < h) }
+    requires width { 1 ≤ s }
     requires fit { length bytes.now ≡ length indices.now * s }
     ensures verdict { IfOk result (IsDecided (answers_of s indices.now bytes.now) s t h) }
     ensures cols { cols.new ≤ cols.old + s * binomial (length indices.now) (t + 1) }
-    ensures unlisted { (length indices.now < h) ⊎ (h * h ≤ length indices.now * t) → cols.new ≡ cols.old }
+    ensures least { cols.old ≤ cols.new }
+    ensures listed { IfOk result (λ verdict. cols.old + least_columns s verdict ≤ cols.new) }
+    ensures unlisted { IsUnlisted (length indices.now) t h → cols.new ≡ cols.old }
 {
     let k = indices.len() as u32;
     if k < h {
@@ -62,16 +68,16 @@ pub fn decide<C: Ledger>(
     if h * h <= k * t {
         return Ok(Verdict::TooWeak { k, t, h });
     }
-    let answers = Answers::new(indices, bytes, s as usize);
+    let answers = PackedAnswers::new(indices, bytes, s as usize);
     let listing = list_agreed(alloc, &answers, s as usize, t as usize, h as usize, cols)?;
     Ok(Verdict::Listed(listing))
 }
 
-// The agreed blocks. Each hides behind the polynomials through some `t` + 1 of the answers that agree, since no others
-// of that degree go through all of these.
+/// The agreed blocks. Each hides behind the polynomials through some `t` + 1 of the answers that agree, since no others
+/// of that degree go through all of these.
 fn list_agreed<C: Ledger>(
     alloc: Global,
-    answers: &Answers<'_>,
+    answers: &PackedAnswers<'_>,
     width: usize,
     t: usize,
     h: usize,
@@ -79,8 +85,12 @@ fn list_agreed<C: Ledger>(
 ) -> Result<Listing, AllocError>
     requires columns { HasColumns width answers.now }
     requires agreement { (t < h) × (h ≤ length answers.now) }
+    requires some { 0 < width }
     ensures blocks { IfOk result (λ l. Lists l answers.now width t h) }
     ensures cols { cols.new ≤ cols.old + width * binomial (length answers.now) (t + 1) }
+    ensures least { cols.old ≤ cols.new }
+    ensures tried { IfOk result (λ l. cols.old < cols.new) }
+    ensures found { IfOk result (λ l. 0 < length l → cols.old + width ≤ cols.new) }
 {
     let table = choices_of(alloc, answers.len(), t + 1)?;
     let mut candidate = Candidate::with_room(alloc, width, t + 1, answers.len())?;
@@ -99,7 +109,7 @@ fn list_agreed<C: Ledger>(
 /// shown here. With k 5, t 1, h 3 it is 2.
 pub fn bound(k: u32, t: u32, h: u32) -> u32
     requires degree { (1 ≤ t) × (t < h) }
-    requires agreement { (h ≤ k) × (k ≤ 32) }
+    requires agreement { (h ≤ k) × (k ≤ 255) }
     requires close { k * t < h * h }
     ensures { result ≡ bound_of k t h }
 {

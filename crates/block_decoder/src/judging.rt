@@ -1,11 +1,13 @@
 //! The verdict on a session.
 
 ghost use Rattle.std.specs.Prelude.{◌≡◌, ◌+◌, ◌*◌, ◌≤◌, length, IfOk};
+ghost use Rattle.wire_frames.specs.declared.scheme.TheConstants.{SHAMIR, XOR};
 ghost use Rattle.wire_frames.specs.Answer.{answers};
 ghost use Rattle.block_decoder.specs.Choices.{binomial};
-ghost use Rattle.block_decoder.specs.Verdict.{IsVerdict};
+ghost use Rattle.block_decoder.specs.Verdict.{IsUnlisted, IsVerdict, least_columns};
 ghost use Rattle.block_decoder.specs.Usable.{IsCollected};
 
+use crate::answers::ServerAnswers;
 use crate::combining::combine_all;
 use crate::decoder::decide;
 use crate::usable::usable_payload;
@@ -13,7 +15,7 @@ use crate::verdict::Verdict;
 use std::alloc::{AllocError, Global};
 use std::sync::ledger::Ledger;
 use uni_poly::steps::Steps;
-use wire_frames::{Session, XOR};
+use wire_frames::{Scheme, Session};
 
 /// What the usable answers of a session say of the block that was asked for. All `n` records were pushed; a record that
 /// is absent, or no usable answer to the query of its own server, counts for nothing.
@@ -34,34 +36,35 @@ pub fn judge<C: Ledger>(
 ) -> Result<Verdict, AllocError>
     requires all { length session.now.records ≡ session.now.params.n }
     ensures verdict { IfOk result (IsVerdict session.now) }
-    ensures xor { session.now.params.scheme ≡ 2 → cols.new ≡ cols.old }
-    ensures cols { cols.new ≤ cols.old + session.now.params.s * binomial (length (answers session.now)) (session.now.params.t + 1) }
+    ensures cols { cols.new ≤ cols.old
+        + session.now.params.s * binomial (length (answers session.now)) (session.now.params.t + 1) }
+    ensures least { cols.old ≤ cols.new }
+    ensures listed { session.now.params.scheme ≡ SHAMIR
+        → IfOk result (λ verdict. cols.old + least_columns session.now.params.s verdict ≤ cols.new) }
+    ensures unlisted { IsUnlisted (length (answers session.now)) session.now.params.t session.now.params.h
+        → cols.new ≡ cols.old }
+    ensures xor { session.now.params.scheme ≡ XOR → cols.new ≡ cols.old }
 {
     let params = session.params();
-    if params.scheme == XOR {
-        return combine_all(alloc, session);
+    match Scheme::of(params.scheme) {
+        Scheme::Shamir => {
+            let usable = collect_usable(alloc, session)?;
+            decide(
+                alloc,
+                &usable.indices,
+                &usable.payloads,
+                u32::from(params.t),
+                u32::from(params.h),
+                params.s,
+                cols,
+            )
+        }
+        Scheme::Xor => combine_all(alloc, session),
     }
-    let usable = collect_usable(alloc, session)?;
-    decide(
-        alloc,
-        &usable.indices,
-        &usable.payloads,
-        u32::from(params.t),
-        u32::from(params.h),
-        params.s,
-        cols,
-    )
 }
 
-// The usable answers, by ascending index.
-#[derive(Drop)]
-struct UsableAnswers {
-    indices: Vec<u8>,
-    payloads: Vec<u8>,
-}
-
-// Copies the usable answers into memory that is taken once, for all that there may be.
-fn collect_usable(alloc: Global, session: &Session) -> Result<UsableAnswers, AllocError>
+/// Copies the usable answers into memory that is taken once, for all that there may be.
+fn collect_usable(alloc: Global, session: &Session) -> Result<ServerAnswers, AllocError>
     requires all { length session.now.records ≡ session.now.params.n }
     ensures { IfOk result (λ u. IsCollected session.now u.indices.items u.payloads.items) }
 {
@@ -75,5 +78,5 @@ fn collect_usable(alloc: Global, session: &Session) -> Result<UsableAnswers, All
             payloads.extend_from_slice(payload)?;
         }
     }
-    Ok(UsableAnswers { indices, payloads })
+    Ok(ServerAnswers { indices, payloads })
 }

@@ -5,7 +5,7 @@ ghost use Rattle.gf256.specs.Polynomial.{val};
 ghost use Rattle.block_decoder.specs.Agreed.{answer_at};
 ghost use Rattle.block_decoder.specs.Lagrange.{combination, indices_at, AreChosen, IsBasis, IsLagrange, takes};
 
-use crate::answers::Answers;
+use crate::answers::PackedAnswers;
 use std::alloc::{AllocError, Global};
 
 /// The Lagrange coefficients of a choice of answers (Lagrange 1795). They depend on the indices alone, and so serve
@@ -22,7 +22,7 @@ impl Lagrange {
     /// coefficients as there are chosen answers, for the constant and for each other answer.
     pub fn new(
         alloc: Global,
-        answers: &Answers<'_>,
+        answers: &PackedAnswers<'_>,
         places: &[usize],
     ) -> Result<Lagrange, AllocError>
         requires different { AllPairs (λ a b. a.index ≢ b.index) answers.now }
@@ -64,8 +64,12 @@ impl Lagrange {
     }
 }
 
-// The indices of the answers at these places.
-fn indices_of(alloc: Global, answers: &Answers<'_>, places: &[usize]) -> Result<Vec<u8>, AllocError>
+/// The indices of the answers at these places.
+fn indices_of(
+    alloc: Global,
+    answers: &PackedAnswers<'_>,
+    places: &[usize],
+) -> Result<Vec<u8>, AllocError>
     requires within { All (λ p. p < length answers.now) places.now }
     ensures { IfOk result (λ v. v.items ≡ indices_at answers.now places.now) }
 {
@@ -76,7 +80,7 @@ fn indices_of(alloc: Global, answers: &Answers<'_>, places: &[usize]) -> Result<
     Ok(indices)
 }
 
-// For each of the points the polynomial that is 1 there and 0 at the others.
+/// For each of the points the polynomial that is 1 there and 0 at the others.
 fn basis_at(alloc: Global, xs: &[u8]) -> Result<Vec<Vec<u8>>, AllocError>
     requires some { 0 < length xs.now }
     requires distinct { AllPairs (λ x y. x ≢ y) xs.now }
@@ -91,7 +95,7 @@ fn basis_at(alloc: Global, xs: &[u8]) -> Result<Vec<Vec<u8>>, AllocError>
     Ok(basis)
 }
 
-// The values of the polynomials at `x`.
+/// The values of the polynomials at `x`.
 fn values_at(alloc: Global, basis: &[Vec<u8>], x: u8) -> Result<Vec<u8>, AllocError>
     ensures { IfOk result (λ v. v.items ≡ map (λ p. val p.items x) basis.now) }
 {
@@ -102,11 +106,11 @@ fn values_at(alloc: Global, basis: &[Vec<u8>], x: u8) -> Result<Vec<u8>, AllocEr
     Ok(values)
 }
 
-// The values of the basis at the index of the answer at a place. At a chosen one nothing has to be computed.
+/// The values of the basis at the index of the answer at a place. At a chosen one nothing has to be computed.
 fn coefficients_at(
     alloc: Global,
     basis: &[Vec<u8>],
-    answers: &Answers<'_>,
+    answers: &PackedAnswers<'_>,
     places: &[usize],
     place: usize,
 ) -> Result<Option<Vec<u8>>, AllocError>
@@ -120,7 +124,7 @@ fn coefficients_at(
     Ok(Some(values_at(alloc, basis, answers.at(place).index())?))
 }
 
-// The sum of each coefficient times the byte at its place.
+/// The sum of each coefficient times the byte at its place.
 fn combine(coefficients: &[u8], bytes: &[u8]) -> u8
     requires { length bytes.now ≡ length coefficients.now }
     ensures { result ≡ combination coefficients.now bytes.now }

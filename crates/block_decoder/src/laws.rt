@@ -4,10 +4,23 @@ ghost use Rattle.std.specs.Prelude.{◌≡◌, ◌+◌, ◌*◌, ◌<◌, ◌≤
 ghost use Rattle.std.specs.List.Sorted.{IsStrictlyIncreasing};
 ghost use Rattle.wire_frames.specs.Answer.{answers};
 ghost use Rattle.block_decoder.specs.Agreed.{answers_of, Agreed};
-ghost use Rattle.block_decoder.specs.Verdict.{IsDecided, IsVerdict, ListsAtMostOne};
+ghost use Rattle.block_decoder.specs.Verdict.{HasOneVerdict, HasVerdict, IsDecided, IsVerdict, ListsAtMostOne};
 
 use crate::verdict::Verdict;
 use wire_frames::Session;
+
+/// There is a verdict on each session, whatever its records are.
+pub fn some_verdict(session: &Session)
+    ensures { HasVerdict session.now }
+{}
+
+/// There is no other: any two verdicts on a session are equal. So what is said of the answers depends on the session
+/// alone, and a session that is read again has the verdict that it had.
+pub fn one_verdict(session: &Session)
+    ensures { HasOneVerdict session.now }
+{
+    session.params();
+}
 
 /// Where `2h > k + t`, two blocks on which `h` of k answers agree are one.
 pub fn one_block_where_agreement_is_close(

@@ -105,7 +105,7 @@ impl Listing {
     }
 }
 
-// Where the block is, or else where it goes.
+/// Where the block is, or else where it goes.
 fn place_of(blocks: &[Vec<u8>], block: &[u8]) -> Result<usize, usize>
     ensures range { IsSearchInRange result (length blocks.now) }
     ensures place { IsBinarySearchResult (λ b. slice_cmp nat_cmp b.items block.now) blocks.now result }

@@ -11,15 +11,15 @@ ghost use Rattle.block_decoder.specs.Gains.{Gains};
 ghost use Rattle.block_decoder.specs.Numbered.{numbered, all_numbered, Continues};
 
 use crate::Listing;
-use crate::answers::{Answer, Answers};
+use crate::answers::{Answer, PackedAnswers};
 use std::alloc::{AllocError, Global};
 
-// What is searched for: polynomials of degree at most `degree`, one for each of `width` columns, that hold at
-// `agreement` answers or more. A polynomial is written as a number, whose lowest `degree` + 1 bytes are its
-// coefficients, the constant the lowest.
+/// What is searched for: polynomials of degree at most `degree`, one for each of `width` columns, that hold at
+/// `agreement` answers or more. A polynomial is written as a number, whose lowest `degree` + 1 bytes are its
+/// coefficients, the constant the lowest.
 #[derive(Drop)]
 struct Search<'a> {
-    answers: Answers<'a>,
+    answers: PackedAnswers<'a>,
     degree: u32,
     agreement: usize,
     width: usize,
@@ -54,7 +54,7 @@ pub fn plain_listing(
     ensures { IfOk result (λ l. Lists l (answers_of s indices.now bytes.now) s t h) }
 {
     let search = Search {
-        answers: Answers::new(indices, bytes, s as usize),
+        answers: PackedAnswers::new(indices, bytes, s as usize),
         degree: t,
         agreement: h as usize,
         width: s as usize,
@@ -65,7 +65,7 @@ pub fn plain_listing(
 }
 
 impl<'a> Search<'a> {
-    // Lists the block of each vector of polynomials that begins with those of these numbers.
+    /// Lists the block of each vector of polynomials that begins with those of these numbers.
     fn extend(
         &self,
         alloc: Global,
@@ -94,7 +94,7 @@ impl<'a> Search<'a> {
         Ok(())
     }
 
-    // How many answers the polynomials hold at, in their columns.
+    /// How many answers the polynomials hold at, in their columns.
     fn weight(&self, numbers: &[u64]) -> usize
         requires columns { length numbers.now ≤ self.now.width }
         ensures { result ≡ weight (all_numbered self.now.degree numbers.now) self.now.answers }
@@ -108,7 +108,7 @@ impl<'a> Search<'a> {
         count
     }
 
-    // Whether the polynomials take the answer's bytes at its index, in their columns.
+    /// Whether the polynomials take the answer's bytes at its index, in their columns.
     fn holds(&self, numbers: &[u64], answer: &Answer<'_>) -> bool
         requires columns { length numbers.now ≤ length answer.now.payload }
         ensures { result ≡ holds_first (all_numbered self.now.degree numbers.now) answer.now }
@@ -121,7 +121,7 @@ impl<'a> Search<'a> {
         true
     }
 
-    // The value of the polynomial with this number.
+    /// The value of the polynomial with this number.
     fn value_at(&self, number: u64, at: u8) -> u8
         ensures { result ≡ val (numbered self.now.degree number) at }
     {
@@ -130,7 +130,7 @@ impl<'a> Search<'a> {
     }
 }
 
-// The value of a polynomial, term by term.
+/// The value of a polynomial, term by term.
 fn value(polynomial: &[u8], at: u8) -> u8
     requires { length polynomial.now < 2 ^ 32 }
     ensures { result ≡ val polynomial.now at }
@@ -142,7 +142,7 @@ fn value(polynomial: &[u8], at: u8) -> u8
     sum
 }
 
-// The constants of the polynomials.
+/// The constants of the polynomials.
 fn constants(alloc: Global, numbers: &[u64]) -> Result<Vec<u8>, AllocError>
     ensures { IfOk result (λ block. block.items ≡ map (λ n. n % 256) numbers.now) }
 {

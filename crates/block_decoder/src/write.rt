@@ -11,7 +11,7 @@ use crate::{Listing, Verdict};
 use itoa::Buffer;
 use pir_ports::{Failed, Port, Ports, write_all};
 
-// How many bytes of a block are written at once.
+/// How many bytes of a block are written at once.
 const PIECE: usize = 2048;
 
 /// A space, and a number in decimal.

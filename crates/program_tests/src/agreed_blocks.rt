@@ -1,8 +1,9 @@
 //! The decoder beside the program that lists the agreed blocks straight from their definition, and one happy path of each
 //! other call.
 
-ghost use Rattle.std.specs.Prelude.{◌≡◌, ◌≢◌, ◌*◌, ◌^◌, ◌<◌, ◌≤◌, length, All, IfOk};
+ghost use Rattle.std.specs.Prelude.{◌≡◌, ◌≢◌, ◌*◌, ◌<◌, ◌≤◌, length, All, IfOk};
 ghost use Rattle.std.specs.List.Sorted.{IsStrictlyIncreasing};
+ghost use Rattle.wire_frames.specs.declared.TheConstants.{MOST_SERVERS};
 
 use block_decoder::{Verdict, bound, decide, judge, plain_listing, write_verdict};
 use pir_ports::{MemPorts, Port};
@@ -11,7 +12,7 @@ use std::marker::Brand;
 use std::sync::ledger::{Blank, Ledger};
 use std::test::Fail;
 use uni_poly::steps::Steps;
-use wire_frames::{Session, SessionParams};
+use wire_frames::{MOST_SERVERS, Session, SessionParams};
 
 /// The verdict on answers, with a counter of columns made of the blank.
 fn decided<C: Ledger>(
@@ -26,9 +27,9 @@ fn decided<C: Ledger>(
     requires blank { (blank.name ≡ C.name) × (blank.parts ≡ C.parts) × (0 < blank.parts) }
     requires ascending { IsStrictlyIncreasing indices.now }
     requires nonzero { All (λ a. a ≢ 0) indices.now }
-    requires few { length indices.now ≤ 8 }
-    requires agreement { (1 ≤ t) × (t < h) × (h ≤ 32) }
-    requires width { (1 ≤ s) × (s ≤ 2 ^ 16) }
+    requires few { length indices.now ≤ MOST_SERVERS }
+    requires agreement { (1 ≤ t) × (t < h) }
+    requires width { 1 ≤ s }
     requires fit { length bytes.now ≡ length indices.now * s }
 {
     let mut cols: Steps<C> = Steps::new(blank);
@@ -162,7 +163,7 @@ fn plainly_listed(
     s: u32,
 ) -> Result<Vec<u8>, AllocError> {
     let mut all = Vec::new(alloc);
-    if indices.len() <= 8 && s <= 2 && bytes.len() == indices.len() * s as usize {
+    if indices.len() <= usize::from(MOST_SERVERS) && s <= 2 && bytes.len() == indices.len() * s as usize {
         let listing = plain_listing(alloc, indices, bytes, 1, h, s)?;
         for block in listing.blocks() {
             all.extend_from_slice(block)?;
@@ -232,7 +233,7 @@ fn bounds(rt: HostRuntime) {
         (20, 3, 8, 25),
         (23, 1, 5, 46),
     ] {
-        assert!(rt; 1 <= t && t < h && h <= k && k <= 32 && k * t < h * h);
+        assert!(rt; 1 <= t && t < h && h <= k && k <= 255 && k * t < h * h);
         assert!(rt; bound(k, t, h) == most, "{k} {t} {h}");
     }
 }

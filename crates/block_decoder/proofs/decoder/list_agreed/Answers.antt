@@ -6,7 +6,7 @@ use Rattle.wire_frames.specs.Answer.{Answer}
 use Rattle.block_decoder.specs.Agreed.{constants_of}
 use Rattle.block_decoder.specs.Choices.{choices, binomial}
 use Rattle.block_decoder.specs.Lagrange.{AreChosen, IsLagrange, IsThrough}
-use Rattle.block_decoder.proofs.ChoiceTable.{IsChoice, only_choices, length-choices}
+use Rattle.block_decoder.proofs.ChoiceTable.{IsChoice, only_choices, length-choices, some_choices}
 use Rattle.block_decoder.proofs.Columns.{some_through}
 use Rattle.block_decoder.proofs.Tried.{HasTried, tried_light, tried_heavy, tried_all}
 use Rattle.block_decoder.proofs.decoder.list_agreed.Goals as goal
@@ -21,11 +21,14 @@ item_choice table k n i v places e l is same =
     let all : All (IsChoice k n) (map f table) = subst (All (IsChoice k n)) (sym e) (only_choices k n) in
     subst (IsChoice k n) (get_or-map f table i v [] l ∙ ap f (sym is) ∙ sym same) (all i [] (omega (arith, l, m)))
 
+-- as many choices as there are
+table_size : (table : List (Vec ℕ Global)) (k n : ℕ) → map (λ (v : Vec ℕ Global). v.items) table ≡ choices k n → length table ≡ binomial k n
+table_size table k n e = sym (length-map table (λ (v : Vec ℕ Global). v.items)) ∙ ap length e ∙ length-choices k n
+
 -- so many choices take no more steps than all
 steps_within : (table : List (Vec ℕ Global)) (width k n i : ℕ) → map (λ (v : Vec ℕ Global). v.items) table ≡ choices k n → i ≤ length table → width * i ≤ width * binomial k n
 steps_within table width k n i e l =
-    let m = length-map table (λ (v : Vec ℕ Global). v.items) in
-    let size : length table ≡ binomial k n = sym m ∙ ap length e ∙ length-choices k n in
+    let size = table_size table k n e in
     mul-le-mul_left width (let h : i ≤ binomial k n = omega (arith, l, size) in h)
 
 chosen_from : (answers : List Answer) (n : ℕ) (places : List ℕ) → IsChoice (length answers) n places → AreChosen answers places
@@ -104,10 +107,16 @@ loop-places-preserved g c =
     let polynomials = some.0 in
     let room = c.loop-places.invariant.room in
     let after = c.interpolate.ensures.room in
+    let step = c.interpolate.ensures.some (let size = room.constants in omega (arith, size, c.requires.some)) in
     let told = c.interpolate.ensures.told t polynomials choice.size (subst (λ w. IsThrough answers w t places polynomials) (sym room.constants) some.1) in
     record {
       room = record { constants = after.constants ∙ room.constants; bytes = after.bytes ∙ choice.size; holds = after.holds };
       cols = let w = room.constants in omega (arith, c.loop-places.invariant.cols, c.interpolate.ensures.cols, w);
+      least = omega (arith, c.loop-places.invariant.least, step);
+      found = elim c.if-interpolate.branch [
+        | then-interpolate+in_ok-insert w ↦ λ some. let size = room.constants in let l = c.loop-places.invariant.least in let all = c.interpolate.ensures.all w.if-interpolate.true in omega (arith, size, l, all)
+        | else-interpolate w ↦ λ some. let f = c.loop-places.invariant.found (subst (λ (l : List (List ℕ)). 0 < length l) w.listing-is some) in omega (arith, f, step)
+      ];
       tried = next_tried answers width t h c.if-interpolate.listing table i c.places-item.result places c.loop-places-test.true c.places-item.is c.deref-in-loop-places.ensures.value
           (elim c.if-interpolate.branch [
             | then-interpolate+in_ok-insert w ↦
@@ -139,3 +148,12 @@ returns-clause-cols g c =
     let e = ap (map (λ (v : Vec ℕ Global). v.items)) c.deref-places-items.ensures.value ∙ c.in_ok-table.ensures ∙ ap (λ k. choices k (c.args.t + 1)) c.len.ensures in
     let most = steps_within c.deref-places-items.result.now c.args.width (length c.args.answers.now) (c.args.t + 1) c.loop-places.places-index e c.loop-places.auto.places-index-end in
     omega (arith, most, c.loop-places.invariant.cols)
+
+pub returns-clause-tried : goal.returns-clause-tried
+returns-clause-tried g c =
+    let answers = c.args.answers.now in
+    let table = c.deref-places-items.result.now in
+    let e = ap (map (λ (v : Vec ℕ Global). v.items)) c.deref-places-items.ensures.value ∙ c.in_ok-table.ensures ∙ ap (λ k. choices k (c.args.t + 1)) c.len.ensures in
+    let size = table_size table (length answers) (c.args.t + 1) e in
+    let some = some_choices (length answers) (c.args.t + 1) (omega (arith, c.requires.agreement)) in
+    omega (arith, size, some, c.loop-places.invariant.least, c.loop-places-test.false)

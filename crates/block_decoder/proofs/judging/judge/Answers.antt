@@ -1,15 +1,69 @@
-use Rattle.std.proofs.Common.{◌≡◌, ℕ, ◌+◌, ◌*◌, length, sym, ap, ap₂, ◌∙◌, arith}
+use Rattle.std.proofs.Common.{◌≡◌, ◌≢◌, ◌+◌, ◌*◌, ℕ, Bool, true, false, cond, nat_eq, List, length, refl, sym, ap, ap₂, subst, ◌∙◌, arith, eqb-true}
+use Rattle.std.proofs.lemmas.Bool.{eq-eqb, false≢true}
+use Rattle.std.proofs.lemmas.Result.{IfOk-weaker}
+use Rattle.wire_frames.specs.declared.scheme.TheConstants.{XOR}
+use Rattle.wire_frames.specs.declared.scheme.Scheme.{Scheme}
+use Rattle.wire_frames.specs.declared.scheme.Scheme.TheVariants.{Shamir, Xor}
 use Rattle.wire_frames.specs.declared.session.SessionParams.{SessionParams}
-use Rattle.wire_frames.specs.Answer.{answers}
+use Rattle.wire_frames.specs.Answer.{Answer, answers}
+use Rattle.wire_frames.specs.Scheme.{scheme_of}
+use Rattle.block_decoder.specs.Agreed.{answers_of}
 use Rattle.block_decoder.specs.Choices.{binomial}
+use Rattle.block_decoder.specs.Verdict.{IsCombined, IsDecided, IsUnlisted, IsVerdict}
+use Rattle.block_decoder.specs.declared.verdict.Verdict.{Verdict}
 use Rattle.block_decoder.proofs.Agreement.{length-answers_of}
 use Rattle.block_decoder.proofs.judging.judge.Goals as goal
 
-pub returns-clause-cols : goal.returns-clause-cols
-returns-clause-cols g c =
+-- ---- the number of a scheme
+
+told_xor : (b : Bool) → ◌≡◌ {A = Scheme} (cond b Xor Shamir) Xor → b ≡ true
+told_xor true e = refl
+told_xor false e = absurd (cc)
+
+told_shamir : (b : Bool) → ◌≡◌ {A = Scheme} (cond b Xor Shamir) Shamir → b ≡ false
+told_shamir true e = absurd (cc)
+told_shamir false e = refl
+
+number_of_xor : (n : ℕ) → scheme_of n ≡ Xor → n ≡ XOR
+unfolding scheme_of
+number_of_xor n e = eqb-true n XOR (told_xor (nat_eq n XOR) e)
+
+number_of_shamir : (n : ℕ) → scheme_of n ≡ Shamir → n ≢ XOR
+unfolding scheme_of
+number_of_shamir n e same = false≢true (sym (told_shamir (nat_eq n XOR) e) ∙ eq-eqb n XOR same)
+
+-- ---- the numbers of the session are those that are handed on
+
+-- what is decided of equal answers, with equal numbers, is the same
+same_decided : (all others : List Answer) (s w t u h i : ℕ) → all ≡ others → s ≡ w → t ≡ u → h ≡ i → (v : Verdict) → IsDecided all s t h v → IsDecided others w u i v
+same_decided all others s w t u h i a b c d v is =
+    subst (λ (x : List Answer). IsDecided x w u i v) a (subst (λ (x : ℕ). IsDecided all x u i v) b (subst (λ (x : ℕ). IsDecided all s x i v) c (subst (λ (x : ℕ). IsDecided all s t x v) d is)))
+
+pub returns-in_ok-usable-in-Shamir-clause-verdict : goal.returns-in_ok-usable-in-Shamir-clause-verdict
+returns-in_ok-usable-in-Shamir-clause-verdict g c =
     let session = c.args.session.now in
-    let usable = c.in_ok-usable.usable in
-    let collected = c.in_ok-usable.ensures in
+    let p = session.params in
+    let given = c.params-params.result in
+    let params = c.params-params.ensures.value in
+    let indices = c.deref.result.now in
+    let payloads = c.deref-in-Shamir.result.now in
+    let s = ap (λ (p : SessionParams). p.s) params in
+    let t = c.from.ensures ∙ ap (λ (p : SessionParams). p.t) params in
+    let h = c.from-in-Shamir.ensures ∙ ap (λ (p : SessionParams). p.h) params in
+    let all : answers_of given.s indices payloads ≡ answers session =
+    ap₂ (λ (xs ys : List ℕ). answers_of given.s xs ys) c.deref.ensures.value c.deref-in-Shamir.ensures.value
+    ∙ ap (λ (w : ℕ). answers_of w c.in_ok-usable-in-Shamir.usable.indices.items c.in_ok-usable-in-Shamir.usable.payloads.items) s ∙ c.in_ok-usable-in-Shamir.ensures.answers_are in
+    IfOk-weaker c.decide.result (IsDecided (answers_of given.s indices payloads) given.s c.from.result c.from-in-Shamir.result) (IsVerdict session)
+    (λ v is. record {
+      shamir = λ e. same_decided (answers_of given.s indices payloads) (answers session) given.s p.s c.from.result p.t c.from-in-Shamir.result p.h all s t h v is;
+      xor = λ e. absurd (number_of_shamir given.scheme (sym c.of.ensures ∙ c.in-Shamir.is) (ap (λ (p : SessionParams). p.scheme) params ∙ e));
+    }) c.decide.ensures.verdict
+
+pub returns-in_ok-usable-in-Shamir-clause-cols : goal.returns-in_ok-usable-in-Shamir-clause-cols
+returns-in_ok-usable-in-Shamir-clause-cols g c =
+    let session = c.args.session.now in
+    let usable = c.in_ok-usable-in-Shamir.usable in
+    let collected = c.in_ok-usable-in-Shamir.ensures in
     let params = c.params-params.ensures.value in
     let count : length c.deref.result.now ≡ length (answers session) =
     ap length c.deref.ensures.value ∙ sym (length-answers_of session.params.s usable.indices.items usable.payloads.items) ∙ ap length collected.answers_are in
@@ -17,3 +71,34 @@ returns-clause-cols g c =
     let most : c.params-params.result.s * binomial (length c.deref.result.now) (c.from.result + 1) ≡ session.params.s * binomial (length (answers session)) (session.params.t + 1) =
     ap₂ (λ (s b : ℕ). s * b) (ap (λ (p : SessionParams). p.s) params) (ap₂ binomial count chosen) in
     omega (arith, most, c.decide.ensures.cols)
+
+pub returns-in_ok-usable-in-Shamir-clause-unlisted : goal.returns-in_ok-usable-in-Shamir-clause-unlisted
+returns-in_ok-usable-in-Shamir-clause-unlisted g c = λ unlisted.
+    let session = c.args.session.now in
+    let usable = c.in_ok-usable-in-Shamir.usable in
+    let collected = c.in_ok-usable-in-Shamir.ensures in
+    let params = c.params-params.ensures.value in
+    let count : length (answers session) ≡ length c.deref.result.now =
+    sym (ap length c.deref.ensures.value ∙ sym (length-answers_of session.params.s usable.indices.items usable.payloads.items) ∙ ap length collected.answers_are) in
+    let t : session.params.t ≡ c.from.result = sym (c.from.ensures ∙ ap (λ (p : SessionParams). p.t) params) in
+    let h : session.params.h ≡ c.from-in-Shamir.result = sym (c.from-in-Shamir.ensures ∙ ap (λ (p : SessionParams). p.h) params) in
+    c.decide.ensures.unlisted (subst (λ (n : ℕ). IsUnlisted n c.from.result c.from-in-Shamir.result) count
+    (subst (λ (n : ℕ). IsUnlisted (length (answers session)) n c.from-in-Shamir.result) t
+    (subst (λ (n : ℕ). IsUnlisted (length (answers session)) session.params.t n) h unlisted)))
+
+pub returns-in_ok-usable-in-Shamir-clause-xor : goal.returns-in_ok-usable-in-Shamir-clause-xor
+returns-in_ok-usable-in-Shamir-clause-xor g c = λ xor.
+    absurd (number_of_shamir c.params-params.result.scheme (sym c.of.ensures ∙ c.in-Shamir.is) (ap (λ (p : SessionParams). p.scheme) c.params-params.ensures.value ∙ xor))
+
+pub returns-in-Xor-clause-verdict : goal.returns-in-Xor-clause-verdict
+returns-in-Xor-clause-verdict g c =
+    let session = c.args.session.now in
+    let p = session.params in
+    let xor = sym (ap (λ (p : SessionParams). p.scheme) c.params-params.ensures.value) ∙ number_of_xor c.params-params.result.scheme (sym c.of.ensures ∙ c.in-Xor.is) in
+    IfOk-weaker c.combine_all.result (IsCombined (answers session) p.s p.n p.h) (IsVerdict session)
+    (λ v is. record { shamir = λ e. absurd (omega (arith, e, xor)); xor = λ e. is }) c.combine_all.ensures
+
+pub returns-in-Xor-clause-listed : goal.returns-in-Xor-clause-listed
+returns-in-Xor-clause-listed g c = λ shamir.
+    let xor = sym (ap (λ (p : SessionParams). p.scheme) c.params-params.ensures.value) ∙ number_of_xor c.params-params.result.scheme (sym c.of.ensures ∙ c.in-Xor.is) in
+    absurd (omega (arith, shamir, xor))

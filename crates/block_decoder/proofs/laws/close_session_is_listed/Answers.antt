@@ -1,4 +1,4 @@
-use Rattle.std.proofs.Common.{◌+◌, arith}
+use Rattle.std.proofs.Common.{arith}
 use Rattle.wire_frames.specs.Sizes.{answer_len}
 use Rattle.block_decoder.proofs.OneBlock.{close_verdict_is_listed}
 use Rattle.block_decoder.proofs.UsableAnswers.{columns-answers, bytes_from_fits}

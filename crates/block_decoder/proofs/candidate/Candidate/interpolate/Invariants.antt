@@ -8,7 +8,7 @@ use Rattle.block_decoder.proofs.candidate.Candidate.interpolate.Given as goal
 abbrev pub invariant-loop-column : goal.invariant-loop-column
 invariant-loop-column g l = record {
   room : HasRoom (length l.fn.self.constants.items) (length l.places) (length l.answers) l.self;
-  cols : l.cols ≤ l.initial.cols + l.column;
+  cols : l.cols ≡ l.initial.cols + l.column;
   enough : l.h ≤ count_by (λ (b : Bool). b) l.self.holds.items;
   told : (t : ℕ) (polynomials : List (List ℕ)) → length l.places ≡ t + 1 → IsThrough l.answers (length l.fn.self.constants.items) t l.places polynomials
       → AreMarked l.answers polynomials l.column l.self.constants.items l.self.holds.items;
