@@ -10,7 +10,7 @@ use Rattle.wire_frames.specs.Session.{Transcript}
 use Rattle.wire_frames.specs.Answer.{answers}
 use Rattle.block_decoder.specs.Choices.{binomial}
 use Rattle.fetch_client.specs.declared.plan.FetchPlan.{FetchPlan}
-use Rattle.fetch_client.specs.Fetched.{most_columns}
+use Rattle.fetch_client.specs.Fetched.{columns_of_answers}
 
 -- one thing more, and there are no fewer choices
 one_more : (k m : ℕ) → binomial k m ≤ binomial (suc k) m
@@ -38,7 +38,7 @@ few_from i p (Some bytes ∷ records) = omega (arith, few_from (i + 1) p records
 
 -- so judging takes no more columns than answers of all servers would
 pub columns_of_all : (p : FetchPlan) (session : Transcript) (before now : ℕ) → length session.records ≡ p.n
-    → now ≤ before + most_columns p (length (answers session)) → now ≤ before + most_columns p p.n
+    → now ≤ before + columns_of_answers p (length (answers session)) → now ≤ before + columns_of_answers p p.n
 columns_of_all p session before now whole most =
     let few = few_from 1 session.params session.records in
     let choices = more_choices (length (answers session)) p.n (p.t + 1) (omega (arith, few, whole)) in

@@ -77,16 +77,16 @@ Fetches p addresses (Err (CoinsEnded taken)) old new =
 Fetches p addresses (Err Memory) old new = (new ≡ old) ⊎ AsksSome p addresses old new
 
 -- the most columns that judging k answers takes: the width times the number of choices of t + 1 of them
-abbrev pub most_columns : FetchPlan → ℕ → ℕ
-most_columns p k = p.s * binomial k (p.t + 1)
+abbrev pub columns_of_answers : FetchPlan → ℕ → ℕ
+columns_of_answers p k = p.s * binomial k (p.t + 1)
 
 -- how many columns are interpolated at most: as many as judging the usable answers takes; where memory ran out, as many as
 -- judging answers of all servers takes; and without the coins none
-abbrev pub CountsColumns : FetchPlan → Result (Transcript × Verdict) FetchFault → ℕ → ℕ → Type 0
-CountsColumns p (Ok both) before now = now ≤ before + most_columns p (length (answers both.0))
-CountsColumns p (Err CoinsFault) before now = now ≡ before
-CountsColumns p (Err (CoinsEnded taken)) before now = now ≡ before
-CountsColumns p (Err Memory) before now = now ≤ before + most_columns p p.n
+abbrev pub FetchCounts : FetchPlan → Result (Transcript × Verdict) FetchFault → ℕ → ℕ → Type 0
+FetchCounts p (Ok both) before now = now ≤ before + columns_of_answers p (length (answers both.0))
+FetchCounts p (Err CoinsFault) before now = now ≡ before
+FetchCounts p (Err (CoinsEnded taken)) before now = now ≡ before
+FetchCounts p (Err Memory) before now = now ≤ before + columns_of_answers p p.n
 
 -- Coins and the first n links alone are touched
 abbrev pub TouchesLinks : ℕ → World → World → Type 0

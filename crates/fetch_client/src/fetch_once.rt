@@ -8,7 +8,7 @@ ghost use Rattle.fetch_client.specs.Plan.{IsPlan, params_of, need};
 ghost use Rattle.block_decoder.specs.Verdict.{IsVerdict, least_columns};
 ghost use Rattle.fetch_client.specs.Sent.{frame_len, queries_from, session_number};
 ghost use Rattle.fetch_client.specs.Honest.{FindsHonestBlock};
-ghost use Rattle.fetch_client.specs.Fetched.{AsksServers, CountsColumns, Fetches, TouchesLinks, most_columns};
+ghost use Rattle.fetch_client.specs.Fetched.{AsksServers, FetchCounts, Fetches, TouchesLinks, columns_of_answers};
 
 use crate::coins::{NUMBER_LEN, session_number_of, take_coins};
 use crate::laws::honest_block_is_found;

@@ -244,7 +244,7 @@ counts_listed session verdict old new before now reads least = λ bytes other to
 
 -- columns are counted for the one session that Input held
 pub counts_of : (session : Transcript) (old new : Cell) (before now : ℕ) → ReadsWhole (Spells session) old new
-    → now ≤ before + most_columns session → (session.params.scheme ≡ XOR → now ≡ before) → CountsColumns old.holds before now
+    → now ≤ before + most_columns session → (session.params.scheme ≡ XOR → now ≡ before) → ReplayCounts old.holds before now
 counts_of session old new before now reads most xor = record {
   most = λ bytes other told is. subst (λ (t : Transcript). now ≤ before + most_columns t) (same bytes other told is) most;
   xor = λ bytes other told is scheme.
@@ -259,7 +259,7 @@ counts_of session old new before now reads most xor = record {
     same bytes other told is = one_session bytes session other (spelled bytes told) is
 
 -- no column is counted
-pub counts_none : (held : Option (List ℕ)) (before now : ℕ) → now ≡ before → CountsColumns held before now
+pub counts_none : (held : Option (List ℕ)) (before now : ℕ) → now ≡ before → ReplayCounts held before now
 counts_none held before now same = record {
   most = λ bytes session told is. omega (arith, same);
   xor = λ bytes session told is scheme. same;

@@ -82,7 +82,7 @@ most_columns session = session.params.s * binomial (length (answers session)) (s
 
 -- where this held a session no more columns are counted than judging it takes, and none in the XOR scheme; where it held
 -- no session, none
-pub record CountsColumns (held : Option (List ℕ)) (before now : ℕ) : Type 0 where
+pub record ReplayCounts (held : Option (List ℕ)) (before now : ℕ) : Type 0 where
   pub most : (bytes : List ℕ) (session : Transcript) → held ≡ Some bytes → IsSession bytes session
       → now ≤ before + most_columns session
   pub xor : (bytes : List ℕ) (session : Transcript) → held ≡ Some bytes → IsSession bytes session

@@ -122,7 +122,7 @@ pub fn replay<C: Ledger, P: Ports>(
 ) -> Result<Verdict, ReplayFault>
     ensures replayed { ReadTo Judged result (P.world ports.old) (P.world ports.new) }
     ensures others { Touches INPUT (P.world ports.old) (P.world ports.new) }
-    ensures cols { CountsColumns ((P.world ports.old).at INPUT).holds cols.old cols.new }
+    ensures cols { ReplayCounts ((P.world ports.old).at INPUT).holds cols.old cols.new }
     ensures unjudged { CountsNone result cols.old cols.new }
     ensures least { cols.old ≤ cols.new }
     ensures listed { IfOk result (CountsListed ((P.world ports.old).at INPUT).holds cols.old cols.new) }

@@ -7,7 +7,7 @@ use Rattle.block_decoder.specs.declared.verdict.Verdict.{Verdict}
 use Rattle.fetch_client.specs.declared.plan.FetchFault.{FetchFault}
 use Rattle.fetch_client.specs.Sent.{queries_from}
 use Rattle.fetch_client.specs.Honest.{FindsHonestBlock}
-use Rattle.fetch_client.specs.Fetched.{CountsColumns}
+use Rattle.fetch_client.specs.Fetched.{FetchCounts}
 use Rattle.fetch_client.proofs.Columns.{columns_of_all}
 use Rattle.fetch_client.proofs.fetch_once.fetch.Goals as goal
 
@@ -15,7 +15,7 @@ use Rattle.fetch_client.proofs.fetch_once.fetch.Goals as goal
 pub returns-in_err-verdict-clause-cols : goal.returns-in_err-verdict-clause-cols
 returns-in_err-verdict-clause-cols g c =
     let fault = err_from_is_err_and c.from_residual-in_err-verdict.result c.from_residual-in_err-verdict.ensures.1 in
-    subst (λ (r : Result (Transcript × Verdict) FetchFault). CountsColumns c.args.plan.now r c.args.cols.now c.conclude.new.cols)
+    subst (λ (r : Result (Transcript × Verdict) FetchFault). FetchCounts c.args.plan.now r c.args.cols.now c.conclude.new.cols)
     (sym (fault.1 ∙ ap Err fault.2))
     (columns_of_all c.args.plan.now c.ask_servers.new.session _ _ c.in_ok-ask_servers.ensures.asked.asked.whole c.in_err-verdict.ensures.cols)
 
