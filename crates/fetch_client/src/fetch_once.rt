@@ -96,7 +96,7 @@ fn conclude<C: Ledger>(
     requires all { length session.now.records ≡ plan.now.n }
     ensures judged { IfOk result (IsVerdict session.now) }
     ensures found { IfOk result (FindsHonestBlock session.now (queries_from coins.now) plan.now.block) }
-    ensures cols { cols.new ≤ cols.old + most_columns plan.now (length (answers session.now)) }
+    ensures cols { cols.new ≤ cols.old + columns_of_answers plan.now (length (answers session.now)) }
     ensures least { cols.old ≤ cols.new }
     ensures listed { plan.now.scheme ≡ SHAMIR
         → IfOk result (λ verdict. cols.old + least_columns plan.now.s verdict ≤ cols.new) }
@@ -134,7 +134,7 @@ pub fn fetch<C: Ledger, P: Ports>(
     ensures fetched { Fetches plan.now (map string_bytes addresses.now) result
         (P.world ports.old) (P.world ports.new) }
     ensures others { TouchesLinks plan.now.n (P.world ports.old) (P.world ports.new) }
-    ensures cols { CountsColumns plan.now result cols.old cols.new }
+    ensures cols { FetchCounts plan.now result cols.old cols.new }
     ensures least { cols.old ≤ cols.new }
     ensures listed { plan.now.scheme ≡ SHAMIR
         → IfOk result (λ both. cols.old + least_columns plan.now.s both.1 ≤ cols.new) }

@@ -24,7 +24,7 @@ use Rattle.block_decoder.specs.Verdict.{least_columns}
 use Rattle.block_decoder.specs.declared.verdict.Verdict.{Verdict}
 use Rattle.replay.specs.declared.TheConstants.{PIECE_LEN}
 use Rattle.replay.specs.Faults.{of_feed}
-use Rattle.replay.specs.Replayed.{Spells, NoSession, ReadsWhole, Refuses, BreaksOff, ReadTo, most_columns, CountsColumns, CountsListed}
+use Rattle.replay.specs.Replayed.{Spells, NoSession, ReadsWhole, Refuses, BreaksOff, ReadTo, most_columns, ReplayCounts, CountsListed}
 
 -- no session is longer
 abbrev pub longest : ℕ

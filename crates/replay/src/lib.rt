@@ -11,7 +11,7 @@
 ghost use Rattle.std.specs.Prelude.{◌≡◌, ◌≤◌, length, vec_len, IfOk};
 ghost use Rattle.pir_ports.specs.Number.{INPUT};
 ghost use Rattle.pir_ports.specs.Moves.{Touches};
-ghost use Rattle.replay.specs.Replayed.{ReadTo, Judged, Spells, CountsColumns, CountsListed, CountsNone};
+ghost use Rattle.replay.specs.Replayed.{ReadTo, Judged, Spells, ReplayCounts, CountsListed, CountsNone};
 
 use block_decoder::{Verdict, judge};
 use pir_ports::{Failed, Port, Ports};
