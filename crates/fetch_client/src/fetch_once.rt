@@ -2,11 +2,11 @@
 
 ghost use Rattle.std.specs.Prelude.{◌≡◌, ◌≤◌, ◌+◌, length, map, string_bytes, IfOk, vec_len, []};
 ghost use Rattle.uni_poly.specs.Binomial.{binomial};
-ghost use Rattle.wire_frames.specs.declared.scheme.TheConstants.{XOR};
+ghost use Rattle.wire_frames.specs.declared.scheme.TheConstants.{SHAMIR, XOR};
 ghost use Rattle.wire_frames.specs.Sizes.{answer_len};
 ghost use Rattle.wire_frames.specs.Answer.{answers};
 ghost use Rattle.fetch_client.specs.Plan.{IsPlan, params_of, need};
-ghost use Rattle.block_decoder.specs.Verdict.{IsVerdict};
+ghost use Rattle.block_decoder.specs.Verdict.{IsVerdict, least_columns};
 ghost use Rattle.fetch_client.specs.Sent.{frame_len, queries_from, session_number};
 ghost use Rattle.fetch_client.specs.Honest.{FindsHonestBlock};
 ghost use Rattle.fetch_client.specs.Fetched.{AsksServers, FetchCounts, Fetches, TouchesLinks, columns_of_answers};
@@ -98,6 +98,9 @@ fn conclude<C: Ledger>(
     ensures judged { IfOk result (IsVerdict session.now) }
     ensures found { IfOk result (FindsHonestBlock session.now (queries_from coins.now) plan.now.block) }
     ensures cols { cols.new ≤ cols.old + columns_of_answers plan.now (length (answers session.now)) }
+    ensures least { cols.old ≤ cols.new }
+    ensures listed { plan.now.scheme ≡ SHAMIR
+        → IfOk result (λ verdict. cols.old + least_columns plan.now.s verdict ≤ cols.new) }
     ensures xor { plan.now.scheme ≡ XOR → cols.new ≡ cols.old }
 {
     let verdict = judge(alloc, session, cols)?;
@@ -133,6 +136,9 @@ pub fn fetch<C: Ledger, P: Ports>(
         (P.world ports.old) (P.world ports.new) }
     ensures others { TouchesLinks plan.now.n (P.world ports.old) (P.world ports.new) }
     ensures cols { FetchCounts plan.now result cols.old cols.new }
+    ensures least { cols.old ≤ cols.new }
+    ensures listed { plan.now.scheme ≡ SHAMIR
+        → IfOk result (λ both. cols.old + least_columns plan.now.s both.1 ≤ cols.new) }
     ensures xor { plan.now.scheme ≡ XOR → cols.new ≡ cols.old }
 {
     let mut room = room_for(alloc, plan)?;

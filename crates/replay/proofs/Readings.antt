@@ -9,7 +9,7 @@ use Rattle.pir_ports.specs.Number.{INPUT}
 use Rattle.pir_ports.specs.Moves.{Rose, Touches, Hands, Fails, counted}
 use Rattle.pir_ports.specs.Whole.{Reads, IsFront}
 use Rattle.pir_ports.proofs.Cells.{took_none, reads_more, reads_end, touches_more}
-use Rattle.wire_frames.specs.declared.scheme.TheConstants.{XOR}
+use Rattle.wire_frames.specs.declared.scheme.TheConstants.{SHAMIR, XOR}
 use Rattle.wire_frames.specs.Sizes.{answer_len}
 use Rattle.wire_frames.specs.Session.{Transcript, IsSession, Fits, session_bytes}
 use Rattle.wire_frames.specs.Beginning.{Begins, IsPlace}
@@ -20,9 +20,11 @@ use Rattle.wire_frames.specs.declared.reader.BadSession.{BadSession as SessionFa
 use Rattle.wire_frames.proofs.Beginnings.{begins_short}
 use Rattle.wire_frames.proofs.OneSession.{one_session}
 use Rattle.wire_frames.proofs.Fronts.{stops-front, stops-none}
+use Rattle.block_decoder.specs.Verdict.{least_columns}
+use Rattle.block_decoder.specs.declared.verdict.Verdict.{Verdict}
 use Rattle.replay.specs.declared.TheConstants.{PIECE_LEN}
 use Rattle.replay.specs.Faults.{of_feed}
-use Rattle.replay.specs.Replayed.{Spells, NoSession, ReadsWhole, Refuses, BreaksOff, ReadTo, most_columns, ReplayCounts}
+use Rattle.replay.specs.Replayed.{Spells, NoSession, ReadsWhole, Refuses, BreaksOff, ReadTo, most_columns, ReplayCounts, CountsListed}
 
 -- no session is longer
 abbrev pub longest : ℕ
@@ -223,6 +225,22 @@ seen_short n sub ys old v u reader fault h hands none last ends =
       most = omega (arith, short.1);
       none = of_held (NoSession fault.place) (old.at INPUT).holds read all.1 wrong;
     }
+
+-- what was read to its end is the one session that Input held
+pub one_read : (session other : Transcript) (bytes : List ℕ) (old new : Cell) → ReadsWhole (Spells session) old new
+    → old.holds ≡ Some bytes → IsSession bytes other → session ≡ other
+one_read session other bytes old new reads told is =
+    let all = at_told (λ held. reads.read ≡ held) old.holds bytes told reads.all in
+    one_session bytes session other (subst (Spells session) all reads.is) is
+
+-- and columns are counted for it where its verdict lists blocks
+pub counts_listed : (session : Transcript) (verdict : Verdict) (old new : Cell) (before now : ℕ) → ReadsWhole (Spells session) old new
+    → (session.params.scheme ≡ SHAMIR → before + least_columns session.params.s verdict ≤ now)
+    → CountsListed old.holds before now verdict
+counts_listed session verdict old new before now reads least = λ bytes other told is scheme.
+    let same = one_read session other bytes old new reads told is in
+    subst (λ (t : Transcript). before + least_columns t.params.s verdict ≤ now) same
+    (least (ap (λ (t : Transcript). t.params.scheme) same ∙ scheme))
 
 -- columns are counted for the one session that Input held
 pub counts_of : (session : Transcript) (old new : Cell) (before now : ℕ) → ReadsWhole (Spells session) old new

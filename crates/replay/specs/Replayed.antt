@@ -5,12 +5,12 @@ use Rattle.pir_ports.specs.World.{Cell, World}
 use Rattle.pir_ports.specs.Number.{INPUT}
 use Rattle.pir_ports.specs.Moves.{Rose, took, counted}
 use Rattle.pir_ports.specs.Whole.{IsFront}
-use Rattle.wire_frames.specs.declared.scheme.TheConstants.{XOR}
+use Rattle.wire_frames.specs.declared.scheme.TheConstants.{SHAMIR, XOR}
 use Rattle.wire_frames.specs.declared.sizes.TheConstants.{SESSION_HEADER_LEN}
 use Rattle.wire_frames.specs.Session.{Transcript, IsSession}
 use Rattle.wire_frames.specs.Beginning.{Begins, IsPlace}
 use Rattle.wire_frames.specs.Answer.{answers}
-use Rattle.block_decoder.specs.Verdict.{IsVerdict}
+use Rattle.block_decoder.specs.Verdict.{IsVerdict, least_columns}
 use Rattle.block_decoder.specs.declared.verdict.Verdict.{Verdict}
 use Rattle.replay.specs.declared.TheConstants.{PIECE_LEN}
 use Rattle.replay.specs.declared.ReplayFault.{ReplayFault}
@@ -88,6 +88,11 @@ pub record ReplayCounts (held : Option (List ℕ)) (before now : ℕ) : Type 0 w
   pub xor : (bytes : List ℕ) (session : Transcript) → held ≡ Some bytes → IsSession bytes session
       → session.params.scheme ≡ XOR → now ≡ before
   pub none : (bytes : List ℕ) → held ≡ Some bytes → (SpellsOne bytes → ⊥) → now ≡ before
+
+-- where this held a session of Shamir's scheme, no fewer columns are counted than a listing of its verdict takes
+abbrev pub CountsListed : Option (List ℕ) → ℕ → ℕ → Verdict → Type 0
+CountsListed held before now verdict = (bytes : List ℕ) (session : Transcript) → held ≡ Some bytes → IsSession bytes session
+    → session.params.scheme ≡ SHAMIR → before + least_columns session.params.s verdict ≤ now
 
 -- where nothing is judged no column is counted
 abbrev pub CountsNone : Result Verdict ReplayFault → ℕ → ℕ → Type 0

@@ -8,10 +8,10 @@
 //! Not promised: that memory is found, or that Input ever answers.
 #![tactic(auto)]
 
-ghost use Rattle.std.specs.Prelude.{◌≡◌, length, vec_len, IfOk};
+ghost use Rattle.std.specs.Prelude.{◌≡◌, ◌≤◌, length, vec_len, IfOk};
 ghost use Rattle.pir_ports.specs.Number.{INPUT};
 ghost use Rattle.pir_ports.specs.Moves.{Touches};
-ghost use Rattle.replay.specs.Replayed.{ReadTo, Judged, Spells, ReplayCounts, CountsNone};
+ghost use Rattle.replay.specs.Replayed.{ReadTo, Judged, Spells, ReplayCounts, CountsListed, CountsNone};
 
 use block_decoder::{Verdict, judge};
 use pir_ports::{Failed, Port, Ports};
@@ -124,6 +124,8 @@ pub fn replay<C: Ledger, P: Ports>(
     ensures others { Touches INPUT (P.world ports.old) (P.world ports.new) }
     ensures cols { ReplayCounts ((P.world ports.old).at INPUT).holds cols.old cols.new }
     ensures unjudged { CountsNone result cols.old cols.new }
+    ensures least { cols.old ≤ cols.new }
+    ensures listed { IfOk result (CountsListed ((P.world ports.old).at INPUT).holds cols.old cols.new) }
 {
     let mut buffer = piece_buffer(alloc)?;
     let session = read_pieces(alloc, ports, &mut buffer)?;

@@ -1,4 +1,4 @@
-use Rattle.replay.proofs.Readings.{counts_of}
+use Rattle.replay.proofs.Readings.{counts_listed, counts_of}
 use Rattle.replay.proofs.replay.Goals as goal
 
 pub returns-in_err-judge-clause-cols : goal.returns-in_err-judge-clause-cols
@@ -8,3 +8,7 @@ returns-in_err-judge-clause-cols g c =
 pub returns-clause-cols : goal.returns-clause-cols
 returns-clause-cols g c =
     counts_of c.in_ok-session.session _ _ _ _ c.in_ok-session.ensures.read c.judge.ensures.cols c.judge.ensures.xor
+
+pub returns-clause-listed : goal.returns-clause-listed
+returns-clause-listed g c =
+    counts_listed c.in_ok-session.session c.in_ok-judge.field-0 _ _ _ _ c.in_ok-session.ensures.read c.in_ok-judge.ensures.listed
