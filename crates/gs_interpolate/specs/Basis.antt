@@ -74,7 +74,8 @@ IsMeeting t gs es made raised values a =
 
 -- made are polynomials with a zero of multiplicity m at (a, b), and with the zeros that gs have; together the exponents rise
 -- by at most one for each condition
-pub record IsPassing (t : ℕ) (gs : List (List (List ℕ))) (es : List ℕ) (made : List (List (List ℕ))) (raised : List ℕ) (a b m : ℕ) : Type 0 where
+pub record IsPassing (t : ℕ) (gs : List (List (List ℕ))) (es : List ℕ) (made : List (List (List ℕ)))
+    (raised : List ℕ) (a b m : ℕ) : Type 0 where
   pub size : length made ≡ length gs
   pub basis : IsBasis t made raised
   pub zeros : (j : ℕ) → HasZero (polynomial made j) a b m

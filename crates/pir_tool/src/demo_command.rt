@@ -2,6 +2,7 @@
 
 ghost use Rattle.std.specs.Prelude.{◌≡◌, ◌+◌, ◌<◌, length, map, string_bytes, IfOk, OnOk, OnErr};
 ghost use Rattle.fetch_client.specs.Plan.{IsPlan};
+ghost use Rattle.pir_tool.specs.declared.orders.TheConstants.{TCP_PORTS};
 ghost use Rattle.pir_tool.specs.DemoOrder.{address_from, addresses_from, plan_of, words_to_serve};
 ghost use Rattle.pir_tool.specs.DemoOutcome.{DemoOutcome, StartsAll, StartsSome};
 
@@ -34,7 +35,7 @@ impl<'a> Demonstration<'a> {
 /// The address of child i, counted from 1.
 #[tactic(auto, unfolding(crate::specs::DemoOrder::address_from))]
 fn address_of_child(alloc: Global, port: u16, i: u8) -> Result<String, AllocError>
-    requires { port + i < 65536 }
+    requires { port + i < TCP_PORTS }
     ensures { IfOk result (λ address. string_bytes address ≡ address_from port i) }
 {
     let own = port + u16::from(i);
@@ -44,7 +45,7 @@ fn address_of_child(alloc: Global, port: u16, i: u8) -> Result<String, AllocErro
 /// The addresses of so many children, in their order.
 #[tactic(auto, unfolding(crate::specs::DemoOrder::addresses_from))]
 fn addresses_of_children(alloc: Global, port: u16, servers: u8) -> Result<Vec<String>, AllocError>
-    requires { port + servers < 65536 }
+    requires { port + servers < TCP_PORTS }
     ensures { IfOk result (λ addresses. map string_bytes addresses.items ≡ addresses_from port servers) }
 {
     let mut addresses = Vec::new(alloc);

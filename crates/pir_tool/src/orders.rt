@@ -3,6 +3,9 @@
 use fetch_client::FetchPlan;
 use std::marker::Model;
 
+/// TCP has so many ports, from 0 on.
+pub(crate) const TCP_PORTS: u32 = 65536;
+
 /// What is fetched, from which servers, with which coins, and in which file the session is recorded, if it is.
 #[derive(Drop)]
 pub(crate) struct Fetching<'a, 'b> {
@@ -79,6 +82,7 @@ pub(crate) struct Demonstration<'a> {
 impl<'a> Model for Demonstration<'a> {
     ghost use Rattle.std.specs.Prelude.{◌+◌, ◌<◌};
     ghost use Rattle.fetch_client.specs.Plan.{IsPlan};
+    ghost use Rattle.pir_tool.specs.declared.orders.TheConstants.{TCP_PORTS};
     ghost use Rattle.pir_tool.specs.DemoOrder.{DemoOrder, plan_with};
 
     ghost Value = { DemoOrder };
@@ -95,7 +99,7 @@ impl<'a> Model for Demonstration<'a> {
       coins = d.coins.now;
     } };
 
-    ghost invariant = { λ d. (d.port + d.servers < 65536)
+    ghost invariant = { λ d. (d.port + d.servers < TCP_PORTS)
         × IsPlan (plan_with d.rows d.width d.block d.servers d.degree d.agree) };
 }
 

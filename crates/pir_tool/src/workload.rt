@@ -9,6 +9,7 @@ ghost use Rattle.pir_tool.specs.Drawn.{IsDrawn};
 
 use crate::orders::Workload;
 use crate::stream::draw;
+use block_decoder::ServerAnswers;
 use block_matrix::Matrix;
 use server_product::{OpenGate, product_into};
 use shamir_share::query_into;
@@ -25,15 +26,6 @@ pub(crate) struct Draw {
     coins: Vec<u8>,
     // The payloads of the liars, one after another.
     lies: Vec<u8>,
-}
-
-/// What all servers answer.
-#[derive(Drop)]
-pub(crate) struct AllAnswers {
-    /// Their indices, ascending.
-    pub(crate) indices: Vec<u8>,
-    /// Their payloads in the same order, one after another.
-    pub(crate) payloads: Vec<u8>,
 }
 
 /// Draws the database, the number of the session, the coins and the lies, one after the other. They are drawn at once, and
@@ -136,7 +128,7 @@ pub(crate) fn answer_all<R: Threads + Sync>(
     alloc: Global,
     load: &Workload,
     workers: u8,
-) -> Result<AllAnswers, AllocError>
+) -> Result<ServerAnswers, AllocError>
     requires numbers { IsWorkload load.now }
     requires some { 1 ≤ workers }
     requires few { workers ≤ MOST_WORKERS }
@@ -166,5 +158,5 @@ pub(crate) fn answer_all<R: Threads + Sync>(
         indices.push(index)?;
         payloads.extend_from_slice(&answer)?;
     }
-    Ok(AllAnswers { indices, payloads })
+    Ok(ServerAnswers { indices, payloads })
 }
