@@ -1,5 +1,5 @@
 -- The row that is asked for is found where enough servers are honest.
-use Rattle.std.proofs.Common.{◌≡◌, ◌≢◌, ◌∙◌, ℕ, zero, suc, ◌+◌, ◌-◌, ◌*◌, ◌<◌, ◌≤◌, Bool, true, List, [], ◌∷◌, length, map, get_or, count_by, bytes_eq, refl, sym, ap, subst, arith, inl, inr, cond}
+use Rattle.std.proofs.Common.{◌≡◌, ℕ, zero, suc, ◌+◌, ◌*◌, ◌<◌, ◌≤◌, Bool, true, List, length, map, get_or, count_by, bytes_eq, refl, sym, ap, subst, arith, inl, inr, cond}
 use Rattle.std.specs.List.{All, range_with_len}
 use Rattle.std.proofs.Math.Nat.{mod-lt}
 use Rattle.std.proofs.lemmas.Bool.{cases_lt}
@@ -7,7 +7,7 @@ use Rattle.std.proofs.lemmas.List.Elements.{All-map}
 use Rattle.std.proofs.lemmas.List.FromFn.{get_or-map-range_with_len, get_or-range_with_len, length-map-range_with_len, length-range_with_len}
 use Rattle.std.proofs.lemmas.List.Sums.{sum_by-cons}
 use Rattle.std.proofs.lemmas.Slice.Eq.{bytes_eq-Decides}
-use Rattle.gf256.specs.Product.{IsMatrix, product, product_at}
+use Rattle.gf256.specs.Product.{product, product_at}
 use Rattle.gf256.proofs.FieldLaws.{mul_lt}
 use Rattle.gf256.proofs.Sums.{sum_to-lt}
 use Rattle.shamir_share.specs.Query.{query}

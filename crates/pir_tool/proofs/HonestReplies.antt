@@ -1,5 +1,5 @@
 -- A server's reply to the query of a fetch.
-use Rattle.std.proofs.Common.{◌≡◌, Bool, true, false, ◌&&◌, ◌==◌, inl, inr, ℕ, ◌+◌, ◌<◌, ◌≤◌, ◌^◌, List, ◌++◌, length, take, drop, get_or, refl, sym, ◌∙◌, ap, ap₂, subst, arith, length-append, All}
+use Rattle.std.proofs.Common.{◌≡◌, false, inl, inr, ℕ, ◌+◌, ◌<◌, ◌≤◌, ◌^◌, List, ◌++◌, length, take, drop, get_or, refl, sym, ◌∙◌, ap, ap₂, subst, arith, length-append, All}
 use Rattle.std.proofs.Math.Seq.{take-append_seam, drop-append_seam}
 use Rattle.std.proofs.lemmas.Bool.{false≢true}
 use Rattle.std.proofs.lemmas.List.{take_all}
@@ -22,7 +22,7 @@ use Rattle.fetch_client.specs.Sent.{frame_len, header_to, payload_in, payload_to
 use Rattle.fetch_client.specs.Honest.{answer_in, honest_answer, honest_frame}
 use Rattle.fetch_client.proofs.Schemes.{length-payload_to}
 use Rattle.serve_core.specs.Service.{Service, payload_len_for}
-use Rattle.serve_core.specs.Reply.{Asks, IsShaped, Suits, RefusedByHeader, Replies, answer, answer_frame, payload, sets_unused}
+use Rattle.serve_core.specs.Reply.{IsShaped, Suits, RefusedByHeader, Replies, answer, answer_frame, payload, sets_unused}
 use Rattle.serve_core.specs.declared.met.Met.{Met}
 use Rattle.serve_core.specs.declared.met.Met.TheVariants.{Served, Refused, Gone, GuestFault}
 use Rattle.pir_tool.specs.HonestReply.{service_with, frame_of, RepliesHonestly}

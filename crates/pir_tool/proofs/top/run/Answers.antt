@@ -1,4 +1,4 @@
-use Rattle.std.proofs.Common.{[], refl, subst, arith}
+use Rattle.std.proofs.Common.{subst, arith}
 use Rattle.pir_tool.specs.Outcome.{Outcome}
 use Rattle.pir_tool.specs.FetchOutcome.{FetchOutcome}
 use Rattle.pir_tool.proofs.Demonstrating.{demo_promised}
