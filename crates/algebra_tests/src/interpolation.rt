@@ -1,9 +1,9 @@
 // Interpolation with multiplicities.
-ghost use Rattle.std.specs.Prelude.{◌≢◌, ◌<◌, ◌≤◌, ◌^◌, length, AllPairs, IsTrue};
+ghost use Rattle.std.specs.Prelude.{◌≢◌, ◌<◌, ◌≤◌, length, AllPairs, IsTrue};
 ghost use Rattle.gs_interpolate.specs.Monomials.{monomials, conditions};
 
 use bi_poly::BiPoly;
-use gs_interpolate::{Elimination, Interpolate, Koetter};
+use gs_interpolate::{Elimination, Interpolate, Koetter, MOST_EQUATIONS, MOST_WEIGHTED_DEGREE};
 use std::alloc::{AllocError, Global};
 
 /// Whether the first members ascend.
@@ -43,9 +43,9 @@ fn is_interpolated<I: Interpolate>(
 ) -> Result<bool, AllocError>
     requires multiplicity { (1 ≤ m) × (m ≤ 255) }
     requires weight { (1 ≤ t) × (t ≤ 254) }
-    requires degree { d ≤ 2 ^ 16 }
+    requires degree { d ≤ MOST_WEIGHTED_DEGREE }
     requires distinct { AllPairs (λ p q. p.0 ≢ q.0) points.now }
-    requires few { conditions (length points.now) m ≤ 32768 }
+    requires few { conditions (length points.now) m ≤ MOST_EQUATIONS }
     requires enough { conditions (length points.now) m < monomials t d }
 {
     let q = way.interpolate(alloc, points, m, t, d)?;
@@ -65,9 +65,9 @@ fn is_interpolated_both_ways(
 ) -> Result<bool, AllocError>
     requires multiplicity { (1 ≤ m) × (m ≤ 255) }
     requires weight { (1 ≤ t) × (t ≤ 254) }
-    requires degree { d ≤ 2 ^ 16 }
+    requires degree { d ≤ MOST_WEIGHTED_DEGREE }
     requires distinct { AllPairs (λ p q. p.0 ≢ q.0) points.now }
-    requires few { conditions (length points.now) m ≤ 32768 }
+    requires few { conditions (length points.now) m ≤ MOST_EQUATIONS }
     requires enough { conditions (length points.now) m < monomials t d }
 {
     Ok(

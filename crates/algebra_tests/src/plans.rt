@@ -1,15 +1,16 @@
 // The numbers of list decoding.
-ghost use Rattle.std.specs.Prelude.{◌≡◌, ◌*◌, ◌<◌, ◌≤◌, ◌^◌};
+ghost use Rattle.std.specs.Prelude.{◌≡◌, ◌*◌, ◌<◌, ◌≤◌};
 ghost use Rattle.gs_interpolate.specs.Monomials.{monomials};
 
-use column_lists::plan;
+use column_lists::{MOST_POINTS, plan};
+use gs_interpolate::MOST_WEIGHTED_DEGREE;
 
 /// Whether the plan for `k` points, degree `t` and `h` that agree has these numbers.
 fn has_plan(k: u32, t: u32, h: u32, m: u32, d: u32, cost: u64) -> bool
     requires degree { 1 ≤ t }
     requires redundant { t < h }
     requires agreement { h ≤ k }
-    requires points { k ≤ 32 }
+    requires points { k ≤ MOST_POINTS }
     requires strong { k * t < h * h }
 {
     let plan = plan(k, t, h);
@@ -32,7 +33,7 @@ fn plans_have_their_numbers(rt: HostRuntime) {
 /// How many monomials `x^i * y^j` have `i + t*j <= d`, by the definition that contracts cite.
 #[tactic(auto, unfolding(gs_interpolate::specs::Monomials::monomials_below))]
 fn count_monomials(t: u32, d: u32) -> u64
-    requires { d < 2 ^ 16 }
+    requires { d < MOST_WEIGHTED_DEGREE }
     ensures { result ≡ monomials t d }
 {
     let mut total = 0u64;

@@ -1,7 +1,7 @@
 // Systems of linear equations.
-ghost use Rattle.std.specs.Prelude.{◌≡◌, ◌<◌, ◌≤◌, ◌^◌, length, IfOk};
+ghost use Rattle.std.specs.Prelude.{◌≡◌, ◌<◌, ◌≤◌, length, IfOk};
 
-use linear_solve::{Table, kernel_vector};
+use linear_solve::{MOST_SIDE, Table, kernel_vector};
 use std::alloc::{AllocError, Global};
 
 /// The table of one row, `01 02`.
@@ -38,8 +38,8 @@ fn worked_row(rt: HostRuntime) -> Result<(), AllocError> {
 
 /// A table of drawn bytes of which only the bits of the mask are kept.
 fn drawn_table(alloc: Global, rows: u32, cols: u32, mask: u8) -> Result<Table, AllocError>
-    requires few_rows { rows ≤ 2 ^ 16 }
-    requires few_cols { cols ≤ 2 ^ 16 }
+    requires few_rows { rows ≤ MOST_SIDE }
+    requires few_cols { cols ≤ MOST_SIDE }
     ensures rows { IfOk result (λ t. t.rows ≡ rows) }
     ensures cols { IfOk result (λ t. t.cols ≡ cols) }
 {

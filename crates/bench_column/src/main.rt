@@ -6,7 +6,7 @@ ghost use Rattle.std.specs.Prelude.{◌≢◌, ◌≡◌, ◌<◌, All, AllPairs
 ghost use Rattle.bench_column.specs.Listable.{CanList};
 
 use anyhow::{Context, Result};
-use column_lists::{column_list, plan};
+use column_lists::{MOST_COST, MOST_POINTS, column_list, plan};
 use gs_interpolate::Elimination;
 use std::alloc::Global;
 use std::env;
@@ -35,11 +35,11 @@ fn are_places(points: &[(u8, u8)]) -> bool
 fn can_list(points: &[(u8, u8)], t: u32, h: u32) -> bool
     ensures { IsTrue result → CanList points.now t h }
 {
-    if points.len() > 32 || !are_places(points) {
+    if points.len() > MOST_POINTS as usize || !are_places(points) {
         return false;
     }
     let k = points.len() as u32;
-    1 <= t && t < h && h <= k && k * t < h * h && plan(k, t, h).cost <= 4096
+    1 <= t && t < h && h <= k && k * t < h * h && plan(k, t, h).cost <= MOST_COST
 }
 
 /// Lists once, with the steps counted by the blanks' ledgers, and says how many nanoseconds it took and how many there are.

@@ -79,7 +79,7 @@ strong t g r less =
     let square : g * 1 ≤ g * g = mul-le-mul_left g (let l : 1 ≤ g = omega arith in l) in
     omega arith
 
--- 2 h > k + t is strong enough to bound the blocks
+-- 2 h > k + t is strong enough for Johnson's bound
 pub close_is_strong : (k t h : ℕ) → h ≤ k → k + t < 2 * h → k * t < h * h
 close_is_strong k t h enough close =
     let all : t + (h - t) + (k - h) ≡ k = omega arith in

@@ -8,7 +8,8 @@ use Rattle.block_decoder.specs.Agreed.{Lists}
 use Rattle.block_decoder.specs.declared.verdict.Verdict.{Verdict}
 use Rattle.block_decoder.specs.declared.verdict.Verdict.TheVariants.{Listed, TooFew, TooWeak}
 
--- fewer than h answers; else too weak an agreement to bound the blocks; else the agreed blocks
+-- fewer than h answers; else so weak an agreement that Johnson's bound says nothing of the blocks (Guruswami and Sudan
+-- 1999); else the agreed blocks
 abbrev pub IsDecided : List Answer → ℕ → ℕ → ℕ → Verdict → Type 0
 IsDecided all width t h (TooFew k agree) = (k ≡ length all) × (agree ≡ h) × (length all < h)
 IsDecided all width t h (TooWeak k degree agree) =
@@ -30,7 +31,7 @@ pub record IsVerdict (session : Transcript) (verdict : Verdict) : Type 0 where
   pub xor : session.params.scheme ≡ XOR
       → IsCombined (answers session) session.params.s session.params.n session.params.h verdict
 
--- k answers are fewer than h, or so weak an agreement bounds no list of blocks
+-- k answers are fewer than h, or their agreement is so weak that Johnson's bound says nothing
 abbrev pub IsUnlisted : ℕ → ℕ → ℕ → Type 0
 IsUnlisted k t h = (k < h) ⊎ (h * h ≤ k * t)
 

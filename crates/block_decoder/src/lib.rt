@@ -1,9 +1,9 @@
 //! Which blocks a session's answers agree on, and the text that says so.
 //!
 //! Promised: a verdict lists exactly the blocks on which enough answers agree (Goldberg 2007), each once and ascending, or
-//! says that too few answers are usable, or that so weak an agreement bounds no list. In the XOR scheme (Chor, Goldreich,
-//! Kushilevitz and Sudan 1995) it lists the sum of all servers' payloads, or says that one is missing. That holds for any
-//! degree, at most [`MOST_SERVERS`](wire_frames::MOST_SERVERS) answers, and whatever the servers do. A session has exactly
+//! says that too few answers are usable, or that the agreement is too weak for Johnson's bound. In the XOR scheme (Chor,
+//! Goldreich, Kushilevitz and Sudan 1995) it lists the sum of all servers' payloads, or says that one is missing. That holds
+//! for any degree, at most [`MOST_SERVERS`](wire_frames::MOST_SERVERS) answers, and whatever the servers do. A session has exactly
 //! one verdict, which lists one block at most where `2h > k + t`, for k answers of which h agree with degree t
 //! ([`laws`]). The columns that are interpolated are counted, and bounded from below and above, also where memory ran out.
 //!

@@ -9,6 +9,6 @@ pub enum Verdict {
     Listed(Listing),
     /// Only `k` answers are usable, fewer than the `h` that have to agree, which in the XOR scheme are all.
     TooFew { k: u32, h: u32 },
-    /// With `k` answers and degree `t`, an agreement of `h` is too weak to bound the blocks: `h * h <= k * t`.
+    /// With `k` answers and degree `t`, an agreement of `h` is too weak for Johnson's bound on the blocks: `h * h <= k * t`.
     TooWeak { k: u32, t: u32, h: u32 },
 }

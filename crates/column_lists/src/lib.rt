@@ -30,8 +30,14 @@ use std::alloc::{AllocError, Global};
 use std::sync::ledger::Ledger;
 use uni_poly::steps::Steps;
 
+/// The most points of a list decoding.
+pub const MOST_POINTS: u32 = 32;
+
+/// The most equations that a list decoding takes.
+pub const MOST_COST: u64 = 4096;
+
 /// The numbers of a list decoding of `k` points of which `h` agree with polynomials of degree at most `t`, where
-/// `1 <= t < h <= k <= 32` and `h * h > k * t` (Guruswami and Sudan 1999): the multiplicity m is
+/// `1 <= t < h <= k`, `h * h > k * t` and k is at most [`MOST_POINTS`] (Guruswami and Sudan 1999): the multiplicity m is
 /// `t * (k - h) / (h * h - k * t) + 1`, the degree `h * m - 1`, and the cost `k * m * (m + 1) / 2`, all in whole numbers. There
 /// are more monomials of that weighted degree than the cost.
 ///
@@ -40,7 +46,7 @@ pub fn plan(k: u32, t: u32, h: u32) -> Plan
     requires degree { 1 ≤ t }
     requires redundant { t < h }
     requires agreement { h ≤ k }
-    requires points { k ≤ 32 }
+    requires points { k ≤ MOST_POINTS }
     requires strong { k * t < h * h }
     ensures multiplicity { result.m ≡ mult k t h }
     ensures degree { result.d + 1 ≡ h * result.m }
@@ -59,7 +65,8 @@ pub fn plan(k: u32, t: u32, h: u32) -> Plan
 /// The polynomials of degree at most `t` that agree with at least `h` of the points `(x, y)`, that is, take the value y at
 /// x (Guruswami and Sudan 1999). Each is listed once, as `t + 1` bytes, in ascending order of these. `way` interpolates.
 ///
-/// With k points, `1 <= t < h <= k <= 32` and `h * h > k * t`, and [`plan`]'s cost is at most 4096. No two points have the
+/// With k points, `1 <= t < h <= k` and `h * h > k * t`, k is at most [`MOST_POINTS`] and [`plan`]'s cost at most
+/// [`MOST_COST`]. No two points have the
 /// same x, and none has x 0.
 ///
 /// Of the five points `(01, 10)`, `(02, 10)`, `(03, 10)`, `(04, 17)` and `(05, 16)`, with `t` 1 and `h` 3, these are
@@ -84,9 +91,9 @@ pub fn column_list<I: Interpolate, C: Ledger, N: Ledger>(
     requires degree { 1 ≤ t }
     requires redundant { t < h }
     requires agreement { h ≤ length points.now }
-    requires points { length points.now ≤ 32 }
+    requires points { length points.now ≤ MOST_POINTS }
     requires strong { length points.now * t < h * h }
-    requires cheap { cost (length points.now) t h ≤ 4096 }
+    requires cheap { cost (length points.now) t h ≤ MOST_COST }
     requires distinct { AllPairs (λ p q. p.0 ≢ q.0) points.now }
     requires nonzero { All (λ p. p.0 ≢ 0) points.now }
     ensures exact { IfOk result (λ list. ListsAgreeing (map (λ r. r.items) list.items) points.now t h) }

@@ -2,6 +2,7 @@
 use Rattle.std.proofs.Common.{◌≡◌, ◌∙◌, inl, inr, ℕ, ◌+◌, ◌<◌, ◌≤◌, List, [], ◌∷◌, ◌++◌, length, slice_index_or, sym, ap, ap₂, subst, arith}
 use Rattle.std.specs.Prelude.{Option, None, IfSome}
 use Rattle.std.proofs.lemmas.List.{get_or_append_left, get_or_push}
+use Rattle.pir_ports.specs.declared.port.TheConstants.{PORT_COUNT}
 use Rattle.pir_ports.specs.World.{Cell, World}
 use Rattle.pir_ports.specs.Number.{COINS, link}
 use Rattle.pir_ports.specs.Moves.{Rose, Touches, took, gave, named, counted}
@@ -52,7 +53,7 @@ asked_next p address coins frame index most answer before after old new next is 
     }
 
 -- one more server was asked
-pub asked_more : (p : FetchPlan) (addresses : List (List ℕ)) (coins : List ℕ) (n : ℕ) (before after : Transcript) (w v u : World) → link 1 + n < 1024 → length before.records ≡ n
+pub asked_more : (p : FetchPlan) (addresses : List (List ℕ)) (coins : List ℕ) (n : ℕ) (before after : Transcript) (w v u : World) → link 1 + n < PORT_COUNT → length before.records ≡ n
     → AskedEach p addresses coins n before w v → TouchesRange (link 1) n w v → AsksNext p (slice_index_or addresses n []) coins before after v u → Touches (link 1 + n) v u → AskedEach p addresses coins (n + 1) after w u
 asked_more p addresses coins n before after w v u fits many each range next touch =
     let R = λ (t : Transcript) (i : ℕ). LinkAsked (slice_index_or addresses i []) (sent p coins (i + 1)) (answer_len p.s) (slice_index_or t.records i None) in
@@ -77,7 +78,7 @@ sent_is p coins i header payload a b =
 pub asked_before : (p : FetchPlan) (addresses : List (List ℕ)) (coins : List ℕ) (session : Transcript) (w v u : World) → IsPlan p → Tossed (need p) coins (w.at COINS) (v.at COINS) → Touches COINS w v
     → session.params ≡ params_of p (session_number coins) → length session.records ≡ p.n → AskedEach p addresses coins p.n session v u → TouchesRange (link 1) p.n v u → AsksWith p addresses coins session w u
 asked_before p addresses coins session w v u plan tossed touch params whole each range =
-    let fits : link 1 + p.n ≤ 1024 = omega (arith, plan.numbers.few_servers) in
+    let fits : link 1 + p.n ≤ PORT_COUNT = omega (arith, plan.numbers.few_servers) in
     let still : u.at COINS ≡ v.at COINS = range_still (link 1) p.n COINS v u range (omega arith) (inl (omega arith)) in
     record {
       tossed = record { size = tossed.size; bytes = tossed.bytes; cell = still ∙ tossed.cell; told = tossed.told };

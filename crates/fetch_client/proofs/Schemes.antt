@@ -1,7 +1,5 @@
 -- What the definitions of both schemes are in the one and in the other.
-use Rattle.std.proofs.Common.{◌≡◌, ℕ, ◌-◌, ◌*◌, Bool, List, length, ◌++◌, refl, ap, arith, ne_eqb}
-use Rattle.std.specs.Prelude.{if◌then◌else◌}
-use Rattle.std.proofs.lemmas.Bool.{eq-eqb}
+use Rattle.std.proofs.Common.{◌≡◌, ℕ, ◌-◌, ◌*◌, List, length, ◌++◌, refl, ap}
 use Rattle.std.proofs.lemmas.List.FromFn.{length-map-range_with_len}
 use Rattle.gf256.specs.Product.{product_at, product}
 use Rattle.shamir_share.specs.Query.{query}
@@ -12,6 +10,7 @@ use Rattle.wire_frames.specs.declared.scheme.Scheme.TheVariants.{Shamir, Xor}
 use Rattle.wire_frames.specs.declared.session.SessionParams.{SessionParams}
 use Rattle.wire_frames.specs.Header.{query_header}
 use Rattle.wire_frames.specs.Scheme.{scheme_of, payload_len}
+use Rattle.wire_frames.proofs.Schemes.{xor_is, shamir_is}
 use Rattle.chor_xor.specs.Bitmap.{bitmap, size_of}
 use Rattle.chor_xor.specs.Chosen.{chosen}
 use Rattle.chor_xor.proofs.Shares.{length-bitmap}
@@ -20,16 +19,6 @@ use Rattle.fetch_client.specs.declared.plan.FetchPlan.{FetchPlan}
 use Rattle.fetch_client.specs.Plan.{params_of, coins_for, query_coins}
 use Rattle.fetch_client.specs.Sent.{header_to, payload_in, payload_to, queries_from, sent}
 use Rattle.fetch_client.specs.Honest.{answer_in, honest_answer}
-
--- the number of the XOR scheme stands for it
-xor_is : (number : ℕ) → number ≡ XOR → scheme_of number ≡ Xor
-unfolding scheme_of
-xor_is number two = ap (λ (b : Bool). if b then Xor else Shamir) (eq-eqb number XOR two)
-
--- and that of Shamir's
-shamir_is : (number : ℕ) → number ≡ SHAMIR → scheme_of number ≡ Shamir
-unfolding scheme_of
-shamir_is number one = ap (λ (b : Bool). if b then Xor else Shamir) (ne_eqb number XOR (λ two. omega (arith, one, two)))
 
 -- in the XOR scheme
 module _ (p : SessionParams) (two : p.scheme ≡ XOR) where

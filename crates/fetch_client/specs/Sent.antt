@@ -1,15 +1,15 @@
 -- What each server is sent, in Shamir's sharing (Goldberg 2007) and in the XOR scheme (Chor, Goldreich, Kushilevitz and Sudan
 -- 1995).
-use Rattle.std.specs.Prelude.{ℕ, List, ◌+◌, ◌++◌, drop}
+use Rattle.std.specs.Prelude.{ℕ, List, ◌++◌, drop}
 use Rattle.byteorder.specs.Endian.{big_number}
 use Rattle.wire_frames.specs.declared.header.QueryHeader.{QueryHeader}
 use Rattle.wire_frames.specs.declared.scheme.Scheme.{Scheme}
 use Rattle.wire_frames.specs.declared.scheme.Scheme.TheVariants.{Shamir, Xor}
 use Rattle.wire_frames.specs.declared.session.SessionParams.{SessionParams}
-use Rattle.wire_frames.specs.declared.sizes.TheConstants.{FRAME_HEADER_LEN}
 use Rattle.wire_frames.specs.Answer.{asked}
 use Rattle.wire_frames.specs.Header.{query_header}
-use Rattle.wire_frames.specs.Scheme.{scheme_of, payload_len}
+use Rattle.wire_frames.specs.Scheme.{scheme_of}
+use Rattle.wire_frames.specs.Sizes.{query_len}
 use Rattle.chor_xor.specs.Bitmap.{bitmap}
 use Rattle.shamir_share.specs.Query.{query}
 use Rattle.fetch_client.specs.declared.coins.TheConstants.{NUMBER_LEN}
@@ -28,9 +28,9 @@ queries_from coins = drop NUMBER_LEN coins
 abbrev pub header_to : FetchPlan → List ℕ → ℕ → QueryHeader
 header_to p coins i = asked (params_of p (session_number coins)) i
 
--- how many bytes the frame has that a server is sent: the header, and the payload
+-- how many bytes the frame has that a server is sent
 abbrev pub frame_len : FetchPlan → ℕ
-frame_len p = FRAME_HEADER_LEN + payload_len (scheme_of p.scheme) p.r
+frame_len p = query_len (scheme_of p.scheme) p.r
 
 -- the payload of the query to server i for a block, by the coins of the queries: the shares of the block's unit vector, and in
 -- the XOR scheme a bitmap

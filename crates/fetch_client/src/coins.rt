@@ -12,7 +12,7 @@ use byteorder::{BigEndian, ByteOrder};
 use pir_ports::{Filled, Port, Ports, read_exactly};
 
 /// How many coins the number of a session takes.
-pub(crate) const NUMBER_LEN: usize = 8;
+pub const NUMBER_LEN: usize = 8;
 
 /// Fills `coins` from Coins, which is open.
 ///

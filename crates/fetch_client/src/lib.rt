@@ -20,5 +20,6 @@ pub mod laws;
 mod links;
 mod plan;
 
+pub use coins::NUMBER_LEN;
 pub use fetch_once::fetch;
 pub use plan::{FetchFault, FetchPlan};

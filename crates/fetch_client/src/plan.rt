@@ -8,7 +8,7 @@ ghost use Rattle.fetch_client.specs.Sent.{frame_len};
 use crate::coins::NUMBER_LEN;
 use std::alloc::AllocError;
 use thiserror::Error;
-use wire_frames::{FRAME_HEADER_LEN, Scheme, SessionParams};
+use wire_frames::{Scheme, SessionParams, query_len};
 
 /// What is to be fetched, and how.
 #[derive(Clone, Copy, Debug, PartialEq, Eq)]
@@ -72,7 +72,7 @@ impl FetchPlan {
     pub(crate) fn frame_len(&self) -> usize
         ensures { result ≡ frame_len self.now }
     {
-        FRAME_HEADER_LEN + self.scheme().payload_len(self.r)
+        query_len(self.scheme(), self.r)
     }
 }
 

@@ -1,12 +1,18 @@
 //! The polynomials of Koetter's iteration.
 
-ghost use Rattle.std.specs.Prelude.{◌≡◌, ◌≢◌, ℕ, ◌+◌, ◌*◌, ◌^◌, ◌<◌, ◌≤◌, length, sum, slice_index, IfOk, MatchOption};
+ghost use Rattle.std.specs.Prelude.{◌≡◌, ◌≢◌, ℕ, ◌+◌, ◌*◌, ◌<◌, ◌≤◌, length, sum, slice_index, IfOk, MatchOption};
 ghost use Rattle.gs_interpolate.specs.Monomials.{conditions};
 ghost use Rattle.gs_interpolate.specs.Basis.{polynomial, values, factor, IsBasis, IsCleared, IsPivot, IsFirstNonzero, IsMeeting, IsPassing, IsLightest, IsPowerOfY};
 
 use bi_poly::BiPoly;
 use std::alloc::{AllocError, Global};
 use std::mem;
+
+/// More places, and rows of y, than any interpolation needs.
+pub(crate) const MOST_PLACES: u32 = 1 << 17;
+
+/// More than the exponents of all places are together in any interpolation.
+pub(crate) const MOST_EXPONENTS: u32 = 1 << 31;
 
 /// Polynomials of which that at place j has a leading monomial `x^e * y^j`, in the weighted order.
 #[derive(Drop)]
@@ -19,7 +25,7 @@ pub(crate) struct Basis {
 /// The weight of `x^e * y^j`.
 fn weight(t: u32, e: u32, j: usize) -> u64
     requires weight { t ≤ 254 }
-    requires place { j ≤ 2 ^ 17 }
+    requires place { j ≤ MOST_PLACES }
     ensures { result ≡ e + t * j }
 {
     e as u64 + t as u64 * j as u64
@@ -121,7 +127,7 @@ impl Basis {
     /// none exactly where all values are 0.
     fn pivot(&self, t: u32, values: &[u8]) -> Option<usize>
         requires weight { t ≤ 254 }
-        requires places { length self.now.exponents.items ≤ 2 ^ 17 }
+        requires places { length self.now.exponents.items ≤ MOST_PLACES }
         requires size { length values.now ≡ length self.now.exponents.items }
         ensures { MatchOption result ((j : ℕ) → slice_index values.now j ≡ 0) (IsPivot t self.now.exponents.items values.now) }
     {
@@ -147,8 +153,8 @@ impl Basis {
         b: u8,
     ) -> Result<(), AllocError>
         requires weight { t ≤ 254 }
-        requires places { length self.old.polynomials.items ≤ 2 ^ 17 }
-        requires room { sum self.old.exponents.items < 2 ^ 31 }
+        requires places { length self.old.polynomials.items ≤ MOST_PLACES }
+        requires room { sum self.old.exponents.items < MOST_EXPONENTS }
         requires basis { IsBasis t self.old.polynomials.items self.old.exponents.items }
         ensures { IfOk result (λ _. IsMeeting t self.old.polynomials.items self.old.exponents.items self.new.polynomials.items
             self.new.exponents.items (values self.old.polynomials.items u v a b) a) }
@@ -175,8 +181,8 @@ impl Basis {
         m: u32,
     ) -> Result<(), AllocError>
         requires weight { t ≤ 254 }
-        requires places { length self.old.polynomials.items ≤ 2 ^ 17 }
-        requires room { sum self.old.exponents.items + conditions 1 m < 2 ^ 31 }
+        requires places { length self.old.polynomials.items ≤ MOST_PLACES }
+        requires room { sum self.old.exponents.items + conditions 1 m < MOST_EXPONENTS }
         requires basis { IsBasis t self.old.polynomials.items self.old.exponents.items }
         ensures { IfOk result (λ _. IsPassing t self.old.polynomials.items self.old.exponents.items self.new.polynomials.items
             self.new.exponents.items a b m) }
@@ -192,7 +198,7 @@ impl Basis {
     /// The polynomial whose leading monomial has the least weight.
     pub(crate) fn into_lightest(mut self, t: u32) -> BiPoly
         requires weight { t ≤ 254 }
-        requires places { length self.polynomials.items ≤ 2 ^ 17 }
+        requires places { length self.polynomials.items ≤ MOST_PLACES }
         requires some { 0 < length self.polynomials.items }
         requires size { length self.exponents.items ≡ length self.polynomials.items }
         ensures { IsLightest t self.polynomials.items self.exponents.items result }

@@ -1,16 +1,17 @@
 //! Interpolation by linear algebra.
 
-ghost use Rattle.std.specs.Prelude.{◌≡◌, ◌≢◌, ◌⊎◌, ℕ, ◌+◌, ◌^◌, ◌<◌, ◌≤◌, length, sum, slice_index_or, IfOk};
+ghost use Rattle.std.specs.Prelude.{◌≡◌, ◌≢◌, ◌⊎◌, ℕ, ◌+◌, ◌<◌, ◌≤◌, length, sum, slice_index_or, IfOk};
 ghost use Rattle.linear_solve.specs.Matrix.{entry};
 ghost use Rattle.gs_interpolate.specs.Layout.{IsEquation};
 ghost use Rattle.gs_interpolate.specs.Conditions.{derivative_of};
 ghost use Rattle.gs_interpolate.specs.declared.condition.Condition.{Condition};
 
-use crate::Interpolate;
+use crate::basis::MOST_PLACES;
 use crate::condition::{Condition, conditions};
 use crate::layout::{cut, row_lengths};
+use crate::{Interpolate, MOST_EQUATIONS};
 use bi_poly::BiPoly;
-use linear_solve::{Table, kernel_vector};
+use linear_solve::{MOST_SIDE, Table, kernel_vector};
 use std::alloc::{AllocError, Global};
 
 /// Interpolation by Gauss's elimination (Guruswami and Sudan 1999): the coefficients of the polynomial are the unknowns of
@@ -46,10 +47,10 @@ fn equations(
     unknowns: u32,
     lengths: &[u32],
 ) -> Result<Table, AllocError>
-    requires few { length conditions.now ≤ 32768 }
-    requires size { unknowns ≤ 32769 }
+    requires few { length conditions.now ≤ MOST_EQUATIONS }
+    requires size { unknowns ≤ MOST_EQUATIONS + 1 }
     requires unknowns { sum lengths.now ≡ unknowns }
-    requires rows { length lengths.now ≤ 2 ^ 17 }
+    requires rows { length lengths.now ≤ MOST_PLACES }
     ensures height { IfOk result (λ table. table.rows ≡ length conditions.now) }
     ensures width { IfOk result (λ table. table.cols ≡ unknowns) }
     ensures equations { IfOk result (λ table. (r : ℕ) (c : Condition) → r < length conditions.now
@@ -66,8 +67,8 @@ fn equations(
 fn write_equation(table: &mut Table, r: u32, lengths: &[u32], condition: &Condition)
     requires row { r < table.old.rows }
     requires room { sum lengths.now ≤ table.old.cols }
-    requires rows { length lengths.now ≤ 2 ^ 17 }
-    requires small { table.old.cols < 2 ^ 32 }
+    requires rows { length lengths.now ≤ MOST_PLACES }
+    requires small { table.old.cols ≤ MOST_SIDE }
     ensures height { table.new.rows ≡ table.old.rows }
     ensures width { table.new.cols ≡ table.old.cols }
     ensures written { IsEquation table.new r lengths.now condition.now }
@@ -84,7 +85,7 @@ fn write_equation(table: &mut Table, r: u32, lengths: &[u32], condition: &Condit
 fn write_row(table: &mut Table, r: u32, column: u32, length: u32, j: u32, condition: &Condition)
     requires row { r < table.old.rows }
     requires room { column + length ≤ table.old.cols }
-    requires small { table.old.cols < 2 ^ 32 }
+    requires small { table.old.cols ≤ MOST_SIDE }
     ensures height { table.new.rows ≡ table.old.rows }
     ensures width { table.new.cols ≡ table.old.cols }
     ensures written { (i : ℕ) → i < length → entry table.new r (column + i) ≡ derivative_of condition.now i j }

@@ -1,16 +1,17 @@
 //! The places of a polynomial's coefficients in a vector: row after row.
 
-ghost use Rattle.std.specs.Prelude.{◌≤◌, ◌^◌, length, map, sum, IfOk};
+ghost use Rattle.std.specs.Prelude.{◌≤◌, length, map, sum, IfOk};
 ghost use Rattle.gs_interpolate.specs.Monomials.{monomials};
 ghost use Rattle.gs_interpolate.specs.Layout.{IsLayout, IsCut};
 
+use crate::MOST_WEIGHTED_DEGREE;
 use std::alloc::{AllocError, Global};
 
 /// The lengths of the rows of a polynomial with `size` coefficients, of `(1, t)`-weighted degree at most `d`: row 0 is as
 /// long as it can be, then row 1, and so on until there are enough.
 pub(crate) fn row_lengths(alloc: Global, size: u32, t: u32, d: u32) -> Result<Vec<u32>, AllocError>
     requires weight { 1 ≤ t }
-    requires degree { d ≤ 2 ^ 16 }
+    requires degree { d ≤ MOST_WEIGHTED_DEGREE }
     requires enough { size ≤ monomials t d }
     ensures { IfOk result (λ lengths. IsLayout lengths.items size t d) }
 {

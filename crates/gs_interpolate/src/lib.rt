@@ -15,7 +15,7 @@ mod koetter;
 pub mod laws;
 mod layout;
 
-ghost use Rattle.std.specs.Prelude.{◌≢◌, ◌<◌, ◌≤◌, ◌^◌, length, AllPairs, IfOk};
+ghost use Rattle.std.specs.Prelude.{◌≢◌, ◌<◌, ◌≤◌, length, AllPairs, IfOk};
 ghost use Rattle.gs_interpolate.specs.Monomials.{monomials, conditions};
 ghost use Rattle.gs_interpolate.specs.Interpolant.{IsInterpolant};
 
@@ -24,15 +24,21 @@ pub use elimination::Elimination;
 pub use koetter::Koetter;
 use std::alloc::{AllocError, Global};
 
+/// The most equations that a zero of the given multiplicity at each of the points is, together.
+pub const MOST_EQUATIONS: u32 = 1 << 15;
+
+/// The most that the weighted degree of a polynomial is bounded by.
+pub const MOST_WEIGHTED_DEGREE: u32 = 1 << 16;
+
 /// A way to interpolate with multiplicities.
 pub trait Interpolate {
     /// A polynomial that is not 0, of `(1, t)`-weighted degree at most `d`, with a zero of multiplicity `m` at each of the
     /// points: each Hasse derivative of order `(u, v)` with `u + v < m` is 0 there. It has at most `d / t + 1` rows, of at
     /// most `d + 1` bytes each (Guruswami and Sudan 1999).
     ///
-    /// A point is `(x, y)`, and no two have the same x. `m` is from 1 to 255, `t` from 1 to 254, and `d` at most 2^16. A
-    /// zero of multiplicity m is `m * (m + 1) / 2` equations at a point; together they are at most 32768, and fewer than
-    /// the monomials `x^i * y^j` with `i + t*j <= d`, so that there is such a polynomial.
+    /// A point is `(x, y)`, and no two have the same x. `m` is from 1 to 255, `t` from 1 to 254, and `d` at most
+    /// [`MOST_WEIGHTED_DEGREE`]. A zero of multiplicity m is `m * (m + 1) / 2` equations at a point; together they are at most
+    /// [`MOST_EQUATIONS`], and fewer than the monomials `x^i * y^j` with `i + t*j <= d`, so that there is such a polynomial.
     ///
     /// Of the five points `(01, 10)`, `(02, 10)`, `(03, 10)`, `(04, 17)` and `(05, 16)`, with `m` 1, `t` 1 and `d` 2, the
     /// product of two lines through them is one: `(y - 10) * (y - 13 - x)`.
@@ -50,9 +56,9 @@ pub trait Interpolate {
     ) -> Result<BiPoly, AllocError>
         requires multiplicity { (1 ≤ m) × (m ≤ 255) }
         requires weight { (1 ≤ t) × (t ≤ 254) }
-        requires degree { d ≤ 2 ^ 16 }
+        requires degree { d ≤ MOST_WEIGHTED_DEGREE }
         requires distinct { AllPairs (λ p q. p.0 ≢ q.0) points.now }
-        requires few { conditions (length points.now) m ≤ 32768 }
+        requires few { conditions (length points.now) m ≤ MOST_EQUATIONS }
         requires enough { conditions (length points.now) m < monomials t d }
         ensures { IfOk result (λ q. IsInterpolant q points.now m t d) };
 }

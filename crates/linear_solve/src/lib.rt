@@ -18,7 +18,7 @@ ghost use Rattle.std.specs.Prelude.{◌<◌, IfOk};
 ghost use Rattle.linear_solve.specs.Kernel.{IsKernelVector};
 
 use std::alloc::{AllocError, Global};
-pub use table::Table;
+pub use table::{MOST_SIDE, Table};
 
 /// A vector that isn't zero and that the table sends to zero: it has a byte for each column, and its inner product with
 /// each row is 0. There must be more columns than rows, so that there is one. Of the one row `01 02` it is a multiple of

@@ -1,13 +1,16 @@
 //! A matrix of bytes.
 
-ghost use Rattle.std.specs.Prelude.{◌≡◌, ◌<◌, ◌≤◌, ◌*◌, ◌^◌, length, take, drop, IfOk};
+ghost use Rattle.std.specs.Prelude.{◌≡◌, ◌<◌, ◌≤◌, ◌*◌, length, take, drop, IfOk};
 ghost use Rattle.linear_solve.specs.Matrix.{entry, IsZeroMatrix, IsWithEntry};
 
 use std::alloc::{AllocError, Global};
 use std::marker::Model;
 
-/// A matrix of bytes, at most `2^16` rows by `2^16` columns. Contracts see its numbers of rows and columns and its
-/// entries.
+/// The most rows, and the most columns, that a table has.
+pub const MOST_SIDE: u32 = 1 << 16;
+
+/// A matrix of bytes, at most [`MOST_SIDE`] rows by [`MOST_SIDE`] columns. Contracts see its numbers of rows and columns and
+/// its entries.
 #[derive(Drop)]
 pub struct Table {
     rows: usize,
@@ -27,12 +30,12 @@ impl Model for Table {
 }
 
 impl Table {
-    /// A table of zeros. Rows and columns are at most `2^16` each.
+    /// A table of zeros. Rows and columns are at most [`MOST_SIDE`] each.
     ///
     /// The error is want of memory.
     pub fn new(alloc: Global, rows: u32, cols: u32) -> Result<Table, AllocError>
-        requires few_rows { rows ≤ 2 ^ 16 }
-        requires few_cols { cols ≤ 2 ^ 16 }
+        requires few_rows { rows ≤ MOST_SIDE }
+        requires few_cols { cols ≤ MOST_SIDE }
         ensures { IfOk result (λ t. IsZeroMatrix t rows cols) }
     {
         let rows = rows as usize;

@@ -1,6 +1,7 @@
 -- Calls on the ports base, base + 1, .., one after the other, and calls on other ports before and after.
 use Rattle.std.proofs.Common.{◌≡◌, ◌⊎◌, inl, inr, ℕ, ◌+◌, ◌<◌, ◌≤◌, refl, sym, ◌∙◌, subst, arith}
 use Rattle.std.proofs.lemmas.Bool.{cases_eq}
+use Rattle.pir_ports.specs.declared.port.TheConstants.{PORT_COUNT}
 use Rattle.pir_ports.specs.World.{Cell, World}
 use Rattle.pir_ports.specs.Moves.{Touches}
 use Rattle.pir_ports.specs.Each.{Each, TouchesRange}
@@ -28,7 +29,7 @@ pub each_as : (R S : ℕ → Cell → Cell → Type 0) (base n : ℕ) (w v : Wor
 each_as R S base n w v from e = record { each = λ i l. from i l (w.at (base + i)) (v.at (base + i)) (e.each i l) }
 
 -- one port more
-pub each_more : (R : ℕ → Cell → Cell → Type 0) (base n : ℕ) (w v u : World) → base + n < 1024
+pub each_more : (R : ℕ → Cell → Cell → Type 0) (base n : ℕ) (w v u : World) → base + n < PORT_COUNT
     → Each R base n w v → TouchesRange base n w v → Touches (base + n) v u
     → R n (v.at (base + n)) (u.at (base + n)) → Each R base (n + 1) w u
 each_more R base n w v u fits e range touch last = record {
@@ -43,19 +44,19 @@ each_more R base n w v u fits e range touch last = record {
 }
 
 -- a port behind or before the range stays
-pub range_still : (base n q : ℕ) (w v : World) → TouchesRange base n w v → q < 1024
+pub range_still : (base n q : ℕ) (w v : World) → TouchesRange base n w v → q < PORT_COUNT
     → (q < base) ⊎ (base + n ≤ q) → v.at q ≡ w.at q
 range_still base n q w v range l out = range.others q l (λ lo hi. elim out [ inl a ↦ omega (arith, a) | inr a ↦ omega (arith, a) ])
 
 -- what was done to each stays, whatever is done to another port after it
-pub each_after : (R : ℕ → Cell → Cell → Type 0) (base n p : ℕ) (w v u : World) → base + n ≤ 1024
+pub each_after : (R : ℕ → Cell → Cell → Type 0) (base n p : ℕ) (w v u : World) → base + n ≤ PORT_COUNT
     → (p < base) ⊎ (base + n ≤ p) → Each R base n w v → Touches p v u → Each R base n w u
 each_after R base n p w v u fits out e touch = record {
   each = λ i l. subst (λ (d : Cell). R i (w.at (base + i)) d) (sym (touch.others (base + i) (omega arith) (λ q. elim out [ inl a ↦ omega (arith, a, q) | inr a ↦ omega (arith, a, q) ]))) (e.each i l);
 }
 
 -- what is done to each counts from before, whatever was done to another port
-pub each_before : (R : ℕ → Cell → Cell → Type 0) (base n p : ℕ) (w v u : World) → base + n ≤ 1024
+pub each_before : (R : ℕ → Cell → Cell → Type 0) (base n p : ℕ) (w v u : World) → base + n ≤ PORT_COUNT
     → (p < base) ⊎ (base + n ≤ p) → Touches p w v → Each R base n v u → Each R base n w u
 each_before R base n p w v u fits out touch e = record {
   each = λ i l. subst (λ (c : Cell). R i c (u.at (base + i))) (touch.others (base + i) (omega arith) (λ q. elim out [ inl a ↦ omega (arith, a, q) | inr a ↦ omega (arith, a, q) ])) (e.each i l);

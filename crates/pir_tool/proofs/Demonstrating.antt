@@ -5,6 +5,7 @@ use Rattle.std.specs.List.{range_with_len}
 use Rattle.std.proofs.lemmas.List.{length-map}
 use Rattle.std.proofs.lemmas.List.FromFn.{length-map-range_with_len}
 use Rattle.std.proofs.lemmas.Simd.{map-map}
+use Rattle.pir_ports.specs.declared.port.TheConstants.{PORT_COUNT}
 use Rattle.pir_ports.specs.World.{Cell, World}
 use Rattle.pir_ports.specs.Number.{OUTPUT, COINS, link, child}
 use Rattle.pir_ports.specs.Moves.{Rose, gave, named}
@@ -73,7 +74,7 @@ demonstrates o addresses lists status w v u at words starts ends others = demons
 }
 
 -- no port is touched before the fetch
-module _ (o : FetchOrder) (w v z : World) (same : (q : ℕ) → q < 1024 → v.at q ≡ w.at q) (fits : (link 1) + o.plan.n ≤ 1024) where
+module _ (o : FetchOrder) (w v z : World) (same : (q : ℕ) → q < PORT_COUNT → v.at q ≡ w.at q) (fits : (link 1) + o.plan.n ≤ PORT_COUNT) where
   in_session_before : (coins : List ℕ) (session : Transcript) → InSession o coins session v z → InSession o coins session w z
   in_session_before coins session s = record {
     tossed = subst (λ (c : Cell). Tossed (need o.plan) coins (named o.coins c) (z.at COINS)) (same 3 (lit< tt)) s.tossed;
@@ -108,13 +109,13 @@ module _ (o : DemoOrder) (old new : World) (few : o.servers < 256) (none : NoneR
       let fewer : s.before < o.servers = omega (arith, s.fewer, length-map-range_with_len (λ i. words_to_serve o.database o.width (address_from o.port i)) 1 o.servers) in
       ready s.before fewer (subst (λ (c : Cell). Rose c.faults (new.at ((child 1) + s.before)).faults) (s.starts.ports ((child 1) + s.before) (omega (arith, fewer, few))) s.fails.rose)
 
-  none_after : (v : World) → ((q : ℕ) → q < 1024 → v.at q ≡ old.at q) → NoneRose files v new
+  none_after : (v : World) → ((q : ℕ) → q < PORT_COUNT → v.at q ≡ old.at q) → NoneRose files v new
   none_after v same = (
     λ rose. none.0 (subst (λ (c : Cell). Rose c.faults (new.at OUTPUT).faults) (same 1 (lit< tt)) rose),
     (λ rose. none.1.0 (subst (λ (c : Cell). Rose c.faults (new.at COINS).faults) (same 3 (lit< tt)) rose), tt),
   )
 
-  told_after : (v : World) (held : List ℕ) → ((q : ℕ) → q < 1024 → v.at q ≡ old.at q) → (old.at COINS).holds ≡ Some held → (v.at COINS).holds ≡ Some held
+  told_after : (v : World) (held : List ℕ) → ((q : ℕ) → q < PORT_COUNT → v.at q ≡ old.at q) → (old.at COINS).holds ≡ Some held → (v.at COINS).holds ≡ Some held
   told_after v held same told = ap (λ (c : Cell). c.holds) (same 3 (lit< tt)) ∙ told
 
   module _ (held : List ℕ) (told : (old.at COINS).holds ≡ Some held) where

@@ -1,6 +1,7 @@
 -- A fetch from its first port to its last.
 use Rattle.std.proofs.Common.{◌≡◌, ◌≢◌, ◌∙◌, inl, inr, ℕ, ◌+◌, ◌<◌, ◌≤◌, List, [], ◌∷◌, length, take, slice_index_or, refl, lit<, sym, ap, subst, arith}
 use Rattle.std.specs.Prelude.{Option, Some, None, IfSome, unwrap_or}
+use Rattle.pir_ports.specs.declared.port.TheConstants.{PORT_COUNT}
 use Rattle.pir_ports.specs.World.{Cell, World}
 use Rattle.pir_ports.specs.Number.{COINS, RECORD, link}
 use Rattle.pir_ports.specs.Moves.{Rose, Touches, took, gave, named, counted}
@@ -37,7 +38,7 @@ order_is o is = ap (λ (n : ℕ). record {
 }) (sym is)
 
 -- every server was asked after Coins was opened, and before other ports were touched
-pub asked_within : (o : FetchOrder) (coins : List ℕ) (session : Transcript) (w v u z : World) → (link 1) + o.plan.n ≤ 1024 → v.at COINS ≡ named o.coins (w.at COINS) → Touches COINS w v
+pub asked_within : (o : FetchOrder) (coins : List ℕ) (session : Transcript) (w v u z : World) → (link 1) + o.plan.n ≤ PORT_COUNT → v.at COINS ≡ named o.coins (w.at COINS) → Touches COINS w v
     → AsksWith o.plan o.addresses coins session v u → TouchesFiles u z → InSession o coins session w z
 asked_within o coins session w v u z fits is_open touch asks files =
     let p = o.plan in

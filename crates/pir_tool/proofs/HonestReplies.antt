@@ -16,6 +16,7 @@ use Rattle.wire_frames.specs.Limits.{IsQuery}
 use Rattle.wire_frames.specs.Query.{IsQueryHeader}
 use Rattle.wire_frames.proofs.Parsing.{same_digits}
 use Rattle.wire_frames.proofs.Servers.{scheme_in}
+use Rattle.fetch_client.specs.declared.coins.TheConstants.{NUMBER_LEN}
 use Rattle.fetch_client.specs.declared.plan.FetchPlan.{FetchPlan}
 use Rattle.fetch_client.specs.Plan.{IsPlan, params_of, need}
 use Rattle.fetch_client.specs.Sent.{frame_len, header_to, payload_in, payload_to, queries_from, sent, session_number}
@@ -129,7 +130,7 @@ pub replies_honestly : (p : FetchPlan) (coins : List ℕ) (i : ℕ) (matrix : Li
 replies_honestly p coins i matrix workers within is_query is met frame = (only_reply p within coins i is_query matrix workers is met frame, the_reply p within coins i is_query matrix workers is met frame)
 
 -- the number of a session has eight bytes
-session_below : (coins : List ℕ) → ((k : ℕ) → k < 8 → get_or coins k 0 < 256) → session_number coins < 2 ^ 64
+session_below : (coins : List ℕ) → ((k : ℕ) → k < NUMBER_LEN → get_or coins k 0 < 256) → session_number coins < 2 ^ 64
 unfolding session_number
 session_below coins byte =
     omega (arith, byte 0 (omega arith), byte 1 (omega arith), byte 2 (omega arith), byte 3 (omega arith), byte 4 (omega arith), byte 5 (omega arith), byte 6 (omega arith), byte 7 (omega arith))

@@ -1,6 +1,7 @@
 -- What a coalition of servers is sent for one block, it is sent for any other, from coins that a bijection gives: in Shamir's
--- sharing (Goldberg 2007), and in the XOR scheme, which is scheme 2 (Chor, Goldreich, Kushilevitz and Sudan 1995).
+-- sharing (Goldberg 2007), and in the XOR scheme (Chor, Goldreich, Kushilevitz and Sudan 1995).
 use Rattle.std.specs.Prelude.{◌≡◌, ◌≢◌, ℕ, ◌≤◌, List, ◌++◌, take, drop, All}
+use Rattle.fetch_client.specs.declared.coins.TheConstants.{NUMBER_LEN}
 use Rattle.fetch_client.specs.declared.plan.FetchPlan.{FetchPlan}
 use Rattle.fetch_client.specs.Plan.{need}
 use Rattle.fetch_client.specs.Sent.{sent}
@@ -14,7 +15,7 @@ with_block p block = record { scheme = p.scheme; t = p.t; h = p.h; n = p.n; r = 
 -- the coins that show the coalition the same for another block: the number of the session stays, and the coins of the rows
 -- are those of the partner
 unfoldable pub partner_coins : FetchPlan → List ℕ → ℕ → List ℕ → List ℕ
-partner_coins p coalition other coins = take 8 coins ++ partner (drop 8 coins) p.t coalition p.block other
+partner_coins p coalition other coins = take NUMBER_LEN coins ++ partner (drop NUMBER_LEN coins) p.t coalition p.block other
 
 -- each member is sent the same frame, session number and all
 abbrev pub IsSentTheSame : FetchPlan → List ℕ → ℕ → Type 0
@@ -24,7 +25,7 @@ IsSentTheSame p coalition other = (coins : List ℕ) → AreCoins (need p) coins
 -- in the XOR scheme, the coins that show the same for another block to all servers but one: the number of the session stays,
 -- and the coins of the bitmaps are those of the partner
 unfoldable pub partner_coins_xor : FetchPlan → ℕ → ℕ → List ℕ → List ℕ
-partner_coins_xor p left_out other coins = take 8 coins ++ partner_xor (drop 8 coins) p.n p.r left_out p.block other
+partner_coins_xor p left_out other coins = take NUMBER_LEN coins ++ partner_xor (drop NUMBER_LEN coins) p.n p.r left_out p.block other
 
 -- each server but the one is sent the same frame, session number and all
 abbrev pub OthersAreSentTheSame : FetchPlan → ℕ → ℕ → Type 0

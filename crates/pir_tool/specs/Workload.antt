@@ -5,6 +5,7 @@ use Rattle.gf256.specs.Product.{product}
 use Rattle.shamir_share.specs.Query.{query}
 use Rattle.wire_frames.specs.Answer.{Answer}
 use Rattle.wire_frames.specs.Limits.{IsInRange}
+use Rattle.fetch_client.specs.declared.coins.TheConstants.{NUMBER_LEN}
 use Rattle.pir_tool.specs.declared.orders.Workload.{Workload}
 use Rattle.wire_frames.specs.declared.scheme.TheConstants.{SHAMIR}
 use Rattle.block_matrix.specs.Database.{Database, database}
@@ -15,19 +16,19 @@ pub record IsWorkload (w : Workload) : Type 0 where
   pub numbers : IsInRange (record { scheme = SHAMIR; t = w.degree; h = w.agree; n = w.servers; session = 0; r = w.rows; s = w.width })
   pub liars : w.liars ≤ w.servers
 
--- the stream of the seed gives the database, then the 8 bytes of a session's number, then the coins, then the lies
+-- the stream of the seed gives the database, then the number of a session, then the coins, then the lies
 
 -- the database: the first rows * width bytes, row after row
 abbrev pub database_of : Workload → Database
 database_of w = database w.width (drawn w.seed 0 (w.rows * w.width))
 
--- where the 8 bytes of the session's number begin, on which no answer depends
+-- where the session's number begins, on which no answer depends
 abbrev pub session_from : Workload → ℕ
 session_from w = w.rows * w.width
 
 -- where the coins begin
 abbrev pub coins_from : Workload → ℕ
-coins_from w = session_from w + 8
+coins_from w = session_from w + NUMBER_LEN
 
 -- the coins: one for each row and each degree from 1 on
 abbrev pub coins_of : Workload → List ℕ

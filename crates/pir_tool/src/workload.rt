@@ -11,13 +11,11 @@ use crate::orders::Workload;
 use crate::stream::draw;
 use block_decoder::ServerAnswers;
 use block_matrix::Matrix;
+use fetch_client::NUMBER_LEN;
 use server_product::{OpenGate, product_into};
 use shamir_share::query_into;
 use std::alloc::{AllocError, Global};
 use std::thread::Threads;
-
-// How many bytes of the stream are the number of the session.
-const SESSION_LEN: usize = 8;
 
 /// What is drawn for a workload.
 #[derive(Drop)]
@@ -38,8 +36,8 @@ fn draw_load(alloc: Global, load: &Workload) -> Result<Draw, AllocError>
     let cells = load.rows as usize * width;
     let tosses = load.rows as usize * usize::from(load.degree);
     let lying = usize::from(load.liars) * width;
-    let mut database = draw(alloc, load.seed, cells + SESSION_LEN + tosses + lying)?;
-    let mut coins = database.split_off(cells + SESSION_LEN)?;
+    let mut database = draw(alloc, load.seed, cells + NUMBER_LEN + tosses + lying)?;
+    let mut coins = database.split_off(cells + NUMBER_LEN)?;
     let lies = coins.split_off(tosses)?;
     database.truncate(cells);
     match Matrix::from_bytes(alloc, database, load.width) {

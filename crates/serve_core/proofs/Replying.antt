@@ -14,7 +14,7 @@ use Rattle.wire_frames.specs.declared.header.QueryHeader.{QueryHeader}
 use Rattle.wire_frames.specs.Header.{answer_to}
 use Rattle.wire_frames.specs.Query.{IsQueryHeader}
 use Rattle.wire_frames.specs.Scheme.{scheme_of}
-use Rattle.serve_core.specs.Service.{Service, payload_len_for, query_len}
+use Rattle.serve_core.specs.Service.{Service, payload_len_for, query_len_for}
 use Rattle.serve_core.specs.Refusal.{refusal_status}
 use Rattle.serve_core.specs.Reply.{Asks, IsWholeWith, Suits, RefusedByHeader, answer_frame, header_of, payload, sets_unused}
 use Rattle.serve_core.specs.Attended.{IsReply, Replied, IsBroken, Broke, Attends}
@@ -155,7 +155,7 @@ module _ (service : Service) (before header : List ℕ) (w v : World) (size : le
       many : length takes.before ≡ payload_len_for service
       many = takes.full ∙ takes.size
 
-      all_taken : x.at GUEST ≡ took (query_len service) (w.at GUEST)
+      all_taken : x.at GUEST ≡ took (query_len_for service) (w.at GUEST)
       all_taken = takes.hands.cell ∙ ap (took (length takes.before)) hands.cell
           ∙ took-took (length takes.before) FRAME_HEADER_LEN (w.at GUEST)
           ∙ ap (λ n. took (FRAME_HEADER_LEN + n) (w.at GUEST)) many
@@ -168,7 +168,7 @@ module _ (service : Service) (before header : List ℕ) (w v : World) (size : le
         query_is = sym (take_all (length takes.before) query (omega (arith, takes.full))) ∙ second.bytes
             ∙ ap (λ n. take n (drop FRAME_HEADER_LEN h)) many
 
-        enough : query_len service ≤ length h
+        enough : query_len_for service ≤ length h
         enough = omega (arith, second.there, many, length-drop FRAME_HEADER_LEN h, (came h e).there)
 
         whole_with : IsWholeWith unused service h
@@ -182,7 +182,7 @@ module _ (service : Service) (before header : List ℕ) (w v : World) (size : le
       abbrev frame : List ℕ
       frame = answer_frame service header query
 
-      served : (h : List ℕ) → (w.at GUEST).holds ≡ Some h → IsReply service Served (query_len service) frame h
+      served : (h : List ℕ) → (w.at GUEST).holds ≡ Some h → IsReply service Served (query_len_for service) frame h
       served h e = record {
         replies = (
           whole_with false query x takes h e,
@@ -194,16 +194,16 @@ module _ (service : Service) (before header : List ℕ) (w v : World) (size : le
 
       finishes : (met : Met) (u : World) → Gives Served frame met x u → Attends service met w u
       finishes met u (inl given) = subst (λ m. Attends service m w u) (sym given.0)
-          (gave_whole service Served (query_len service) frame w x u (all_taken false query x takes) served given.1)
+          (gave_whole service Served (query_len_for service) frame w x u (all_taken false query x takes) served given.1)
       finishes met u (inr failed) = subst (λ m. Attends service m w u) (sym failed.0)
-          (gave_front service Served (query_len service) frame w x u (all_taken false query x takes) served failed.1)
+          (gave_front service Served (query_len_for service) frame w x u (all_taken false query x takes) served failed.1)
 
     -- the payload sets an unused bit
     module _ (query : List ℕ) (x : World) (takes : TakesPayload true service query v x) where
       abbrev refusing_payload : List ℕ
       refusing_payload = answer_to header 1
 
-      declined : (h : List ℕ) → (w.at GUEST).holds ≡ Some h → IsReply service (IsRefused 1) (query_len service) refusing_payload h
+      declined : (h : List ℕ) → (w.at GUEST).holds ≡ Some h → IsReply service (IsRefused 1) (query_len_for service) refusing_payload h
       declined h e = record {
         replies = (inr (refl, whole_with true query x takes h e), ap (λ l. answer_to l 1) (header_is h e));
         takes = inr ((refl, whole_with true query x takes h e), refl);
@@ -212,9 +212,9 @@ module _ (service : Service) (before header : List ℕ) (w v : World) (size : le
 
       declines : (met : Met) (u : World) → Gives (IsRefused 1) refusing_payload met x u → Attends service met w u
       declines met u (inl given) = subst (λ m. Attends service m w u) (sym given.0)
-          (gave_whole service (IsRefused 1) (query_len service) refusing_payload w x u (all_taken true query x takes) declined given.1)
+          (gave_whole service (IsRefused 1) (query_len_for service) refusing_payload w x u (all_taken true query x takes) declined given.1)
       declines met u (inr failed) = subst (λ m. Attends service m w u) (sym failed.0)
-          (gave_front service (IsRefused 1) (query_len service) refusing_payload w x u (all_taken true query x takes) declined failed.1)
+          (gave_front service (IsRefused 1) (query_len_for service) refusing_payload w x u (all_taken true query x takes) declined failed.1)
 
     -- the guest ended before its payload was whole
     stops : (u : World) → Stops service v u → Replied service Gone w u

@@ -13,7 +13,7 @@ use Rattle.wire_frames.specs.Query.{IsQueryHeader}
 use Rattle.block_matrix.specs.Database.{Database}
 use Rattle.chor_xor.specs.Bitmap.{has_unused}
 use Rattle.chor_xor.specs.Chosen.{chosen}
-use Rattle.serve_core.specs.Service.{Service, payload_len_for, query_len}
+use Rattle.serve_core.specs.Service.{Service, payload_len_for, query_len_for}
 use Rattle.serve_core.specs.declared.met.Met.{Met}
 use Rattle.serve_core.specs.declared.met.Met.TheVariants.{Served, Refused, Gone, GuestFault}
 
@@ -86,7 +86,7 @@ answer_frame service header query = answer_to header 0
 -- the bytes are a whole query that suits
 pub record IsWhole (service : Service) (bytes : List ℕ) : Type 0 where
   pub suits : Suits service bytes
-  pub enough : query_len service ≤ length bytes
+  pub enough : query_len_for service ≤ length bytes
 
 -- they are one whose payload sets an unused bit or none, as this says
 pub record IsWholeWith (unused : Bool) (service : Service) (bytes : List ℕ) : Type 0 where
@@ -106,7 +106,7 @@ Refuses service bytes status = RefusedByHeader service bytes status
 -- the bytes end before the query does
 abbrev pub IsCut : Service → List ℕ → Type 0
 IsCut service bytes = (length bytes < FRAME_HEADER_LEN)
-    ⊎ (Suits service bytes × (length bytes < query_len service))
+    ⊎ (Suits service bytes × (length bytes < query_len_for service))
 
 -- the reply to a guest with these bytes: what it is met with, and the frame
 abbrev pub Replies : Service → List ℕ → Met → List ℕ → Type 0
@@ -125,9 +125,9 @@ AsksForOneReply service bytes = (met other : Met) (frame out : List ℕ)
 -- the reply takes so many of the guest's bytes: the whole query where its payload is judged, only
 -- the header where that is refused, and all of a query that is cut
 abbrev pub ReplyTakes : Service → List ℕ → Met → ℕ → Type 0
-ReplyTakes service bytes Served n = n ≡ query_len service
+ReplyTakes service bytes Served n = n ≡ query_len_for service
 ReplyTakes service bytes (Refused status) n =
     (RefusedByHeader service bytes status × (n ≡ FRAME_HEADER_LEN))
-    ⊎ (RefusedByPayload service bytes status × (n ≡ query_len service))
+    ⊎ (RefusedByPayload service bytes status × (n ≡ query_len_for service))
 ReplyTakes service bytes Gone n = n ≡ length bytes
 ReplyTakes service bytes GuestFault n = ⊥

@@ -1,7 +1,7 @@
 -- What a server serves.
-use Rattle.std.specs.Prelude.{ℕ, ◌+◌, length}
-use Rattle.wire_frames.specs.declared.sizes.TheConstants.{FRAME_HEADER_LEN}
+use Rattle.std.specs.Prelude.{ℕ, length}
 use Rattle.wire_frames.specs.Scheme.{scheme_of, payload_len}
+use Rattle.wire_frames.specs.Sizes.{query_len}
 use Rattle.block_matrix.specs.Database.{Database}
 
 -- the database, the number of the scheme, and how many workers sum the rows
@@ -14,6 +14,6 @@ pub record Service : Type 0 where
 abbrev pub payload_len_for : Service → ℕ
 payload_len_for service = payload_len (scheme_of service.scheme) (length service.database.rows)
 
--- how many bytes a whole query to it has: the header, and the payload
-abbrev pub query_len : Service → ℕ
-query_len service = FRAME_HEADER_LEN + payload_len_for service
+-- how many bytes a whole query to it has
+abbrev pub query_len_for : Service → ℕ
+query_len_for service = query_len (scheme_of service.scheme) (length service.database.rows)

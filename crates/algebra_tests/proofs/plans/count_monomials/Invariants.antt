@@ -1,10 +1,11 @@
-use Rattle.std.proofs.Common.{◌≡◌, ◌+◌, ◌-◌, ◌*◌, ◌≤◌, ◌^◌}
+use Rattle.std.proofs.Common.{◌≡◌, ◌+◌, ◌-◌, ◌*◌, ◌≤◌}
+use Rattle.gs_interpolate.specs.declared.TheConstants.{MOST_WEIGHTED_DEGREE}
 use Rattle.gs_interpolate.specs.Monomials.{monomials, monomials_below}
 use Rattle.algebra_tests.proofs.plans.count_monomials.Given as goal
 
 abbrev pub invariant-loop-row : goal.invariant-loop-row
 invariant-loop-row l = record {
   so_far : l.total + monomials_below (l.d + 1 - l._row) l.t l.left ≡ monomials l.t l.d;
-  small : l.total ≤ l._row * 2 ^ 16;
-  left : l.left ≤ 2 ^ 16;
+  small : l.total ≤ l._row * MOST_WEIGHTED_DEGREE;
+  left : l.left ≤ MOST_WEIGHTED_DEGREE;
 }

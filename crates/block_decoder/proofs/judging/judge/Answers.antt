@@ -7,30 +7,13 @@ use Rattle.wire_frames.specs.declared.scheme.Scheme.TheVariants.{Shamir, Xor}
 use Rattle.wire_frames.specs.declared.session.SessionParams.{SessionParams}
 use Rattle.wire_frames.specs.Answer.{Answer, answers}
 use Rattle.wire_frames.specs.Scheme.{scheme_of}
+use Rattle.wire_frames.proofs.Schemes.{number_of_xor, number_of_shamir}
 use Rattle.block_decoder.specs.Agreed.{answers_of}
 use Rattle.uni_poly.specs.Binomial.{binomial}
 use Rattle.block_decoder.specs.Verdict.{IsCombined, IsDecided, IsUnlisted, IsVerdict}
 use Rattle.block_decoder.specs.declared.verdict.Verdict.{Verdict}
 use Rattle.block_decoder.proofs.Agreement.{length-answers_of}
 use Rattle.block_decoder.proofs.judging.judge.Goals as goal
-
--- ---- the number of a scheme
-
-told_xor : (b : Bool) → ◌≡◌ {A = Scheme} (cond b Xor Shamir) Xor → b ≡ true
-told_xor true e = refl
-told_xor false e = absurd (cc)
-
-told_shamir : (b : Bool) → ◌≡◌ {A = Scheme} (cond b Xor Shamir) Shamir → b ≡ false
-told_shamir true e = absurd (cc)
-told_shamir false e = refl
-
-number_of_xor : (n : ℕ) → scheme_of n ≡ Xor → n ≡ XOR
-unfolding scheme_of
-number_of_xor n e = eqb-true n XOR (told_xor (nat_eq n XOR) e)
-
-number_of_shamir : (n : ℕ) → scheme_of n ≡ Shamir → n ≢ XOR
-unfolding scheme_of
-number_of_shamir n e same = false≢true (sym (told_shamir (nat_eq n XOR) e) ∙ eq-eqb n XOR same)
 
 -- ---- the numbers of the session are those that are handed on
 
