@@ -9,6 +9,7 @@ pub mod bytes;
 pub mod case;
 mod expected_lines;
 pub mod fault;
+mod limits;
 pub mod lines;
 pub mod naming;
 pub mod reading;

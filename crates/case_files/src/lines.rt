@@ -1,6 +1,7 @@
 //! The lines of a file.
 
 use crate::fault::Fault;
+use crate::limits::append_limits;
 use std::alloc::{AllocError, Global};
 
 /// A line that says something, and its number, counted from 1.
@@ -40,7 +41,7 @@ fn go_on(lines: &mut [Line], more: &str) -> Result<(), AllocError> {
         return Ok(());
     };
     line.text.push(' ')?;
-    line.text.push_str(more)
+    append_limits(more, &mut line.text)
 }
 
 /// Adds a line, or goes on with the one before where this one begins with `+ `.
@@ -56,12 +57,14 @@ fn add_line(
     if let Some(more) = text.strip_prefix("+ ") {
         return go_on(lines, more);
     }
-    let text = String::from_str(alloc, text)?;
-    lines.push(Line { number, text })?;
+    let mut line = String::new(alloc);
+    append_limits(text, &mut line)?;
+    lines.push(Line { number, text: line })?;
     Ok(())
 }
 
-/// The lines of a text that say something. A line that begins with `+ ` goes on with the one before.
+/// The lines of a text that say something, with the numbers of the limits that they name between braces. A line that begins
+/// with `+ ` goes on with the one before.
 pub fn lines_of(alloc: Global, text: &str) -> Result<Vec<Line>, AllocError> {
     let mut lines = Vec::new(alloc);
     let mut number = 0usize;
