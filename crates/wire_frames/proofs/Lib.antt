@@ -12,7 +12,7 @@ pub mod Parsing
 mod QueryLayout
 mod RecordLayout
 mod RecordSteps
-mod Schemes
+pub mod Schemes
 pub mod Servers
 mod ShapeFields
 mod Spellings
