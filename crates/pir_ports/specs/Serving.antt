@@ -16,7 +16,8 @@ pub record ServesOne (F : List ℕ → List ℕ → ℕ → ℕ → Type 0) (old
 
 -- of the guests gs the first j were served, each by F, after guests that were given other answers and came in at
 -- other counts. A guest ends at the count at which the next came in, and the last at the present one
-pub record Serving (F : List ℕ → List ℕ → ℕ → ℕ → Type 0) (gs others : List (List ℕ)) (earlier : List ℕ) (j : ℕ) (w : World) : Type 0 where
+pub record Serving (F : List ℕ → List ℕ → ℕ → ℕ → Type 0)
+    (gs others : List (List ℕ)) (earlier : List ℕ) (j : ℕ) (w : World) : Type 0 where
   pub outs : List (List ℕ)
   pub counts : List ℕ
   pub present : List ℕ
@@ -32,5 +33,6 @@ pub record Serving (F : List ℕ → List ℕ → ℕ → ℕ → Type 0) (gs ot
 
 -- j guests were served, each by F, where the guests are told
 pub record Served (F : List ℕ → List ℕ → ℕ → ℕ → Type 0) (j : ℕ) (old new : World) : Type 0 where
-  pub told : (gs others : List (List ℕ)) (earlier before : List ℕ) → old.crowd.guests ≡ Some gs → answered old ≡ Some others
+  pub told : (gs others : List (List ℕ)) (earlier before : List ℕ)
+      → old.crowd.guests ≡ Some gs → answered old ≡ Some others
       → old.crowd.since ≡ Some earlier → (old.at GUEST).accepted ≡ Some before → Serving F gs others earlier j new

@@ -30,4 +30,5 @@ partner_coins_xor p left_out other coins = take NUMBER_LEN coins ++ partner_xor 
 -- each server but the one is sent the same frame, session number and all
 abbrev pub OthersAreSentTheSame : FetchPlan → ℕ → ℕ → Type 0
 OthersAreSentTheSame p left_out other = (coins : List ℕ) → AreCoins (need p) coins
-    → (i : ℕ) → 1 ≤ i → i ≤ p.n → i ≢ left_out → sent (with_block p other) (partner_coins_xor p left_out other coins) i ≡ sent p coins i
+    → (i : ℕ) → 1 ≤ i → i ≤ p.n → i ≢ left_out
+    → sent (with_block p other) (partner_coins_xor p left_out other coins) i ≡ sent p coins i

@@ -28,7 +28,8 @@ NoChildRose n old new = (i : ℕ) → i < n → DidRise (child 1 + i) old new �
 pub record Unread (p : ℕ) (name : List ℕ) (most : ℕ) (old new : World) : Type 0 where
   pub n : ℕ
   pub fewer : n < most
-  pub cell : (new.at p ≡ counted (new.at p).faults (old.at p)) ⊎ (new.at p ≡ counted (new.at p).faults (took n (named name (old.at p))))
+  pub cell : (new.at p ≡ counted (new.at p).faults (old.at p))
+      ⊎ (new.at p ≡ counted (new.at p).faults (took n (named name (old.at p))))
   pub rose : DidRise p old new
 
 -- a file can't be written: a call on its port failed, to open it by this name or to give to it later, and it has taken a

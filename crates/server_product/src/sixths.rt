@@ -9,6 +9,9 @@ use crate::rows::{add_term, scaled_row};
 use crate::six_rows::add_six_rows;
 use block_matrix::Matrix;
 
+/// The bytes of a page of memory.
+const PAGE: u64 = 4096;
+
 /// Adds the rows from `from` up to `to`, each times the query's byte for it.
 pub fn add_in_sixths(matrix: &Matrix, q: &[u8], from: u32, to: u32, sums: &mut [u8])
     requires order { from ≤ to }
@@ -26,9 +29,9 @@ pub fn add_in_sixths(matrix: &Matrix, q: &[u8], from: u32, to: u32, sums: &mut [
 }
 
 /// How many rows each of the six streams takes of so many rows of this width: a sixth, or up to a
-/// sixteenth fewer. Streams that stand at the same place of their pages, of 4096 bytes, come to new
-/// pages at the same time, which makes them slower; so it looks for a number of rows that keeps
-/// each stream 512 bytes or more apart there from the three after it.
+/// sixteenth fewer. Streams that stand at the same place of their pages come to new pages at the
+/// same time, which makes them slower; so it looks for a number of rows that keeps each stream an
+/// eighth of a page or more apart there from the three after it.
 fn sixth_of(rows: u32, width: u32) -> u32
     ensures { 6 * result ≤ rows }
 {
@@ -42,10 +45,10 @@ fn sixth_of(rows: u32, width: u32) -> u32
     most
 }
 
-/// Whether two streams so many bytes apart are 512 bytes or more apart in their pages.
+/// Whether two streams so many bytes apart are an eighth of a page or more apart in their pages.
 fn is_apart(distance: u64) -> bool {
-    let place = distance % 4096;
-    512 <= place && place <= 3584
+    let place = distance % PAGE;
+    PAGE / 8 <= place && place <= PAGE - PAGE / 8
 }
 
 /// Adds the rows from `from` on, six times `sixth` of them: one from each sixth at once, so that
