@@ -7,8 +7,8 @@ and shares nothing with the reader that is tested. Nothing runs it but a person 
 """
 import sys
 
-MOST_DEGREE, MOST_SERVERS, MOST_ROWS, MOST_WIDTH, MOST_CELLS = 7, 8, 1 << 20, 1 << 16, 1 << 30
-BYTES = [0, 1, 2, 3, 4, 8, 9, 16, 26, 27, 64, 128, 255]
+MOST_DEGREE, MOST_SERVERS, MOST_ROWS, MOST_WIDTH, MOST_CELLS = 31, 32, 1 << 20, 1 << 16, 1 << 30
+BYTES = [0, 1, 2, 3, 4, 16, 26, 27, 31, 32, 33, 64, 128, 255]
 
 
 class Wrong(Exception):

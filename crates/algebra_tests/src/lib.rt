@@ -17,6 +17,8 @@ mod roots;
 #[cfg(test)]
 mod rows;
 #[cfg(test)]
+mod runs;
+#[cfg(test)]
 mod systems;
 #[cfg(test)]
 mod two_variables;

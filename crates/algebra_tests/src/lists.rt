@@ -26,7 +26,7 @@ fn are_places(points: &[(u8, u8)]) -> bool
 }
 
 /// Whether the bytes ascend.
-fn ascends(xs: &[u8]) -> bool
+pub fn ascends(xs: &[u8]) -> bool
     ensures { IsTrue result → AllPairs (λ x y. x ≢ y) xs.now }
 {
     for i in 1..xs.len() {
@@ -80,7 +80,7 @@ fn listed_by_elimination(
     )
 }
 
-fn listed_by_koetter(
+pub fn listed_by_koetter(
     alloc: Global,
     points: &[(u8, u8)],
     t: u32,
@@ -234,13 +234,13 @@ fn is_as_slow(alloc: Global, points: &[(u8, u8)], t: u32, h: u32) -> Result<bool
 }
 
 /// A byte that looks random (Press et al. 1992).
-fn next(state: &mut u32) -> u8 {
+pub fn next(state: &mut u32) -> u8 {
     *state = state.wrapping_mul(1_664_525).wrapping_add(1_013_904_223);
     (*state >> 24) as u8
 }
 
 /// A polynomial of `t + 1` such bytes.
-fn next_polynomial(alloc: Global, state: &mut u32, t: u32) -> Result<Vec<u8>, AllocError> {
+pub fn next_polynomial(alloc: Global, state: &mut u32, t: u32) -> Result<Vec<u8>, AllocError> {
     let mut phi = vec![in alloc; next(state)]?;
     for _ in 0..t {
         phi.push(next(state))?;

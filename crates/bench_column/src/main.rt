@@ -7,7 +7,7 @@ ghost use Rattle.bench_column.specs.Listable.{CanList};
 
 use anyhow::{Context, Result};
 use column_lists::{MOST_COST, MOST_POINTS, column_list, plan};
-use gs_interpolate::Elimination;
+use gs_interpolate::Koetter;
 use std::alloc::Global;
 use std::env;
 use std::marker::Brand;
@@ -59,7 +59,7 @@ fn measure<C: Ledger, N: Ledger, R: Clock>(
     let mut cols: Steps<C> = Steps::new(cols);
     let mut nodes: Steps<N> = Steps::new(nodes);
     let start = Instant::now(rt)?;
-    let list = column_list(alloc, &Elimination, points, t, h, &mut cols, &mut nodes)?;
+    let list = column_list(alloc, &Koetter, points, t, h, &mut cols, &mut nodes)?;
     Ok((start.elapsed(rt)?.as_nanos(), list.len()))
 }
 

@@ -1,12 +1,10 @@
 -- A block is agreed on exactly where some polynomials with its constants hold at enough answers.
-use Rattle.std.proofs.Common.{◌≡◌, ℕ, zero, suc, ◌+◌, ◌≤◌, ap, ◌*◌, ◌<◌, ◌↔◌, Bool, true, count_by, List, [], ◌∷◌, length, get_or, take, drop, map, All, AllPairs, ◌≢◌, Decides, refl, sym, ◌∙◌, arith}
+use Rattle.std.proofs.Common.{◌≡◌, ℕ, zero, suc, ◌+◌, ◌≤◌, ap, ◌*◌, ◌<◌, ◌↔◌, Bool, true, List, [], ◌∷◌, length, get_or, take, drop, map, All, AllPairs, ◌≢◌, Decides, refl, sym, ◌∙◌, arith}
 use Rattle.std.proofs.lemmas.List.{take_all, length-take-le, length-drop, drop-drop, get_or_default}
 use Rattle.std.proofs.lemmas.List.Kept.{AllPairs-from_increasing}
 use Rattle.std.specs.List.Sorted.{IsStrictlyIncreasing}
 use Rattle.std.proofs.Math.Nat.{mul-le-mul_right}
 use Rattle.std.proofs.lemmas.List.Elements.{All-cons, All-nil}
-use Rattle.std.proofs.lemmas.List.Sums.{count_by_more_yes, count_by_more_no}
-use Rattle.std.proofs.lemmas.Bool.{false_from_ne_true}
 use Rattle.std.proofs.lemmas.Slice.Eq.{bytes_eq-Decides}
 use Rattle.gf256.specs.Polynomial.{val}
 use Rattle.wire_frames.specs.Answer.{Answer}
@@ -22,20 +20,6 @@ holds_first-Decides polynomials a e =
 
 pub filled-at : (width : ℕ) (answers : List Answer) (p : ℕ) → Filled width answers → p < length answers → length (answer_at answers p).payload ≡ width
 filled-at width answers p f l = f p (record { index = 0; payload = [] }) l
-
--- one more answer at which they hold
-pub weight_hit : (polynomials : List (List ℕ)) (answers : List Answer) (place : ℕ) → Filled (length polynomials) answers → place < length answers
-    → Holds polynomials (answer_at answers place) → count_by (holds_first polynomials) (take (place + 1) answers) ≡ count_by (holds_first polynomials) (take place answers) + 1
-weight_hit polynomials answers place filled h holds =
-    count_by_more_yes (holds_first polynomials) answers place (record { index = 0; payload = [] }) h
-    ((holds_first-Decides polynomials (answer_at answers place) (filled-at (length polynomials) answers place filled h)).1 holds)
-
--- one more answer at which they don't
-pub weight_miss : (polynomials : List (List ℕ)) (answers : List Answer) (place : ℕ) → Filled (length polynomials) answers → place < length answers
-    → ¬ Holds polynomials (answer_at answers place) → count_by (holds_first polynomials) (take (place + 1) answers) ≡ count_by (holds_first polynomials) (take place answers)
-weight_miss polynomials answers place filled h fails =
-    count_by_more_no (holds_first polynomials) answers place (record { index = 0; payload = [] }) h
-    (false_from_ne_true (holds_first polynomials (answer_at answers place)) (λ t. fails ((holds_first-Decides polynomials (answer_at answers place) (filled-at (length polynomials) answers place filled h)).0 t)))
 
 pub heavy_from_agreed : (answers : List Answer) (width t h : ℕ) (block : List ℕ) → Filled width answers → Agreed answers width t h block → Heavy answers width t h block
 heavy_from_agreed answers width t h block filled a =

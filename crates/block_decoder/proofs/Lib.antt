@@ -1,21 +1,32 @@
 pub mod Agreement
-pub mod ChoiceTable
 pub mod Columns
 pub mod Counting
-pub mod Combination
 pub mod Ascending
 pub mod HexText
 pub mod Members
 pub mod OneVerdict
-pub mod Marks
 pub mod Places
 pub mod TextLines
 mod Collected
 mod Combined
-mod Tried
 pub mod Numbered
 pub mod Weight
 pub mod OneBlock
 pub mod UsableAnswers
 pub mod Continues
 pub mod SomeVerdict
+pub mod Pairs
+pub mod Squares
+pub mod Johnson
+pub mod HeavyVectors
+pub mod Vectors
+mod Holding
+mod Continued
+mod Kept
+mod Runs
+mod Visits
+mod Costs
+pub mod FewBlocks
+pub mod HeavyByLength
+mod Leaves
+mod Candidates

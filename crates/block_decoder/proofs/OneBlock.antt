@@ -1,50 +1,26 @@
 -- Where the answers that agree are many, they agree on one block at most.
-use Rattle.std.proofs.Common.{◌≡◌, ℕ, ◌+◌, ◌-◌, ◌*◌, ◌<◌, ◌≤◌, ◌&&◌, Bool, true, List, [], length, take, get_or, count_by, All, Contains, sym, ap, subst, ◌∙◌, arith, inl, inr}
+use Rattle.std.proofs.Common.{◌≡◌, ℕ, ◌+◌, ◌-◌, ◌*◌, ◌<◌, ◌≤◌, List, [], length, get_or, Contains, sym, ap, subst, ◌∙◌, arith, inl, inr}
 use Rattle.std.specs.Cmp.Lexicographic.{slice_cmp}
 use Rattle.std.specs.Ordering.{nat_cmp}
 use Rattle.std.proofs.Math.Nat.{mul-le-mul_left}
-use Rattle.std.proofs.lemmas.Bool.{and_parts, cases_lt}
+use Rattle.std.proofs.lemmas.Bool.{cases_lt}
 use Rattle.std.proofs.lemmas.Cmp.{nat_list_cmp_total}
-use Rattle.std.proofs.lemmas.List.{length-take-le}
-use Rattle.std.proofs.lemmas.List.Elements.{All-take, Contains-get_or}
-use Rattle.std.proofs.lemmas.List.Kept.{AllPairs-from_increasing}
+use Rattle.std.proofs.lemmas.List.Elements.{Contains-get_or}
 use Rattle.std.proofs.lemmas.Map.Keys.{Less-from_sorted}
-use Rattle.gf256.specs.Polynomial.{IsPolynomial}
 use Rattle.wire_frames.specs.Answer.{Answer, answers}
 use Rattle.wire_frames.specs.Limits.{IsInRange}
 use Rattle.wire_frames.specs.Session.{Transcript}
-use Rattle.block_decoder.specs.Agreed.{answer_at, Holds, constants_of, Agreed, Lists, holds_first}
-use Rattle.block_decoder.specs.Lagrange.{HasColumns, AreChosen}
+use Rattle.column_lists.specs.declared.TheConstants.{MOST_POINTS}
+use Rattle.column_lists.proofs.Counting.{close_is_cheap}
+use Rattle.block_decoder.specs.Agreed.{constants_of, Agreed, Lists, holds_first, HasColumns}
 use Rattle.block_decoder.specs.Verdict.{IsDecided, IsCombined, IsVerdict, ListsAtMostOne}
 use Rattle.block_decoder.specs.declared.verdict.Verdict.{Verdict}
-use Rattle.block_decoder.specs.declared.verdict.Verdict.TheVariants.{Listed, TooFew, TooWeak}
-use Rattle.block_decoder.proofs.Agreement.{filled-at, heavy_from_agreed, holds_first-Decides}
-use Rattle.block_decoder.proofs.Columns.{same_polynomials}
+use Rattle.block_decoder.specs.declared.verdict.Verdict.TheVariants.{Listed, TooFew, TooWeak, TooCostly}
+use Rattle.block_decoder.proofs.Agreement.{heavy_from_agreed}
+use Rattle.block_decoder.proofs.HeavyVectors.{same_vectors}
 use Rattle.block_decoder.proofs.Members.{not_before_itself}
-use Rattle.block_decoder.proofs.Places.{places_of, ascending-places_of, within-places_of, pass-places_of, length-places_of, AllPairs-take, count_by_both}
-
--- polynomials that hold together at more than t answers are equal
-pub same_from_overlap : (answers : List Answer) (width t : ℕ) (ps qs : List (List ℕ)) → HasColumns width answers → length ps ≡ width → length qs ≡ width → All (IsPolynomial t) ps → All (IsPolynomial t) qs
-    → t < count_by (λ a. holds_first ps a && holds_first qs a) answers → ps ≡ qs
-same_from_overlap answers width t ps qs columns wide_p wide_q degree_p degree_q many =
-    let none : Answer = record { index = 0; payload = [] } in
-    let test : Answer → Bool = λ a. holds_first ps a && holds_first qs a in
-    let all = places_of test answers none in
-    let n = length-places_of test answers none in
-    let within = within-places_of test answers none in
-    let pass = pass-places_of test answers none in
-    let size : length (take (t + 1) all) ≡ t + 1 = length-take-le (t + 1) all (omega (arith, n, many)) in
-    let chosen : AreChosen answers (take (t + 1) all) =
-    record {
-      ascending = AllPairs-take (λ p q. p < q) (t + 1) all (AllPairs-from_increasing all (ascending-places_of test answers none));
-      within = All-take (λ p. p < length answers) (t + 1) all within;
-    } in
-    let holds : (rs : List (List ℕ)) → length rs ≡ width → ((a : Answer) → test a ≡ true → holds_first rs a ≡ true) → All (λ p. Holds rs (answer_at answers p)) (take (t + 1) all) =
-    λ rs wide one. All-take (λ p. Holds rs (answer_at answers p)) (t + 1) all
-    (λ i d l. (holds_first-Decides rs (answer_at answers (get_or all i d)) (filled-at width answers (get_or all i d) columns.filled (within i d l) ∙ sym wide)).0
-    (one (answer_at answers (get_or all i d)) (pass i d l))) in
-    same_polynomials answers width t (take (t + 1) all) ps qs columns chosen size wide_p wide_q degree_p degree_q
-    (holds ps wide_p (λ a h. (and_parts (holds_first ps a) (holds_first qs a) h).0)) (holds qs wide_q (λ a h. (and_parts (holds_first ps a) (holds_first qs a) h).1))
+use Rattle.block_decoder.proofs.Places.{count_by_both}
+use Rattle.block_decoder.proofs.UsableAnswers.{length-answers_from-le}
 
 -- where 2 h > k + t two agreed blocks are one
 pub one_block : (answers : List Answer) (width t h : ℕ) (one other : List ℕ) → HasColumns width answers → length answers + t < 2 * h
@@ -55,7 +31,7 @@ one_block answers width t h one other columns close first second =
     let m = p.enough in
     let n = q.enough in
     let both = count_by_both (holds_first p.polynomials) (holds_first q.polynomials) answers in
-    let same = same_from_overlap answers width t p.polynomials q.polynomials columns p.one_a_column q.one_a_column p.degree q.degree (omega (arith, m, n, both, close)) in
+    let same = same_vectors answers columns.indices columns.different width t p.polynomials q.polynomials p.one_a_column q.one_a_column p.degree q.degree (omega (arith, m, n, both, close)) in
     p.constants ∙ ap constants_of same ∙ sym q.constants
 
 -- and a listing has one block at most
@@ -87,28 +63,35 @@ close_is_strong k t h enough close =
     subst (λ n. n * t < h * h) all (subst (λ n. (t + (h - t) + (k - h)) * t < n * n) most (strong t (h - t) (k - h) (omega arith)))
 
 -- where h <= k and 2 h > k + t the verdict lists one block, or none
-pub close_is_listed : (answers : List Answer) (width t h : ℕ) (verdict : Verdict) → HasColumns width answers → h ≤ length answers → length answers + t < 2 * h
-    → IsDecided answers width t h verdict → ListsAtMostOne verdict
-close_is_listed answers width t h (TooFew k agree) columns enough close is = let few = is.2 in absurd (omega (arith, few, enough))
-close_is_listed answers width t h (TooWeak k degree agree) columns enough close is =
+pub close_is_listed : (answers : List Answer) (width t h : ℕ) (verdict : Verdict) → HasColumns width answers → length answers ≤ MOST_POINTS → h ≤ length answers
+    → length answers + t < 2 * h → IsDecided answers width t h verdict → ListsAtMostOne verdict
+close_is_listed answers width t h (TooFew k agree) columns most enough close is = let few = is.2 in absurd (omega (arith, few, enough))
+close_is_listed answers width t h (TooWeak k degree agree) columns most enough close is =
     let weak = is.4 in
     let strong = close_is_strong (length answers) t h enough close in
     absurd (omega (arith, weak, strong))
-close_is_listed answers width t h (Listed blocks) columns enough close is = listed_alone answers width t h blocks columns close is.2
+close_is_listed answers width t h (TooCostly equations) columns most enough close is =
+    let costly = is.3 in
+    let cheap = close_is_cheap (length answers) t h enough most close is.2 in
+    absurd (omega (arith, costly, cheap))
+close_is_listed answers width t h (Listed blocks) columns most enough close is = listed_alone answers width t h blocks columns close is.3
 
 -- where n <= k the verdict of the XOR scheme lists one block
 pub combined_is_listed : (answers : List Answer) (width n h : ℕ) (verdict : Verdict) → n ≤ length answers → IsCombined answers width n h verdict → ListsAtMostOne verdict
 combined_is_listed answers width n h (TooFew k agree) all is = let few = is.2 in absurd (omega (arith, few, all))
 combined_is_listed answers width n h (TooWeak k degree agree) all is = absurd is
+combined_is_listed answers width n h (TooCostly equations) all is = absurd is
 combined_is_listed answers width n h (Listed blocks) all is = let one = ap length is.1 in omega (arith, one)
 
 -- where h <= k and 2 h > k + t the verdict on a session lists one block, or none, in either scheme
 pub close_verdict_is_listed : (session : Transcript) (verdict : Verdict) → IsInRange session.params → HasColumns session.params.s (answers session)
-    → session.params.h ≤ length (answers session) → length (answers session) + session.params.t < 2 * session.params.h
+    → length session.records ≤ session.params.n → session.params.h ≤ length (answers session) → length (answers session) + session.params.t < 2 * session.params.h
     → IsVerdict session verdict → ListsAtMostOne verdict
-close_verdict_is_listed session verdict range columns enough close is =
+close_verdict_is_listed session verdict range columns few enough close is =
     let p = session.params in
+    let usable = length-answers_from-le 1 p session.records in
+    let servers = range.few_servers in
     elim range.scheme [
-      | inl shamir ↦ close_is_listed (answers session) p.s p.t p.h verdict columns enough close (is.shamir shamir)
+      | inl shamir ↦ close_is_listed (answers session) p.s p.t p.h verdict columns (omega (arith, usable, few, servers)) enough close (is.shamir shamir)
       | inr xor ↦ let all = range.all_answer xor in combined_is_listed (answers session) p.s p.n p.h verdict (omega (arith, all, enough)) (is.xor xor)
     ]

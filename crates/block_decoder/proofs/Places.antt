@@ -1,12 +1,12 @@
 -- The places of a list at which a test holds, and how many they are.
-use Rattle.std.proofs.Common.{◌≡◌, ℕ, suc, ◌+◌, ◌-◌, ◌<◌, ◌≤◌, Bool, true, false, List, [], ◌∷◌, length, get_or, take, drop, count_by, filter, ◌&&◌, All, AllPairs, refl, sym, ap, ap₂, subst, ◌∙◌, arith}
+use Rattle.std.proofs.Common.{◌≡◌, ℕ, suc, ◌+◌, ◌<◌, ◌≤◌, Bool, true, false, List, [], ◌∷◌, length, get_or, take, count_by, filter, ◌&&◌, All, AllPairs, refl, sym, ap, ap₂, ◌∙◌, arith}
 use Rattle.std.specs.List.{range_with_len}
 use Rattle.std.specs.List.Sorted.{IsStrictlyIncreasing}
 use Rattle.std.proofs.lemmas.List.Elements.{All-from_get_or, All-filter, filter_passes}
 use Rattle.std.proofs.lemmas.List.FromFn.{length-range_with_len, get_or-range_with_len}
 use Rattle.std.proofs.lemmas.List.Kept.{IsStrictlyIncreasing-filter, AllPairs-from_increasing}
-use Rattle.std.proofs.lemmas.List.Sums.{count_by_more_yes, length-filter, sum_by-take-le, sum_by-take-drop, count_by-le-length}
-use Rattle.std.proofs.lemmas.List.{take-take, length-drop, length-take, get_or-take}
+use Rattle.std.proofs.lemmas.List.Sums.{count_by_more_yes, length-filter, sum_by-take-le}
+use Rattle.std.proofs.lemmas.List.{take-take}
 use Rattle.block_decoder.proofs.Counting.{one_if, count-cons}
 
 -- no more elements pass in a shorter beginning
@@ -75,23 +75,6 @@ count_by-range test (x ∷ xs) d whole from same =
 pub length-places_of : {X : Type 0} (test : X → Bool) (xs : List X) (d : X) → length (places_of test xs d) ≡ count_by test xs
 unfolding places_of
 length-places_of test xs d = length-filter _ (range_with_len 0 (length xs)) ∙ count_by-range test xs d xs 0 (λ i h. let e : 0 + i ≡ i = omega arith in ap (λ i. get_or xs i d) e)
-
--- no more elements pass than in a beginning and those after it
-pub count_by-rest : {X : Type 0} (test : X → Bool) (xs : List X) (n : ℕ) → count_by test xs ≤ count_by test (take n xs) + (length xs - n)
-count_by-rest test xs n =
-    let parts = sum_by-take-drop (λ x. one_if (test x)) xs n in
-    let rest = count_by-le-length test (drop n xs) in
-    let size = length-drop n xs in
-    omega (arith, parts, rest, size)
-
--- a beginning of pairwise related elements is pairwise related
-pub AllPairs-take : {X : Type 0} (R : X → X → Type 0) (n : ℕ) (xs : List X) → AllPairs R xs → AllPairs R (take n xs)
-AllPairs-take R n xs h = λ i j d before within.
-    let size = length-take n xs in
-    let l : j < n = omega (arith, within, size) in
-    let m : j < length xs = omega (arith, within, size) in
-    let k : i < n = omega (arith, l, before) in
-    subst (λ x. R x (get_or (take n xs) j d)) (sym (get_or-take n xs i d k)) (subst (R (get_or xs i d)) (sym (get_or-take n xs j d l)) (h i j d before m))
 
 both_or_one : (a b : Bool) → one_if a + one_if b ≤ 1 + one_if (a && b)
 both_or_one true true = omega arith

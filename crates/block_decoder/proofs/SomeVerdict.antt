@@ -12,13 +12,16 @@ use Rattle.wire_frames.specs.declared.session.SessionParams.{SessionParams}
 use Rattle.wire_frames.specs.Answer.{Answer, answers, answers_from, asked, usable, with_answer}
 use Rattle.wire_frames.specs.Session.{Transcript}
 use Rattle.chor_xor.specs.Chosen.{combined}
-use Rattle.block_decoder.specs.Agreed.{weight, Filled, Lists}
+use Rattle.column_lists.specs.Numbers.{cost}
+use Rattle.column_lists.specs.declared.TheConstants.{MOST_COST}
+use Rattle.block_decoder.specs.Agreed.{Heavy, weight, Filled, Lists}
 use Rattle.block_decoder.specs.Gains.{Gains}
 use Rattle.block_decoder.specs.Numbered.{all_numbered, Continues, ContinuesBelow}
 use Rattle.block_decoder.specs.Verdict.{IsDecided, IsCombined, HasVerdict}
 use Rattle.block_decoder.specs.declared.verdict.Verdict.{Verdict}
-use Rattle.block_decoder.specs.declared.verdict.Verdict.TheVariants.{Listed, TooFew, TooWeak}
-use Rattle.block_decoder.proofs.Continues.{Gains-none, Gains-same, Gains-both, Continues-light, Continues-whole, Continues-next, ContinuesBelow-more, Lists-Gains}
+use Rattle.block_decoder.specs.declared.verdict.Verdict.TheVariants.{Listed, TooFew, TooWeak, TooCostly}
+use Rattle.block_decoder.proofs.Continued.{continues-light, continues-Heavy}
+use Rattle.block_decoder.proofs.Continues.{Gains-none, Gains-same, Gains-both, Continues-whole, Continues-next, ContinuesBelow-more, Lists-Gains}
 use Rattle.block_decoder.proofs.Members.{sorted_nil, with_member}
 use Rattle.block_decoder.proofs.UsableAnswers.{usable_size}
 
@@ -53,7 +56,7 @@ module _ (answers : List Answer) (width t h : ℕ) where
       → Gained (Continues answers width t h numbers) old
   gained zero numbers e old p =
       elim (cases_lt (weight (all_numbered t numbers) answers) h) [
-        | inl light ↦ record { new = old; ascending = p; gains = Gains-none (Continues answers width t h numbers) old (Continues-light answers width t h numbers light) }
+        | inl light ↦ record { new = old; ascending = p; gains = Gains-none (Continues answers width t h numbers) old (continues-light answers width t h (all_numbered t numbers) light) }
         | inr heavy ↦
             let block = map (λ n. n % 256) numbers in
             let more = with_member nat_list_cmp_total exact_bytes block old p in
@@ -75,8 +78,11 @@ module _ (answers : List Answer) (width t h : ℕ) where
   -- the agreed blocks can be listed
   pub some_listing : Filled width answers → (blocks : List (List ℕ)) × Lists blocks answers width t h
   some_listing filled =
-      let all = gained width [] (omega arith) [] (sorted_nil nat_list_cmp_total) in
-      (all.new, Lists-Gains answers width t h all.new filled all.ascending all.gains)
+      let all = gained width [] (omega arith) [] (sorted_nil nat_list_cmp_total) in (
+        all.new,
+        Lists-Gains answers width t h all.new filled all.ascending
+            (Gains-same (Continues answers width t h []) (Heavy answers width t h) [] all.new (continues-Heavy answers width t h) all.gains),
+      )
 
 -- ---- the verdict
 
@@ -86,7 +92,10 @@ module _ (all : List Answer) (width : ℕ) where
       elim (cases_lt (length all) h) [
         | inl few ↦ (TooFew (length all) h, (refl, refl, few))
         | inr enough ↦ elim (cases_lt (length all * t) (h * h)) [
-          | inl strong ↦ let (blocks, lists) = some_listing all width t h filled in (Listed blocks, (enough, strong, lists))
+          | inl strong ↦ elim (cases_lt MOST_COST (cost (length all) t h)) [
+            | inl costly ↦ (TooCostly (cost (length all) t h), (refl, enough, strong, costly))
+            | inr cheap ↦ let (blocks, lists) = some_listing all width t h filled in (Listed blocks, (enough, strong, cheap, lists))
+          ]
           | inr weak ↦ (TooWeak (length all) t h, (refl, refl, refl, enough, weak))
         ]
       ]

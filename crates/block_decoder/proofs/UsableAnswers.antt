@@ -15,8 +15,7 @@ use Rattle.wire_frames.specs.declared.session.SessionParams.{SessionParams}
 use Rattle.wire_frames.specs.Header.{answer_header}
 use Rattle.wire_frames.specs.Answer.{Answer, answers, answers_from, asked, usable, with_answer}
 use Rattle.wire_frames.specs.Session.{Transcript, Fits}
-use Rattle.block_decoder.specs.Agreed.{Filled}
-use Rattle.block_decoder.specs.Lagrange.{HasColumns}
+use Rattle.block_decoder.specs.Agreed.{Filled, HasColumns}
 
 -- ---- one answer
 
@@ -139,3 +138,13 @@ columns-answers session few small =
 -- records that fit are bytes
 pub bytes_from_fits : (most : ℕ) (records : List (Option (List ℕ))) → All (Fits most) records → All (λ r. IfSome r (All (λ b. b < 256))) records
 bytes_from_fits most records fits = λ i d l. IfSome_then (get_or records i d) (fits i d l) (λ bytes fit. fit.1)
+
+-- there are no more usable answers than records
+pub length-answers_from-le : (i : ℕ) (p : SessionParams) (records : List (Option (List ℕ))) → length (answers_from i p records) ≤ length records
+length-answers_from-le i p [] = omega arith
+length-answers_from-le i p (None ∷ records) = omega (arith, length-answers_from-le (i + 1) p records)
+length-answers_from-le i p (Some bytes ∷ records) = omega (arith, length-answers_from-le (i + 1) p records, at_most_one (usable bytes (asked p i)))
+  where
+    at_most_one : (o : Option (List ℕ)) → length (with_answer i o (answers_from (i + 1) p records)) ≤ length (answers_from (i + 1) p records) + 1
+    at_most_one None = omega arith
+    at_most_one (Some payload) = omega arith

@@ -1,5 +1,5 @@
 -- The blocks on which enough answers agree (Goldberg 2007).
-use Rattle.std.specs.Prelude.{◌≡◌, ℕ, ◌<◌, ◌≤◌, ◌↔◌, List, [], ◌∷◌, length, map, take, drop, slice_index_or, All, Contains, Bool, bytes_eq, count_by}
+use Rattle.std.specs.Prelude.{◌≡◌, ◌≢◌, ℕ, ◌<◌, ◌≤◌, ◌↔◌, List, [], ◌∷◌, length, map, take, drop, slice_index_or, All, AllPairs, Contains, Bool, bytes_eq, count_by}
 use Rattle.std.specs.Ordering.{nat_cmp}
 use Rattle.std.specs.Cmp.Lexicographic.{slice_cmp}
 use Rattle.std.specs.List.Sorted.{IsStrictlyIncreasing, IsStrictlySortedBy}
@@ -45,6 +45,13 @@ pub record Lists (blocks : List (List ℕ)) (answers : List Answer) (width t h :
 -- each payload has so many bytes
 abbrev pub Filled : ℕ → List Answer → Type 0
 Filled width answers = All (λ a. length a.payload ≡ width) answers
+
+-- payloads of so many bytes, from different indices
+pub record HasColumns (width : ℕ) (answers : List Answer) : Type 0 where
+  pub filled : Filled width answers
+  pub bytes : All (λ a. All (λ b. b < 256) a.payload) answers
+  pub indices : All (λ a. a.index < 256) answers
+  pub different : AllPairs (λ a b. a.index ≢ b.index) answers
 
 -- whether the answer's first bytes are what the polynomials, one for each of its first columns, take at its index
 abbrev pub holds_first : List (List ℕ) → Answer → Bool

@@ -4,7 +4,7 @@ pub mod Verdict
 pub mod Text
 pub mod Numbered
 pub mod Gains
+pub mod Vectors
+pub mod Narrowing
+pub mod Leaves
 pub mod Usable
-pub mod Choices
-pub mod Lagrange
-pub mod Candidate

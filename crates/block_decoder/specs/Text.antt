@@ -2,7 +2,7 @@
 use Rattle.std.specs.Prelude.{ℕ, List, [], ◌∷◌, ◌++◌, length, flat_map, codes, decimal}
 use Rattle.hex.specs.Hex.{encode_lower}
 use Rattle.block_decoder.specs.declared.verdict.Verdict.{Verdict}
-use Rattle.block_decoder.specs.declared.verdict.Verdict.TheVariants.{Listed, TooFew, TooWeak}
+use Rattle.block_decoder.specs.declared.verdict.Verdict.TheVariants.{Listed, TooFew, TooWeak, TooCostly}
 
 -- a block in lower-case hexadecimal, and a newline
 unfoldable pub block_line : List ℕ → List ℕ
@@ -21,3 +21,4 @@ abbrev pub text : Verdict → List ℕ
 text (Listed blocks) = line_of (codes "blocks") (length blocks ∷ []) ++ flat_map block_line blocks
 text (TooFew k h) = line_of (codes "too few") (k ∷ h ∷ [])
 text (TooWeak k t h) = line_of (codes "too weak") (k ∷ t ∷ h ∷ [])
+text (TooCostly equations) = line_of (codes "too costly") (equations ∷ [])

@@ -1,26 +1,32 @@
 -- The verdict on the answers of a session.
-use Rattle.std.specs.Prelude.{◌≡◌, ℕ, ◌*◌, ◌<◌, ◌≤◌, ◌⊎◌, List, [], ◌∷◌, length, map}
+use Rattle.std.specs.Prelude.{◌≡◌, ℕ, ◌*◌, ◌<◌, ◌≤◌, ◌⊎◌, ⊤, List, [], ◌∷◌, length, map}
 use Rattle.wire_frames.specs.declared.scheme.TheConstants.{SHAMIR, XOR}
 use Rattle.wire_frames.specs.Answer.{Answer, answers}
 use Rattle.wire_frames.specs.Session.{Transcript}
 use Rattle.chor_xor.specs.Chosen.{combined}
+use Rattle.column_lists.specs.Numbers.{cost}
+use Rattle.column_lists.specs.declared.TheConstants.{MOST_COST}
 use Rattle.block_decoder.specs.Agreed.{Lists}
 use Rattle.block_decoder.specs.declared.verdict.Verdict.{Verdict}
-use Rattle.block_decoder.specs.declared.verdict.Verdict.TheVariants.{Listed, TooFew, TooWeak}
+use Rattle.block_decoder.specs.declared.verdict.Verdict.TheVariants.{Listed, TooFew, TooWeak, TooCostly}
 
 -- fewer than h answers; else so weak an agreement that Johnson's bound says nothing of the blocks (Guruswami and Sudan
--- 1999); else the agreed blocks
+-- 1999); else more equations for a column than a list decoding takes; else the agreed blocks
 abbrev pub IsDecided : List Answer → ℕ → ℕ → ℕ → Verdict → Type 0
 IsDecided all width t h (TooFew k agree) = (k ≡ length all) × (agree ≡ h) × (length all < h)
 IsDecided all width t h (TooWeak k degree agree) =
     (k ≡ length all) × (degree ≡ t) × (agree ≡ h) × (h ≤ length all) × (h * h ≤ length all * t)
+IsDecided all width t h (TooCostly equations) =
+    (equations ≡ cost (length all) t h) × (h ≤ length all) × (length all * t < h * h)
+    × (MOST_COST < cost (length all) t h)
 IsDecided all width t h (Listed blocks) =
-    (h ≤ length all) × (length all * t < h * h) × Lists blocks all width t h
+    (h ≤ length all) × (length all * t < h * h) × (cost (length all) t h ≤ MOST_COST) × Lists blocks all width t h
 
 -- the answers of fewer than n servers; else the sum of all is the one block (Chor, Goldreich, Kushilevitz and Sudan 1995)
 abbrev pub IsCombined : List Answer → ℕ → ℕ → ℕ → Verdict → Type 0
 IsCombined all width n h (TooFew k agree) = (k ≡ length all) × (agree ≡ h) × (length all < n)
 IsCombined all width n h (TooWeak k degree agree) = ⊥
+IsCombined all width n h (TooCostly equations) = ⊥
 IsCombined all width n h (Listed blocks) =
     (n ≤ length all) × (blocks ≡ combined width (map (λ a. a.payload) all) ∷ [])
 
@@ -31,14 +37,15 @@ pub record IsVerdict (session : Transcript) (verdict : Verdict) : Type 0 where
   pub xor : session.params.scheme ≡ XOR
       → IsCombined (answers session) session.params.s session.params.n session.params.h verdict
 
--- k answers are fewer than h, or their agreement is so weak that Johnson's bound says nothing
+-- k answers are fewer than h, or their agreement is so weak that Johnson's bound says nothing, or the cost is too high
 abbrev pub IsUnlisted : ℕ → ℕ → ℕ → Type 0
-IsUnlisted k t h = (k < h) ⊎ (h * h ≤ k * t)
+IsUnlisted k t h = (k < h) ⊎ (h * h ≤ k * t) ⊎ (MOST_COST < cost k t h)
 
 -- how many columns are interpolated at least: one for a listing, and all where it has a block
 abbrev pub least_columns : ℕ → Verdict → ℕ
 least_columns width (TooFew k agree) = 0
 least_columns width (TooWeak k degree agree) = 0
+least_columns width (TooCostly equations) = 0
 least_columns width (Listed []) = 1
 least_columns width (Listed (block ∷ blocks)) = width
 
@@ -56,4 +63,12 @@ HasOneVerdict session =
 abbrev pub ListsAtMostOne : Verdict → Type 0
 ListsAtMostOne (TooFew k agree) = ⊥
 ListsAtMostOne (TooWeak k degree agree) = ⊥
+ListsAtMostOne (TooCostly equations) = ⊥
 ListsAtMostOne (Listed blocks) = length blocks ≤ 1
+
+-- a listing has so many blocks at most
+abbrev pub ListsNoMoreThan : ℕ → Verdict → Type 0
+ListsNoMoreThan most (TooFew k agree) = ⊤
+ListsNoMoreThan most (TooWeak k degree agree) = ⊤
+ListsNoMoreThan most (TooCostly equations) = ⊤
+ListsNoMoreThan most (Listed blocks) = length blocks ≤ most

@@ -1,10 +1,14 @@
 //! The answers of servers, as [`decide`](crate::decide) takes them: the numbers of the servers, ascending, and the payloads in
 //! the same order, one after another.
 
-ghost use Rattle.std.specs.Prelude.{◌≡◌, ◌*◌, ◌<◌, length, slice_index};
+ghost use Rattle.std.specs.Prelude.{◌≡◌, ◌*◌, ◌<◌, length, map, All, IfOk};
+ghost use Rattle.std.specs.List.{filter};
 ghost use Rattle.block_decoder.specs.Agreed.{answers_of, answer_at};
+ghost use Rattle.block_decoder.specs.Narrowing.{meets, points_of};
 
+use std::alloc::{AllocError, Global};
 use std::marker::Model;
+use uni_poly::eval;
 
 /// What servers answered.
 #[derive(Drop)]
@@ -98,12 +102,70 @@ impl<'a> PackedAnswers<'a> {
         }
     }
 
-    /// The byte of the answer at a place, in a column.
-    pub fn byte(&self, place: usize, column: usize) -> u8
-        requires place { place < length self.now }
-        requires column { column < length (answer_at self.now place).payload }
-        ensures { result ≡ slice_index (answer_at self.now place).payload column }
+    /// All of them.
+    pub fn to_vec(&self, alloc: Global) -> Result<Vec<Answer<'a>>, AllocError>
+        ensures { IfOk result (λ v. v.items ≡ self.now) }
     {
-        self.at(place).payload()[column]
+        let mut all = Vec::with_capacity(alloc, self.len())?;
+        for place in 0..self.len() {
+            all.push(self.at(place))?;
+        }
+        Ok(all)
     }
+}
+
+/// The numbers of the servers.
+pub fn indices_of(alloc: Global, answers: &[Answer<'_>]) -> Result<Vec<u8>, AllocError>
+    ensures { IfOk result (λ v. v.items ≡ map (λ a. a.index) answers.now) }
+{
+    answers.iter().map(|answer| answer.index()).collect(alloc)
+}
+
+/// The payloads, which are not copied.
+pub fn payloads_of<'a>(alloc: Global, answers: &[Answer<'a>]) -> Result<Vec<&'a [u8]>, AllocError>
+    ensures { IfOk result (λ v. map (λ payload. payload.now) v.items ≡ map (λ a. a.payload) answers.now) }
+{
+    let mut payloads = Vec::with_capacity(alloc, answers.len())?;
+    for answer in answers {
+        payloads.push(answer.payload())?;
+    }
+    Ok(payloads)
+}
+
+/// The points of a column: the number of each server with its byte there.
+pub fn points_of(
+    alloc: Global,
+    answers: &[Answer<'_>],
+    column: usize,
+) -> Result<Vec<(u8, u8)>, AllocError>
+    requires { All (λ a. column < length a.payload) answers.now }
+    ensures { IfOk result (λ v. v.items ≡ points_of answers.now column) }
+{
+    let mut points = Vec::with_capacity(alloc, answers.len())?;
+    for answer in answers {
+        points.push((answer.index(), answer.payload()[column]))?;
+    }
+    Ok(points)
+}
+
+/// The answers whose byte in the column the polynomial takes.
+pub fn meeting<'a>(
+    alloc: Global,
+    answers: &[Answer<'a>],
+    polynomial: &[u8],
+    column: usize,
+) -> Result<Vec<Answer<'a>>, AllocError>
+    requires { All (λ a. column < length a.payload) answers.now }
+    ensures { IfOk result (λ v. v.items ≡ filter (meets polynomial.now column) answers.now) }
+{
+    let mut kept = Vec::new(alloc);
+    for answer in answers {
+        if eval(polynomial, answer.index()) == answer.payload()[column] {
+            kept.push(Answer {
+                index: answer.index,
+                payload: answer.payload,
+            })?;
+        }
+    }
+    Ok(kept)
 }

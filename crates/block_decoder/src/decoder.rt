@@ -1,20 +1,18 @@
-//! Finds the agreed blocks, by the polynomials through each choice of answers.
+//! The verdict on answers, and how many blocks can be agreed on.
 
 ghost use Rattle.std.specs.Prelude.{◌≡◌, ◌≢◌, ◌+◌, ◌*◌, ◌^◌, ◌<◌, ◌≤◌, ◌⊎◌, length, All, IfOk};
 ghost use Rattle.std.specs.List.Sorted.{IsStrictlyIncreasing};
-ghost use Rattle.uni_poly.specs.Binomial.{binomial};
 ghost use Rattle.wire_frames.specs.declared.TheConstants.{MOST_SERVERS};
-ghost use Rattle.block_decoder.specs.Agreed.{answers_of, Lists};
-ghost use Rattle.block_decoder.specs.Lagrange.{HasColumns};
-ghost use Rattle.block_decoder.specs.Numbers.{bound_of};
-ghost use Rattle.block_decoder.specs.Verdict.{IsDecided, IsUnlisted, least_columns};
+ghost use Rattle.block_decoder.specs.Agreed.{answers_of};
+ghost use Rattle.block_decoder.specs.Numbers.{bound_of, most_columns, most_nodes};
+ghost use Rattle.block_decoder.specs.Vectors.{HeavyVectorsAreFew};
+ghost use Rattle.block_decoder.specs.Verdict.{IsDecided, IsUnlisted, ListsNoMoreThan, least_columns};
 
 use crate::answers::PackedAnswers;
-use crate::candidate::Candidate;
-use crate::choices::choices_of;
-use crate::lagrange::Lagrange;
-use crate::listing::Listing;
+use crate::narrowing::list_agreed;
 use crate::verdict::Verdict;
+use column_lists::{MOST_COST, plan};
+use gs_interpolate::Interpolate;
 use std::alloc::{AllocError, Global};
 use std::sync::ledger::Ledger;
 use uni_poly::steps::Steps;
@@ -25,29 +23,42 @@ use uni_poly::steps::Steps;
 ///
 /// `indices` are the numbers of the servers that answered, ascending and none of them 0, and `bytes` their
 /// payloads in the same order, `s` bytes each. The verdict is `TooFew` where k < `h`, else `TooWeak` where
-/// `h * h <= k * t`, else `Listed`.
+/// `h * h <= k * t`, else `TooCostly` where the list decoding of a column takes more than
+/// [`MOST_COST`](column_lists::MOST_COST) equations (Guruswami and Sudan 1999; [`plan`](column_lists::plan) has their
+/// number), else `Listed`.
 ///
-/// It tries each choice of `t` + 1 of the answers, of which there are at most
-/// [`MOST_SERVERS`](wire_frames::MOST_SERVERS), and ends a choice as soon as too few answers can hold. A step of `cols` is
-/// a column interpolated for a choice, which takes `t` + 1 products for the constant, and as many for each other answer
-/// that still holds. So `cols` rises by at most `s` for each choice, also where memory runs out; by at least one for a
-/// listing, and by `s` where a block is listed; and not at all for the other verdicts. Memory is taken for the table of
-/// choices, for one block, for the Lagrange coefficients of a choice, and for the blocks that are listed; none column by
-/// column.
+/// It decodes the block column by column. As long as all answers of a candidate lie on one polynomial, there is no
+/// other way to go on; where they don't, each polynomial on which `h` of them lie, by the list decoding of Guruswami
+/// and Sudan (1999), is a candidate of its own, with the answers on it, which are fewer. `way` interpolates for that.
+/// It calls itself to a depth of k - `h` + 1 at most. There are at most [`MOST_SERVERS`](wire_frames::MOST_SERVERS)
+/// answers.
+///
+/// A step of `cols` is a column decoded for a candidate, and a step of `nodes` a coefficient that is fixed in looking
+/// for the polynomials of such a list. Both are bounded also where memory runs out. `cols` rises by 1 at most for the
+/// first column and by [`bound`] for each further one. `nodes` rises by `(t + 1) * (d / t)` at most for each list,
+/// where d is the degree of [`plan`](column_lists::plan), and there are at most [`bound`] times k - `h` + 1 lists,
+/// however wide the block is: all candidates of a list have fewer answers, and two that have parted share at most
+/// `t`. `cols` rises by at least one for a listing, and by `s` where a block is listed; for the other verdicts neither
+/// rises. A listing has at most [`bound`] blocks.
+///
+/// Memory is taken for one block, for the answers of each candidate and the list that it comes from, and for the blocks
+/// that are listed; none column by column.
 ///
 /// The answers 1, 2, 3 with the payloads `cfd2`, `4073`, `cce5` (t 1, h 3, s 2) agree on the block `4344`.
 ///
 /// # Errors
 ///
 /// `AllocError` where there is no memory for one of these.
-pub fn decide<C: Ledger>(
+pub fn decide<I: Interpolate, C: Ledger, N: Ledger>(
     alloc: Global,
+    way: &I,
     indices: &[u8],
     bytes: &[u8],
     t: u32,
     h: u32,
     s: u32,
     cols: &mut Steps<C>,
+    nodes: &mut Steps<N>,
 ) -> Result<Verdict, AllocError>
     requires ascending { IsStrictlyIncreasing indices.now }
     requires nonzero { All (λ a. a ≢ 0) indices.now }
@@ -56,10 +67,13 @@ pub fn decide<C: Ledger>(
     requires width { 1 ≤ s }
     requires fit { length bytes.now ≡ length indices.now * s }
     ensures verdict { IfOk result (IsDecided (answers_of s indices.now bytes.now) s t h) }
-    ensures cols { cols.new ≤ cols.old + s * binomial (length indices.now) (t + 1) }
+    ensures cols { cols.new ≤ cols.old + most_columns (length indices.now) t h s }
+    ensures nodes { nodes.new ≤ nodes.old + most_nodes (length indices.now) t h s }
     ensures least { cols.old ≤ cols.new }
+    ensures least_nodes { nodes.old ≤ nodes.new }
     ensures listed { IfOk result (λ verdict. cols.old + least_columns s verdict ≤ cols.new) }
-    ensures unlisted { IsUnlisted (length indices.now) t h → cols.new ≡ cols.old }
+    ensures unlisted { IsUnlisted (length indices.now) t h → (cols.new ≡ cols.old) × (nodes.new ≡ nodes.old) }
+    ensures few { IfOk result (ListsNoMoreThan (bound_of (length indices.now) t h)) }
 {
     let k = indices.len() as u32;
     if k < h {
@@ -68,50 +82,26 @@ pub fn decide<C: Ledger>(
     if h * h <= k * t {
         return Ok(Verdict::TooWeak { k, t, h });
     }
+    let cost = plan(k, t, h).cost;
+    if cost > MOST_COST {
+        return Ok(Verdict::TooCostly { cost });
+    }
     let answers = PackedAnswers::new(indices, bytes, s as usize);
-    let listing = list_agreed(alloc, &answers, s as usize, t as usize, h as usize, cols)?;
+    let listing = list_agreed(alloc, way, answers, s as usize, t, h, cols, nodes)?;
     Ok(Verdict::Listed(listing))
 }
 
-/// The agreed blocks. Each hides behind the polynomials through some `t` + 1 of the answers that agree, since no others
-/// of that degree go through all of these.
-fn list_agreed<C: Ledger>(
-    alloc: Global,
-    answers: &PackedAnswers<'_>,
-    width: usize,
-    t: usize,
-    h: usize,
-    cols: &mut Steps<C>,
-) -> Result<Listing, AllocError>
-    requires columns { HasColumns width answers.now }
-    requires agreement { (t < h) × (h ≤ length answers.now) }
-    requires some { 0 < width }
-    ensures blocks { IfOk result (λ l. Lists l answers.now width t h) }
-    ensures cols { cols.new ≤ cols.old + width * binomial (length answers.now) (t + 1) }
-    ensures least { cols.old ≤ cols.new }
-    ensures tried { IfOk result (λ l. cols.old < cols.new) }
-    ensures found { IfOk result (λ l. 0 < length l → cols.old + width ≤ cols.new) }
-{
-    let table = choices_of(alloc, answers.len(), t + 1)?;
-    let mut candidate = Candidate::with_room(alloc, width, t + 1, answers.len())?;
-    let mut listing = Listing::new(alloc);
-    for places in &table {
-        let lagrange = Lagrange::new(alloc, answers, places)?;
-        if candidate.interpolate(answers, places, &lagrange, h, cols) {
-            listing.insert(alloc, candidate.block())?;
-        }
-    }
-    Ok(listing)
-}
-
-/// Johnson's count of the blocks on which `h` of `k` answers can agree, with polynomials of degree at most `t`:
-/// `k * (h - t)` over `h * h - k * t`, rounded down. There are at most 255 answers, since the number of a server is a
-/// byte and not 0. It is the number alone: that a verdict lists no more isn't shown here. With k 5, t 1, h 3 it is 2.
+/// Johnson's count (Johnson 1962) of the blocks on which `h` of `k` answers can agree, with polynomials of degree at
+/// most `t`: `k * (h - t)` over `h * h - k * t`, rounded down. There are at most 255 answers, since the number of a
+/// server is a byte and not 0. On any `k` answers, no two of one server, no more than so many different vectors of
+/// polynomials, one for each of the same columns, hold at `h` answers; so no listing is longer. With k 5, t 1, h 3 it
+/// is 2.
 pub fn bound(k: u32, t: u32, h: u32) -> u32
     requires degree { (1 ≤ t) × (t < h) }
     requires agreement { (h ≤ k) × (k ≤ 255) }
     requires close { k * t < h * h }
-    ensures { result ≡ bound_of k t h }
+    ensures value { result ≡ bound_of k t h }
+    ensures most { HeavyVectorsAreFew k t h result }
 {
     k * (h - t) / (h * h - k * t)
 }

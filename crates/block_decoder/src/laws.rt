@@ -2,6 +2,7 @@
 
 ghost use Rattle.std.specs.Prelude.{◌≡◌, ◌+◌, ◌*◌, ◌<◌, ◌≤◌, length};
 ghost use Rattle.std.specs.List.Sorted.{IsStrictlyIncreasing};
+ghost use Rattle.wire_frames.specs.declared.TheConstants.{MOST_SERVERS};
 ghost use Rattle.wire_frames.specs.Answer.{answers};
 ghost use Rattle.block_decoder.specs.Agreed.{answers_of, Agreed};
 ghost use Rattle.block_decoder.specs.Verdict.{HasOneVerdict, HasVerdict, IsDecided, IsVerdict, ListsAtMostOne};
@@ -40,7 +41,8 @@ pub fn one_block_where_agreement_is_close(
     ensures { one.now ≡ other.now }
 {}
 
-/// Where `h <= k` and `2h > k + t`, the verdict on k answers lists one block, or none, whatever the answers.
+/// Where `h <= k` and `2h > k + t`, the verdict on k answers lists one block, or none, whatever the answers. There are
+/// at most [`MOST_SERVERS`](wire_frames::MOST_SERVERS) of them; of more a list decoding could be too costly.
 pub fn close_agreement_is_listed(
     indices: &[u8],
     bytes: &[u8],
@@ -51,6 +53,7 @@ pub fn close_agreement_is_listed(
 )
     requires ascending { IsStrictlyIncreasing indices.now }
     requires fit { length bytes.now ≡ length indices.now * s }
+    requires few { length indices.now ≤ MOST_SERVERS }
     requires enough { h ≤ length indices.now }
     requires close { length indices.now + t < 2 * h }
     requires verdict { IsDecided (answers_of s indices.now bytes.now) s t h verdict.now }

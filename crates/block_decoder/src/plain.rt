@@ -35,8 +35,8 @@ struct Search<'a> {
 /// every polynomial in every column. It uses no interpolation, no inverse and no law of the field.
 ///
 /// The answers are the `indices` and, in `bytes`, their payloads of `s` bytes one after another; the polynomials
-/// have degree at most `t`, which is at most [`MOST_PLAIN_DEGREE`]. With indices 1, 2, 3, the payloads `cfd2`, `4073`, `cce5` and t 1, h 3, s 2, the
-/// one block is `4344`.
+/// have degree at most `t`, which is at most [`MOST_PLAIN_DEGREE`]. With indices 1, 2, 3, the payloads `cfd2`, `4073`,
+/// `cce5` and t 1, h 3, s 2, the one block is `4344`.
 ///
 /// For small inputs only: for each vector of polynomials in the first columns that still holds at `h` answers,
 /// it evaluates 256^(t + 1) polynomials at each answer. It calls itself to a depth of `s`, and takes memory for

@@ -11,4 +11,7 @@ pub enum Verdict {
     TooFew { k: u32, h: u32 },
     /// With `k` answers and degree `t`, an agreement of `h` is too weak for Johnson's bound on the blocks: `h * h <= k * t`.
     TooWeak { k: u32, t: u32, h: u32 },
+    /// The list decoding of a column takes `cost` equations (Guruswami and Sudan 1999), more than
+    /// [`MOST_COST`](column_lists::MOST_COST).
+    TooCostly { cost: u64 },
 }

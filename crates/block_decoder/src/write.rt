@@ -111,7 +111,7 @@ fn write_listing<P: Ports>(ports: &mut P, listing: &Listing) -> Result<(), Faile
 /// Writes the text of the verdict to Output, in pieces; it takes no memory.
 ///
 /// A listing is the line `blocks N`, and a line for each block, ascending, in lower-case hexadecimal. The other
-/// verdicts are a line each, as `too few K H` and `too weak K T H`, with their numbers in decimal.
+/// verdicts are a line each, as `too few K H`, `too weak K T H` and `too costly COST`, with their numbers in decimal.
 ///
 /// # Errors
 ///
@@ -130,5 +130,6 @@ pub fn write_verdict<P: Ports>(ports: &mut P, verdict: &Verdict) -> Result<(), F
                 &[u64::from(*k), u64::from(*t), u64::from(*h)],
             )
         }
+        Verdict::TooCostly { cost } => write_line(ports, "too costly", &[*cost]),
     }
 }

@@ -52,8 +52,8 @@ fn value(text: &str) -> Option<u64> {
     }
 }
 
-/// Appends what stands for the text between braces: a number, or for `TEXT*NUMBER` the text so many times. What can't be
-/// read stays as it is.
+/// Appends what stands for the text between braces: a number, for `0xNUMBER` the two hexadecimal digits of a byte, or for
+/// `TEXT*NUMBER` the text so many times. What can't be read stays as it is.
 fn append_limit(text: &str, line: &mut String) -> Result<(), AllocError> {
     if let Some((repeated, times)) = text.split_once('*')
         && let Some(times) = value(times)
@@ -62,6 +62,11 @@ fn append_limit(text: &str, line: &mut String) -> Result<(), AllocError> {
             line.push_str(repeated)?;
         }
         return Ok(());
+    }
+    if let Some(text) = text.strip_prefix("0x")
+        && let Some(number) = value(text)
+    {
+        return write!(line, "{number:02x}");
     }
     match value(text) {
         Some(number) => write!(line, "{number}"),

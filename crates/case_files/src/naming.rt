@@ -70,6 +70,9 @@ fn read_verdict(name: &str, text: &str) -> Result<Status, Fault> {
             t: wide_number(second)?,
             h: wide_number(third)?,
         }),
+        "too-costly" if second.is_empty() => Ok(Status::TooCostly {
+            cost: number(first)? as u64,
+        }),
         _ => Err(Fault::Form("no status is called so")),
     }
 }

@@ -2,7 +2,7 @@
 use Rattle.std.proofs.Common.{◌≡◌, ◌≢◌, ℕ, ◌+◌, ◌*◌, ◌<◌, ◌≤◌, Bool, List, length, map, get_or, replicate, All, AllPairs, ◌==◌, sym, subst, ◌∙◌, arith, inl, inr, mul-le-mul_right}
 use Rattle.std.specs.List.{filter}
 use Rattle.std.proofs.lemmas.Bool.{cases_eq, eqb-true}
-use Rattle.std.proofs.lemmas.List.{length-map, get_or-map}
+use Rattle.std.proofs.lemmas.List.{length-map}
 use Rattle.std.proofs.lemmas.List.Elements.{All-map, All-filter, filter_passes}
 use Rattle.std.proofs.lemmas.List.Kept.{AllPairs-filter}
 use Rattle.std.proofs.lemmas.List.Sums.{length-filter}
@@ -19,6 +19,7 @@ use Rattle.bi_poly.proofs.Composition.{at_poly_coef-series}
 use Rattle.bi_poly.proofs.Zeros.{VanishesAt-from_zero, at_list, coef-at_list}
 use Rattle.rr_roots.specs.Roots.{IsYRoot}
 use Rattle.gs_interpolate.specs.Interpolant.{IsInterpolant}
+use Rattle.column_runs.proofs.OnOne.{AllPairs-firsts}
 use Rattle.column_lists.specs.Agreement.{agreements}
 use Rattle.column_lists.proofs.ComposedDegree.{at_series-degree, at_series-bytes, IsLighterThan}
 
@@ -42,13 +43,6 @@ places-bytes phi points h =
     All-map (λ x. x < 256) (λ p. p.0) (filter (takes phi) points) (All-filter (takes phi) (λ p. p.0 < 256) points h)
 
 -- no two are the same
-pub AllPairs-firsts : (points : List (ℕ × ℕ)) → AllPairs (λ p q. p.0 ≢ q.0) points → AllPairs (λ x y. x ≢ y) (map (λ p. p.0) points)
-AllPairs-firsts points h = λ i j d l m.
-    let n = length-map points (λ p. p.0) in
-    let e = get_or-map (λ (p : ℕ × ℕ). p.0) points i (d, 0) d (omega arith) in
-    let f = get_or-map (λ (p : ℕ × ℕ). p.0) points j (d, 0) d (omega arith) in
-    λ same. h i j (d, 0) l (omega arith) (sym e ∙ same ∙ f)
-
 pub places-distinct : (phi : List ℕ) (points : List (ℕ × ℕ)) → AllPairs (λ p q. p.0 ≢ q.0) points → AllPairs (λ x y. x ≢ y) (places phi points)
 unfolding places
 places-distinct phi points h = AllPairs-firsts (filter (takes phi) points) (AllPairs-filter (λ p q. p.0 ≢ q.0) (takes phi) points h)

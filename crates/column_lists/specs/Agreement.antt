@@ -1,5 +1,5 @@
 -- The polynomials that agree with points of which some may be wrong (Guruswami and Sudan 1999).
-use Rattle.std.specs.Prelude.{◌≡◌, ℕ, ◌==◌, ◌≤◌, ◌↔◌, List, All, Contains, count_by}
+use Rattle.std.specs.Prelude.{ℕ, ◌==◌, ◌≤◌, ◌↔◌, List, Contains, count_by}
 use Rattle.std.specs.Cmp.Lexicographic.{slice_cmp}
 use Rattle.std.specs.List.Sorted.{IsStrictlySortedBy}
 use Rattle.std.specs.Ordering.{nat_cmp}
@@ -8,10 +8,6 @@ use Rattle.gf256.specs.Polynomial.{val, IsPolynomial}
 -- at how many of the points phi takes the second member at the first
 unfoldable pub agreements : List ℕ → List (ℕ × ℕ) → ℕ
 agreements phi points = count_by (λ p. val phi p.0 == p.1) points
-
--- all points lie on one polynomial of degree at most t
-abbrev pub LieOnOne : List (ℕ × ℕ) → ℕ → Type 0
-LieOnOne points t = (phi : List ℕ) × IsPolynomial t phi × All (λ p. val phi p.0 ≡ p.1) points
 
 -- the list has the polynomials of degree at most t, as t + 1 bytes, that agree with at least h of the points, each once and
 -- ascending

@@ -6,25 +6,27 @@
 //!
 //! Promised: [`column_list`] lists exactly the polynomials that agree, each once and ascending, whatever way it
 //! interpolates, and counts and bounds its steps. Want of memory is the only error. [`plan`] gives the numbers that it works
-//! with, and takes no memory.
+//! with, and takes no memory. [`decode_run`] goes through many columns at once, as long as all points lie on one polynomial;
+//! it comes from `column_runs`.
 //!
 //! Not promised: anything of time but that bound on steps.
 #![tactic(auto)]
 
 mod agreement;
 mod numbers;
-mod one_polynomial;
 
 ghost use Rattle.std.specs.Prelude.{◌≡◌, ◌≢◌, ◌+◌, ◌*◌, ◌/◌, ◌<◌, ◌≤◌, length, map, All, AllPairs, IfOk};
 ghost use Rattle.gs_interpolate.specs.Monomials.{monomials};
 ghost use Rattle.column_lists.specs.Numbers.{mult, cost, degree_of};
-ghost use Rattle.column_lists.specs.Agreement.{ListsAgreeing, LieOnOne};
+ghost use Rattle.column_runs.specs.OnOne.{LieOnOne};
+ghost use Rattle.column_lists.specs.Agreement.{ListsAgreeing};
 
 use crate::agreement::{keep_agreeing, places_are_bytes};
 use bi_poly::laws::coefficients_are_bytes;
+pub use column_runs::decode_run;
+use column_runs::one_polynomial::{lie_on, through_first};
 use gs_interpolate::Interpolate;
 pub use numbers::Plan;
-use one_polynomial::{lie_on, through_first};
 use rr_roots::y_roots;
 use std::alloc::{AllocError, Global};
 use std::sync::ledger::Ledger;
@@ -101,6 +103,7 @@ pub fn column_list<I: Interpolate, C: Ledger, N: Ledger>(
     ensures most { nodes.new ≤ nodes.old + (t + 1) * (degree_of (length points.now) t h / t) }
     ensures least { IfOk result (λ list. 0 < length list.items → ¬ LieOnOne points.now t → nodes.old + (t + 1) ≤ nodes.new) }
     ensures short { LieOnOne points.now t → nodes.new ≡ nodes.old }
+    ensures rises { nodes.old ≤ nodes.new }
 {
     cols.tick();
     places_are_bytes(points);

@@ -8,14 +8,14 @@ use Rattle.std.proofs.lemmas.List.Sums.{count_by-le-length}
 use Rattle.std.proofs.lemmas.Slice.Eq.{bytes_eq-Decides}
 use Rattle.gf256.specs.Polynomial.{coef, IsPolynomial}
 use Rattle.shamir_share.specs.Query.{query}
+use Rattle.wire_frames.specs.declared.TheConstants.{MOST_SERVERS}
 use Rattle.wire_frames.specs.declared.scheme.TheConstants.{SHAMIR}
 use Rattle.wire_frames.specs.Answer.{Answer, answers}
 use Rattle.wire_frames.specs.Session.{Transcript}
-use Rattle.block_decoder.specs.Agreed.{Agreed, answer_at, constants_of}
-use Rattle.block_decoder.specs.Lagrange.{HasColumns}
+use Rattle.block_decoder.specs.Agreed.{Agreed, answer_at, constants_of, HasColumns}
 use Rattle.block_decoder.specs.Verdict.{IsDecided, ListsAtMostOne}
 use Rattle.block_decoder.specs.declared.verdict.Verdict.{Verdict}
-use Rattle.block_decoder.specs.declared.verdict.Verdict.TheVariants.{Listed, TooFew, TooWeak}
+use Rattle.block_decoder.specs.declared.verdict.Verdict.TheVariants.{Listed, TooFew, TooWeak, TooCostly}
 use Rattle.block_decoder.proofs.OneBlock.{close_is_listed}
 use Rattle.block_decoder.proofs.Places.{places_of, ascending-places_of, within-places_of, pass-places_of, length-places_of}
 use Rattle.gf256.specs.Product.{IsMatrix, product}
@@ -84,7 +84,7 @@ honest_is_agreed answers matrix coins t r s block h size within honest =
 pub honest_is_listed : (answers : List Answer) (matrix : List (List ℕ)) (coins : List ℕ) (t r s block h : ℕ) (blocks : List (List ℕ)) → length coins ≡ r * t → block < r
     → AreProducts answers matrix coins t r s block h → IsDecided answers s t h (Listed blocks) → Contains blocks (block_of matrix block)
 honest_is_listed answers matrix coins t r s block h blocks size within honest is =
-    (is.2.exact (block_of matrix block)).1 (honest_is_agreed answers matrix coins t r s block h size within honest)
+    (is.3.exact (block_of matrix block)).1 (honest_is_agreed answers matrix coins t r s block h size within honest)
 
 -- what has one member at most has only the one that it is known to have
 only_member : {X : Type 0} (xs : List X) (x : X) → length xs ≤ 1 → Contains xs x → xs ≡ x ∷ []
@@ -94,14 +94,15 @@ only_member (y ∷ []) x few (suc k, l, e) = absurd (omega arith)
 only_member (y ∷ z ∷ xs) x few c = absurd (omega arith)
 
 -- and alone where 2 h > k + t
-pub honest_is_alone : (answers : List Answer) (matrix : List (List ℕ)) (coins : List ℕ) (t r s block h : ℕ) (verdict : Verdict) → HasColumns s answers → length coins ≡ r * t → block < r
+pub honest_is_alone : (answers : List Answer) (matrix : List (List ℕ)) (coins : List ℕ) (t r s block h : ℕ) (verdict : Verdict) → HasColumns s answers → length answers ≤ MOST_SERVERS → length coins ≡ r * t → block < r
     → AreProducts answers matrix coins t r s block h → length answers + t < 2 * h → IsDecided answers s t h verdict → verdict ≡ Listed (block_of matrix block ∷ [])
-honest_is_alone answers matrix coins t r s block h verdict columns size within honest close is =
+honest_is_alone answers matrix coins t r s block h verdict columns most size within honest close is =
     let e = honest.enough in
     let few = count_by-le-length (λ (a : Answer). bytes_eq a.payload (product matrix s (query coins t r block a.index))) answers in
-    by_verdict verdict (close_is_listed answers s t h verdict columns (omega (arith, e, few)) close is) is
+    by_verdict verdict (close_is_listed answers s t h verdict columns (omega (arith, most)) (omega (arith, e, few)) close is) is
   where
     by_verdict : (v : Verdict) → ListsAtMostOne v → IsDecided answers s t h v → v ≡ Listed (block_of matrix block ∷ [])
     by_verdict (TooFew k agree) none is = absurd none
     by_verdict (TooWeak k degree agree) none is = absurd none
+    by_verdict (TooCostly equations) none is = absurd none
     by_verdict (Listed blocks) few is = ap Listed (only_member blocks (block_of matrix block) few (honest_is_listed answers matrix coins t r s block h blocks size within honest is))

@@ -1,17 +1,18 @@
 -- What a verdict says of the block that honest servers hold, in each scheme.
 use Rattle.std.proofs.Common.{◌≡◌, ℕ, ◌+◌, ◌*◌, ◌<◌, ◌≤◌, List, [], ◌∷◌, length, map, All, IfSome, Contains, ap, subst, ◌∙◌, arith}
 use Rattle.std.proofs.lemmas.List.Elements.{Contains-get_or}
+use Rattle.wire_frames.specs.declared.TheConstants.{MOST_SERVERS}
 use Rattle.wire_frames.specs.declared.scheme.TheConstants.{SHAMIR, XOR}
 use Rattle.wire_frames.specs.Answer.{Answer, answers}
 use Rattle.wire_frames.specs.Limits.{IsInRange}
 use Rattle.wire_frames.specs.Session.{Transcript}
 use Rattle.chor_xor.specs.Chosen.{combined}
 use Rattle.block_decoder.specs.Verdict.{IsCombined, IsDecided, IsVerdict, ListsAtMostOne}
-use Rattle.block_decoder.specs.Lagrange.{HasColumns}
+use Rattle.block_decoder.specs.Agreed.{HasColumns}
 use Rattle.block_decoder.specs.declared.verdict.Verdict.{Verdict}
-use Rattle.block_decoder.specs.declared.verdict.Verdict.TheVariants.{Listed, TooFew, TooWeak}
+use Rattle.block_decoder.specs.declared.verdict.Verdict.TheVariants.{Listed, TooFew, TooWeak, TooCostly}
 use Rattle.block_decoder.proofs.OneBlock.{close_verdict_is_listed}
-use Rattle.block_decoder.proofs.UsableAnswers.{columns-answers}
+use Rattle.block_decoder.proofs.UsableAnswers.{columns-answers, length-answers_from-le}
 use Rattle.fetch_client.specs.Plan.{query_coins}
 use Rattle.fetch_client.specs.Honest.{FindsHonestBlock, HonestRecords, IsHonest, block_of}
 use Rattle.fetch_client.proofs.Schemes.{coins_of_shamir}
@@ -24,6 +25,7 @@ combined_alone : (all : List Answer) (width n h : ℕ) (block : List ℕ) (verdi
     → IsCombined all width n h verdict → verdict ≡ Listed (block ∷ [])
 combined_alone all width n h block (TooFew k agree) size sum is = let few = is.2 in absurd (omega (arith, few, size))
 combined_alone all width n h block (TooWeak k degree agree) size sum is = absurd is
+combined_alone all width n h block (TooCostly equations) size sum is = absurd is
 combined_alone all width n h block (Listed blocks) size sum is = ap Listed (is.1 ∙ ap (λ b. b ∷ []) sum)
 
 -- a block that is listed alone is in the list
@@ -40,8 +42,11 @@ module _ (session : Transcript) (coins : List ℕ) (block : ℕ) (verdict : Verd
   columns : HasColumns session.params.s (answers session)
   columns = let servers = range.few_servers in columns-answers session (omega (arith, few, servers)) bytes
 
+  few_answers : length (answers session) ≤ MOST_SERVERS
+  few_answers = let usable = length-answers_from-le 1 session.params session.records in let servers = range.few_servers in omega (arith, usable, few, servers)
+
   close : session.params.h ≤ length (answers session) → length (answers session) + session.params.t < 2 * session.params.h → ListsAtMostOne verdict
-  close enough near = close_verdict_is_listed session verdict range columns enough near is
+  close enough near = close_verdict_is_listed session verdict range columns few enough near is
 
   -- in Shamir's sharing
   module _ (one : session.params.scheme ≡ SHAMIR) where
@@ -57,7 +62,7 @@ module _ (session : Transcript) (coins : List ℕ) (block : ℕ) (verdict : Verd
     alone : (matrix : List (List ℕ)) → IsHonest session matrix coins block → length (answers session) + session.params.t < 2 * session.params.h → verdict ≡ Listed (block_of matrix block ∷ [])
     alone matrix honest near =
         let p = session.params in
-        honest_is_alone (answers session) matrix coins p.t p.r p.s block p.h verdict columns (size ∙ coins_of_shamir p one) within
+        honest_is_alone (answers session) matrix coins p.t p.r p.s block p.h verdict columns few_answers (size ∙ coins_of_shamir p one) within
         (products_from_honest session matrix coins block one honest) near decided
 
     pub finds_in_shamir : FindsHonestBlock session coins block verdict

@@ -1,9 +1,8 @@
 -- In the XOR scheme the answers of all servers add up to the block.
-use Rattle.std.proofs.Common.{◌≡◌, ℕ, zero, suc, ◌+◌, ◌-◌, ◌<◌, ◌≤◌, Bool, true, Option, None, Some, List, [], ◌∷◌, length, map, get_or, count_by, bytes_eq, All, AllPairs, IfSome, inl, inr, refl, sym, ap, subst, ◌∙◌, arith}
+use Rattle.std.proofs.Common.{◌≡◌, ℕ, zero, suc, ◌+◌, ◌-◌, ◌<◌, ◌≤◌, Bool, true, Option, None, Some, List, [], length, map, get_or, count_by, bytes_eq, All, AllPairs, IfSome, inl, inr, refl, sym, ap, subst, ◌∙◌, arith}
 use Rattle.std.specs.List.{range_with_len}
-use Rattle.std.proofs.lemmas.Bool.{cases_lt, cases_Bool}
+use Rattle.std.proofs.lemmas.Bool.{cases_lt}
 use Rattle.std.proofs.lemmas.List.{ext_get_or, get_or_past, length-map, get_or-map}
-use Rattle.std.proofs.lemmas.List.Elements.{All-nil, All-cons, All-head, All-tail}
 use Rattle.std.proofs.lemmas.List.FromFn.{length-range_with_len, get_or-range_with_len, length-map-range_with_len, get_or-map-range_with_len}
 use Rattle.std.proofs.lemmas.List.Sums.{count_by-le-length}
 use Rattle.std.proofs.lemmas.Slice.Eq.{bytes_eq-Decides}
@@ -17,35 +16,11 @@ use Rattle.chor_xor.specs.Bitmap.{bitmap}
 use Rattle.chor_xor.specs.Chosen.{chosen, combined}
 use Rattle.chor_xor.specs.Chosen.{answers as chosen_answers}
 use Rattle.chor_xor.proofs.ChosenSums.{answers-combined}
-use Rattle.block_decoder.proofs.Counting.{one_if, count-cons}
+use Rattle.block_decoder.proofs.Counting.{all_pass, pass_all}
 use Rattle.block_decoder.proofs.UsableAnswers.{AreInOrder, answers_in_order}
 use Rattle.fetch_client.specs.Sent.{payload_to}
 use Rattle.fetch_client.specs.Honest.{AllHonest, HonestRecords, IsHonest, answer_by, block_of, honest_frame, is_frame}
 use Rattle.fetch_client.proofs.Schemes.{answer_of_xor, payload_of_xor}
-
--- ---- counting
-
--- where as many pass as there are, all pass
-pub all_pass : {X : Type 0} (test : X → Bool) (xs : List X) → length xs ≤ count_by test xs → All (λ x. test x ≡ true) xs
-all_pass test [] many = All-nil (λ x. test x ≡ true)
-all_pass test (x ∷ xs) many =
-    let more = count-cons test x xs in
-    let few = count_by-le-length test xs in
-    elim (cases_Bool (test x)) [
-      | inl passed ↦
-          let one = ap one_if passed in
-          All-cons (λ x. test x ≡ true) x xs passed (all_pass test xs (omega (arith, many, more, one)))
-      | inr failed ↦ let none = ap one_if failed in absurd (omega (arith, many, more, none, few))
-    ]
-
--- and where all pass, as many
-pub pass_all : {X : Type 0} (test : X → Bool) (xs : List X) → All (λ x. test x ≡ true) xs → count_by test xs ≡ length xs
-pass_all test [] all = refl
-pass_all test (x ∷ xs) all =
-    let more = count-cons test x xs in
-    let one = ap one_if (All-head (λ x. test x ≡ true) x xs all) in
-    let rest = pass_all test xs (All-tail (λ x. test x ≡ true) x xs all) in
-    omega (arith, more, one, rest)
 
 -- ---- the indices
 

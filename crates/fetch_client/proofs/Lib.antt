@@ -5,4 +5,4 @@ pub mod HonestBlock
 pub mod HonestFrames
 pub mod HonestXor
 pub mod HonestVerdicts
-pub mod Columns
+pub mod Counts

@@ -1,5 +1,6 @@
 -- What a fetch does.
-use Rattle.std.specs.Prelude.{ℕ, ◌≡◌, ◌+◌, ◌*◌, ◌≤◌, ◌⊎◌, ◌++◌, ◌∷◌, List, [], length, Option, None, Result, Ok, Err, slice_index_or}
+use Rattle.std.specs.Prelude.{ℕ, ◌≡◌, ◌+◌, ◌≤◌, ◌⊎◌, ◌++◌, ◌∷◌, List, [], length, Option, None, Result, Ok, Err}
+use Rattle.std.specs.Prelude.{slice_index_or}
 use Rattle.pir_ports.specs.World.{World}
 use Rattle.pir_ports.specs.Number.{COINS, link}
 use Rattle.pir_ports.specs.Moves.{Touches}
@@ -9,7 +10,6 @@ use Rattle.pir_ports.specs.Touched.{One, From, TouchesOnly}
 use Rattle.wire_frames.specs.Sizes.{answer_len}
 use Rattle.wire_frames.specs.Answer.{answers}
 use Rattle.wire_frames.specs.Session.{Transcript}
-use Rattle.uni_poly.specs.Binomial.{binomial}
 use Rattle.block_decoder.specs.Verdict.{IsVerdict}
 use Rattle.block_decoder.specs.declared.verdict.Verdict.{Verdict}
 use Rattle.fetch_client.specs.declared.plan.FetchPlan.{FetchPlan}
@@ -22,7 +22,8 @@ use Rattle.fetch_client.specs.Link.{LinkAsked}
 use Rattle.fetch_client.specs.Honest.{FindsHonestBlock}
 
 -- one more server was asked, and its record is the last
-pub record AsksNext (p : FetchPlan) (address coins : List ℕ) (before after : Transcript) (old new : World) : Type 0 where
+pub record AsksNext (p : FetchPlan) (address coins : List ℕ) (before after : Transcript)
+    (old new : World) : Type 0 where
   pub answer : Option (List ℕ)
   pub session : after ≡ record before { records = before.records ++ answer ∷ [] }
   pub asked : LinkAsked address (sent p coins (length before.records + 1)) (answer_len p.s) answer
@@ -31,17 +32,20 @@ pub record AsksNext (p : FetchPlan) (address coins : List ℕ) (before after : T
 -- each of the first n servers was asked, by its address, and the session has its record
 abbrev pub AskedEach : FetchPlan → List (List ℕ) → List ℕ → ℕ → Transcript → World → World → Type 0
 AskedEach p addresses coins n session old new =
-    Each (λ i. LinkAsked (slice_index_or addresses i []) (sent p coins (i + 1)) (answer_len p.s) (slice_index_or session.records i None))
+    Each (λ i. LinkAsked (slice_index_or addresses i []) (sent p coins (i + 1)) (answer_len p.s)
+    (slice_index_or session.records i None))
     (link 1) n old new
 
 -- every server was asked, with these coins, and this is the session
-pub record AsksAll (p : FetchPlan) (addresses : List (List ℕ)) (coins : List ℕ) (session : Transcript) (old new : World) : Type 0 where
+pub record AsksAll (p : FetchPlan) (addresses : List (List ℕ)) (coins : List ℕ) (session : Transcript)
+    (old new : World) : Type 0 where
   pub params : session.params ≡ params_of p (session_number coins)
   pub whole : length session.records ≡ p.n
   pub links : AskedEach p addresses coins p.n session old new
 
 -- these coins were taken, and every server was asked with them, in this session
-pub record AsksWith (p : FetchPlan) (addresses : List (List ℕ)) (coins : List ℕ) (session : Transcript) (old new : World) : Type 0 where
+pub record AsksWith (p : FetchPlan) (addresses : List (List ℕ)) (coins : List ℕ) (session : Transcript)
+    (old new : World) : Type 0 where
   pub tossed : Tossed (need p) coins (old.at COINS) (new.at COINS)
   pub asked : AsksAll p addresses coins session old new
 
@@ -62,7 +66,8 @@ pub record AsksSome (p : FetchPlan) (addresses : List (List ℕ)) (old new : Wor
   pub asked : AsksWith p addresses coins session old new
 
 -- every server was asked, with some coins, in this session; this is its verdict, which has the block of honest servers
-pub record Concludes (p : FetchPlan) (addresses : List (List ℕ)) (session : Transcript) (verdict : Verdict) (old new : World) : Type 0 where
+pub record Concludes (p : FetchPlan) (addresses : List (List ℕ)) (session : Transcript) (verdict : Verdict)
+    (old new : World) : Type 0 where
   pub coins : List ℕ
   pub asked : AsksWith p addresses coins session old new
   pub judged : IsVerdict session verdict
@@ -76,17 +81,20 @@ Fetches p addresses (Err (CoinsEnded taken)) old new =
     RunsOut (need p) taken (old.at COINS) (new.at COINS) × Touches COINS old new
 Fetches p addresses (Err Memory) old new = (new ≡ old) ⊎ AsksSome p addresses old new
 
--- the most columns that judging k answers takes: the width times the number of choices of t + 1 of them
-abbrev pub columns_of_answers : FetchPlan → ℕ → ℕ
-columns_of_answers p k = p.s * binomial k (p.t + 1)
+-- no more steps are counted than judging some answers takes, of which there are no more than servers; `most` bounds
+-- these steps for so many answers, a degree, an agreement and a width
+pub record CountsForSome (most : ℕ → ℕ → ℕ → ℕ → ℕ) (p : FetchPlan) (before now : ℕ) : Type 0 where
+  pub answers : ℕ
+  pub few : answers ≤ p.n
+  pub bounded : now ≤ before + most answers p.t p.h p.s
 
--- how many columns are interpolated at most: as many as judging the usable answers takes; where memory ran out, as many as
--- judging answers of all servers takes; and without the coins none
-abbrev pub FetchCounts : FetchPlan → Result (Transcript × Verdict) FetchFault → ℕ → ℕ → Type 0
-FetchCounts p (Ok both) before now = now ≤ before + columns_of_answers p (length (answers both.0))
-FetchCounts p (Err CoinsFault) before now = now ≡ before
-FetchCounts p (Err (CoinsEnded taken)) before now = now ≡ before
-FetchCounts p (Err Memory) before now = now ≤ before + columns_of_answers p p.n
+-- how many steps are counted at most: as many as judging the usable answers takes; where memory ran out, as many as
+-- judging some answers takes; and without the coins none
+abbrev pub FetchCounts : (ℕ → ℕ → ℕ → ℕ → ℕ) → FetchPlan → Result (Transcript × Verdict) FetchFault → ℕ → ℕ → Type 0
+FetchCounts most p (Ok both) before now = now ≤ before + most (length (answers both.0)) p.t p.h p.s
+FetchCounts most p (Err CoinsFault) before now = now ≡ before
+FetchCounts most p (Err (CoinsEnded taken)) before now = now ≡ before
+FetchCounts most p (Err Memory) before now = CountsForSome most p before now
 
 -- Coins and the first n links alone are touched
 abbrev pub TouchesLinks : ℕ → World → World → Type 0

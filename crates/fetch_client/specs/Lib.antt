@@ -1,4 +1,5 @@
 pub mod Plan
+pub mod Queries
 pub mod Sent
 pub mod Link
 pub mod Tossed

@@ -4,152 +4,162 @@ ghost use Rattle.std.specs.Prelude.{◌≡◌, ◌≤◌, ◌+◌, length, map, 
 ghost use Rattle.wire_frames.specs.declared.scheme.TheConstants.{SHAMIR, XOR};
 ghost use Rattle.wire_frames.specs.Sizes.{answer_len};
 ghost use Rattle.wire_frames.specs.Answer.{answers};
-ghost use Rattle.fetch_client.specs.Plan.{IsPlan, params_of, need};
+ghost use Rattle.fetch_client.specs.Plan.{IsPlan, params_of};
+ghost use Rattle.block_decoder.specs.Numbers.{most_columns, most_nodes};
 ghost use Rattle.block_decoder.specs.Verdict.{IsVerdict, least_columns};
 ghost use Rattle.fetch_client.specs.Sent.{frame_len, queries_from, session_number};
 ghost use Rattle.fetch_client.specs.Honest.{FindsHonestBlock};
-ghost use Rattle.fetch_client.specs.Fetched.{AsksServers, FetchCounts, Fetches, TouchesLinks, columns_of_answers};
+ghost use Rattle.fetch_client.specs.Fetched.{AsksServers, FetchCounts, Fetches, TouchesLinks};
 
-use crate::coins::{NUMBER_LEN, session_number_of, take_coins};
 use crate::laws::honest_block_is_found;
-use crate::links::ask_all;
+use crate::links::ask_next;
 use crate::plan::{FetchFault, FetchPlan};
+use crate::queries::Queries;
 use block_decoder::{Verdict, judge};
+use gs_interpolate::Interpolate;
 use pir_ports::Ports;
 use std::alloc::{AllocError, Global};
 use std::sync::ledger::Ledger;
 use uni_poly::steps::Steps;
-use wire_frames::{Session, answer_len};
+use wire_frames::Session;
 
-/// The memory that a fetch takes before anything is touched: a session with no record yet, and room for the coins, for one
-/// query and for one answer.
+/// The memory that a fetch takes, beside the coins, before anything is touched: a session with no record yet, and
+/// room for one query and for one answer.
 #[derive(Drop)]
 struct Room {
     session: Session,
-    coins: Vec<u8>,
     frame: Vec<u8>,
     answer: Vec<u8>,
 }
 
 /// Takes that memory.
-fn room_for(alloc: Global, plan: &FetchPlan) -> Result<Room, AllocError>
-    requires { IsPlan plan.now }
+fn room_for(alloc: Global, queries: &Queries) -> Result<Room, AllocError>
     ensures session { IfOk result (λ room.
-        room.session ≡ record { params = params_of plan.now 0; records = [] }) }
-    ensures coins { IfOk result (λ room. vec_len room.coins ≡ need plan.now) }
-    ensures frame { IfOk result (λ room. vec_len room.frame ≡ frame_len plan.now) }
-    ensures answer { IfOk result (λ room. vec_len room.answer ≡ answer_len plan.now.s) }
+        room.session ≡ record { params = params_of queries.now.plan 0; records = [] }) }
+    ensures frame { IfOk result (λ room. vec_len room.frame ≡ frame_len queries.now.plan) }
+    ensures answer { IfOk result (λ room. vec_len room.answer ≡ answer_len queries.now.plan.s) }
 {
     Ok(Room {
-        session: Session::new(alloc, plan.params())?,
-        coins: vec![in alloc; 0; plan.coins_len()]?,
-        frame: vec![in alloc; 0; plan.frame_len()]?,
-        answer: vec![in alloc; 0; answer_len(plan.s)]?,
+        session: Session::new(alloc, queries.params())?,
+        frame: vec![in alloc; 0; queries.frame_len()]?,
+        answer: vec![in alloc; 0; queries.answer_len()]?,
     })
 }
 
-/// Takes the coins, gives the session its number, and asks every server.
+/// Takes the coins, gives the session its number, and asks every server, one after the other. No server is left out,
+/// whatever the others answer.
 ///
 /// # Errors
 ///
 /// `CoinsFault` and `CoinsEnded`, as [`fetch`].
 fn ask_servers<P: Ports>(
-    plan: &FetchPlan,
+    queries: &mut Queries,
     addresses: &[String],
     ports: &mut P,
-    coins: &mut [u8],
     frame: &mut [u8],
     answer: &mut [u8],
     session: &mut Session,
 ) -> Result<(), FetchFault>
-    requires plan { IsPlan plan.now }
-    requires addresses { length addresses.now ≡ plan.now.n }
-    requires coins { length coins.old ≡ need plan.now }
-    requires frame { length frame.old ≡ frame_len plan.now }
-    requires answer { length answer.old ≡ answer_len plan.now.s }
-    requires session { session.old ≡ record { params = params_of plan.now 0; records = [] } }
-    ensures asked { AsksServers plan.now (map string_bytes addresses.now) result coins.new session.new
+    requires addresses { length addresses.now ≡ queries.old.plan.n }
+    requires frame { length frame.old ≡ frame_len queries.old.plan }
+    requires answer { length answer.old ≡ answer_len queries.old.plan.s }
+    requires session { session.old ≡ record { params = params_of queries.old.plan 0; records = [] } }
+    ensures plan { queries.new.plan ≡ queries.old.plan }
+    ensures asked { AsksServers queries.old.plan (map string_bytes addresses.now) result queries.new.coins session.new
         (P.world ports.old) (P.world ports.new) }
-    ensures others { TouchesLinks plan.now.n (P.world ports.old) (P.world ports.new) }
+    ensures others { TouchesLinks queries.old.plan.n (P.world ports.old) (P.world ports.new) }
 {
-    take_coins(ports, coins)?;
-    session.set_session(session_number_of(coins));
-    ask_all(plan, coins, addresses, ports, frame, answer, session);
+    queries.take_coins(ports)?;
+    session.set_session(queries.session_number());
+    'links: for index in 1..queries.servers() + 1 {
+        let address = &addresses[usize::from(index) - 1];
+        ask_next(queries, index, address, ports, frame, answer, session);
+    }
     Ok(())
 }
 
-/// The verdict on the session that a plan was fetched in with these coins.
+/// The verdict on the session that was fetched with these queries, with the steps of [`judge`].
 ///
 /// # Errors
 ///
 /// `AllocError` for want of memory.
-fn conclude<C: Ledger>(
+fn conclude<I: Interpolate, C: Ledger, N: Ledger>(
     alloc: Global,
-    plan: &FetchPlan,
-    coins: &[u8],
+    way: &I,
+    queries: &Queries,
     session: &Session,
     cols: &mut Steps<C>,
+    nodes: &mut Steps<N>,
 ) -> Result<Verdict, AllocError>
-    requires plan { IsPlan plan.now }
-    requires coins { length coins.now ≡ need plan.now }
-    requires params { session.now.params ≡ params_of plan.now (session_number coins.now) }
-    requires all { length session.now.records ≡ plan.now.n }
+    requires params { session.now.params ≡ params_of queries.now.plan (session_number queries.now.coins) }
+    requires all { length session.now.records ≡ queries.now.plan.n }
     ensures judged { IfOk result (IsVerdict session.now) }
-    ensures found { IfOk result (FindsHonestBlock session.now (queries_from coins.now) plan.now.block) }
-    ensures cols { cols.new ≤ cols.old + columns_of_answers plan.now (length (answers session.now)) }
+    ensures found { IfOk result (FindsHonestBlock session.now (queries_from queries.now.coins) queries.now.plan.block) }
+    ensures cols { cols.new ≤ cols.old + most_columns (length (answers session.now))
+        queries.now.plan.t queries.now.plan.h queries.now.plan.s }
+    ensures nodes { nodes.new ≤ nodes.old + most_nodes (length (answers session.now))
+        queries.now.plan.t queries.now.plan.h queries.now.plan.s }
     ensures least { cols.old ≤ cols.new }
-    ensures listed { plan.now.scheme ≡ SHAMIR
-        → IfOk result (λ verdict. cols.old + least_columns plan.now.s verdict ≤ cols.new) }
-    ensures xor { plan.now.scheme ≡ XOR → cols.new ≡ cols.old }
+    ensures least_nodes { nodes.old ≤ nodes.new }
+    ensures listed { queries.now.plan.scheme ≡ SHAMIR
+        → IfOk result (λ verdict. cols.old + least_columns queries.now.plan.s verdict ≤ cols.new) }
+    ensures xor { queries.now.plan.scheme ≡ XOR → (cols.new ≡ cols.old) × (nodes.new ≡ nodes.old) }
 {
-    let verdict = judge(alloc, session, cols)?;
-    honest_block_is_found(session, &coins[NUMBER_LEN..], plan.block, &verdict);
+    let verdict = judge(alloc, way, session, cols, nodes)?;
+    honest_block_is_found(session, queries.query_coins(), queries.block(), &verdict);
     Ok(verdict)
 }
 
-/// Fetches one block: takes the coins, asks every server, and judges what they answered. Coins is open already; there is
-/// one address for each server, in the order of their indices. `cols` counts the columns that are interpolated; the XOR
-/// scheme takes no such step.
+/// Fetches one block: takes the coins, asks every server, and judges what they answered. Coins is open already; there
+/// is one address for each server, in the order of their indices. Where the verdict takes an interpolation with
+/// multiplicities, it is made in this `way`. `cols` and `nodes` count the steps of the verdict, as in [`judge`]: the
+/// columns that are decoded, and the coefficients that are fixed in looking for roots. The XOR scheme takes no such
+/// step.
 ///
-/// All memory but that for judging is taken first. Then the coins are taken: 8 bytes for the number of the session, and for
-/// the queries `r * t`, which is `t` for each row, or in the XOR scheme `(n - 1) * ceil(r / 8)`, a bitmap for each server but
-/// the last. Then each server in turn is sent its query, whose payload has r bytes or, in the XOR scheme, `ceil(r / 8)`; and
-/// of its answer as many bytes as a whole one has are taken. A server whose link fails has no record: nothing is done with a
-/// link after a failed call. None is left out, and no byte that is sent depends on an answer.
+/// All memory but that for judging is taken first. Then the coins are taken: 8 bytes for the number of the session,
+/// and for the queries `r * t`, which is `t` for each row, or in the XOR scheme `(n - 1) * ceil(r / 8)`, a bitmap for
+/// each server but the last. Then each server in turn is sent its query, whose payload has r bytes or, in the XOR
+/// scheme, `ceil(r / 8)`; and of its answer as many bytes as a whole one has are taken. A server whose link fails has
+/// no record: nothing is done with a link after a failed call. None is left out, and no byte that is sent depends on
+/// an answer.
 ///
 /// # Errors
 ///
-/// `CoinsFault` only where the count of Coins rose, and then fewer coins were taken than are needed; `CoinsEnded` exactly
-/// where there are fewer coins, with their number; at both no server was asked. `Memory` for want of memory, before anything
-/// was touched or when all were asked.
-pub fn fetch<C: Ledger, P: Ports>(
+/// `CoinsFault` only where the count of Coins rose, and then fewer coins were taken than are needed; `CoinsEnded`
+/// exactly where there are fewer coins, with their number; at both no server was asked. `Memory` for want of memory,
+/// before anything was touched or when all were asked.
+pub fn fetch<I: Interpolate, C: Ledger, N: Ledger, P: Ports>(
     alloc: Global,
+    way: &I,
     plan: &FetchPlan,
     addresses: &[String],
     ports: &mut P,
     cols: &mut Steps<C>,
+    nodes: &mut Steps<N>,
 ) -> Result<(Session, Verdict), FetchFault>
     requires plan { IsPlan plan.now }
     requires addresses { length addresses.now ≡ plan.now.n }
     ensures fetched { Fetches plan.now (map string_bytes addresses.now) result
         (P.world ports.old) (P.world ports.new) }
     ensures others { TouchesLinks plan.now.n (P.world ports.old) (P.world ports.new) }
-    ensures cols { FetchCounts plan.now result cols.old cols.new }
+    ensures cols { FetchCounts most_columns plan.now result cols.old cols.new }
+    ensures nodes { FetchCounts most_nodes plan.now result nodes.old nodes.new }
     ensures least { cols.old ≤ cols.new }
+    ensures least_nodes { nodes.old ≤ nodes.new }
     ensures listed { plan.now.scheme ≡ SHAMIR
         → IfOk result (λ both. cols.old + least_columns plan.now.s both.1 ≤ cols.new) }
-    ensures xor { plan.now.scheme ≡ XOR → cols.new ≡ cols.old }
+    ensures xor { plan.now.scheme ≡ XOR → (cols.new ≡ cols.old) × (nodes.new ≡ nodes.old) }
 {
-    let mut room = room_for(alloc, plan)?;
+    let mut queries = Queries::with_room(alloc, plan)?;
+    let mut room = room_for(alloc, &queries)?;
     ask_servers(
-        plan,
+        &mut queries,
         addresses,
         ports,
-        &mut room.coins,
         &mut room.frame,
         &mut room.answer,
         &mut room.session,
     )?;
-    let verdict = conclude(alloc, plan, &room.coins, &room.session, cols)?;
+    let verdict = conclude(alloc, way, &queries, &room.session, cols, nodes)?;
     Ok((room.session, verdict))
 }

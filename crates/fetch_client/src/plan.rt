@@ -3,12 +3,11 @@
 ghost use Rattle.std.specs.Prelude.{◌≡◌};
 ghost use Rattle.wire_frames.specs.Scheme.{scheme_of};
 ghost use Rattle.fetch_client.specs.Plan.{IsPlan, need, params_of};
-ghost use Rattle.fetch_client.specs.Sent.{frame_len};
 
 use crate::coins::NUMBER_LEN;
 use std::alloc::AllocError;
 use thiserror::Error;
-use wire_frames::{Scheme, SessionParams, query_len};
+use wire_frames::{Scheme, SessionParams};
 
 /// What is to be fetched, and how.
 #[derive(Clone, Copy, Debug, PartialEq, Eq)]
@@ -53,8 +52,8 @@ impl FetchPlan {
         Scheme::of(self.scheme)
     }
 
-    /// How many coins it needs: those of the session's number, and `t` for each row or, in the XOR scheme, a bitmap for each
-    /// server but the last.
+    /// How many coins it needs: those of the session's number, and `t` for each row or, in the XOR scheme, a bitmap
+    /// for each server but the last.
     #[tactic(auto, unfolding(crate::specs::Plan::query_coins))]
     pub(crate) fn coins_len(&self) -> usize
         requires { IsPlan self.now }
@@ -66,13 +65,6 @@ impl FetchPlan {
             Scheme::Xor => (usize::from(self.n) - 1) * scheme.payload_len(self.r),
         };
         NUMBER_LEN + coins
-    }
-
-    /// How many bytes the frame has that a server is sent.
-    pub(crate) fn frame_len(&self) -> usize
-        ensures { result ≡ frame_len self.now }
-    {
-        query_len(self.scheme(), self.r)
     }
 }
 

@@ -193,6 +193,9 @@ fn add_rest(acc: &mut [u8], row: &[u8], products: &Products, at: usize)
     requires few { length acc.old < at + 16 }
     ensures { IsAdded acc.new acc.old (multiple row.now products.now) at (length acc.old) }
 {
+    if at == acc.len() {
+        return;
+    }
     if acc.len() < 16 {
         for i in at..acc.len() {
             acc[i] ^= mul(products.factor, row[i]);

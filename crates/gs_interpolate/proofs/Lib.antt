@@ -5,6 +5,11 @@ pub mod RowLengths
 pub mod Conditions
 pub mod Interpolants
 pub mod Leading
+pub mod Combinations
 pub mod Meeting
+pub mod Places
+pub mod Steps
+pub mod Windows
+pub mod FamilySteps
 pub mod Passing
 pub mod Lightest

@@ -2,4 +2,6 @@ pub mod Monomials
 pub mod Interpolant
 pub mod Conditions
 pub mod Layout
+pub mod Family
+pub mod Window
 pub mod Basis

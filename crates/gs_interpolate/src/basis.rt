@@ -1,23 +1,31 @@
 //! The polynomials of Koetter's iteration.
 
-ghost use Rattle.std.specs.Prelude.{◌≡◌, ◌≢◌, ℕ, ◌+◌, ◌*◌, ◌<◌, ◌≤◌, length, sum, slice_index, IfOk, MatchOption};
+ghost use Rattle.std.specs.Prelude.{◌≡◌, ◌≢◌, ℕ, ◌+◌, ◌*◌, ◌<◌, ◌≤◌, length, map, sum, slice_index, slice_set, IfOk, MatchOption};
+ghost use Rattle.gs_interpolate.specs.Family.{member, multiplier, IsFamilyStep};
+ghost use Rattle.gs_interpolate.specs.Window.{IsWindow};
 ghost use Rattle.gs_interpolate.specs.Monomials.{conditions};
-ghost use Rattle.gs_interpolate.specs.Basis.{polynomial, values, factor, IsBasis, IsCleared, IsPivot, IsFirstNonzero, IsMeeting, IsPassing, IsLightest, IsPowerOfY};
+ghost use Rattle.gs_interpolate.specs.Basis.{values, factor, IsBasis, IsPivot, IsFirstNonzero, IsMeeting, IsPassing, IsLightest, IsPowerRow};
 
+use crate::family::{coefficients, step_rows};
+use crate::window::Window;
 use bi_poly::BiPoly;
 use std::alloc::{AllocError, Global};
-use std::mem;
 
 /// More places, and rows of y, than any interpolation needs.
 pub(crate) const MOST_PLACES: u32 = 1 << 17;
 
+/// More lanes than any interpolation needs.
+pub(crate) const MOST_LANES: u32 = 1 << 18;
+
 /// More than the exponents of all places are together in any interpolation.
 pub(crate) const MOST_EXPONENTS: u32 = 1 << 31;
 
-/// Polynomials of which that at place j has a leading monomial `x^e * y^j`, in the weighted order.
+/// Polynomials of which that at place j has a leading monomial `x^e * y^j`, in the weighted order. They stand side by side:
+/// place `i * lanes + g` of row j has the coefficient at `x^i * y^j` of the polynomial at place g.
 #[derive(Drop)]
 pub(crate) struct Basis {
-    polynomials: Vec<BiPoly>,
+    lanes: usize,
+    rows: Vec<Vec<u8>>,
     /// For each place the exponent e.
     exponents: Vec<u32>,
 }
@@ -31,41 +39,14 @@ fn weight(t: u32, e: u32, j: usize) -> u64
     e as u64 + t as u64 * j as u64
 }
 
-/// The polynomial `y^j`, with `n` rows.
-fn power_of_y(alloc: Global, j: usize, n: usize) -> Result<BiPoly, AllocError>
-    requires { j < n }
-    ensures { IfOk result (IsPowerOfY j n) }
+/// Row j of the powers of y, in which that at place j alone has a coefficient.
+fn power_row(alloc: Global, lanes: usize, j: usize) -> Result<Vec<u8>, AllocError>
+    requires { j < lanes }
+    ensures { IfOk result (λ r. IsPowerRow lanes r.items j) }
 {
-    let mut rows = Vec::new(alloc);
-    for _ in 0..n {
-        rows.push(Vec::new(alloc))?;
-    }
-    rows[j].push(1)?;
-    Ok(BiPoly::from_rows(rows))
-}
-
-/// Adds the multiple of the pivot by `factor`.
-fn clear(g: &mut BiPoly, pivot: &BiPoly, factor: u8) -> Result<(), AllocError>
-    requires { length pivot.now ≤ length g.old }
-    ensures { IfOk result (λ _. IsCleared g.new g.old pivot.now factor) }
-{
-    if factor == 0 {
-        return Ok(());
-    }
-    g.add_scaled(pivot, factor)
-}
-
-/// Adds to each polynomial the multiple of the pivot by its factor.
-fn clear_all(polynomials: &mut [BiPoly], pivot: &BiPoly, factors: &[u8]) -> Result<(), AllocError>
-    requires size { length factors.now ≡ length polynomials.old }
-    requires rows { (j : ℕ) → j < length polynomials.old → length pivot.now ≤ length (polynomial polynomials.old j) }
-    ensures { IfOk result (λ _. (j : ℕ)
-        → IsCleared (polynomial polynomials.new j) (polynomial polynomials.old j) pivot.now (slice_index factors.now j)) }
-{
-    for j in 0..factors.len() {
-        clear(&mut polynomials[j], pivot, factors[j])?;
-    }
-    Ok(())
+    let mut row = vec![in alloc; 0; lanes]?;
+    row[j] = 1;
+    Ok(row)
 }
 
 /// The place of the first value that is not 0.
@@ -80,47 +61,39 @@ fn first_nonzero(values: &[u8]) -> Option<usize>
     None
 }
 
-/// Makes of each value its factor, that of the pivot's value which it is, and of the pivot's own value 0.
+/// Makes of each value its factor, that of the pivot's value which it is.
 fn into_factors(values: &mut [u8], p: usize)
     requires inside { p < length values.old }
     requires fails { slice_index values.old p ≢ 0 }
-    ensures pivot { slice_index values.new p ≡ 0 }
-    ensures others { (j : ℕ) → j ≢ p → slice_index values.new j ≡ factor values.old p j }
+    ensures { (j : ℕ) → slice_index values.new j ≡ factor values.old p j }
 {
     let inverse = gf256::inv(values[p]);
     for value in values.iter_mut() {
         *value = gf256::mul(*value, inverse);
     }
-    values[p] = 0;
 }
 
 impl Basis {
-    /// The powers of y, as many as `n`.
+    /// The powers of y, as many as `n`, which is not 0.
     pub(crate) fn new(alloc: Global, n: usize) -> Result<Basis, AllocError>
-        ensures size { IfOk result (λ s. length s.polynomials.items ≡ n) }
-        ensures basis { IfOk result (λ s. (t : ℕ) → IsBasis t s.polynomials.items s.exponents.items) }
+        requires some { 1 ≤ n }
+        requires few { n ≤ MOST_PLACES }
+        ensures size { IfOk result (λ s. length s.rows.items ≡ n) }
+        ensures lanes { IfOk result (λ s. s.lanes ≤ MOST_LANES) }
+        ensures basis { IfOk result (λ s. (t : ℕ) → IsBasis t s.lanes (map (λ r. r.items) s.rows.items) s.exponents.items) }
         ensures sum { IfOk result (λ s. sum s.exponents.items ≡ 0) }
     {
-        let mut polynomials = Vec::new(alloc);
+        let lanes = (n + 15) / 16 * 16;
+        let mut rows = Vec::new(alloc);
         for j in 0..n {
-            polynomials.push(power_of_y(alloc, j, n)?)?;
+            rows.push(power_row(alloc, lanes, j)?)?;
         }
         let exponents = vec![in alloc; 0; n]?;
         Ok(Basis {
-            polynomials,
+            lanes,
+            rows,
             exponents,
         })
-    }
-
-    /// The derivatives of order `(u, v)` at `(a, b)`.
-    fn values(&self, alloc: Global, u: u32, v: u32, a: u8, b: u8) -> Result<Vec<u8>, AllocError>
-        ensures { IfOk result (λ made. made.items ≡ values self.now.polynomials.items u v a b) }
-    {
-        let mut made = Vec::new(alloc);
-        for g in &self.polynomials {
-            made.push(g.hasse(u, v, a, b))?;
-        }
-        Ok(made)
     }
 
     /// The place of the pivot: of the polynomials whose value is not 0, that whose leading monomial comes first. There is
@@ -142,36 +115,74 @@ impl Basis {
         Some(pivot)
     }
 
-    /// Meets one condition.
-    fn meet(
-        &mut self,
-        alloc: Global,
-        t: u32,
-        u: u32,
-        v: u32,
-        a: u8,
-        b: u8,
-    ) -> Result<(), AllocError>
+    /// Takes a step with the pivot at place `p`.
+    ///
+    /// `AllocError` where there is no memory for longer rows.
+    fn step(&mut self, t: u32, factors: &[u8], p: usize) -> Result<(), AllocError>
         requires weight { t ≤ 254 }
-        requires places { length self.old.polynomials.items ≤ MOST_PLACES }
+        requires places { length self.old.rows.items ≤ MOST_PLACES }
+        requires lanes { self.old.lanes ≤ MOST_LANES }
+        requires wide { length self.old.rows.items ≤ self.old.lanes }
+        requires size { length self.old.exponents.items ≡ length self.old.rows.items }
         requires room { sum self.old.exponents.items < MOST_EXPONENTS }
-        requires basis { IsBasis t self.old.polynomials.items self.old.exponents.items }
-        ensures { IfOk result (λ _. IsMeeting t self.old.polynomials.items self.old.exponents.items self.new.polynomials.items
-            self.new.exponents.items (values self.old.polynomials.items u v a b) a) }
+        requires factors { length factors.now ≡ self.old.lanes }
+        requires inside { p < length self.old.rows.items }
+        ensures lanes { IfOk result (λ _. self.new.lanes ≡ self.old.lanes) }
+        ensures exponents { IfOk result (λ _. self.new.exponents.items
+            ≡ slice_set self.old.exponents.items p (slice_index self.old.exponents.items p + 1)) }
+        ensures rows { IfOk result (λ _. IsFamilyStep self.old.lanes (map (λ r. r.items) self.new.rows.items)
+            (map (λ r. r.items) self.old.rows.items) factors.now p (multiplier factors.now p) t
+            (slice_index self.old.exponents.items p + t * p + 2)) }
     {
-        let mut values = self.values(alloc, u, v, a, b)?;
-        let Some(p) = self.pivot(t, &values) else {
-            return Ok(());
-        };
-        into_factors(&mut values, p);
-        let raised = self.polynomials[p].times_linear(alloc, a)?;
-        let taken = mem::replace(&mut self.polynomials[p], raised);
+        let reach = weight(t, self.exponents[p], p) + 2;
+        step_rows(&mut self.rows, factors, p, t, reach)?;
         self.exponents[p] += 1;
-        clear_all(&mut self.polynomials, &taken, &values)?;
         Ok(())
     }
 
-    /// Meets the conditions of a zero of multiplicity `m` at `(a, b)`.
+    /// Meets the condition of order `(u, v)` of the window. `factors` has room for one byte for each lane.
+    fn meet(
+        &mut self,
+        t: u32,
+        window: &mut Window,
+        factors: &mut [u8],
+        u: usize,
+        v: usize,
+        a: u8,
+    ) -> Result<(), AllocError>
+        requires weight { t ≤ 254 }
+        requires places { length self.old.rows.items ≤ MOST_PLACES }
+        requires lanes { self.old.lanes ≤ MOST_LANES }
+        requires room { sum self.old.exponents.items < MOST_EXPONENTS }
+        requires basis { IsBasis t self.old.lanes (map (λ r. r.items) self.old.rows.items) self.old.exponents.items }
+        requires window { (window.old.lanes ≡ self.old.lanes) × (u + v < window.old.m)
+            × (length window.old.cells.items ≡ window.old.m * (window.old.m * window.old.lanes)) }
+        requires factors { length factors.old ≡ self.old.lanes }
+        ensures lanes { IfOk result (λ _. (self.new.lanes ≡ self.old.lanes) × (window.new.lanes ≡ window.old.lanes)
+            × (window.new.m ≡ window.old.m)) }
+        ensures met { IfOk result (λ _. (b : ℕ)
+            → IsWindow self.old.lanes window.old.m window.old.cells.items (map (λ r. r.items) self.old.rows.items) a b v
+            → IsMeeting t self.old.lanes (map (λ r. r.items) self.old.rows.items) self.old.exponents.items
+            (map (λ r. r.items) self.new.rows.items) self.new.exponents.items
+            (values self.old.lanes (map (λ r. r.items) self.old.rows.items) u v a b) a) }
+        ensures window { IfOk result (λ _. (b : ℕ)
+            → IsWindow self.old.lanes window.old.m window.old.cells.items (map (λ r. r.items) self.old.rows.items) a b v
+            → IsWindow self.old.lanes window.old.m window.new.cells.items (map (λ r. r.items) self.new.rows.items) a b v) }
+    {
+        factors.copy_from_slice(window.values(u, v));
+        let Some(p) = self.pivot(t, &factors[..self.exponents.len()]) else {
+            return Ok(());
+        };
+        into_factors(factors, p);
+        factors[p] = 1;
+        window.step(factors, p, v);
+        factors[p] = gf256::add(a, 1);
+        self.step(t, factors, p)?;
+        Ok(())
+    }
+
+    /// Meets the conditions of a zero of multiplicity `m` at `(a, b)`: the derivatives of all polynomials at the point are
+    /// found once, and then follow the steps.
     pub(crate) fn pass(
         &mut self,
         alloc: Global,
@@ -180,28 +191,36 @@ impl Basis {
         b: u8,
         m: u32,
     ) -> Result<(), AllocError>
+        requires multiplicity { (1 ≤ m) × (m ≤ 255) }
         requires weight { t ≤ 254 }
-        requires places { length self.old.polynomials.items ≤ MOST_PLACES }
+        requires some { 1 ≤ self.old.lanes }
+        requires places { length self.old.rows.items ≤ MOST_PLACES }
+        requires lanes { self.old.lanes ≤ MOST_LANES }
         requires room { sum self.old.exponents.items + conditions 1 m < MOST_EXPONENTS }
-        requires basis { IsBasis t self.old.polynomials.items self.old.exponents.items }
-        ensures { IfOk result (λ _. IsPassing t self.old.polynomials.items self.old.exponents.items self.new.polynomials.items
-            self.new.exponents.items a b m) }
+        requires basis { IsBasis t self.old.lanes (map (λ r. r.items) self.old.rows.items) self.old.exponents.items }
+        ensures lanes { IfOk result (λ _. self.new.lanes ≡ self.old.lanes) }
+        ensures passed { IfOk result (λ _. IsPassing t self.old.lanes (map (λ r. r.items) self.old.rows.items) self.old.exponents.items
+            (map (λ r. r.items) self.new.rows.items) self.new.exponents.items a b m) }
     {
+        let mut window = Window::of(alloc, &self.rows, self.lanes, m as usize, a, b)?;
+        let mut factors = vec![in alloc; 0; self.lanes]?;
         'rows: for v in 0..m {
             'orders: for u in 0..m - v {
-                self.meet(alloc, t, u, v, a, b)?;
+                self.meet(t, &mut window, &mut factors, u as usize, v as usize, a)?;
             }
         }
         Ok(())
     }
 
-    /// The polynomial whose leading monomial has the least weight.
-    pub(crate) fn into_lightest(mut self, t: u32) -> BiPoly
+    /// The place of the polynomial whose leading monomial has the least weight.
+    fn lightest(&self, t: u32) -> usize
         requires weight { t ≤ 254 }
-        requires places { length self.polynomials.items ≤ MOST_PLACES }
-        requires some { 0 < length self.polynomials.items }
-        requires size { length self.exponents.items ≡ length self.polynomials.items }
-        ensures { IsLightest t self.polynomials.items self.exponents.items result }
+        requires places { length self.now.rows.items ≤ MOST_PLACES }
+        requires some { 0 < length self.now.rows.items }
+        requires size { length self.now.exponents.items ≡ length self.now.rows.items }
+        ensures inside { result < length self.now.rows.items }
+        ensures least { (j : ℕ) → j < length self.now.rows.items
+            → slice_index self.now.exponents.items result + t * result ≤ slice_index self.now.exponents.items j + t * j }
     {
         let mut lightest = 0;
         for j in 1..self.exponents.len() {
@@ -209,6 +228,26 @@ impl Basis {
                 lightest = j;
             }
         }
-        self.polynomials.swap_remove(lightest)
+        lightest
+    }
+
+    /// The polynomial whose leading monomial has the least weight.
+    pub(crate) fn into_lightest(self, alloc: Global, t: u32) -> Result<BiPoly, AllocError>
+        requires weight { t ≤ 254 }
+        requires places { length self.rows.items ≤ MOST_PLACES }
+        requires lanes { self.lanes ≤ MOST_LANES }
+        requires some { 0 < length self.rows.items }
+        requires room { sum self.exponents.items < MOST_EXPONENTS }
+        requires basis { IsBasis t self.lanes (map (λ r. r.items) self.rows.items) self.exponents.items }
+        ensures { IfOk result (IsLightest t self.lanes (map (λ r. r.items) self.rows.items) self.exponents.items) }
+    {
+        let place = self.lightest(t);
+        let most = weight(t, self.exponents[place], place);
+        let mut rows = Vec::new(alloc);
+        for j in 0..self.rows.len() {
+            let count = (most + 1).saturating_sub(t as u64 * j as u64) as usize;
+            rows.push(coefficients(alloc, &self.rows[j], self.lanes, place, count)?)?;
+        }
+        Ok(BiPoly::from_rows(rows))
     }
 }

@@ -10,9 +10,10 @@ use std::alloc::{AllocError, Global};
 /// polynomials that meet all so far, whose leading monomials in the weighted order have different degrees in y. At the end
 /// the lightest is light enough, since each condition makes one of them heavier by one and no other.
 ///
-/// It keeps as many polynomials as it takes rows of monomials to outnumber the conditions, and not always `d / t + 1`. For
-/// c conditions and n polynomials it takes about `c^2 * n / 2` products of bytes for the derivatives, which it finds anew for
-/// each condition, and as many, 16 at once, for the multiples.
+/// It keeps as many polynomials as it takes rows of monomials to outnumber the conditions, and not always `d / t + 1`. They
+/// stand side by side, so that each product is of 16 coefficients at once. At each point their derivatives are found once,
+/// and follow the steps from condition to condition. For c conditions and n polynomials it takes about `c^2 / 2` times
+/// `n / 16` such products for the steps, and for each point, with multiplicity m, at most `m * c * n / 16` for the derivatives.
 pub struct Koetter;
 
 impl Interpolate for Koetter {
@@ -30,6 +31,6 @@ impl Interpolate for Koetter {
         for &(a, b) in points {
             basis.pass(alloc, t, a, b, m)?;
         }
-        Ok(basis.into_lightest(t))
+        basis.into_lightest(alloc, t)
     }
 }

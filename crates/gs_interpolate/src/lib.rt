@@ -11,9 +11,11 @@
 mod basis;
 mod condition;
 mod elimination;
+mod family;
 mod koetter;
 pub mod laws;
 mod layout;
+mod window;
 
 ghost use Rattle.std.specs.Prelude.{◌≢◌, ◌<◌, ◌≤◌, length, AllPairs, IfOk};
 ghost use Rattle.gs_interpolate.specs.Monomials.{monomials, conditions};

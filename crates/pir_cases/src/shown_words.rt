@@ -104,6 +104,7 @@ fn selfrun<W: Write>(f: &mut Formatter<W>, asked: &Asked) -> fmt::Result {
         agree,
         liars,
         workers,
+        slow,
     } = asked
     else {
         return Ok(());
@@ -113,7 +114,8 @@ fn selfrun<W: Write>(f: &mut Formatter<W>, asked: &Asked) -> fmt::Result {
     number(f, " servers", u64::from(*servers))?;
     agreement(f, *degree, *agree)?;
     number(f, " liars", u64::from(*liars))?;
-    number(f, " workers", u64::from(*workers))
+    number(f, " workers", u64::from(*workers))?;
+    if *slow { f.write_str(" slow") } else { Ok(()) }
 }
 
 /// Writes `demo` with its values.

@@ -10,7 +10,7 @@ use Rattle.pir_ports.proofs.Carried.{fails_writing_before}
 use Rattle.wire_frames.specs.Sizes.{answer_len}
 use Rattle.wire_frames.specs.Session.{Transcript, session_bytes}
 use Rattle.block_decoder.specs.declared.verdict.Verdict.{Verdict}
-use Rattle.block_decoder.specs.declared.verdict.Verdict.TheVariants.{Listed as IsListed, TooFew as IsTooFew, TooWeak as IsTooWeak}
+use Rattle.block_decoder.specs.declared.verdict.Verdict.TheVariants.{Listed as IsListed, TooFew as IsTooFew, TooWeak as IsTooWeak, TooCostly as IsTooCostly}
 use Rattle.block_decoder.specs.Text.{text}
 use Rattle.fetch_client.specs.Plan.{IsPlan, need}
 use Rattle.fetch_client.specs.Sent.{sent}
@@ -85,6 +85,7 @@ ends_as o (IsListed (b ∷ [])) w z said = said
 ends_as o (IsListed (b ∷ (c ∷ bs))) w z said = said
 ends_as o (IsTooFew k h) w z said = said
 ends_as o (IsTooWeak k t h) w z said = said
+ends_as o (IsTooCostly equations) w z said = said
 
 -- Coins was opened, every server was asked, and the session was reported
 pub ends_with_report : (o : FetchOrder) (session : Transcript) (verdict : Verdict) (status : Status) (w v u z : World) → IsPlan o.plan → v.at COINS ≡ named o.coins (w.at COINS) → Touches COINS w v

@@ -16,7 +16,7 @@ use Rattle.replay.specs.Replayed.{Judged, NoSession, ReadsWhole}
 use Rattle.replay.proofs.Readings.{at_told}
 use Rattle.fetch_client.specs.Plan.{need}
 use Rattle.pir_tool.specs.declared.status.Status.{Status}
-use Rattle.pir_tool.specs.declared.status.Status.TheVariants.{One, Usage, NoBlock, Several, TooFew, TooWeak, ReadFault, WriteFault, BadInput, DoorFault, ChildFault, Memory}
+use Rattle.pir_tool.specs.declared.status.Status.TheVariants.{One, Usage, NoBlock, Several, TooFew, TooWeak, TooCostly, ReadFault, WriteFault, BadInput, DoorFault, ChildFault, Memory}
 use Rattle.pir_tool.specs.declared.status.Bad.TheVariants.{Session, EmptyFile, TooBig, CoinsEnded}
 use Rattle.pir_tool.specs.Told.{NoneRose, ToldWhole}
 use Rattle.pir_tool.specs.Table.{status_of}
@@ -48,6 +48,7 @@ answered name NoBlock old new bytes session told whole none said = inl (answered
 answered name Several old new bytes session told whole none said = inl (answered_by name Several old new bytes session told whole said)
 answered name (TooFew k h) old new bytes session told whole none said = inl (answered_by name (TooFew k h) old new bytes session told whole said)
 answered name (TooWeak k t h) old new bytes session told whole none said = inl (answered_by name (TooWeak k t h) old new bytes session told whole said)
+answered name (TooCostly equations) old new bytes session told whole none said = inl (answered_by name (TooCostly equations) old new bytes session told whole said)
 answered name ReadFault old new bytes session told whole none said = absurd (none.0 said.rose)
 answered name WriteFault old new bytes session told whole none said = absurd (none.1.0 said.written.rose)
 answered name (BadInput EmptyFile) old new bytes session told whole none said = absurd said
@@ -72,6 +73,7 @@ refused name NoBlock old new bytes told nothing none said = absurd (no_report na
 refused name Several old new bytes told nothing none said = absurd (no_report name Several old new bytes told nothing said)
 refused name (TooFew k h) old new bytes told nothing none said = absurd (no_report name (TooFew k h) old new bytes told nothing said)
 refused name (TooWeak k t h) old new bytes told nothing none said = absurd (no_report name (TooWeak k t h) old new bytes told nothing said)
+refused name (TooCostly equations) old new bytes told nothing none said = absurd (no_report name (TooCostly equations) old new bytes told nothing said)
 refused name ReadFault old new bytes told nothing none said = absurd (none.0 said.rose)
 refused name WriteFault old new bytes told nothing none said = absurd (none.1.0 said.written.rose)
 refused name (BadInput EmptyFile) old new bytes told nothing none said = absurd said
@@ -115,6 +117,7 @@ reported o NoBlock old new held told enough none said = inl said
 reported o Several old new held told enough none said = inl said
 reported o (TooFew k h) old new held told enough none said = inl said
 reported o (TooWeak k t h) old new held told enough none said = inl said
+reported o (TooCostly equations) old new held told enough none said = inl said
 reported o ReadFault old new held told enough none said = absurd (none.1.0 said.unread.rose)
 reported o WriteFault old new held told enough none said = absurd (elim said.cut [ inl c ↦ unrecorded_rose o.keep said.session old new none.1.1 c.0 | inr c ↦ none.0 c.1.rose ])
 reported o (BadInput EmptyFile) old new held told enough none said = absurd said
@@ -143,6 +146,7 @@ too_few o NoBlock old new held told few none said = absurd (no_coins o NoBlock o
 too_few o Several old new held told few none said = absurd (no_coins o Several old new held told few said)
 too_few o (TooFew k h) old new held told few none said = absurd (no_coins o (TooFew k h) old new held told few said)
 too_few o (TooWeak k t h) old new held told few none said = absurd (no_coins o (TooWeak k t h) old new held told few said)
+too_few o (TooCostly equations) old new held told few none said = absurd (no_coins o (TooCostly equations) old new held told few said)
 too_few o ReadFault old new held told few none said = absurd (none.1.0 said.unread.rose)
 too_few o WriteFault old new held told few none said = absurd (elim said.cut [ inl c ↦ unrecorded_rose o.keep said.session old new none.1.1 c.0 | inr c ↦ none.0 c.1.rose ])
 too_few o (BadInput EmptyFile) old new held told few none said = absurd said

@@ -8,13 +8,13 @@ use Rattle.wire_frames.specs.declared.session.SessionParams.{SessionParams}
 use Rattle.wire_frames.specs.Answer.{answers}
 use Rattle.wire_frames.specs.Session.{Transcript}
 use Rattle.block_decoder.proofs.Places.{few_places}
+use Rattle.block_decoder.proofs.UsableAnswers.{length-answers_from-le}
 use Rattle.block_decoder.specs.declared.verdict.Verdict.{Verdict}
 use Rattle.block_decoder.specs.declared.verdict.Verdict.TheVariants.{Listed}
 use Rattle.fetch_client.specs.declared.plan.FetchPlan.{FetchPlan}
 use Rattle.fetch_client.specs.Plan.{IsPlan, need, params_of}
 use Rattle.fetch_client.specs.Sent.{queries_from, session_number}
 use Rattle.fetch_client.specs.Honest.{FindsHonestBlock, HonestRecords, block_of, honest_frame, is_frame}
-use Rattle.fetch_client.proofs.Columns.{few_from}
 use Rattle.serve_core.specs.declared.met.Met.TheVariants.{Served}
 use Rattle.pir_tool.specs.HeldRow.{EnoughReply, FindsHeldRow, IsReplyAt}
 use Rattle.pir_tool.specs.HonestReply.{frame_of}
@@ -65,7 +65,7 @@ module _ (p : FetchPlan) (coins : List ℕ) (session : Transcript) (plan : IsPla
     listed = λ matrix a blocks is. found.listed_by_frames matrix (honest matrix a) blocks is;
     alone = λ matrix a close. alone matrix a close;
     xor = λ is matrix a.
-        let few = few_from 1 session.params session.records in
+        let few = length-answers_from-le 1 session.params session.records in
         let agree = plan.numbers.all_agree is in
         let answer = plan.numbers.all_answer is in
         alone matrix a (omega (arith, few, whole, agree, answer));

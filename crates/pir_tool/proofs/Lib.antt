@@ -9,7 +9,5 @@ mod HeldRow
 mod InTurn
 mod SameFrames
 pub mod Fetching
-mod StreamBytes
-mod Workloads
 mod AskedRow
 mod SelfrunHeadline

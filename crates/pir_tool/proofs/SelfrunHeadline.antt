@@ -2,11 +2,11 @@
 use Rattle.std.proofs.Common.{◌≡◌, ◌⊎◌, inl, inr, [], ◌∷◌, refl}
 use Rattle.pir_ports.specs.World.{World}
 use Rattle.pir_ports.specs.Number.{OUTPUT}
+use Rattle.drawn_workload.specs.declared.order.Workload.{Workload}
 use Rattle.pir_tool.specs.Told.{NoneRose}
 use Rattle.pir_tool.specs.SelfrunOutcome.{SelfrunEnds, SelfrunPromise, SelfrunReported}
-use Rattle.pir_tool.specs.declared.orders.Workload.{Workload}
 use Rattle.pir_tool.specs.declared.status.Status.{Status}
-use Rattle.pir_tool.specs.declared.status.Status.TheVariants.{One, Usage, NoBlock, Several, TooFew, TooWeak, ReadFault, WriteFault, BadInput, DoorFault, ChildFault, Memory}
+use Rattle.pir_tool.specs.declared.status.Status.TheVariants.{One, Usage, NoBlock, Several, TooFew, TooWeak, TooCostly, ReadFault, WriteFault, BadInput, DoorFault, ChildFault, Memory}
 
 -- where no call on Output failed, the verdict is reported
 selfrun_reported : (w : Workload) (status : Status) (old new : World) → NoneRose (OUTPUT ∷ []) old new → SelfrunEnds w status old new → SelfrunReported w status old new ⊎ (status ≡ Memory)
@@ -16,6 +16,7 @@ selfrun_reported w NoBlock old new none said = inl said
 selfrun_reported w Several old new none said = inl said
 selfrun_reported w (TooFew k h) old new none said = inl said
 selfrun_reported w (TooWeak k t h) old new none said = inl said
+selfrun_reported w (TooCostly equations) old new none said = inl said
 selfrun_reported w ReadFault old new none said = absurd said
 selfrun_reported w WriteFault old new none said = absurd (none.0 said.written.rose)
 selfrun_reported w (BadInput bad) old new none said = absurd said

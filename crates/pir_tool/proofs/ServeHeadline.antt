@@ -10,7 +10,7 @@ use Rattle.pir_tool.specs.ServeOrder.{ServeOrder}
 use Rattle.pir_tool.specs.ServeSteps.{Loaded}
 use Rattle.pir_tool.specs.ServeOutcome.{ServeEnds, ServedAll, ServePromise, files}
 use Rattle.pir_tool.specs.declared.status.Status.{Status}
-use Rattle.pir_tool.specs.declared.status.Status.TheVariants.{One, Usage, NoBlock, Several, TooFew, TooWeak, ReadFault, WriteFault, BadInput, DoorFault, ChildFault, Memory}
+use Rattle.pir_tool.specs.declared.status.Status.TheVariants.{One, Usage, NoBlock, Several, TooFew, TooWeak, TooCostly, ReadFault, WriteFault, BadInput, DoorFault, ChildFault, Memory}
 use Rattle.pir_tool.specs.declared.status.Bad.TheVariants.{Session, EmptyFile, TooBig, CoinsEnded}
 
 -- Door's count rose
@@ -27,6 +27,7 @@ module _ (o : ServeOrder) (old new : World) (none : NoneRose files old new) (byt
   served Several some few said = absurd said
   served (TooFew k h) some few said = absurd said
   served (TooWeak k t h) some few said = absurd said
+  served (TooCostly equations) some few said = absurd said
   served ReadFault some few said = absurd (none.1.0 said.0.rose)
   served WriteFault some few said = absurd (none.0 said.written.rose)
   served (BadInput (Session place)) some few said = absurd said
@@ -57,6 +58,7 @@ module _ (o : ServeOrder) (old new : World) (none : NoneRose files old new) (byt
   empty_file Several size said = absurd said
   empty_file (TooFew k h) size said = absurd said
   empty_file (TooWeak k t h) size said = absurd said
+  empty_file (TooCostly equations) size said = absurd said
   empty_file ReadFault size said = absurd (none.1.0 said.0.rose)
   empty_file WriteFault size said = absurd (none.0 said.written.rose)
   empty_file (BadInput (Session place)) size said = absurd said
@@ -77,6 +79,7 @@ module _ (o : ServeOrder) (old new : World) (none : NoneRose files old new) (byt
   too_big Several more said = absurd said
   too_big (TooFew k h) more said = absurd said
   too_big (TooWeak k t h) more said = absurd said
+  too_big (TooCostly equations) more said = absurd said
   too_big ReadFault more said = absurd (none.1.0 said.0.rose)
   too_big WriteFault more said = absurd (none.0 said.written.rose)
   too_big (BadInput (Session place)) more said = absurd said

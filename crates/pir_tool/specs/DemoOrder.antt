@@ -7,8 +7,8 @@ use Rattle.pir_words.specs.declared.asked.Asked.{Asked}
 use Rattle.pir_words.specs.declared.asked.Asked.TheVariants.{Demo}
 use Rattle.pir_tool.specs.FetchOrder.{FetchOrder}
 
--- the port before that of the first child, the name of the database, and how many rows of how many bytes it has; the block
--- that is fetched, how many servers there are, the degree and the agreement; and the name of the coins
+-- the port before that of the first child, the name of the database, and how many rows of how many bytes it has; the
+-- block that is fetched, how many servers there are, the degree and the agreement; and the name of the coins
 pub record DemoOrder : Type 0 where
   pub port : ℕ
   pub database : List ℕ

@@ -19,8 +19,8 @@ pub record StartsAll (lists : List (List (List ℕ))) (old new : World) : Type 0
   pub ports : (q : ℕ) → q < PORT_COUNT → new.at q ≡ old.at q
   pub crowd : new.crowd ≡ old.crowd
 
--- the children before one were started, and then that one could not be: its port counts the failed call, and nothing else
--- changed
+-- the children before one were started, and then that one could not be: its port counts the failed call, and nothing
+-- else changed
 pub record StartsSome (lists : List (List (List ℕ))) (old new : World) : Type 0 where
   pub before : ℕ
   pub fewer : before < length lists
@@ -35,8 +35,8 @@ pub record Demonstrated (o : DemoOrder) (status : Status) (old new : World) : Ty
   pub starts : StartsAll (words_of_children o) old between
   pub fetched : FetchOutcome (fetch_from_children o) status between new
 
--- what `demo` did, and that it did no more, by its status. Without a child no link is opened, and memory may run out before
--- anything is touched
+-- what `demo` did, and that it did no more, by its status. Without a child no link is opened, and memory may run out
+-- before anything is touched
 abbrev pub DemoOutcome : DemoOrder → Status → World → World → Type 0
 DemoOutcome o ChildFault old new = StartsSome (words_of_children o) old new
 DemoOutcome o Memory old new = (new ≡ old) ⊎ Demonstrated o Memory old new
@@ -51,9 +51,9 @@ pub record DemoReported (o : DemoOrder) (status : Status) (old new : World) : Ty
 abbrev pub files : List ℕ
 files = OUTPUT ∷ COINS ∷ []
 
--- what `demo` promises where no call failed but on links, but that memory may run out: where Coins holds enough, all children
--- were started, each with its words, and the text of the verdict on the session with them is written whole; where it holds
--- fewer, that is said, with their number
+-- what `demo` promises where no call failed but on links, but that memory may run out: where Coins holds enough, all
+-- children were started, each with its words, and the text of the verdict on the session with them is written whole;
+-- where it holds fewer, that is said, with their number
 pub record DemoPromise (o : DemoOrder) (status : Status) (old new : World) : Type 0 where
   pub reported : (held : List ℕ) → (old.at COINS).holds ≡ Some held → need (plan_of o) ≤ length held
       → NoneRose files old new → NoChildRose o.servers old new → DemoReported o status old new ⊎ (status ≡ Memory)

@@ -28,8 +28,8 @@ pub record InSession (o : FetchOrder) (coins : List ℕ) (session : Transcript) 
   pub tossed : Tossed (need o.plan) coins (named o.coins (old.at COINS)) (new.at COINS)
   pub asked : AsksAll o.plan o.addresses coins session old new
 
--- every server was asked in this session, and this is its verdict, which has the block of honest servers, and the row that
--- enough servers hold
+-- every server was asked in this session, and this is its verdict, which has the block of honest servers, and the row
+-- that enough servers hold
 pub record Settled (o : FetchOrder) (session : Transcript) (verdict : Verdict) (old new : World) : Type 0 where
   pub coins : List ℕ
   pub fetched : InSession o coins session old new
@@ -61,8 +61,8 @@ pub record FetchReported (o : FetchOrder) (status : Status) (old new : World) : 
   pub recorded : Recorded o.keep session old new
   pub written : new.at OUTPUT ≡ gave (text verdict) (old.at OUTPUT)
 
--- the session can't be recorded, and Output is left alone; or it is, and Output has taken a proper front of the verdict's
--- text
+-- the session can't be recorded, and Output is left alone; or it is, and Output has taken a proper front of the
+-- verdict's text
 pub record FetchCutShort (o : FetchOrder) (old new : World) : Type 0 where
   pub session : Transcript
   pub verdict : Verdict
@@ -138,8 +138,9 @@ record_port (Some name) = RECORD ∷ []
 abbrev pub files_of : FetchOrder → List ℕ
 files_of o = OUTPUT ∷ COINS ∷ record_port o.keep
 
--- what `fetch` promises where no call failed but on links, but that memory may run out: where Coins holds enough, every server
--- was asked, and the text of the session's verdict is written whole; where it holds fewer, that is said, with their number
+-- what `fetch` promises where no call failed but on links, but that memory may run out: where Coins holds enough, every
+-- server was asked, and the text of the session's verdict is written whole; where it holds fewer, that is said, with
+-- their number
 pub record FetchPromise (o : FetchOrder) (status : Status) (old new : World) : Type 0 where
   pub reported : (held : List ℕ) → (old.at COINS).holds ≡ Some held → need o.plan ≤ length held
       → NoneRose (files_of o) old new → FetchReported o status old new ⊎ (status ≡ Memory)

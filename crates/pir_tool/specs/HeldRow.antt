@@ -13,7 +13,8 @@ use Rattle.serve_core.specs.Reply.{Replies}
 use Rattle.serve_core.specs.declared.met.Met.TheVariants.{Served}
 use Rattle.pir_tool.specs.HonestReply.{service_with}
 
--- the record at this place, counted from 0, is what a server that holds the matrix replies to the frame that it was sent
+-- the record at this place, counted from 0, is what a server that holds the matrix replies to the frame that it was
+-- sent
 pub record IsReplyAt (p : FetchPlan) (coins : List ℕ) (matrix : List (List ℕ)) (session : Transcript) (place : ℕ) : Type 0 where
   pub frame : List ℕ
   pub recorded : slice_index_or session.records place None ≡ Some frame
@@ -28,8 +29,8 @@ pub record EnoughReply (p : FetchPlan) (coins : List ℕ) (matrix : List (List �
   pub enough : p.h ≤ length places
   pub each : All (IsReplyAt p coins matrix session) places
 
--- whatever the matrix that enough servers hold: where the verdict lists blocks, the row that is fetched is among them, and
--- where 2 h > k + t, it is listed alone; so it is in the XOR scheme, where h is n
+-- whatever the matrix that enough servers hold: where the verdict lists blocks, the row that is fetched is among them,
+-- and where 2 h > k + t, it is listed alone; so it is in the XOR scheme, where h is n
 pub record FindsHeldRow (p : FetchPlan) (coins : List ℕ) (session : Transcript) (verdict : Verdict) : Type 0 where
   pub listed : (matrix : List (List ℕ)) → EnoughReply p coins matrix session
       → ListsAmong verdict (block_of matrix p.block)

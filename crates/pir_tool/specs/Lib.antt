@@ -1,5 +1,6 @@
 pub mod Table
 pub mod Told
+pub mod Faults
 pub mod ReplayOutcome
 pub mod FetchOrder
 pub mod FetchOutcome
@@ -12,8 +13,5 @@ pub mod HonestReply
 pub mod HeldRow
 pub mod Privacy
 pub mod Outcome
-pub mod Stream
-pub mod Workload
-pub mod Drawn
 pub mod SelfrunOrder
 pub mod SelfrunOutcome

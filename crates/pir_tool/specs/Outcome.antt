@@ -35,7 +35,7 @@ Outcome (Serve scheme database width guests listen workers) status old new = Ser
   listen = listen;
   workers = workers;
 }) status old new
-Outcome (Selfrun seed rows width servers degree agree liars workers) status old new = SelfrunOutcome (record {
+Outcome (Selfrun seed rows width servers degree agree liars workers slow) status old new = SelfrunOutcome (record {
   seed = seed;
   rows = rows;
   width = width;

@@ -79,9 +79,9 @@ pub record Answered (session : Transcript) (status : Status) (old new : World) :
 abbrev pub streams : List ℕ
 streams = INPUT ∷ OUTPUT ∷ []
 
--- what `replay` promises where no call failed, but that memory may run out: where Input holds a session, the text of its
--- verdict is written whole, whichever verdict that is; where it holds none, that is said, with the place at which the bytes
--- stop to begin one
+-- what `replay` promises where no call failed, but that memory may run out: where Input holds a session, the text of
+-- its verdict is written whole, whichever verdict that is; where it holds none, that is said, with the place at which
+-- the bytes stop to begin one
 pub record ReplayPromise (status : Status) (old new : World) : Type 0 where
   pub told : (bytes : List ℕ) (session : Transcript) (verdict : Verdict) → (old.at INPUT).holds ≡ Some bytes
       → IsSession bytes session → IsVerdict session verdict → NoneRose streams old new

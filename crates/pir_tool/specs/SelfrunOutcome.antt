@@ -8,25 +8,25 @@ use Rattle.pir_ports.specs.Whole.{FailsWithin}
 use Rattle.column_lists.specs.Numbers.{cost}
 use Rattle.block_decoder.specs.Numbers.{bound_of}
 use Rattle.block_decoder.specs.Text.{text}
-use Rattle.block_decoder.specs.Verdict.{IsDecided}
 use Rattle.block_decoder.specs.declared.verdict.Verdict.{Verdict}
 use Rattle.block_decoder.specs.declared.verdict.Verdict.TheVariants.{Listed}
+use Rattle.drawn_workload.specs.Judged.{IsDecidedOn}
+use Rattle.drawn_workload.specs.Workload.{asked_row, honest}
+use Rattle.drawn_workload.specs.declared.order.Workload.{Workload}
 use Rattle.pir_tool.specs.Table.{status_of}
 use Rattle.pir_tool.specs.Told.{NoneRose}
-use Rattle.pir_tool.specs.Workload.{all_answers, asked_row, honest}
-use Rattle.pir_tool.specs.declared.orders.Workload.{Workload}
 use Rattle.pir_tool.specs.declared.status.Status.{Status}
-use Rattle.pir_tool.specs.declared.status.Status.TheVariants.{One, NoBlock, Several, TooFew, TooWeak, WriteFault, Memory}
+use Rattle.pir_tool.specs.declared.status.Status.TheVariants.{One, NoBlock, Several, TooFew, TooWeak, TooCostly, WriteFault, Memory}
 
--- where h servers or more are honest: where blocks are listed, the row that is asked for is among them, and where 2 h > n + t
--- it is listed alone
+-- where h servers or more are honest: where blocks are listed, the row that is asked for is among them, and where 2 h >
+-- n + t it is listed alone
 pub record FindsAskedRow (w : Workload) (verdict : Verdict) : Type 0 where
   pub listed : w.agree ≤ honest w → (blocks : List (List ℕ)) → verdict ≡ Listed blocks → Contains blocks (asked_row w)
   pub alone : w.agree ≤ honest w → w.servers + w.degree < 2 * w.agree → verdict ≡ Listed (asked_row w ∷ [])
 
 -- the verdict on the answers of all servers
 pub record IsVerdictOn (w : Workload) (verdict : Verdict) : Type 0 where
-  pub decided : IsDecided (all_answers w) w.width w.degree w.agree verdict
+  pub decided : IsDecidedOn w verdict
   pub found : FindsAskedRow w verdict
 
 -- the numbers of the servers, each behind its name: all n answer, so that k is n
@@ -77,6 +77,7 @@ SelfrunEnds w NoBlock old new = SelfrunReported w NoBlock old new
 SelfrunEnds w Several old new = SelfrunReported w Several old new
 SelfrunEnds w (TooFew k h) old new = SelfrunReported w (TooFew k h) old new
 SelfrunEnds w (TooWeak k t h) old new = SelfrunReported w (TooWeak k t h) old new
+SelfrunEnds w (TooCostly equations) old new = SelfrunReported w (TooCostly equations) old new
 SelfrunEnds w WriteFault old new = SelfrunCutShort w old new
 SelfrunEnds w Memory old new = new ≡ old
 SelfrunEnds w status old new = ⊥
@@ -86,7 +87,7 @@ pub record SelfrunOutcome (w : Workload) (status : Status) (old new : World) : T
   pub ends : SelfrunEnds w status old new
   pub others : Touches OUTPUT old new
 
--- what `selfrun` promises where no call on Output failed, but that memory may run out: the text of the verdict on the workload is
--- written whole, with the line of the numbers after a listing
+-- what `selfrun` promises where no call on Output failed, but that memory may run out: the text of the verdict on the
+-- workload is written whole, with the line of the numbers after a listing
 pub record SelfrunPromise (w : Workload) (status : Status) (old new : World) : Type 0 where
   pub reported : NoneRose (OUTPUT ∷ []) old new → SelfrunReported w status old new ⊎ (status ≡ Memory)

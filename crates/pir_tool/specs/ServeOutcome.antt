@@ -19,8 +19,8 @@ pub record Nobody (old new : World) : Type 0 where
   pub guest : new.at GUEST ≡ old.at GUEST
   pub crowd : new.crowd ≡ old.crowd
 
--- the database was loaded, guests could come in and that is written whole, and then all of them were served, in turn: so much
--- was taken from each and given to it. Where no call on a guest failed, each was given its whole reply
+-- the database was loaded, guests could come in and that is written whole, and then all of them were served, in turn:
+-- so much was taken from each and given to it. Where no call on a guest failed, each was given its whole reply
 pub record ServedAll (o : ServeOrder) (old new : World) : Type 0 where
   pub database : Database
   pub loaded : Loaded o.database o.width database old new
@@ -91,8 +91,8 @@ pub record ServeOutcome (o : ServeOrder) (status : Status) (old new : World) : T
 abbrev pub files : List ℕ
 files = OUTPUT ∷ DATABASE ∷ DOOR ∷ []
 
--- what `serve` promises where no call failed but on guests, but that memory may run out: where Database holds a database,
--- each guest was served; where it holds none, that is said
+-- what `serve` promises where no call failed but on guests, but that memory may run out: where Database holds a
+-- database, each guest was served; where it holds none, that is said
 pub record ServePromise (o : ServeOrder) (status : Status) (old new : World) : Type 0 where
   pub served : (bytes : List ℕ) → (old.at DATABASE).holds ≡ Some bytes → 0 < length bytes → length bytes ≤ limit o.width
       → NoneRose files old new → ((status ≡ One) × ServedAll o old new) ⊎ (status ≡ Memory)

@@ -1,9 +1,9 @@
 -- The exit code and the line of each status, and the status of each verdict.
 use Rattle.std.specs.Prelude.{ℕ, List, [], ◌∷◌, codes}
 use Rattle.block_decoder.specs.declared.verdict.Verdict.{Verdict}
-use Rattle.block_decoder.specs.declared.verdict.Verdict.TheVariants.{Listed as IsListed, TooFew as IsTooFew, TooWeak as IsTooWeak}
+use Rattle.block_decoder.specs.declared.verdict.Verdict.TheVariants.{Listed as IsListed, TooFew as IsTooFew, TooWeak as IsTooWeak, TooCostly as IsTooCostly}
 use Rattle.pir_tool.specs.declared.status.Status.{Status}
-use Rattle.pir_tool.specs.declared.status.Status.TheVariants.{One, Usage, NoBlock, Several, TooFew, TooWeak, ReadFault, WriteFault, BadInput, DoorFault, ChildFault, Memory}
+use Rattle.pir_tool.specs.declared.status.Status.TheVariants.{One, Usage, NoBlock, Several, TooFew, TooWeak, TooCostly, ReadFault, WriteFault, BadInput, DoorFault, ChildFault, Memory}
 
 abbrev pub code_of : Status → ℕ
 code_of One = 0
@@ -12,6 +12,7 @@ code_of NoBlock = 3
 code_of Several = 4
 code_of (TooFew k h) = 5
 code_of (TooWeak k t h) = 6
+code_of (TooCostly equations) = 7
 code_of ReadFault = 8
 code_of WriteFault = 9
 code_of (BadInput bad) = 10
@@ -27,6 +28,7 @@ line_of NoBlock = []
 line_of Several = []
 line_of (TooFew k h) = []
 line_of (TooWeak k t h) = []
+line_of (TooCostly equations) = []
 line_of ReadFault = codes "pir: read fault"
 line_of WriteFault = codes "pir: write fault"
 line_of (BadInput bad) = codes "pir: bad input"
@@ -44,3 +46,4 @@ abbrev pub status_of : Verdict → Status
 status_of (IsListed blocks) = status_of_blocks blocks
 status_of (IsTooFew k h) = TooFew k h
 status_of (IsTooWeak k t h) = TooWeak k t h
+status_of (IsTooCostly equations) = TooCostly equations

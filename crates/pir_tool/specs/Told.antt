@@ -23,8 +23,8 @@ NoneRose (p ∷ ports) old new = (DidRise p old new → ⊥) × NoneRose ports o
 abbrev pub NoChildRose : ℕ → World → World → Type 0
 NoChildRose n old new = (i : ℕ) → i < n → DidRise (child 1 + i) old new → ⊥
 
--- a file can't be read: a call on its port failed, to open it by this name, or to take from it later, when fewer bytes than
--- this were taken
+-- a file can't be read: a call on its port failed, to open it by this name, or to take from it later, when fewer bytes
+-- than this were taken
 pub record Unread (p : ℕ) (name : List ℕ) (most : ℕ) (old new : World) : Type 0 where
   pub n : ℕ
   pub fewer : n < most
@@ -32,8 +32,8 @@ pub record Unread (p : ℕ) (name : List ℕ) (most : ℕ) (old new : World) : T
       ⊎ (new.at p ≡ counted (new.at p).faults (took n (named name (old.at p))))
   pub rose : DidRise p old new
 
--- a file can't be written: a call on its port failed, to open it by this name or to give to it later, and it has taken a
--- proper front of these bytes
+-- a file can't be written: a call on its port failed, to open it by this name or to give to it later, and it has taken
+-- a proper front of these bytes
 pub record Unwritten (p : ℕ) (name bytes : List ℕ) (old new : World) : Type 0 where
   pub n : ℕ
   pub proper : n < length bytes

@@ -108,7 +108,8 @@ fn words_of_children(
 /// `Failed` if a child could not be started. Those before it were, and no further one is.
 fn start_children<P: Ports>(ports: &mut P, lists: &[Vec<String>]) -> Result<(), Failed>
     requires { length lists.now < 256 }
-    ensures ok { OnOk result (StartsAll (map (λ words. map string_bytes words.items) lists.now) (P.world ports.old) (P.world ports.new)) }
+    ensures ok { OnOk result
+        (StartsAll (map (λ words. map string_bytes words.items) lists.now) (P.world ports.old) (P.world ports.new)) }
     ensures failed { OnErr result
         (StartsSome (map (λ words. map string_bytes words.items) lists.now) (P.world ports.old) (P.world ports.new)) }
 {

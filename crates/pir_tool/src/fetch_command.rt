@@ -1,19 +1,20 @@
 //! The command `fetch`.
 
-ghost use Rattle.std.specs.Prelude.{◌≡◌, ◌<◌, length, map, string_bytes};
+ghost use Rattle.std.specs.Prelude.{◌≡◌, ◌<◌, length};
 ghost use Rattle.std.specs.Option.{option_copied};
 ghost use Rattle.pir_ports.specs.Number.{RECORD};
 ghost use Rattle.pir_ports.specs.Moves.{Touches};
 ghost use Rattle.wire_frames.specs.Session.{Transcript};
-ghost use Rattle.fetch_client.specs.Plan.{IsPlan};
 ghost use Rattle.fetch_client.specs.Fetched.{Fetches, TouchesLinks};
+ghost use Rattle.drawn_workload.specs.Counters.{IsOwn};
 ghost use Rattle.pir_tool.specs.FetchOutcome.{FetchEnds, Keeps, Reports, TouchesFetch, TouchesFiles};
 
 use crate::orders::Fetching;
 use crate::report::report;
-use crate::status::{Bad, Status};
+use crate::status::Status;
 use block_decoder::Verdict;
-use fetch_client::{FetchFault, FetchPlan, fetch};
+use fetch_client::{FetchFault, fetch};
+use gs_interpolate::Koetter;
 use pir_ports::{Failed, Port, Ports};
 use std::alloc::Global;
 use std::marker::Brand;
@@ -21,22 +22,25 @@ use std::sync::ledger::{Blank, Ledger};
 use uni_poly::steps::Steps;
 use wire_frames::{Session, write_session};
 
-/// Fetches the block, with a counter of columns that nobody reads, made of the blank.
-fn fetch_once<C: Ledger, P: Ports>(
+/// Fetches the block, with counters of columns and of nodes that nobody reads, made of the blanks.
+fn fetch_once<C: Ledger, N: Ledger, P: Ports>(
     alloc: Global,
-    blank: Blank,
-    plan: &FetchPlan,
-    addresses: &[String],
+    cols: Blank,
+    nodes: Blank,
+    order: &Fetching,
     ports: &mut P,
 ) -> Result<(Session, Verdict), FetchFault>
-    requires blank { (blank.name ≡ C.name) × (blank.parts ≡ C.parts) × (0 < blank.parts) }
-    requires plan { IsPlan plan.now }
-    requires addresses { length addresses.now ≡ plan.now.n }
-    ensures fetched { Fetches plan.now (map string_bytes addresses.now) result (P.world ports.old) (P.world ports.new) }
-    ensures others { TouchesLinks plan.now.n (P.world ports.old) (P.world ports.new) }
+    requires cols { IsOwn cols C.name C.parts }
+    requires nodes { IsOwn nodes N.name N.parts }
+    ensures fetched { Fetches order.now.plan order.now.addresses result (P.world ports.old) (P.world ports.new) }
+    ensures others { TouchesLinks order.now.plan.n (P.world ports.old) (P.world ports.new) }
 {
-    let mut cols: Steps<C> = Steps::new(blank);
-    fetch(alloc, plan, addresses, ports, &mut cols)
+    let mut cols: Steps<C> = Steps::new(cols);
+    let mut nodes: Steps<N> = Steps::new(nodes);
+    let (plan, addresses) = (&order.plan, order.addresses);
+    fetch(
+        alloc, &Koetter, plan, addresses, ports, &mut cols, &mut nodes,
+    )
 }
 
 /// Records the session in the file of this name, where one is given.
@@ -64,7 +68,8 @@ fn report_session<P: Ports>(
     verdict: &Verdict,
 ) -> Status
     requires { length session.now.records ≡ session.now.params.n }
-    ensures reports { Reports (option_copied record_name.entry) session.now verdict.now result (P.world ports.old) (P.world ports.new) }
+    ensures reports { Reports (option_copied record_name.entry) session.now verdict.now result
+        (P.world ports.old) (P.world ports.new) }
     ensures others { TouchesFiles (P.world ports.old) (P.world ports.new) }
 {
     match record_session(ports, record_name, session) {
@@ -73,8 +78,8 @@ fn report_session<P: Ports>(
     }
 }
 
-/// Fetches a block: reads the coins from their file, asks every server, records the session where a file for it is named,
-/// and writes the verdict's text.
+/// Fetches a block: reads the coins from their file, asks every server, records the session where a file for it is
+/// named, and writes the verdict's text.
 pub(crate) fn fetch_block<P: Ports>(alloc: Global, order: &Fetching, ports: &mut P) -> Status
     ensures ends { FetchEnds order.now result (P.world ports.old) (P.world ports.new) }
     ensures others { TouchesFetch order.now.plan.n (P.world ports.old) (P.world ports.new) }
@@ -82,10 +87,9 @@ pub(crate) fn fetch_block<P: Ports>(alloc: Global, order: &Fetching, ports: &mut
     let Ok(()) = ports.open(Port::Coins, order.coins) else {
         return Status::ReadFault;
     };
-    match fetch_once::<Brand, P>(alloc, Blank::new(1), &order.plan, order.addresses, ports) {
+    let (cols, nodes) = (Blank::new(1), Blank::new(1));
+    match fetch_once::<Brand, Brand, P>(alloc, cols, nodes, order, ports) {
         Ok((session, verdict)) => report_session(ports, order.record_name, &session, &verdict),
-        Err(FetchFault::CoinsFault) => Status::ReadFault,
-        Err(FetchFault::CoinsEnded { taken }) => Status::BadInput(Bad::CoinsEnded { taken }),
-        Err(FetchFault::Memory) => Status::Memory,
+        Err(fault) => fault.into(),
     }
 }

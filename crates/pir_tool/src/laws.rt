@@ -10,10 +10,10 @@ ghost use Rattle.pir_tool.specs.Privacy.{IsSentTheSame, OthersAreSentTheSame, pa
 use fetch_client::FetchPlan;
 use privacy_law::laws::{all_but_one_see_no_block, coalition_sees_no_block};
 
-/// What a server that holds a database of the plan's shape replies to the frame that a fetch sends it, is the frame of an
-/// honest server: the header of status 0, and the product of its query and the rows (Goldberg 2007), or in the XOR scheme the
-/// XOR of the rows in its bitmap (Chor, Goldreich, Kushilevitz and Sudan 1995). It replies nothing else. So what `run`
-/// promises of honest frames, it promises of the replies of such servers.
+/// What a server that holds a database of the plan's shape replies to the frame that a fetch sends it, is the frame of
+/// an honest server: the header of status 0, and the product of its query and the rows (Goldberg 2007), or in the XOR
+/// scheme the XOR of the rows in its bitmap (Chor, Goldreich, Kushilevitz and Sudan 1995). It replies nothing else. So
+/// what `run` promises of honest frames, it promises of the replies of such servers.
 pub fn reply_is_the_honest_frame(plan: &FetchPlan, coins: &[u8], index: u8)
     requires plan { IsPlan plan.now }
     requires coins { length coins.now ≡ need plan.now }
@@ -21,10 +21,11 @@ pub fn reply_is_the_honest_frame(plan: &FetchPlan, coins: &[u8], index: u8)
     ensures { (matrix : List (List ℕ)) (workers : ℕ) → RepliesHonestly plan.now coins.now index matrix workers }
 {}
 
-/// In Shamir's sharing, what up to `t` servers together are sent for one block, they are sent for any other block from other
-/// coins, byte for byte, the session's number included; and a bijection of all coins takes the one to the other. So as many
-/// coins lead to what they see for one block as for another: where the coins are uniform, secret and used once, what they see
-/// doesn't tell the block (Goldberg 2007; Shamir 1979). `coalition` has the indices of these servers.
+/// In Shamir's sharing, what up to `t` servers together are sent for one block, they are sent for any other block from
+/// other coins, byte for byte, the session's number included; and a bijection of all coins takes the one to the other.
+/// So as many coins lead to what they see for one block as for another: where the coins are uniform, secret and used
+/// once, what they see doesn't tell the block (Goldberg 2007; Shamir 1979). `coalition` has the indices of these
+/// servers.
 pub fn coalition_is_sent_the_same(plan: &FetchPlan, coalition: &[u8], other: u32)
     requires scheme { plan.now.scheme ≡ SHAMIR }
     requires bound { length coalition.now ≤ plan.now.t }
@@ -35,9 +36,10 @@ pub fn coalition_is_sent_the_same(plan: &FetchPlan, coalition: &[u8], other: u32
     coalition_sees_no_block(u32::from(plan.t), plan.r, coalition, plan.block, other);
 }
 
-/// In the XOR scheme the same holds of all servers but one, whichever that is: what they together are sent for one block, they
-/// are sent for any other block from other coins, byte for byte, the session's number included; and a bijection of all coins
-/// takes the one to the other (Chor, Goldreich, Kushilevitz and Sudan 1995). `left_out` is the index of the one.
+/// In the XOR scheme the same holds of all servers but one, whichever that is: what they together are sent for one
+/// block, they are sent for any other block from other coins, byte for byte, the session's number included; and a
+/// bijection of all coins takes the one to the other (Chor, Goldreich, Kushilevitz and Sudan 1995). `left_out` is the
+/// index of the one.
 pub fn all_but_one_are_sent_the_same(plan: &FetchPlan, left_out: u8, other: u32)
     requires scheme { plan.now.scheme ≡ XOR }
     requires first { 1 ≤ left_out }

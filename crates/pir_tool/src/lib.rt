@@ -2,6 +2,7 @@
 #![tactic(auto)]
 
 mod demo_command;
+mod faults;
 mod fetch_command;
 pub mod laws;
 mod obey;
@@ -11,9 +12,7 @@ mod report;
 mod selfrun_command;
 mod serve_command;
 mod status;
-mod stream;
 mod top;
-mod workload;
 
 pub use status::{Bad, Ending, Status, code, ending_of, line};
 pub use top::run;

@@ -7,11 +7,12 @@ ghost use Rattle.pir_tool.specs.Outcome.{Outcome};
 
 use crate::demo_command::demonstrate;
 use crate::fetch_command::fetch_block;
-use crate::orders::{Demonstration, Fetching, Selfrunning, Serving, Workload};
+use crate::orders::{Demonstration, Fetching, Serving};
 use crate::replay_command::replay_file;
 use crate::selfrun_command::run_workload;
 use crate::serve_command::serve_file;
 use crate::status::Status;
+use drawn_workload::{Workload, WorkloadOrder};
 use fetch_client::FetchPlan;
 use pir_ports::Ports;
 use pir_words::{Asked, Text};
@@ -48,11 +49,11 @@ pub(crate) fn obey<R: Threads + Sync, P: Ports>(rt: &R, alloc: Global, asked: &A
             let (scheme, width, guests, workers) = (*scheme, *width, *conns, *workers);
             serve_file(rt, alloc, &Serving { scheme, database, width, guests, listen, workers }, ports)
         }
-        Asked::Selfrun { seed, rows, width, servers, degree, agree, liars, workers } => {
+        Asked::Selfrun { seed, rows, width, servers, degree, agree, liars, workers, slow } => {
             let (seed, rows, width, servers) = (*seed, *rows, *width, *servers);
             let (degree, agree, liars, workers) = (*degree, *agree, *liars, *workers);
             let load = Workload { seed, rows, width, servers, degree, agree, liars };
-            run_workload(rt, alloc, &Selfrunning { load, workers }, ports)
+            run_workload(rt, alloc, &WorkloadOrder { load, workers, slow: *slow }, ports)
         }
         Asked::Demo { port, database, rows, width, block, servers, degree, agree, coins } => {
             let (port, rows, width, block) = (*port, *rows, *width, *block);

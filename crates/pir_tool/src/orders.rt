@@ -102,37 +102,3 @@ impl<'a> Model for Demonstration<'a> {
     ghost invariant = { λ d. (d.port + d.servers < TCP_PORTS)
         × IsPlan (plan_with d.rows d.width d.block d.servers d.degree d.agree) };
 }
-
-/// The numbers of a workload. All that is drawn comes from the seed: a database of so many rows, each of so many bytes; the
-/// coins of a fetch of degree `degree` from that many servers, of which `agree` have to agree; and what `liars` of the
-/// servers, the last ones, answer. The block that is asked for is the seed modulo the number of rows.
-#[derive(Drop)]
-pub(crate) struct Workload {
-    pub(crate) seed: u64,
-    pub(crate) rows: u32,
-    pub(crate) width: u32,
-    pub(crate) servers: u8,
-    pub(crate) degree: u8,
-    pub(crate) agree: u8,
-    pub(crate) liars: u8,
-}
-
-/// A workload, and how many workers sum its rows.
-#[derive(Drop)]
-pub(crate) struct Selfrunning {
-    pub(crate) load: Workload,
-    pub(crate) workers: u8,
-}
-
-impl Model for Selfrunning {
-    ghost use Rattle.std.specs.Prelude.{◌≤◌};
-    ghost use Rattle.wire_frames.specs.declared.TheConstants.{MOST_WORKERS};
-    ghost use Rattle.pir_tool.specs.SelfrunOrder.{SelfrunOrder};
-    ghost use Rattle.pir_tool.specs.Workload.{IsWorkload};
-
-    ghost Value = { SelfrunOrder };
-
-    ghost view = { λ s. record { load = s.load; workers = s.workers } };
-
-    ghost invariant = { λ s. IsWorkload s.load × (1 ≤ s.workers) × (s.workers ≤ MOST_WORKERS) };
-}

@@ -4,11 +4,13 @@ ghost use Rattle.std.specs.Prelude.{◌≡◌, ◌<◌};
 ghost use Rattle.pir_ports.specs.Number.{INPUT};
 ghost use Rattle.pir_ports.specs.Moves.{Touches};
 ghost use Rattle.replay.specs.Replayed.{Judged, ReadTo};
+ghost use Rattle.drawn_workload.specs.Counters.{IsOwn};
 ghost use Rattle.pir_tool.specs.ReplayOutcome.{ReplayEnds, ReplayOutcome, TouchesStreams};
 
 use crate::report::report;
-use crate::status::{Bad, Status};
+use crate::status::Status;
 use block_decoder::Verdict;
+use gs_interpolate::Koetter;
 use pir_ports::{Port, Ports};
 use replay::{ReplayFault, replay};
 use std::alloc::Global;
@@ -16,18 +18,21 @@ use std::marker::Brand;
 use std::sync::ledger::{Blank, Ledger};
 use uni_poly::steps::Steps;
 
-/// Judges the session in Input, with a counter of columns that nobody reads, made of the blank.
-fn replay_once<C: Ledger, P: Ports>(
+/// Judges the session in Input, with counters of columns and of nodes that nobody reads, made of the blanks.
+fn replay_once<C: Ledger, N: Ledger, P: Ports>(
     alloc: Global,
-    blank: Blank,
+    cols: Blank,
+    nodes: Blank,
     ports: &mut P,
 ) -> Result<Verdict, ReplayFault>
-    requires blank { (blank.name ≡ C.name) × (blank.parts ≡ C.parts) × (0 < blank.parts) }
+    requires cols { IsOwn cols C.name C.parts }
+    requires nodes { IsOwn nodes N.name N.parts }
     ensures replayed { ReadTo Judged result (P.world ports.old) (P.world ports.new) }
     ensures others { Touches INPUT (P.world ports.old) (P.world ports.new) }
 {
-    let mut cols: Steps<C> = Steps::new(blank);
-    replay(alloc, ports, &mut cols)
+    let mut cols: Steps<C> = Steps::new(cols);
+    let mut nodes: Steps<N> = Steps::new(nodes);
+    replay(alloc, &Koetter, ports, &mut cols, &mut nodes)
 }
 
 /// Judges the session in the file of this name, `-` for standard input, and writes the verdict's text.
@@ -38,10 +43,8 @@ pub(crate) fn replay_file<P: Ports>(alloc: Global, name: &str, ports: &mut P) ->
     let Ok(()) = ports.open(Port::Input, name) else {
         return Status::ReadFault;
     };
-    match replay_once::<Brand, P>(alloc, Blank::new(1), ports) {
+    match replay_once::<Brand, Brand, P>(alloc, Blank::new(1), Blank::new(1), ports) {
         Ok(verdict) => report(ports, &verdict),
-        Err(ReplayFault::ReadFault) => Status::ReadFault,
-        Err(ReplayFault::BadSession { place }) => Status::BadInput(Bad::Session { place }),
-        Err(ReplayFault::Memory) => Status::Memory,
+        Err(fault) => fault.into(),
     }
 }

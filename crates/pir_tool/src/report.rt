@@ -26,6 +26,7 @@ pub(crate) fn status_by(verdict: &Verdict) -> Status
             t: *t,
             h: *h,
         },
+        Verdict::TooCostly { cost } => Status::TooCostly { cost: *cost },
     }
 }
 

@@ -6,44 +6,29 @@ ghost use Rattle.pir_ports.specs.Number.{OUTPUT};
 ghost use Rattle.pir_ports.specs.Moves.{Touches};
 ghost use Rattle.pir_ports.specs.Written.{Written};
 ghost use Rattle.block_decoder.specs.Text.{text};
-ghost use Rattle.pir_tool.specs.Workload.{IsWorkload};
-ghost use Rattle.pir_tool.specs.SelfrunOutcome.{IsVerdictOn, words_of_servers, words_of_decoding, numbers_line, line_of_numbers, ending, SelfrunEnds};
+ghost use Rattle.pir_tool.specs.SelfrunOutcome.{IsVerdictOn, SelfrunEnds, ending};
+ghost use Rattle.pir_tool.specs.SelfrunOutcome.{line_of_numbers, numbers_line, words_of_decoding, words_of_servers};
 
-use crate::orders::{Selfrunning, Workload};
 use crate::report::status_by;
 use crate::status::Status;
-use crate::workload::answer_all;
-use block_decoder::{Verdict, bound, decide, write_verdict};
+use block_decoder::{Verdict, bound, write_verdict};
 use column_lists::plan;
+use drawn_workload::{Workload, WorkloadOrder, judge_answers};
 use pir_ports::{Failed, Port, Ports, write_all};
 use std::alloc::{AllocError, Global};
-use std::marker::Brand;
-use std::sync::ledger::{Blank, Ledger};
 use std::thread::Threads;
-use uni_poly::steps::Steps;
 
-/// Judges the answers of a workload, with a counter of columns that nobody reads, made of the blank.
-fn judge_once<C: Ledger, R: Threads + Sync>(
+/// Judges the answers of a workload. Where enough of its servers are honest, the row that is asked for is found.
+fn judge_workload<R: Threads + Sync>(
     rt: &R,
     alloc: Global,
-    blank: Blank,
-    order: &Selfrunning,
+    order: &WorkloadOrder,
 ) -> Result<Verdict, AllocError>
-    requires blank { (blank.name ≡ C.name) × (blank.parts ≡ C.parts) × (0 < blank.parts) }
     ensures { IfOk result (IsVerdictOn order.now.load) }
 {
-    let load = &order.load;
-    let answers = answer_all(rt, alloc, load, order.workers)?;
-    let mut cols: Steps<C> = Steps::new(blank);
-    decide(
-        alloc,
-        &answers.indices,
-        &answers.payloads,
-        u32::from(load.degree),
-        u32::from(load.agree),
-        load.width,
-        &mut cols,
-    )
+    // A use of a field tells the proof that the numbers are in their ranges.
+    let _ = &order.load;
+    judge_answers(rt, alloc, order)
 }
 
 /// The numbers of the servers, each behind its name.
@@ -79,11 +64,11 @@ fn format_line(alloc: Global, load: &Workload, cost: u64, bound: u32) -> Result<
 }
 
 /// The same of a workload whose agreement is strong enough to list blocks.
-fn format_numbers(alloc: Global, load: &Workload) -> Result<String, AllocError>
-    requires numbers { IsWorkload load.now }
-    requires strong { load.now.servers * load.now.degree < load.now.agree * load.now.agree }
-    ensures { IfOk result (λ line. string_bytes line ≡ line_of_numbers load.now) }
+fn format_numbers(alloc: Global, order: &WorkloadOrder) -> Result<String, AllocError>
+    requires { order.now.load.servers * order.now.load.degree < order.now.load.agree * order.now.load.agree }
+    ensures { IfOk result (λ line. string_bytes line ≡ line_of_numbers order.now.load) }
 {
+    let load = &order.load;
     let n = u32::from(load.servers);
     let t = u32::from(load.degree);
     let h = u32::from(load.agree);
@@ -91,13 +76,16 @@ fn format_numbers(alloc: Global, load: &Workload) -> Result<String, AllocError>
 }
 
 /// What follows the text of the verdict: the line of the numbers where it lists blocks, also none, and nothing else.
-fn format_ending(alloc: Global, load: &Workload, verdict: &Verdict) -> Result<String, AllocError>
-    requires numbers { IsWorkload load.now }
-    requires verdict { IsVerdictOn load.now verdict.now }
-    ensures { IfOk result (λ text. string_bytes text ≡ ending load.now verdict.now) }
+fn format_ending(
+    alloc: Global,
+    order: &WorkloadOrder,
+    verdict: &Verdict,
+) -> Result<String, AllocError>
+    requires { IsVerdictOn order.now.load verdict.now }
+    ensures { IfOk result (λ text. string_bytes text ≡ ending order.now.load verdict.now) }
 {
     match verdict {
-        Verdict::Listed(_) => format_numbers(alloc, load),
+        Verdict::Listed(_) => format_numbers(alloc, order),
         _ => Ok(String::new(alloc)),
     }
 }
@@ -114,21 +102,21 @@ fn write_report<P: Ports>(ports: &mut P, verdict: &Verdict, ending: &str) -> Res
     write_all(ports, Port::Output, ending.as_bytes())
 }
 
-/// Runs the servers of a workload in memory, judges their answers, and writes the text of the verdict, and after a listing
-/// the line of the numbers. Nothing is written until all of it is there.
+/// Runs the servers of a workload in memory, judges their answers, and writes the text of the verdict, and after a
+/// listing the line of the numbers. Nothing is written until all of it is there.
 pub(crate) fn run_workload<R: Threads + Sync, P: Ports>(
     rt: &R,
     alloc: Global,
-    order: &Selfrunning,
+    order: &WorkloadOrder,
     ports: &mut P,
 ) -> Status
     ensures ends { SelfrunEnds order.now.load result (P.world ports.old) (P.world ports.new) }
     ensures others { Touches OUTPUT (P.world ports.old) (P.world ports.new) }
 {
-    let Ok(verdict) = judge_once::<Brand, R>(rt, alloc, Blank::new(1), order) else {
+    let Ok(verdict) = judge_workload(rt, alloc, order) else {
         return Status::Memory;
     };
-    let Ok(ending) = format_ending(alloc, &order.load, &verdict) else {
+    let Ok(ending) = format_ending(alloc, order, &verdict) else {
         return Status::Memory;
     };
     match write_report(ports, &verdict, &ending) {

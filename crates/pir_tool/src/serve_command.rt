@@ -1,19 +1,20 @@
 //! The command `serve`.
 
-ghost use Rattle.std.specs.Prelude.{◌≡◌, OnOk, OnErr};
+ghost use Rattle.std.specs.Prelude.{◌≡◌, IfErr, OnOk, OnErr};
 ghost use Rattle.pir_ports.specs.Number.{DATABASE, DOOR, GUEST};
 ghost use Rattle.pir_ports.specs.Moves.{Touches};
 ghost use Rattle.pir_tool.specs.Told.{DidRise};
-ghost use Rattle.pir_tool.specs.ServeSteps.{AttendsInTurn, OpensDesk, Listens, ServesGuests, RepliesToGuests, RunsDry, TouchesGuests, TouchesDoor};
-ghost use Rattle.pir_tool.specs.ServeOutcome.{ServeEnds, TouchesServer};
+ghost use Rattle.pir_tool.specs.ServeSteps.{OpensDesk, Listens, TouchesDoor};
+ghost use Rattle.pir_tool.specs.ServeSteps.{AttendsInTurn, ServesGuests, RepliesToGuests, RunsDry, TouchesGuests};
+ghost use Rattle.pir_tool.specs.ServeOutcome.{ServeEnds, ServedAll, TouchesServer};
 
 use crate::orders::Serving;
-use crate::status::{Bad, Status};
-use block_matrix::{LoadFault, load};
+use crate::status::Status;
+use block_matrix::load;
 use pir_ports::{Failed, Port, Ports, write_all};
 use serve_core::{Desk, serve_one};
 use server_product::OpenGate;
-use std::alloc::{AllocError, Global};
+use std::alloc::Global;
 use std::thread::Threads;
 
 /// Loads the database, and opens the desk at which it is served.
@@ -28,17 +29,8 @@ fn open_desk<P: Ports>(alloc: Global, order: &Serving, ports: &mut P) -> Result<
     let Ok(()) = ports.open(Port::Database, order.database) else {
         return Err(Status::ReadFault);
     };
-    let matrix = match load(alloc, ports, order.width) {
-        Ok(matrix) => matrix,
-        Err(LoadFault::EmptyFile) => return Err(Status::BadInput(Bad::EmptyFile)),
-        Err(LoadFault::TooBig { limit }) => return Err(Status::BadInput(Bad::TooBig { limit })),
-        Err(LoadFault::ReadFault) => return Err(Status::ReadFault),
-        Err(LoadFault::Memory) => return Err(Status::Memory),
-    };
-    match Desk::open(alloc, matrix, order.scheme, order.workers) {
-        Ok(desk) => Ok(desk),
-        Err(AllocError) => Err(Status::Memory),
-    }
+    let matrix = load(alloc, ports, order.width)?;
+    Ok(Desk::open(alloc, matrix, order.scheme, order.workers)?)
 }
 
 /// Lets guests come in at this address, and says so.
@@ -53,13 +45,11 @@ fn listen<P: Ports>(address: &str, ports: &mut P) -> Result<(), Status>
     let Ok(()) = ports.open(Port::Door, address) else {
         return Err(Status::DoorFault);
     };
-    match write_all(ports, Port::Output, b"ready\n") {
-        Ok(()) => Ok(()),
-        Err(Failed) => Err(Status::WriteFault),
-    }
+    write_all(ports, Port::Output, b"ready\n").or(Err(Status::WriteFault))
 }
 
-/// Serves so many guests, one after the other. A guest that is refused, that goes away or whose calls fail counts as one.
+/// Serves so many guests, one after the other. A guest that is refused, that goes away or whose calls fail counts as
+/// one.
 ///
 /// # Errors
 ///
@@ -88,7 +78,31 @@ fn serve_guests<R: Threads + Sync, P: Ports>(
     Ok(())
 }
 
-/// Serves a database: loads it, lets guests come in and says so, and answers the query of each.
+/// Loads the database, lets guests come in and says so, and answers the query of each.
+///
+/// # Errors
+///
+/// The status that the run ends with.
+fn serve_database<R: Threads + Sync, P: Ports>(
+    rt: &R,
+    alloc: Global,
+    order: &Serving,
+    ports: &mut P,
+) -> Result<(), Status>
+    ensures served { OnOk result (ServedAll order.now (P.world ports.old) (P.world ports.new)) }
+    ensures ends { IfErr result (λ status. ServeEnds order.now status (P.world ports.old) (P.world ports.new)) }
+    ensures others { TouchesServer (P.world ports.old) (P.world ports.new) }
+    ensures unnamed { ((P.world ports.new).at GUEST).opened ≡ ((P.world ports.old).at GUEST).opened }
+{
+    let mut desk = open_desk(alloc, order, ports)?;
+    listen(order.listen, ports)?;
+    let Ok(()) = serve_guests(rt, &mut desk, order.guests, ports) else {
+        return Err(Status::DoorFault);
+    };
+    Ok(())
+}
+
+/// Serves a database, and says how that ends.
 pub(crate) fn serve_file<R: Threads + Sync, P: Ports>(
     rt: &R,
     alloc: Global,
@@ -99,16 +113,8 @@ pub(crate) fn serve_file<R: Threads + Sync, P: Ports>(
     ensures others { TouchesServer (P.world ports.old) (P.world ports.new) }
     ensures unnamed { ((P.world ports.new).at GUEST).opened ≡ ((P.world ports.old).at GUEST).opened }
 {
-    let mut desk = match open_desk(alloc, order, ports) {
-        Ok(desk) => desk,
-        Err(status) => return status,
-    };
-    match listen(order.listen, ports) {
-        Ok(()) => {}
-        Err(status) => return status,
-    }
-    match serve_guests(rt, &mut desk, order.guests, ports) {
+    match serve_database(rt, alloc, order, ports) {
         Ok(()) => Status::One,
-        Err(Failed) => Status::DoorFault,
+        Err(status) => status,
     }
 }

@@ -34,6 +34,8 @@ pub enum Status {
     TooFew { k: u32, h: u32 },
     /// With `k` answers and degree `t` an agreement of `h` is too weak.
     TooWeak { k: u32, t: u32, h: u32 },
+    /// The list decoding of a column takes `cost` equations, which is too many.
+    TooCostly { cost: u64 },
     /// A call on Input, Coins or Database failed; nothing was written, no server was asked and nobody was served.
     ReadFault,
     /// A call on Output or Record failed. Output has a proper front of the text, and nothing of it where Record failed.
@@ -59,6 +61,7 @@ pub fn code(status: &Status) -> u8
         Status::Several => 4,
         Status::TooFew { .. } => 5,
         Status::TooWeak { .. } => 6,
+        Status::TooCostly { .. } => 7,
         Status::ReadFault => 8,
         Status::WriteFault => 9,
         Status::BadInput(_) => 10,
@@ -77,7 +80,8 @@ pub fn line(status: &Status) -> &'static str
         | Status::NoBlock
         | Status::Several
         | Status::TooFew { .. }
-        | Status::TooWeak { .. } => "",
+        | Status::TooWeak { .. }
+        | Status::TooCostly { .. } => "",
         Status::Usage => "pir: usage",
         Status::ReadFault => "pir: read fault",
         Status::WriteFault => "pir: write fault",

@@ -10,7 +10,8 @@ ghost use Rattle.pir_tool.specs.FetchOrder.{FetchOrder, Orders};
 ghost use Rattle.pir_tool.specs.FetchOutcome.{FetchPromise};
 ghost use Rattle.pir_tool.specs.ServeOrder.{ServeOrder, asked_to_serve};
 ghost use Rattle.pir_tool.specs.ServeOutcome.{ServePromise};
-ghost use Rattle.pir_tool.specs.SelfrunOrder.{SelfrunOrder, asked_to_selfrun};
+ghost use Rattle.drawn_workload.specs.WorkloadOrder.{WorkloadOrder};
+ghost use Rattle.pir_tool.specs.SelfrunOrder.{asked_to_selfrun};
 ghost use Rattle.pir_tool.specs.SelfrunOutcome.{SelfrunPromise};
 ghost use Rattle.pir_tool.specs.DemoOrder.{DemoOrder, asked_to_demonstrate};
 ghost use Rattle.pir_tool.specs.DemoOutcome.{DemoPromise};
@@ -18,21 +19,22 @@ ghost use Rattle.pir_tool.specs.DemoOutcome.{DemoPromise};
 use crate::obey::obey;
 use crate::status::Status;
 use pir_ports::Ports;
-use pir_words::{Asked, WordsFault, read_words};
+use pir_words::{Asked, read_words};
 use std::alloc::Global;
 use std::thread::Threads;
 
 /// Does all that the program does, by its words.
 ///
-/// `replay FILE` opens FILE as Input (`-` is standard input), judges the session that it holds, and writes the verdict's
-/// text to Output. `fetch` reads coins, asks each server for its share of a block, records the session where a file for it
-/// is named, and writes the verdict's text. `serve` loads a database, opens Door, writes `ready` to Output, and serves its
-/// guests one after the other. `selfrun` draws a workload from a number, runs its servers and the decoder in memory, and writes
-/// the verdict's text. `demo` starts this program as a child for each server, and fetches a block from them.
+/// `replay FILE` opens FILE as Input (`-` is standard input), judges the session that it holds, and writes the
+/// verdict's text to Output. `fetch` reads coins, asks each server for its share of a block, records the session where
+/// a file for it is named, and writes the verdict's text. `serve` loads a database, opens Door, writes `ready` to
+/// Output, and serves its guests one after the other. `selfrun` draws a workload from a number, runs its servers and
+/// the decoder in memory, and writes the verdict's text. `demo` starts this program as a child for each server, and
+/// fetches a block from them.
 ///
-/// The first three know both schemes: Shamir's sharing (Goldberg 2007), in which servers that lie or are silent can be outvoted,
-/// and the XOR scheme (Chor, Goldreich, Kushilevitz and Sudan 1995), in which all servers have to answer, and a lie isn't
-/// noticed. `selfrun` and `demo` take Shamir's.
+/// The first three know both schemes: Shamir's sharing (Goldberg 2007), in which servers that lie or are silent can be
+/// outvoted, and the XOR scheme (Chor, Goldreich, Kushilevitz and Sudan 1995), in which all servers have to answer, and
+/// a lie isn't noticed. `selfrun` and `demo` take Shamir's.
 pub fn run<R: Threads + Sync, P: Ports>(
     rt: &R,
     alloc: Global,
@@ -59,14 +61,13 @@ pub fn run<R: Threads + Sync, P: Ports>(
         → FetchPromise order result (P.world ports.old) (P.world ports.new) }
     ensures serve { (order : ServeOrder) → AskFor (map string_bytes words.now) (asked_to_serve order)
         → ServePromise order result (P.world ports.old) (P.world ports.new) }
-    ensures selfrun { (order : SelfrunOrder) → AskFor (map string_bytes words.now) (asked_to_selfrun order)
+    ensures selfrun { (order : WorkloadOrder) → AskFor (map string_bytes words.now) (asked_to_selfrun order)
         → SelfrunPromise order.load result (P.world ports.old) (P.world ports.new) }
     ensures demo { (order : DemoOrder) → AskFor (map string_bytes words.now) (asked_to_demonstrate order)
         → DemoPromise order result (P.world ports.old) (P.world ports.new) }
 {
     match read_words(alloc, words) {
         Ok(asked) => obey(rt, alloc, &asked, ports),
-        Err(WordsFault::Usage) => Status::Usage,
-        Err(WordsFault::Memory) => Status::Memory,
+        Err(fault) => fault.into(),
     }
 }

@@ -1,7 +1,7 @@
 -- The command line as `clap` sees it.
 use Rattle.std.specs.Prelude.{Bool, true, false, Some, codes}
 use Rattle.clap.specs.Words.{App, Rule, Text, new_app, new_rule, with_rule, with_subcommand}
-use Rattle.clap.specs.declared.builder.action.ArgAction.TheVariants.{Set, Append}
+use Rattle.clap.specs.declared.builder.action.ArgAction.TheVariants.{Set, SetTrue, Append}
 
 -- `--NAME VALUE`
 abbrev pub option_rule : Text → Bool → Rule
@@ -14,6 +14,14 @@ option_rule name required = record (new_rule name) {
 -- a command with one more option
 abbrev pub with_option : App → Text → Bool → App
 with_option app name required = with_rule app (option_rule name required)
+
+-- `--NAME`
+abbrev pub flag_rule : Text → Rule
+flag_rule name = record (new_rule name) { long = Some name; action = Some SetTrue }
+
+-- a command with one more option without a value
+abbrev pub with_flag : App → Text → App
+with_flag app name = with_rule app (flag_rule name)
 
 -- one word
 abbrev pub operand_rule : Text → Rule
@@ -60,7 +68,8 @@ selfrun_app =
     let degree = with_option servers (codes "degree") true in
     let agree = with_option degree (codes "agree") true in
     let liars = with_option agree (codes "liars") true in
-    with_option liars (codes "workers") false
+    let workers = with_option liars (codes "workers") false in
+    with_flag workers (codes "slow")
 
 -- `demo --port P --database FILE --rows R --width S --block B --servers N --degree T --agree H`
 unfoldable pub demo_app : App

@@ -57,5 +57,5 @@ abbrev pub InRange : Asked → Type 0
 InRange (Replay file) = Unit {0}
 InRange (Fetch scheme r s b t h coins keep addresses) = IsFetch scheme r s b t h (length addresses)
 InRange (Serve scheme database s guests listen workers) = IsServe scheme s guests workers
-InRange (Selfrun seed r s n t h v workers) = IsSelfrun seed r s n t h v workers
+InRange (Selfrun seed r s n t h v workers slow) = IsSelfrun seed r s n t h v workers
 InRange (Demo port database r s b n t h coins) = IsDemo port r s b t h n

@@ -1,5 +1,6 @@
--- The numbers of the command line.
-use Rattle.std.specs.Prelude.{ℕ, ◌^◌, ◌&&◌, Bool, List, length, Option, Some, nat_lt, nat_le}
+-- The numbers of the command line, and its flags.
+use Rattle.std.specs.Prelude.{ℕ, ◌^◌, ◌&&◌, Bool, List, length, Option, Some, codes, nat_lt, nat_le, unwrap_or}
+use Rattle.std.specs.Str.{bytes_eq}
 use Rattle.std.specs.List.{list_all}
 use Rattle.std.specs.Str.Parse.{digits_value}
 use Rattle.clap.specs.Words.{Row, Text, first_of, found_of, rows_of}
@@ -34,3 +35,7 @@ limited id least most rows = do
   n ← number_in id rows
   nat_le least n && nat_le n most
   Some n
+
+-- whether an option without a value is given: the parse gives it the word `true` where it is, and else `false`
+unfoldable pub flag_in : Text → List Row → Bool
+flag_in id rows = bytes_eq (unwrap_or (first_of id rows) (codes "false")) (codes "true")

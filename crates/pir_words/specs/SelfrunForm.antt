@@ -2,7 +2,7 @@
 use Rattle.std.specs.Prelude.{ℕ, ◌^◌, ◌<◌, ◌≤◌, List, Option, Some, codes}
 use Rattle.clap.specs.Words.{Row}
 use Rattle.pir_words.specs.Chain.{◌>>=◌}
-use Rattle.pir_words.specs.Numbers.{limited, number_in}
+use Rattle.pir_words.specs.Numbers.{flag_in, limited, number_in}
 use Rattle.pir_words.specs.Ranges.{FitsSession, servers_in, sharing_in, sizes_in, workers_in}
 use Rattle.wire_frames.specs.declared.TheConstants.{MOST_WORKERS}
 use Rattle.wire_frames.specs.declared.scheme.TheConstants.{SHAMIR}
@@ -20,7 +20,8 @@ selfrun_of m = do
   (sharing : Sharing) ← sharing_in servers m
   liars ← limited (codes "liars") 0 servers m
   workers ← workers_in m
-  Some (Selfrun seed sizes.rows sizes.width servers sharing.degree sharing.agree liars workers)
+  Some (Selfrun seed sizes.rows sizes.width servers sharing.degree sharing.agree liars workers
+      (flag_in (codes "slow") m))
 
 -- the values of `selfrun` are those of a session of n servers in Shamir's scheme, of which v lie
 pub record IsSelfrun (seed r s n t h v workers : ℕ) : Type 0 where

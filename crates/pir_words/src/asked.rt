@@ -67,6 +67,8 @@ pub enum Asked {
         liars: u8,
         /// How many workers share the work on an answer.
         workers: u8,
+        /// Whether the decoder interpolates by elimination, which is the slower way to the same lists.
+        slow: bool,
     },
     /// Fetch a block of a database from servers that are started for it, in Shamir's scheme.
     Demo {

@@ -3,7 +3,8 @@
 ghost use Rattle.std.specs.Prelude.{◌≡◌, Bool, false, IfOk};
 ghost use Rattle.clap.specs.Words.{app_of};
 ghost use Rattle.clap.specs.declared.builder.command.Command.TheViews.{out-Command};
-ghost use Rattle.pir_words.specs.Command.{with_option, replay_app, fetch_app, serve_app, selfrun_app, demo_app, pir};
+ghost use Rattle.pir_words.specs.Command.{with_flag, with_option};
+ghost use Rattle.pir_words.specs.Command.{replay_app, fetch_app, serve_app, selfrun_app, demo_app, pir};
 
 use clap::{Arg, ArgAction, Command};
 use std::alloc::{AllocError, Global};
@@ -25,6 +26,20 @@ fn with_option<'a>(
         .required(required)
         .action(ArgAction::Set);
     command.arg(option)
+}
+
+/// One more option without a value, `--NAME`.
+fn with_flag<'a>(
+    alloc: Global,
+    command: Command<'a>,
+    name: &'a str,
+) -> Result<Command<'a>, AllocError>
+    ensures app { IfOk result (λ c. app_of c ≡ with_flag (app_of command.entry) name.entry.now) }
+    ensures local { IfOk result (λ c.
+        (out-Command c).has_globals ≡ (out-Command command.entry).has_globals) }
+{
+    let flag = Arg::new(alloc, name).long(name).action(ArgAction::SetTrue);
+    command.arg(flag)
 }
 
 /// `replay`.
@@ -85,7 +100,8 @@ fn selfrun_command<'a>(alloc: Global) -> Result<Command<'a>, AllocError>
     let degree = with_option(alloc, servers, "degree", true)?;
     let agree = with_option(alloc, degree, "agree", true)?;
     let liars = with_option(alloc, agree, "liars", true)?;
-    with_option(alloc, liars, "workers", false)
+    let workers = with_option(alloc, liars, "workers", false)?;
+    with_flag(alloc, workers, "slow")
 }
 
 /// `demo`.

@@ -92,12 +92,12 @@ fn read_matches(alloc: Global, matches: &ArgMatches) -> Result<Asked, WordsFault
 /// | `fetch` | `--rows R --width S --block B --degree T --agree H`, two addresses or more | `--scheme shamir`, `--coins FILE` (`/dev/urandom`), `--record FILE` |
 /// | `fetch` | `--scheme xor --rows R --width S --block B`, two addresses or more | `--coins FILE` (`/dev/urandom`), `--record FILE` |
 /// | `serve` | `--database FILE --width S --conns GUESTS --listen ADDR` | `--scheme shamir` or `--scheme xor` (`shamir`), `--workers W` (1) |
-/// | `selfrun` | `--seed SEED --rows R --width S --servers N --degree T --agree H --liars V` | `--workers W` (1) |
+/// | `selfrun` | `--seed SEED --rows R --width S --servers N --degree T --agree H --liars V` | `--workers W` (1), `--slow` |
 /// | `demo` | `--port P --database FILE --rows R --width S --block B --servers N --degree T --agree H` | `--coins FILE` (`/dev/urandom`) |
 ///
-/// Options come in any order, each once, as `--rows 2` or `--rows=2`, and addresses may stand
-/// between them. What follows the word `--` is no option. A value that begins with `-` is written
-/// `--coins=-x`; `-` alone is a value.
+/// Options come in any order, each once, as `--rows 2` or `--rows=2`, and addresses may stand between them; `--slow`
+/// takes no value. What follows the word `--` is no option. A value that begins with `-` is written `--coins=-x`; `-`
+/// alone is a value.
 ///
 /// A number is one or more ASCII decimal digits, of a value below `2^64`: `002` is good, and `+2`
 /// is not. Any such number is a seed. The numbers R of rows and S of their bytes are at least 1 and

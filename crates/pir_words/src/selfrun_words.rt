@@ -6,7 +6,7 @@ ghost use Rattle.pir_words.specs.SelfrunForm.{selfrun_of};
 
 use crate::asked::Asked;
 use crate::ranges::{servers_at, sharing_at, sizes_at, workers_at};
-use crate::values::{limited_at, number_at};
+use crate::values::{flag_at, limited_at, number_at};
 use clap::ArgMatches;
 
 /// `selfrun` with its values, each in its range.
@@ -29,5 +29,6 @@ pub fn read_selfrun(matches: &ArgMatches) -> Option<Asked>
         agree: sharing.agree,
         liars: liars as u8,
         workers,
+        slow: flag_at(matches, "slow"),
     })
 }

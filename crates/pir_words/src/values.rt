@@ -1,9 +1,9 @@
-//! What the words give to an argument: texts and numbers.
+//! What the words give to an argument: texts, numbers and flags.
 
 ghost use Rattle.std.specs.Prelude.{◌≡◌, ◌≤◌, IfErr, IfOk, IfSome, map, option_map};
 ghost use Rattle.std.specs.List.{list_all};
 ghost use Rattle.clap.specs.Words.{all_of, first_of};
-ghost use Rattle.pir_words.specs.Numbers.{given, is_digit, limited, number, number_in};
+ghost use Rattle.pir_words.specs.Numbers.{flag_in, given, is_digit, limited, number, number_in};
 
 use crate::asked::WordsFault;
 use crate::text::Text;
@@ -67,6 +67,14 @@ pub fn limited_at(matches: &ArgMatches, id: &str, least: u64, most: u64) -> Opti
     } else {
         None
     }
+}
+
+/// Whether an option without a value is given.
+#[tactic(auto, unfolding(crate::specs::Numbers::flag_in))]
+pub fn flag_at(matches: &ArgMatches, id: &str) -> bool
+    ensures { result ≡ flag_in id.now (given matches.now) }
+{
+    text_at(matches, id).unwrap_or("false") == "true"
 }
 
 /// A copy of a word.

@@ -1,11 +1,14 @@
 //! The decoder beside the program that lists the agreed blocks straight from their definition, and one happy path of each
 //! other call.
 
-ghost use Rattle.std.specs.Prelude.{◌≡◌, ◌≢◌, ◌*◌, ◌<◌, ◌≤◌, length, All, IfOk};
+ghost use Rattle.std.specs.Prelude.{◌≡◌, ◌≢◌, ◌+◌, ◌*◌, ◌<◌, ◌≤◌, length, All, IfOk};
 ghost use Rattle.std.specs.List.Sorted.{IsStrictlyIncreasing};
 ghost use Rattle.wire_frames.specs.declared.TheConstants.{MOST_SERVERS};
+ghost use Rattle.block_decoder.specs.Numbers.{column_nodes};
+ghost use Rattle.block_decoder.specs.Verdict.{ListsNoMoreThan};
 
 use block_decoder::{Verdict, bound, decide, judge, plain_listing, write_verdict};
+use gs_interpolate::Koetter;
 use pir_ports::{MemPorts, Port};
 use std::alloc::{AllocError, Global};
 use std::marker::Brand;
@@ -14,9 +17,10 @@ use std::test::Fail;
 use uni_poly::steps::Steps;
 use wire_frames::{MOST_SERVERS, Session, SessionParams};
 
-/// The verdict on answers, with a counter of columns made of the blank.
-fn decided<C: Ledger>(
-    blank: Blank,
+/// The verdict on answers, with counters of columns and of nodes made of the blanks.
+fn decided<C: Ledger, N: Ledger>(
+    cols: Blank,
+    nodes: Blank,
     alloc: Global,
     indices: &[u8],
     bytes: &[u8],
@@ -24,7 +28,8 @@ fn decided<C: Ledger>(
     h: u32,
     s: u32,
 ) -> Result<Verdict, AllocError>
-    requires blank { (blank.name ≡ C.name) × (blank.parts ≡ C.parts) × (0 < blank.parts) }
+    requires cols { (cols.name ≡ C.name) × (cols.parts ≡ C.parts) × (0 < cols.parts) }
+    requires nodes { (nodes.name ≡ N.name) × (nodes.parts ≡ N.parts) × (0 < nodes.parts) }
     requires ascending { IsStrictlyIncreasing indices.now }
     requires nonzero { All (λ a. a ≢ 0) indices.now }
     requires few { length indices.now ≤ MOST_SERVERS }
@@ -32,8 +37,11 @@ fn decided<C: Ledger>(
     requires width { 1 ≤ s }
     requires fit { length bytes.now ≡ length indices.now * s }
 {
-    let mut cols: Steps<C> = Steps::new(blank);
-    decide(alloc, indices, bytes, t, h, s, &mut cols)
+    let mut cols: Steps<C> = Steps::new(cols);
+    let mut nodes: Steps<N> = Steps::new(nodes);
+    decide(
+        alloc, &Koetter, indices, bytes, t, h, s, &mut cols, &mut nodes,
+    )
 }
 
 const INDICES: [u8; 5] = [1, 2, 3, 4, 5];
@@ -60,7 +68,7 @@ fn count_of_both(
     }
     let indices = &INDICES[..k];
     let plain = plain_listing(alloc, indices, bytes, t, h, s)?;
-    match decided::<Brand>(Blank::new(1), alloc, indices, bytes, t, h, s)? {
+    match decided::<Brand, Brand>(Blank::new(1), Blank::new(1), alloc, indices, bytes, t, h, s)? {
         Verdict::Listed(listing) if listing.blocks() == plain.blocks() => {
             let most = bound(k as u32, t, h) as usize;
             Ok(Some((plain.len(), plain.len() == most)))
@@ -241,13 +249,78 @@ fn bounds(rt: HostRuntime) {
     }
 }
 
-/// The verdict on a session, with a counter of columns made of the blank.
-fn judged<C: Ledger>(blank: Blank, alloc: Global, session: &Session) -> Result<Verdict, AllocError>
-    requires blank { (blank.name ≡ C.name) × (blank.parts ≡ C.parts) × (0 < blank.parts) }
+#[test]
+fn as_many_blocks_as_the_bound(rt: HostRuntime) -> Result<(), Fail> {
+    for (bytes, h, count) in [
+        (b"\x10\x10\x10\x17\x16".as_slice(), 3, 2),
+        (b"\x00\x01\x02", 2, 3),
+    ] {
+        let (found, most) = count_of_both(rt.alloc(), bytes, 1, h, 1)?.ok_or("they differ")?;
+        assert!(rt; found == count && most, "{bytes:?}");
+    }
+    Ok(())
+}
+
+/// The verdict on eight equal answers, of which three are to agree: where 8 * 1 is just below 3 * 3, the bound on blocks is
+/// 16. So 33 columns are decoded at most, and a list is made at most 96 times, as it would be for a wider block.
+fn decided_among_eight<C: Ledger, N: Ledger>(
+    alloc: Global,
+    cols: &mut Steps<C>,
+    nodes: &mut Steps<N>,
+) -> Result<Verdict, AllocError>
+    ensures cols { cols.new ≤ cols.old + 33 }
+    ensures nodes { nodes.new ≤ nodes.old + 96 * column_nodes 8 1 3 }
+    ensures few { IfOk result (ListsNoMoreThan 16) }
+{
+    let indices = [1, 2, 3, 4, 5, 6, 7, 8];
+    decide(
+        alloc,
+        &Koetter,
+        &indices,
+        b"abcabcabcabcabcabcabcabc",
+        1,
+        3,
+        3,
+        cols,
+        nodes,
+    )
+}
+
+/// The same, with counters made of the blanks.
+fn counted_among_eight<C: Ledger, N: Ledger>(
+    cols: Blank,
+    nodes: Blank,
+    alloc: Global,
+) -> Result<Verdict, AllocError>
+    requires cols { (cols.name ≡ C.name) × (cols.parts ≡ C.parts) × (0 < cols.parts) }
+    requires nodes { (nodes.name ≡ N.name) × (nodes.parts ≡ N.parts) × (0 < nodes.parts) }
+{
+    let mut cols: Steps<C> = Steps::new(cols);
+    let mut nodes: Steps<N> = Steps::new(nodes);
+    decided_among_eight(alloc, &mut cols, &mut nodes)
+}
+
+#[test]
+fn eight_equal_answers(rt: HostRuntime) -> Result<(), Fail> {
+    let verdict = counted_among_eight::<Brand, Brand>(Blank::new(1), Blank::new(1), rt.alloc())?;
+    assert!(rt; is_written(rt.alloc(), &verdict, b"blocks 1\n616263\n")?);
+    Ok(())
+}
+
+/// The verdict on a session, with counters of columns and of nodes made of the blanks.
+fn judged<C: Ledger, N: Ledger>(
+    cols: Blank,
+    nodes: Blank,
+    alloc: Global,
+    session: &Session,
+) -> Result<Verdict, AllocError>
+    requires cols { (cols.name ≡ C.name) × (cols.parts ≡ C.parts) × (0 < cols.parts) }
+    requires nodes { (nodes.name ≡ N.name) × (nodes.parts ≡ N.parts) × (0 < nodes.parts) }
     requires all { length session.now.records ≡ session.now.params.n }
 {
-    let mut cols: Steps<C> = Steps::new(blank);
-    judge(alloc, session, &mut cols)
+    let mut cols: Steps<C> = Steps::new(cols);
+    let mut nodes: Steps<N> = Steps::new(nodes);
+    judge(alloc, &Koetter, session, &mut cols, &mut nodes)
 }
 
 // Two servers of the XOR scheme, with session number 7 and two rows of two bytes.
@@ -282,7 +355,7 @@ fn is_written(alloc: Global, verdict: &Verdict, text: &[u8]) -> Result<bool, All
 fn a_session_is_judged_and_written(rt: HostRuntime) -> Result<(), Fail> {
     let alloc = rt.alloc();
     let session = answered_pair(alloc)?;
-    let verdict = judged::<Brand>(Blank::new(1), alloc, &session)?;
+    let verdict = judged::<Brand, Brand>(Blank::new(1), Blank::new(1), alloc, &session)?;
     assert!(rt; is_written(alloc, &verdict, b"blocks 1\n4344\n")?);
     Ok(())
 }

@@ -6,6 +6,8 @@
 #[cfg(test)]
 mod agreed_blocks;
 #[cfg(test)]
+mod asked_way;
+#[cfg(test)]
 mod one_fetch;
 #[cfg(test)]
 mod one_guest;

@@ -4,6 +4,7 @@ ghost use Rattle.std.specs.Prelude.{◌≡◌, ◌<◌, length};
 
 use block_decoder::Verdict;
 use fetch_client::{FetchFault, FetchPlan, fetch};
+use gs_interpolate::Koetter;
 use pir_ports::{MemPorts, Port};
 use std::alloc::{AllocError, Global};
 use std::marker::Brand;
@@ -33,18 +34,23 @@ const ANSWERS: [&[u8; 26]; 3] = [
 
 const QUERY: &[u8] = b"PIRQ\x01\x01\x02\0\0\0\0\0\0\0\0\x07\0\0\0\x02\0\0\0\x02\x0a\x0f";
 
-/// The fetch, with a counter of columns made of the blank.
-fn fetched<C: Ledger>(
+/// The fetch, with counters made of the blanks.
+fn fetched<C: Ledger, N: Ledger>(
     alloc: Global,
-    blank: Blank,
+    cols: Blank,
+    nodes: Blank,
     addresses: &[String],
     ports: &mut MemPorts,
 ) -> Result<(Session, Verdict), FetchFault>
-    requires blank { (blank.name ≡ C.name) × (blank.parts ≡ C.parts) × (0 < blank.parts) }
+    requires cols { (cols.name ≡ C.name) × (cols.parts ≡ C.parts) × (0 < cols.parts) }
+    requires nodes { (nodes.name ≡ N.name) × (nodes.parts ≡ N.parts) × (0 < nodes.parts) }
     requires addresses { length addresses.now ≡ 3 }
 {
-    let mut cols: Steps<C> = Steps::new(blank);
-    fetch(alloc, &PLAN, addresses, ports, &mut cols)
+    let mut cols: Steps<C> = Steps::new(cols);
+    let mut nodes: Steps<N> = Steps::new(nodes);
+    fetch(
+        alloc, &Koetter, &PLAN, addresses, ports, &mut cols, &mut nodes,
+    )
 }
 
 /// Ports with the coins, with the answers of the servers, and with room for their queries.
@@ -72,7 +78,9 @@ fn a_block_is_fetched(rt: HostRuntime) -> Result<(), Fail> {
     let alloc = rt.alloc();
     let addresses = addresses(alloc)?;
     let mut ports = ports_of_servers(alloc)?;
-    let Ok((session, verdict)) = fetched::<Brand>(alloc, Blank::new(1), &addresses, &mut ports)
+    let cols = Blank::new(1);
+    let nodes = Blank::new(1);
+    let Ok((session, verdict)) = fetched::<Brand, Brand>(alloc, cols, nodes, &addresses, &mut ports)
     else {
         return Err(Fail::new("a fault"));
     };

@@ -3,6 +3,7 @@
 ghost use Rattle.std.specs.Prelude.{◌≡◌, ◌<◌};
 
 use block_decoder::Verdict;
+use gs_interpolate::Koetter;
 use pir_ports::{MemPorts, Port};
 use replay::{ReplayFault, replay};
 use std::alloc::Global;
@@ -15,16 +16,19 @@ use uni_poly::steps::Steps;
 const SESSION: &[u8; 71] =
     b"PIRS\x01\x01\x01\x02\x03\0\0\0\0\0\0\0\0\0\0\x07\0\0\0\x02\0\0\0\x01\x01\x01\0\0\0\x19PIRA\x01\x01\x01\0\0\0\0\0\0\0\0\x07\0\0\0\x02\0\0\0\x01\xcf\x02\0\0\0\0\0\x03\x01\0\0\0\0";
 
-/// The replay, with a counter of columns made of the blank.
-fn replayed<C: Ledger>(
+/// The replay, with counters made of the blanks.
+fn replayed<C: Ledger, N: Ledger>(
     alloc: Global,
-    blank: Blank,
+    cols: Blank,
+    nodes: Blank,
     ports: &mut MemPorts,
 ) -> Result<Verdict, ReplayFault>
-    requires { (blank.name ≡ C.name) × (blank.parts ≡ C.parts) × (0 < blank.parts) }
+    requires cols { (cols.name ≡ C.name) × (cols.parts ≡ C.parts) × (0 < cols.parts) }
+    requires nodes { (nodes.name ≡ N.name) × (nodes.parts ≡ N.parts) × (0 < nodes.parts) }
 {
-    let mut cols: Steps<C> = Steps::new(blank);
-    replay(alloc, ports, &mut cols)
+    let mut cols: Steps<C> = Steps::new(cols);
+    let mut nodes: Steps<N> = Steps::new(nodes);
+    replay(alloc, &Koetter, ports, &mut cols, &mut nodes)
 }
 
 #[test]
@@ -32,7 +36,7 @@ fn a_session_is_judged(rt: HostRuntime) -> Result<(), Fail> {
     let alloc = rt.alloc();
     let mut ports = MemPorts::new(alloc, 7, &[], 0, 0)?;
     ports.put(alloc, Port::Input, SESSION)?;
-    let verdict = replayed::<Brand>(alloc, Blank::new(1), &mut ports);
+    let verdict = replayed::<Brand, Brand>(alloc, Blank::new(1), Blank::new(1), &mut ports);
     assert!(rt; matches!(verdict, Ok(Verdict::TooFew { k: 1, h: 2 })));
     Ok(())
 }

@@ -1,5 +1,6 @@
 -- Reading a session from Input, piece by piece.
-use Rattle.std.proofs.Common.{◌≡◌, ◌∙◌, inl, inr, ℕ, ◌+◌, ◌-◌, ◌<◌, ◌≤◌, All, List, [], ◌∷◌, ◌++◌, length, take, refl, sym, ap, subst, arith, length-append}
+use Rattle.std.proofs.Common.{◌≡◌, ◌∙◌, inl, inr, ℕ, ◌+◌, ◌-◌, ◌<◌, ◌≤◌, All, List, [], ◌∷◌, ◌++◌, length, take, refl}
+use Rattle.std.proofs.Common.{sym, ap, subst, arith, length-append}
 use Rattle.std.specs.Prelude.{Option, Some, None, IfSome, Ok, Err}
 use Rattle.std.proofs.lemmas.Bool.{cases_lt}
 use Rattle.std.proofs.lemmas.List.{length-take-le, take-append-le, take_all}
@@ -11,6 +12,7 @@ use Rattle.pir_ports.specs.Whole.{Reads, IsFront}
 use Rattle.pir_ports.proofs.Cells.{took_none, reads_more, reads_end, touches_more}
 use Rattle.wire_frames.specs.declared.scheme.TheConstants.{SHAMIR, XOR}
 use Rattle.wire_frames.specs.Sizes.{answer_len}
+use Rattle.wire_frames.specs.Answer.{answers}
 use Rattle.wire_frames.specs.Session.{Transcript, IsSession, Fits, session_bytes}
 use Rattle.wire_frames.specs.Beginning.{Begins, IsPlace}
 use Rattle.wire_frames.specs.Reading.{Reading, SoFar, Refused, Feeds, Ends}
@@ -24,7 +26,7 @@ use Rattle.block_decoder.specs.Verdict.{least_columns}
 use Rattle.block_decoder.specs.declared.verdict.Verdict.{Verdict}
 use Rattle.replay.specs.declared.TheConstants.{PIECE_LEN}
 use Rattle.replay.specs.Faults.{of_feed}
-use Rattle.replay.specs.Replayed.{Spells, NoSession, ReadsWhole, Refuses, BreaksOff, ReadTo, most_columns, ReplayCounts, CountsListed}
+use Rattle.replay.specs.Replayed.{Spells, NoSession, ReadsWhole, Refuses, BreaksOff, ReadTo, ReplayCounts, CountsListed}
 
 -- no session is longer
 abbrev pub longest : ℕ
@@ -47,19 +49,22 @@ pub at_told : (P : List ℕ → Type 0) (o : Option (List ℕ)) (bytes : List �
 at_told P o bytes is p = subst (λ (x : Option (List ℕ)). IfSome x P) is p
 
 -- what holds of the bytes read holds of those that were held
-pub of_held : (P : List ℕ → Type 0) (o : Option (List ℕ)) (read : List ℕ) → IfSome o (λ h. read ≡ h) → P read → IfSome o P
+pub of_held : (P : List ℕ → Type 0) (o : Option (List ℕ)) (read : List ℕ) → IfSome o (λ h. read ≡ h) → P read
+    → IfSome o P
 of_held P None read is p = tt
 of_held P (Some h) read is p = subst P is p
 
 -- bytes that are refused are the front of no session
-pub refused_front : (o : Option (List ℕ)) (read : List ℕ) (place : ℕ) → IfSome o (IsFront read) → IsPlace read place → place < length read → IfSome o (NoSession place)
+pub refused_front : (o : Option (List ℕ)) (read : List ℕ) (place : ℕ) → IfSome o (IsFront read) → IsPlace read place
+    → place < length read → IfSome o (NoSession place)
 refused_front None read place front is lt = tt
 refused_front (Some h) read place front is lt =
     let there = stops-front IsSession read h place front.bytes lt is in
     record { place_is = there; none = stops-none IsSession h place there (omega (arith, front.there)) }
 
 -- so many bytes were seen, with the next piece
-length_seen : (n : ℕ) (sub ys : List ℕ) (v u : World) (seen : List ℕ) → length ys ≡ length sub → Hands INPUT n sub ys v u
+length_seen : (n : ℕ) (sub ys : List ℕ) (v u : World) (seen : List ℕ) → length ys ≡ length sub
+    → Hands INPUT n sub ys v u
     → length (seen ++ take n ys) ≡ length seen + n
 length_seen n sub ys v u seen same hands =
     length-append seen (take n ys)
@@ -73,7 +78,8 @@ least = record {
 }
 
 fits_absent : All (Fits (answer_len 1)) (None ∷ None ∷ [])
-fits_absent = All-push (Fits (answer_len 1)) (None ∷ []) None (All-push (Fits (answer_len 1)) [] None (All-nil (Fits (answer_len 1))) tt) tt
+fits_absent = All-push (Fits (answer_len 1)) (None ∷ []) None (All-push (Fits (answer_len 1)) [] None
+    (All-nil (Fits (answer_len 1))) tt) tt
 
 -- no bytes begin a session
 pub nothing_begins : Begins []
@@ -120,7 +126,8 @@ seen_nothing w = record {
     no_bytes (Some held) = record { there = omega arith; bytes = refl }
 
 -- one more piece is read, and the reader has seen it
-pub seen_more : (n : ℕ) (sub ys : List ℕ) (old v u : World) (reader new : Reading) (x : Unit {0}) → length ys ≡ length sub
+pub seen_more : (n : ℕ) (sub ys : List ℕ) (old v u : World) (reader new : Reading) (x : Unit {0})
+    → length ys ≡ length sub
     → HasSeen reader old v → Hands INPUT n sub ys v u → Touches INPUT v u → Feeds reader (take n ys) (Ok x) new
     → HasSeen new old u
 seen_more n sub ys old v u reader new x same h hands others fed =
@@ -159,13 +166,15 @@ seen_fails old v u reader h fails = record {
 place_behind : (begun piece : List ℕ) (place : ℕ) → Begins begun → IsPlace (begun ++ piece) place → length begun ≤ place
 place_behind begun piece place begins is = elim (cases_lt place (length begun)) [
   | inl before ↦
-      let front : begun ≡ take (length begun) (begun ++ piece) = sym (take-append-le (length begun) begun piece (omega arith) ∙ take_all (length begun) begun (omega arith)) in
+      let front : begun ≡ take (length begun) (begun ++ piece) =
+      sym (take-append-le (length begun) begun piece (omega arith) ∙ take_all (length begun) begun (omega arith)) in
       absurd (is.longest (length begun) before (omega (arith, length-append begun piece)) (subst Begins front begins))
   | inr behind ↦ omega (arith, behind)
 ]
 
 -- one more piece is refused
-pub seen_stops : {T : Type 0} (P : T → List ℕ → Type 0) (n : ℕ) (sub ys : List ℕ) (old v u : World) (reader new : Reading)
+pub seen_stops : {T : Type 0} (P : T → List ℕ → Type 0) (n : ℕ) (sub ys : List ℕ) (old v u : World)
+    (reader new : Reading)
     (fault : FeedFault) → length sub ≡ PIECE_LEN → length ys ≡ length sub → HasSeen reader old v
     → Hands INPUT n sub ys v u → Feeds reader (take n ys) (Err fault) new → ReadTo P (Err (of_feed fault)) old u
 seen_stops P n sub ys old v u reader new (Wrong place) room same h hands fed =
@@ -195,7 +204,8 @@ seen_stops P n sub ys old v u reader new NoMemory room same h hands fed =
     }
 
 -- Input is at its end, and the bytes are a session
-pub seen_whole : (n : ℕ) (sub ys : List ℕ) (old v u : World) (reader : Reading) (session : Transcript) → HasSeen reader old v
+pub seen_whole : (n : ℕ) (sub ys : List ℕ) (old v u : World) (reader : Reading) (session : Transcript)
+    → HasSeen reader old v
     → Hands INPUT n sub ys v u → n ≡ 0 → IfSome (v.at INPUT).holds (λ h. h ≡ []) → Ends reader (Ok session)
     → ReadsWhole (Spells session) (old.at INPUT) (u.at INPUT)
 seen_whole n sub ys old v u reader session h hands none last ends =
@@ -208,7 +218,8 @@ seen_whole n sub ys old v u reader session h hands none last ends =
     }
 
 -- Input is at its end, and the bytes are no session
-pub seen_short : (n : ℕ) (sub ys : List ℕ) (old v u : World) (reader : Reading) (fault : SessionFault) → HasSeen reader old v
+pub seen_short : (n : ℕ) (sub ys : List ℕ) (old v u : World) (reader : Reading) (fault : SessionFault)
+    → HasSeen reader old v
     → Hands INPUT n sub ys v u → n ≡ 0 → IfSome (v.at INPUT).holds (λ h. h ≡ []) → Ends reader (Err fault)
     → Refuses fault.place (old.at INPUT) (u.at INPUT)
 seen_short n sub ys old v u reader fault h hands none last ends =
@@ -234,7 +245,8 @@ one_read session other bytes old new reads told is =
     one_session bytes session other (subst (Spells session) all reads.is) is
 
 -- and columns are counted for it where its verdict lists blocks
-pub counts_listed : (session : Transcript) (verdict : Verdict) (old new : Cell) (before now : ℕ) → ReadsWhole (Spells session) old new
+pub counts_listed : (session : Transcript) (verdict : Verdict) (old new : Cell) (before now : ℕ)
+    → ReadsWhole (Spells session) old new
     → (session.params.scheme ≡ SHAMIR → before + least_columns session.params.s verdict ≤ now)
     → CountsListed old.holds before now verdict
 counts_listed session verdict old new before now reads least = λ bytes other told is scheme.
@@ -242,26 +254,23 @@ counts_listed session verdict old new before now reads least = λ bytes other to
     subst (λ (t : Transcript). before + least_columns t.params.s verdict ≤ now) same
     (least (ap (λ (t : Transcript). t.params.scheme) same ∙ scheme))
 
--- columns are counted for the one session that Input held
-pub counts_of : (session : Transcript) (old new : Cell) (before now : ℕ) → ReadsWhole (Spells session) old new
-    → now ≤ before + most_columns session → (session.params.scheme ≡ XOR → now ≡ before) → ReplayCounts old.holds before now
-counts_of session old new before now reads most xor = record {
-  most = λ bytes other told is. subst (λ (t : Transcript). now ≤ before + most_columns t) (same bytes other told is) most;
+-- steps are counted for the one session that Input held
+pub counts_of : (bound : ℕ → ℕ → ℕ → ℕ → ℕ) (session : Transcript) (old new : Cell) (before now : ℕ)
+    → ReadsWhole (Spells session) old new
+    → now ≤ before + bound (length (answers session)) session.params.t session.params.h session.params.s
+    → (session.params.scheme ≡ XOR → now ≡ before) → ReplayCounts bound old.holds before now
+counts_of bound session old new before now reads most xor = record {
+  most = λ bytes other told is.
+      subst (λ (t : Transcript). now ≤ before + bound (length (answers t)) t.params.t t.params.h t.params.s)
+      (same bytes other told is) most;
   xor = λ bytes other told is scheme.
       xor (ap (λ (t : Transcript). t.params.scheme) (same bytes other told is) ∙ scheme);
   none = λ bytes told nothing. absurd (nothing (session, spelled bytes told));
 }
   where
     spelled : (bytes : List ℕ) → old.holds ≡ Some bytes → IsSession bytes session
-    spelled bytes told = subst (Spells session) (at_told (λ held. reads.read ≡ held) old.holds bytes told reads.all) reads.is
+    spelled bytes told = subst (Spells session) (at_told (λ held. reads.read ≡ held) old.holds bytes told reads.all)
+        reads.is
 
     same : (bytes : List ℕ) (other : Transcript) → old.holds ≡ Some bytes → IsSession bytes other → session ≡ other
     same bytes other told is = one_session bytes session other (spelled bytes told) is
-
--- no column is counted
-pub counts_none : (held : Option (List ℕ)) (before now : ℕ) → now ≡ before → ReplayCounts held before now
-counts_none held before now same = record {
-  most = λ bytes session told is. omega (arith, same);
-  xor = λ bytes session told is scheme. same;
-  none = λ bytes told nothing. same;
-}

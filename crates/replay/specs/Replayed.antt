@@ -1,6 +1,5 @@
 -- What reading a recorded session from Input, and judging it, does and gives.
-use Rattle.std.specs.Prelude.{◌≤◌, ◌+◌, ◌*◌, ◌⊎◌, length, Some, ◌≡◌, ℕ, List, Option, IfSome, Result, Ok, Err}
-use Rattle.uni_poly.specs.Binomial.{binomial}
+use Rattle.std.specs.Prelude.{◌≤◌, ◌+◌, ◌⊎◌, length, Some, ◌≡◌, ℕ, List, Option, IfSome, Result, Ok, Err}
 use Rattle.pir_ports.specs.World.{Cell, World}
 use Rattle.pir_ports.specs.Number.{INPUT}
 use Rattle.pir_ports.specs.Moves.{Rose, took, counted}
@@ -67,8 +66,8 @@ pub record ReadsLittle (old new : Cell) : Type 0 where
   pub front : IfSome old.holds (IsFront read)
   pub few : length read ≤ SESSION_HEADER_LEN + PIECE_LEN
 
--- Input was read: what it held is P of the result; or it is no session; or a call on Input failed; or memory ran out, early or
--- when a whole session was read
+-- Input was read: what it held is P of the result; or it is no session; or a call on Input failed; or memory ran out,
+-- early or when a whole session was read
 abbrev pub ReadTo : {T : Type 0} → (T → List ℕ → Type 0) → Result T ReplayFault → World → World → Type 0
 ReadTo P (Ok x) old new = ReadsWhole (P x) (old.at INPUT) (new.at INPUT)
 ReadTo P (Err (BadSession place)) old new = Refuses place (old.at INPUT) (new.at INPUT)
@@ -76,25 +75,22 @@ ReadTo P (Err ReadFault) old new = BreaksOff (old.at INPUT) (new.at INPUT)
 ReadTo P (Err Memory) old new =
     ReadsLittle (old.at INPUT) (new.at INPUT) ⊎ ReadsWhole SpellsOne (old.at INPUT) (new.at INPUT)
 
--- the most columns that judging a session takes: its width times the number of choices of t + 1 of its usable answers
-abbrev pub most_columns : Transcript → ℕ
-most_columns session = session.params.s * binomial (length (answers session)) (session.params.t + 1)
-
--- where this held a session no more columns are counted than judging it takes, and none in the XOR scheme; where it held
--- no session, none
-pub record ReplayCounts (held : Option (List ℕ)) (before now : ℕ) : Type 0 where
+-- where this held a session no more steps are counted than judging it takes, and none in the XOR scheme; where it
+-- held no session, none. `bound` bounds these steps for so many answers, a degree, an agreement and a width
+pub record ReplayCounts (bound : ℕ → ℕ → ℕ → ℕ → ℕ) (held : Option (List ℕ)) (before now : ℕ) : Type 0 where
   pub most : (bytes : List ℕ) (session : Transcript) → held ≡ Some bytes → IsSession bytes session
-      → now ≤ before + most_columns session
+      → now ≤ before + bound (length (answers session)) session.params.t session.params.h session.params.s
   pub xor : (bytes : List ℕ) (session : Transcript) → held ≡ Some bytes → IsSession bytes session
       → session.params.scheme ≡ XOR → now ≡ before
   pub none : (bytes : List ℕ) → held ≡ Some bytes → (SpellsOne bytes → ⊥) → now ≡ before
 
 -- where this held a session of Shamir's scheme, no fewer columns are counted than a listing of its verdict takes
 abbrev pub CountsListed : Option (List ℕ) → ℕ → ℕ → Verdict → Type 0
-CountsListed held before now verdict = (bytes : List ℕ) (session : Transcript) → held ≡ Some bytes → IsSession bytes session
+CountsListed held before now verdict = (bytes : List ℕ) (session : Transcript) → held ≡ Some bytes
+    → IsSession bytes session
     → session.params.scheme ≡ SHAMIR → before + least_columns session.params.s verdict ≤ now
 
--- where nothing is judged no column is counted
+-- where nothing is judged no step is counted
 abbrev pub CountsNone : Result Verdict ReplayFault → ℕ → ℕ → Type 0
 CountsNone (Ok verdict) before now = Unit {0}
 CountsNone (Err (BadSession place)) before now = now ≡ before

@@ -1,8 +1,8 @@
 //! Replays a recorded session: reads it from Input to its end, and judges it.
 //!
 //! Promised: the verdict is that of the session that Input held, all of which was read; bytes that are no session are
-//! refused, with the length of their longest prefix that begins one, and no more than [`PIECE_LEN`] bytes past it are read;
-//! nothing is read after a failed call; no port but Input is touched; and the columns that are interpolated are counted,
+//! refused, with the length of their longest prefix that begins one, and no more than [`PIECE_LEN`] bytes past it are
+//! read; nothing is read after a failed call; no port but Input is touched; and the steps of the verdict are counted,
 //! and bounded.
 //!
 //! Not promised: that memory is found, or that Input ever answers.
@@ -11,9 +11,11 @@
 ghost use Rattle.std.specs.Prelude.{◌≡◌, ◌≤◌, length, vec_len, IfOk};
 ghost use Rattle.pir_ports.specs.Number.{INPUT};
 ghost use Rattle.pir_ports.specs.Moves.{Touches};
+ghost use Rattle.block_decoder.specs.Numbers.{most_columns, most_nodes};
 ghost use Rattle.replay.specs.Replayed.{ReadTo, Judged, Spells, ReplayCounts, CountsListed, CountsNone};
 
 use block_decoder::{Verdict, judge};
+use gs_interpolate::Interpolate;
 use pir_ports::{Failed, Port, Ports};
 use std::alloc::{AllocError, Global};
 use std::sync::ledger::Ledger;
@@ -107,27 +109,33 @@ fn piece_buffer(alloc: Global) -> Result<Vec<u8>, AllocError>
     vec![in alloc; 0; PIECE_LEN]
 }
 
-/// The verdict on the session that Input, already open, holds to its end. It is read in pieces of at most [`PIECE_LEN`]
-/// bytes, and the first piece with a wrong byte ends the reading. `cols` counts the columns that are interpolated.
+/// The verdict on the session that Input, already open, holds to its end. It is read in pieces of at most
+/// [`PIECE_LEN`] bytes, and the first piece with a wrong byte ends the reading. Where the verdict takes an
+/// interpolation with multiplicities, it is made in this `way`. `cols` and `nodes` count the steps of the verdict, as
+/// in [`judge`]: the columns that are decoded, and the coefficients that are fixed in looking for roots.
 ///
 /// # Errors
 ///
-/// `ReadFault` only where the count of Input rose, and then what was read begins some session; `BadSession` exactly where
-/// Input holds no session; `Memory` for want of memory, before more is read than the header of a session and one piece, or
-/// when a whole session was read.
-pub fn replay<C: Ledger, P: Ports>(
+/// `ReadFault` only where the count of Input rose, and then what was read begins some session; `BadSession` exactly
+/// where Input holds no session; `Memory` for want of memory, before more is read than the header of a session and
+/// one piece, or when a whole session was read.
+pub fn replay<I: Interpolate, C: Ledger, N: Ledger, P: Ports>(
     alloc: Global,
+    way: &I,
     ports: &mut P,
     cols: &mut Steps<C>,
+    nodes: &mut Steps<N>,
 ) -> Result<Verdict, ReplayFault>
     ensures replayed { ReadTo Judged result (P.world ports.old) (P.world ports.new) }
     ensures others { Touches INPUT (P.world ports.old) (P.world ports.new) }
-    ensures cols { ReplayCounts ((P.world ports.old).at INPUT).holds cols.old cols.new }
-    ensures unjudged { CountsNone result cols.old cols.new }
+    ensures cols { ReplayCounts most_columns ((P.world ports.old).at INPUT).holds cols.old cols.new }
+    ensures nodes { ReplayCounts most_nodes ((P.world ports.old).at INPUT).holds nodes.old nodes.new }
+    ensures unjudged { CountsNone result cols.old cols.new × CountsNone result nodes.old nodes.new }
     ensures least { cols.old ≤ cols.new }
+    ensures least_nodes { nodes.old ≤ nodes.new }
     ensures listed { IfOk result (CountsListed ((P.world ports.old).at INPUT).holds cols.old cols.new) }
 {
     let mut buffer = piece_buffer(alloc)?;
     let session = read_pieces(alloc, ports, &mut buffer)?;
-    Ok(judge(alloc, &session, cols)?)
+    Ok(judge(alloc, way, &session, cols, nodes)?)
 }

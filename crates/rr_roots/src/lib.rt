@@ -56,6 +56,7 @@ pub fn y_roots<N: Ledger>(
     ensures exact { IfOk result (λ roots. ListsYRoots (map (λ r. r.items) roots.items) q.now t) }
     ensures most { (d : ℕ) → HasDegreeInYAtMost q.now d → nodes.new ≤ nodes.old + (t + 1) * d }
     ensures least { IfOk result (λ roots. 0 < length roots.items → nodes.old + (t + 1) ≤ nodes.new) }
+    ensures rises { nodes.old ≤ nodes.new }
 {
     let mut roots = Vec::new(alloc);
     let mut prefix = Vec::new(alloc);

@@ -1,7 +1,8 @@
 use Rattle.std.proofs.Common.{List, ℕ, ◌≡◌, length, map, All, sym, ap, subst, ◌∙◌, Vec, Global}
 use Rattle.gf256.specs.Polynomial.{val}
 use Rattle.column_lists.specs.Agreement.{ListsAgreeing}
-use Rattle.column_lists.proofs.OnOne.{lists_one, off_one}
+use Rattle.column_runs.proofs.OnOne.{off_one}
+use Rattle.column_lists.proofs.OnOne.{lists_one}
 use Rattle.column_lists.proofs.Listed.{listed, nodes_most}
 use Rattle.column_lists.proofs.column_list.Goals as goal
 

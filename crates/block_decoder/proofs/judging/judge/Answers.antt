@@ -1,16 +1,11 @@
-use Rattle.std.proofs.Common.{◌≡◌, ◌≢◌, ◌+◌, ◌*◌, ℕ, Bool, true, false, cond, nat_eq, List, length, refl, sym, ap, ap₂, subst, ◌∙◌, arith, eqb-true}
-use Rattle.std.proofs.lemmas.Bool.{eq-eqb, false≢true}
+use Rattle.std.proofs.Common.{◌≡◌, ℕ, List, length, IfOk, refl, sym, ap, ap₂, subst, ◌∙◌, arith}
 use Rattle.std.proofs.lemmas.Result.{IfOk-weaker}
-use Rattle.wire_frames.specs.declared.scheme.TheConstants.{XOR}
-use Rattle.wire_frames.specs.declared.scheme.Scheme.{Scheme}
-use Rattle.wire_frames.specs.declared.scheme.Scheme.TheVariants.{Shamir, Xor}
 use Rattle.wire_frames.specs.declared.session.SessionParams.{SessionParams}
 use Rattle.wire_frames.specs.Answer.{Answer, answers}
-use Rattle.wire_frames.specs.Scheme.{scheme_of}
 use Rattle.wire_frames.proofs.Schemes.{number_of_xor, number_of_shamir}
 use Rattle.block_decoder.specs.Agreed.{answers_of}
-use Rattle.uni_poly.specs.Binomial.{binomial}
-use Rattle.block_decoder.specs.Verdict.{IsCombined, IsDecided, IsUnlisted, IsVerdict}
+use Rattle.block_decoder.specs.Numbers.{bound_of, most_columns, most_nodes}
+use Rattle.block_decoder.specs.Verdict.{IsCombined, IsDecided, IsUnlisted, IsVerdict, ListsNoMoreThan}
 use Rattle.block_decoder.specs.declared.verdict.Verdict.{Verdict}
 use Rattle.block_decoder.proofs.Agreement.{length-answers_of}
 use Rattle.block_decoder.proofs.judging.judge.Goals as goal
@@ -21,6 +16,11 @@ use Rattle.block_decoder.proofs.judging.judge.Goals as goal
 same_decided : (all others : List Answer) (s w t u h i : ℕ) → all ≡ others → s ≡ w → t ≡ u → h ≡ i → (v : Verdict) → IsDecided all s t h v → IsDecided others w u i v
 same_decided all others s w t u h i a b c d v is =
     subst (λ (x : List Answer). IsDecided x w u i v) a (subst (λ (x : ℕ). IsDecided all x u i v) b (subst (λ (x : ℕ). IsDecided all s x i v) c (subst (λ (x : ℕ). IsDecided all s t x v) d is)))
+
+-- a number of the decoder is the same for equal numbers
+same_number : (f : ℕ → ℕ → ℕ → ℕ → ℕ) (k j t u h i s w : ℕ) → k ≡ j → t ≡ u → h ≡ i → s ≡ w → f k t h s ≡ f j u i w
+same_number f k j t u h i s w a b c d =
+    ap (λ x. f x t h s) a ∙ ap (λ x. f j x h s) b ∙ ap (λ x. f j u x s) c ∙ ap (λ x. f j u i x) d
 
 pub returns-in_ok-usable-in-Shamir-clause-verdict : goal.returns-in_ok-usable-in-Shamir-clause-verdict
 returns-in_ok-usable-in-Shamir-clause-verdict g c =
@@ -50,10 +50,25 @@ returns-in_ok-usable-in-Shamir-clause-cols g c =
     let params = c.params-params.ensures.value in
     let count : length c.deref.result.now ≡ length (answers session) =
     ap length c.deref.ensures.value ∙ sym (length-answers_of session.params.s usable.indices.items usable.payloads.items) ∙ ap length collected.answers_are in
-    let chosen : c.from.result + 1 ≡ session.params.t + 1 = ap (λ n. n + 1) (c.from.ensures ∙ ap (λ (p : SessionParams). p.t) params) in
-    let most : c.params-params.result.s * binomial (length c.deref.result.now) (c.from.result + 1) ≡ session.params.s * binomial (length (answers session)) (session.params.t + 1) =
-    ap₂ (λ (s b : ℕ). s * b) (ap (λ (p : SessionParams). p.s) params) (ap₂ binomial count chosen) in
+    let t = c.from.ensures ∙ ap (λ (p : SessionParams). p.t) params in
+    let h = c.from-in-Shamir.ensures ∙ ap (λ (p : SessionParams). p.h) params in
+    let s = ap (λ (p : SessionParams). p.s) params in
+    let most = same_number most_columns (length c.deref.result.now) (length (answers session)) c.from.result session.params.t c.from-in-Shamir.result session.params.h c.params-params.result.s session.params.s count t h s in
     omega (arith, most, c.decide.ensures.cols)
+
+pub returns-in_ok-usable-in-Shamir-clause-nodes : goal.returns-in_ok-usable-in-Shamir-clause-nodes
+returns-in_ok-usable-in-Shamir-clause-nodes g c =
+    let session = c.args.session.now in
+    let usable = c.in_ok-usable-in-Shamir.usable in
+    let collected = c.in_ok-usable-in-Shamir.ensures in
+    let params = c.params-params.ensures.value in
+    let count : length c.deref.result.now ≡ length (answers session) =
+    ap length c.deref.ensures.value ∙ sym (length-answers_of session.params.s usable.indices.items usable.payloads.items) ∙ ap length collected.answers_are in
+    let t = c.from.ensures ∙ ap (λ (p : SessionParams). p.t) params in
+    let h = c.from-in-Shamir.ensures ∙ ap (λ (p : SessionParams). p.h) params in
+    let s = ap (λ (p : SessionParams). p.s) params in
+    let most = same_number most_nodes (length c.deref.result.now) (length (answers session)) c.from.result session.params.t c.from-in-Shamir.result session.params.h c.params-params.result.s session.params.s count t h s in
+    omega (arith, most, c.decide.ensures.nodes)
 
 pub returns-in_ok-usable-in-Shamir-clause-unlisted : goal.returns-in_ok-usable-in-Shamir-clause-unlisted
 returns-in_ok-usable-in-Shamir-clause-unlisted g c = λ unlisted.
@@ -72,6 +87,24 @@ returns-in_ok-usable-in-Shamir-clause-unlisted g c = λ unlisted.
 pub returns-in_ok-usable-in-Shamir-clause-xor : goal.returns-in_ok-usable-in-Shamir-clause-xor
 returns-in_ok-usable-in-Shamir-clause-xor g c = λ xor.
     absurd (number_of_shamir c.params-params.result.scheme (sym c.of.ensures ∙ c.in-Shamir.is) (ap (λ (p : SessionParams). p.scheme) c.params-params.ensures.value ∙ xor))
+
+pub returns-in_ok-usable-in-Shamir-clause-few : goal.returns-in_ok-usable-in-Shamir-clause-few
+returns-in_ok-usable-in-Shamir-clause-few g c = λ shamir.
+    let session = c.args.session.now in
+    let usable = c.in_ok-usable-in-Shamir.usable in
+    let collected = c.in_ok-usable-in-Shamir.ensures in
+    let params = c.params-params.ensures.value in
+    let count : length c.deref.result.now ≡ length (answers session) =
+    ap length c.deref.ensures.value ∙ sym (length-answers_of session.params.s usable.indices.items usable.payloads.items) ∙ ap length collected.answers_are in
+    let t = c.from.ensures ∙ ap (λ (p : SessionParams). p.t) params in
+    let h = c.from-in-Shamir.ensures ∙ ap (λ (p : SessionParams). p.h) params in
+    let most = same_number (λ k t h s. bound_of k t h) (length c.deref.result.now) (length (answers session)) c.from.result session.params.t c.from-in-Shamir.result session.params.h 0 0 count t h refl in
+    subst (λ (most : ℕ). IfOk c.decide.result (ListsNoMoreThan most)) most c.decide.ensures.few
+
+pub returns-in-Xor-clause-few : goal.returns-in-Xor-clause-few
+returns-in-Xor-clause-few g c = λ shamir.
+    let xor = sym (ap (λ (p : SessionParams). p.scheme) c.params-params.ensures.value) ∙ number_of_xor c.params-params.result.scheme (sym c.of.ensures ∙ c.in-Xor.is) in
+    absurd (omega (arith, shamir, xor))
 
 pub returns-in-Xor-clause-verdict : goal.returns-in-Xor-clause-verdict
 returns-in-Xor-clause-verdict g c =

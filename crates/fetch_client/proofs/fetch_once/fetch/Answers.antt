@@ -1,33 +1,45 @@
-use Rattle.std.proofs.Common.{◌∙◌, List, ℕ, sym, ap, subst}
-use Rattle.std.specs.Prelude.{Result, Err}
+use Rattle.std.proofs.Common.{◌∙◌, map, string_bytes, sym, ap, subst}
+use Rattle.std.specs.Prelude.{Err}
 use Rattle.std.proofs.lemmas.Result.{err_from_is_err_and}
-use Rattle.wire_frames.specs.Session.{Transcript}
-use Rattle.block_matrix.proofs.Pieces.{whole_again}
-use Rattle.block_decoder.specs.declared.verdict.Verdict.{Verdict}
-use Rattle.fetch_client.specs.declared.plan.FetchFault.{FetchFault}
+use Rattle.block_decoder.specs.Numbers.{most_columns, most_nodes}
+use Rattle.fetch_client.specs.declared.plan.FetchPlan.{FetchPlan}
 use Rattle.fetch_client.specs.Sent.{queries_from}
 use Rattle.fetch_client.specs.Honest.{FindsHonestBlock}
-use Rattle.fetch_client.specs.Fetched.{FetchCounts}
-use Rattle.fetch_client.proofs.Columns.{columns_of_all}
+use Rattle.fetch_client.specs.Fetched.{Concludes}
+use Rattle.fetch_client.proofs.Counts.{counts_of_all}
 use Rattle.fetch_client.proofs.fetch_once.fetch.Goals as goal
 
 -- memory ran out when every server was asked
 pub returns-in_err-verdict-clause-cols : goal.returns-in_err-verdict-clause-cols
 returns-in_err-verdict-clause-cols g c =
     let fault = err_from_is_err_and c.from_residual-in_err-verdict.result c.from_residual-in_err-verdict.ensures.1 in
-    subst (λ (r : Result (Transcript × Verdict) FetchFault). FetchCounts c.args.plan.now r c.args.cols.now c.conclude.new.cols)
-    (sym (fault.1 ∙ ap Err fault.2))
-    (columns_of_all c.args.plan.now c.ask_servers.new.session _ _ c.in_ok-ask_servers.ensures.asked.asked.whole c.in_err-verdict.ensures.cols)
+    let kept = c.ask_servers.ensures.plan in
+    let whole = c.in_ok-ask_servers.ensures.asked.asked.whole ∙ ap (λ (p : FetchPlan). p.n) (sym kept) in
+    counts_of_all most_columns c.args.plan.now c.ask_servers.new.queries.plan c.ask_servers.new.session _ _ _
+    (fault.1 ∙ ap Err fault.2)
+    (kept ∙ c.in_ok-queries.ensures) whole c.in_err-verdict.ensures.cols
+
+pub returns-in_err-verdict-clause-nodes : goal.returns-in_err-verdict-clause-nodes
+returns-in_err-verdict-clause-nodes g c =
+    let fault = err_from_is_err_and c.from_residual-in_err-verdict.result c.from_residual-in_err-verdict.ensures.1 in
+    let kept = c.ask_servers.ensures.plan in
+    let whole = c.in_ok-ask_servers.ensures.asked.asked.whole ∙ ap (λ (p : FetchPlan). p.n) (sym kept) in
+    counts_of_all most_nodes c.args.plan.now c.ask_servers.new.queries.plan c.ask_servers.new.session _ _ _
+    (fault.1 ∙ ap Err fault.2)
+    (kept ∙ c.in_ok-queries.ensures) whole c.in_err-verdict.ensures.nodes
 
 pub returns-clause-fetched : goal.returns-clause-fetched
 returns-clause-fetched g c =
-    let room = c.in_ok-room.room.coins in
-    let coins = c.ask_servers.new.coins in
-    let same = whole_again room.len coins room.items (c.ask_servers.auto.coins ∙ c.deref_mut.ensures.len) (sym room.ok.0) in
-    record {
+    let session = c.ask_servers.new.session in
+    let verdict = c.in_ok-verdict.verdict in
+    let coins = c.ask_servers.new.queries.coins in
+    subst (λ (p : FetchPlan). Concludes p (map string_bytes c.args.addresses.now) session verdict
+    (g.P.Ports.world c.args.ports.now) (g.P.Ports.world c.ask_servers.new.ports))
+    c.in_ok-queries.ensures
+    (record {
       coins = coins;
       asked = c.in_ok-ask_servers.ensures.asked;
       judged = c.in_ok-verdict.ensures.judged;
-      found = subst (λ (l : List ℕ). FindsHonestBlock c.ask_servers.new.session (queries_from l) c.args.plan.now.block c.in_ok-verdict.verdict)
-          (c.deref.ensures.value ∙ same) c.in_ok-verdict.ensures.found;
-    }
+      found = subst (λ (p : FetchPlan). FindsHonestBlock session (queries_from coins) p.block verdict)
+          c.ask_servers.ensures.plan c.in_ok-verdict.ensures.found;
+    })

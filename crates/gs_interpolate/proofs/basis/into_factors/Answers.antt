@@ -1,17 +1,15 @@
-use Rattle.std.proofs.Common.{get_or, sym, ap, ◌∙◌, arith, inl, inr, get_or-set_other}
+use Rattle.std.proofs.Common.{get_or, sym, ap, ◌∙◌, arith, inl, inr}
 use Rattle.std.proofs.lemmas.Bool.{cases_lt}
 use Rattle.std.proofs.lemmas.List.{get_or_past}
 use Rattle.gf256.specs.Field.{◌⊗◌}
 use Rattle.gf256.proofs.FieldLaws.{zero_mul}
 use Rattle.gs_interpolate.proofs.basis.into_factors.Goals as goal
 
-pub returns-clause-others : goal.returns-clause-others
-returns-clause-others c = λ j other.
+pub returns : goal.returns
+returns c = λ j.
     let values = c.args.values.now in
-    let p = c.args.p in
     let l = c.loop-value in
-    get_or-set_other l.values p j 0 0 other
-    ∙ elim (cases_lt j l.value-index) [
+    elim (cases_lt j l.value-index) [
       | inl below ↦ l.invariant.done j below
       | inr past ↦
           let none = get_or_past values j 0 (omega arith) in

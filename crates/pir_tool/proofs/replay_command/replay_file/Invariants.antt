@@ -1,4 +1,7 @@
 use Rattle.pir_tool.proofs.replay_command.replay_file.Given as goal
 
-abbrev pub ghosts-replay_once : goal.ghosts-replay_once
-ghosts-replay_once g a = record { name = a.blank.name; parts = a.blank.parts }
+abbrev pub ghosts-replay_once-C-Ledger : goal.ghosts-replay_once-C-Ledger
+ghosts-replay_once-C-Ledger g a = record { name = a.cols.name; parts = a.cols.parts }
+
+abbrev pub ghosts-replay_once-N-Ledger : goal.ghosts-replay_once-N-Ledger
+ghosts-replay_once-N-Ledger g a = record { name = a.nodes.name; parts = a.nodes.parts }

@@ -1,16 +1,14 @@
-use Rattle.std.proofs.Common.{◌≡◌, ◌+◌, ◌-◌, ◌^◌, ◌<◌, ◌≤◌, ◌↔◌, ℕ, List, [], ◌∷◌, ◌++◌, length, take, vec_len, Result, Ok, Err, OnOk, sym, ap, subst, ◌∙◌, arith, lit<}
+use Rattle.std.proofs.Common.{◌≡◌, ◌+◌, ◌-◌, ◌^◌, ◌<◌, ◌≤◌, ◌↔◌, ℕ, List, [], ◌∷◌, ◌++◌, length, take, vec_len, sym, ap, subst, ◌∙◌, arith, lit<}
 use Rattle.std.proofs.Math.Nat.{pow-le-pow_right}
 use Rattle.std.proofs.Math.Seq.{take-append_seam}
 use Rattle.std.proofs.lemmas.List.{length-append}
+use Rattle.std.proofs.lemmas.Result.{on_ok_weaker}
 use Rattle.block_decoder.specs.Agreed.{weight}
 use Rattle.block_decoder.specs.Gains.{Gains}
 use Rattle.block_decoder.specs.Numbered.{all_numbered, Continues, ContinuesBelow}
-use Rattle.block_decoder.proofs.Continues.{Gains-none, Gains-same, Gains-both, Continues-light, Continues-whole, Continues-next, ContinuesBelow-more}
+use Rattle.block_decoder.proofs.Continued.{continues-light}
+use Rattle.block_decoder.proofs.Continues.{Gains-none, Gains-same, Gains-both, Continues-whole, Continues-next, ContinuesBelow-more}
 use Rattle.block_decoder.proofs.plain.Search.+extend.Goals as goal
-
-OnOk-weaker : {T E : Type 0} (r : Result T E) (P Q : Type 0) → (P → Q) → OnOk r P → OnOk r Q
-OnOk-weaker (Ok x) P Q f h = f h
-OnOk-weaker (Err e) P Q f h = tt
 
 -- what is left after the last is taken away
 without_last : (xs : List ℕ) (n m : ℕ) → m ≡ length (xs ++ n ∷ []) → take (m - 1) (xs ++ n ∷ []) ≡ xs
@@ -24,7 +22,7 @@ returns-then-weight-self-clause-exact t c =
     let s = c.args.self.now in
     let w = rw c.deref.ensures.value at c.weight.ensures in
     Gains-none (Continues s.answers s.width s.degree s.agreement c.args.numbers.now.items) c.args.listing.now
-    (Continues-light s.answers s.width s.degree s.agreement c.args.numbers.now.items (omega (arith, w, c.if-weight-self.true)))
+    (continues-light s.answers s.width s.degree s.agreement (all_numbered s.degree c.args.numbers.now.items) (omega (arith, w, c.if-weight-self.true)))
 
 pub returns-then-len-self-clause-exact : goal.returns-then-len-self-clause-exact
 returns-then-len-self-clause-exact t c =
@@ -36,8 +34,7 @@ returns-then-len-self-clause-exact t c =
     let whole : length numbers ≡ s.width = sym c.args.numbers.now.ok.0 ∙ sym c.len.ensures ∙ c.if-len-self.true in
     let enough : s.agreement ≤ weight (all_numbered s.degree numbers) s.answers = omega (arith, w, c.if-weight-self.false) in
     let IsBlock : List ℕ → Type 0 = λ b. b ≡ c.deref-then-len-self-2.result.now in
-    OnOk-weaker c.insert.result (Gains IsBlock c.args.listing.now c.insert.new.self)
-    (Gains (Continues s.answers s.width s.degree s.agreement numbers) c.args.listing.now c.insert.new.self)
+    on_ok_weaker c.insert.result
     (Gains-same IsBlock (Continues s.answers s.width s.degree s.agreement numbers) c.args.listing.now c.insert.new.self
     (λ b. let alone = Continues-whole s.answers s.width s.degree s.agreement numbers whole enough b in
     (λ e. alone.0 (e ∙ block), λ more. alone.1 more ∙ sym block)))

@@ -1,8 +1,11 @@
-use Rattle.std.proofs.Common.{ℕ, ◌+◌, ◌*◌, ◌<◌, ◌≤◌, get_or, length}
+use Rattle.std.proofs.Common.{◌≡◌, ℕ, ◌+◌, ◌-◌, ◌*◌, ◌<◌, length, map, get_or}
+use Rattle.bi_poly.specs.Rows.{row}
 use Rattle.gs_interpolate.proofs.basis.Basis.into_lightest.Given as goal
 
 abbrev pub invariant-loop-j : goal.invariant-loop-j
 invariant-loop-j l = record {
-  inside : l.lightest < length l.self.exponents.items;
-  least : (k : ℕ) → k < l.j → get_or l.self.exponents.items l.lightest 0 + l.t * l.lightest ≤ get_or l.self.exponents.items k 0 + l.t * k;
+  size : length l.rows.items ≡ l.j;
+  each : (k : ℕ) → k < l.j → length (row (map (λ r. r.items) l.rows.items) k) ≡ l.most + 1 - l.t * k;
+  cells : (k i : ℕ) → k < l.j → i < l.most + 1 - l.t * k
+      → get_or (row (map (λ r. r.items) l.rows.items) k) i 0 ≡ get_or (row (map (λ r. r.items) l.self.rows.items) k) (i * l.self.lanes + l.place) 0;
 }

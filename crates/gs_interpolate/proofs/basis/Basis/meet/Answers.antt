@@ -1,38 +1,106 @@
-use Rattle.std.proofs.Common.{◌≡◌, ◌<◌, ◌+◌, [], length, get_or, set, sym, ap, subst, ◌∙◌, arith, inr, take_at}
-use Rattle.std.proofs.lemmas.List.{get_or_default, length-map}
-use Rattle.bi_poly.specs.Hasse.{hasse}
-use Rattle.bi_poly.specs.Combination.{times_linear_rows}
-use Rattle.gs_interpolate.specs.Basis.{polynomial, values, factor, IsPivot, IsCleared, IsStep, IsMeeting}
-use Rattle.gs_interpolate.proofs.Meeting.{is_step}
+use Rattle.std.proofs.Common.{◌≡◌, ◌≢◌, ◌<◌, ◌+◌, ◌*◌, List, ℕ, length, map, get_or, set, take, refl, sym, ap, ap₂, subst, ◌∙◌, arith, inl, inr, Vec, Global, length-set, get_or-set_same, get_or-set_other}
+use Rattle.std.proofs.lemmas.List.{get_or-take}
+use Rattle.gf256.specs.Field.{◌⊕◌, ◌⊗◌, inverse}
+use Rattle.gf256.proofs.Xor.{add_assoc, add_self, add_zero}
+use Rattle.gs_interpolate.specs.Family.{multiplier, IsFamilyStep}
+use Rattle.gs_interpolate.specs.Window.{window_row, IsWindowStep}
+use Rattle.gs_interpolate.specs.Basis.{values, IsPivot}
+use Rattle.gs_interpolate.proofs.FamilySteps.{is_step, window-follows, values-of_window}
+use Rattle.gs_interpolate.proofs.Meeting.{length-values}
 use Rattle.gs_interpolate.proofs.basis.Basis.meet.Goals as goal
 
-pub returns : goal.returns
-returns c =
-    let t = c.args.t in
+pub returns-in_default-clause-met : goal.returns-in_default-clause-met
+returns-in_default-clause-met c = λ b window.
+    let f : Vec ℕ Global → List ℕ = λ r. r.items in
+    let n = c.args.self.now.lanes in
+    let m = c.args.window.now.m in
+    let u = c.args.u in
+    let v = c.args.v in
     let a = c.args.a in
-    let gs = c.args.self.now.polynomials.items in
+    let rows = map f c.args.self.now.rows.items in
     let es = c.args.self.now.exponents.items in
-    let vs = values gs c.args.u c.args.v a c.args.b in
+    let cells = c.args.window.now.cells.items in
+    let copied = c.copy_from_slice.new.self in
+    let read = subst (λ k. (g : ℕ) → g < k → get_or c.values.result.now g 0 ≡ get_or (window_row k m cells v) (u * k + g) 0) c.requires.window.0 c.values.ensures.values in
+    let same = λ (g : ℕ) (l : g < n). ap (λ xs. get_or xs g 0) c.copy_from_slice.ensures.after ∙ read g l in
+    let size : length copied ≡ n = c.copy_from_slice.auto.self ∙ c.requires.factors in
+    let count : c.len.result ≡ length rows = omega (arith, c.len.ensures, c.requires.basis.size) in
+    let is : take c.len.result copied ≡ values n rows u v a b =
+    ap (λ k. take k copied) count ∙ values-of_window n m u v a b cells rows copied c.requires.basis.wide size c.requires.window.1 same window in
+    inl (λ j. ap (λ xs. get_or xs j 0) (sym is) ∙ c.in_default.ensures j, refl, refl)
+
+pub returns-clause-met : goal.returns-clause-met
+returns-clause-met c = λ b window.
+    let f : Vec ℕ Global → List ℕ = λ r. r.items in
+    let n = c.args.self.now.lanes in
+    let m = c.args.window.now.m in
+    let u = c.args.u in
+    let v = c.args.v in
+    let a = c.args.a in
+    let rows = map f c.args.self.now.rows.items in
+    let es = c.args.self.now.exponents.items in
+    let cells = c.args.window.now.cells.items in
+    let copied = c.copy_from_slice.new.self in
+    let read = subst (λ k. (g : ℕ) → g < k → get_or c.values.result.now g 0 ≡ get_or (window_row k m cells v) (u * k + g) 0) c.requires.window.0 c.values.ensures.values in
+    let same = λ (g : ℕ) (l : g < n). ap (λ xs. get_or xs g 0) c.copy_from_slice.ensures.after ∙ read g l in
+    let size : length copied ≡ n = c.copy_from_slice.auto.self ∙ c.requires.factors in
+    let count : c.len.result ≡ length rows = omega (arith, c.len.ensures, c.requires.basis.size) in
+    let is : take c.len.result copied ≡ values n rows u v a b =
+    ap (λ k. take k copied) count ∙ values-of_window n m u v a b cells rows copied c.requires.basis.wide size c.requires.window.1 same window in
     let p = c.in-Some.p in
-    let mid = set gs p c.replace-taken.new.dest in
-    let made = c.clear_all.new.polynomials in
-    let fs = c.deref-2.result.now in
-    let pivot : IsPivot t es vs p = subst (λ xs. IsPivot t es xs p) (c.deref.ensures.value ∙ c.in_ok-values.ensures) c.in-Some.ensures in
-    let inside : p < length gs = omega (arith, pivot.inside, length-map gs (λ g. hasse g c.args.u c.args.v a c.args.b)) in
-    let size : length made ≡ length c.deref_mut-2.result.now = c.clear_all.auto.polynomials in
-    let factors : fs ≡ c.into_factors.new.values =
-    c.deref-2.ensures.value ∙ take_at c.into_factors.new.values _ c.in_ok-values.values.len (c.into_factors.auto.values ∙ c.deref_mut.ensures.len) in
-    let old : c.deref_mut.result.now ≡ vs = c.deref_mut.ensures.value ∙ c.in_ok-values.ensures in
-    let step : IsStep gs es made (set es p (get_or es p 0 + 1)) vs a p =
-    is_step gs mid made c.in_ok-raised.raised c.replace-taken.result es vs fs a p
-    inside
-    (c.in_ok-raised.ensures ∙ ap (λ q. times_linear_rows q a) (c.index.ensures ∙ get_or_default gs p _ [] inside))
-    (c.replace-taken.ensures.value ∙ c.index_mut.ensures.value ∙ get_or_default gs p _ [] inside)
-    (ap (set gs p) c.replace-taken.ensures.after)
-    (size ∙ ap length c.deref_mut-2.ensures.value)
-    (λ j. subst (λ xs. IsCleared (polynomial made j) (polynomial xs j) c.replace-taken.result (get_or fs j 0)) c.deref_mut-2.ensures.value (c.in_ok-clear_all.ensures j))
-    (ap (λ xs. get_or xs p 0) factors ∙ c.into_factors.ensures.pivot)
-    (λ j other. ap (λ xs. get_or xs j 0) factors ∙ c.into_factors.ensures.others j other ∙ ap (λ xs. factor xs p j) old) in
-    subst (λ x. IsMeeting t gs es x (set es p (c.index_mut-2.result.now + 1)) vs a)
-    (sym (take_at made _ c.args.self.now.polynomials.len (size ∙ c.deref_mut-2.ensures.len)))
-    (subst (λ e. IsMeeting t gs es made (set es p (e + 1)) vs a) (sym (c.index_mut-2.ensures.value ∙ get_or_default es p _ 0 (omega (arith, inside, c.requires.basis.size)))) (inr (p, pivot, step)))
+    let values-2 = c.into_factors.new.values in
+    let shifting = set values-2 p 1 in
+    let factors = set shifting p c.add.result in
+    let pivot : IsPivot c.args.t es (values n rows u v a b) p = subst (λ xs. IsPivot c.args.t es xs p) is c.in-Some.ensures in
+    let inside : p < length rows = omega (arith, pivot.inside, length-values n rows u v a b) in
+    let room : p < length values-2 = omega (arith, inside, c.requires.basis.wide, size, c.into_factors.auto.values) in
+    let room-2 : p < length shifting = omega (arith, room, length-set values-2 p 1) in
+    let raised : multiplier factors p ≡ a =
+    ap (λ x. x ⊕ 1) (get_or-set_same shifting p c.add.result 0 room-2 ∙ c.add.ensures) ∙ add_assoc a 1 1 ∙ ap (◌⊕◌ a) (add_self 1) ∙ add_zero a in
+    let rows-step = subst (λ x. IsFamilyStep n (map f c.step-2.new.self.rows.items) rows factors p x c.args.t (get_or es p 0 + c.args.t * p + 2)) raised c.in_ok-step.ensures.rows in
+    let here = λ (j : ℕ) (l : j < length rows). ap (λ k. get_or (take k copied) j 0) (sym count) ∙ ap (λ xs. get_or xs j 0) is in
+    let factor-is = λ (j : ℕ) (l : j < length rows) (o : j ≢ p).
+    get_or-set_other shifting p j c.add.result 0 o ∙ get_or-set_other values-2 p j 1 0 o ∙ c.into_factors.ensures j
+    ∙ ap₂ (λ x y. x ⊗ inverse y) (sym (get_or-take (length rows) copied j 0 l) ∙ here j l) (sym (get_or-take (length rows) copied p 0 inside) ∙ here p inside) in
+    inr (
+      p,
+      pivot,
+      is_step c.args.t n rows es (map f c.step-2.new.self.rows.items) factors p a _ c.requires.basis inside refl rows-step
+          c.step-2.new.self.exponents.items (values n rows u v a b) c.in_ok-step.ensures.exponents factor-is,
+    )
+
+pub returns-clause-window : goal.returns-clause-window
+returns-clause-window c = λ b window.
+    let f : Vec ℕ Global → List ℕ = λ r. r.items in
+    let n = c.args.self.now.lanes in
+    let m = c.args.window.now.m in
+    let u = c.args.u in
+    let v = c.args.v in
+    let a = c.args.a in
+    let rows = map f c.args.self.now.rows.items in
+    let es = c.args.self.now.exponents.items in
+    let cells = c.args.window.now.cells.items in
+    let copied = c.copy_from_slice.new.self in
+    let read = subst (λ k. (g : ℕ) → g < k → get_or c.values.result.now g 0 ≡ get_or (window_row k m cells v) (u * k + g) 0) c.requires.window.0 c.values.ensures.values in
+    let same = λ (g : ℕ) (l : g < n). ap (λ xs. get_or xs g 0) c.copy_from_slice.ensures.after ∙ read g l in
+    let size : length copied ≡ n = c.copy_from_slice.auto.self ∙ c.requires.factors in
+    let count : c.len.result ≡ length rows = omega (arith, c.len.ensures, c.requires.basis.size) in
+    let is : take c.len.result copied ≡ values n rows u v a b =
+    ap (λ k. take k copied) count ∙ values-of_window n m u v a b cells rows copied c.requires.basis.wide size c.requires.window.1 same window in
+    let p = c.in-Some.p in
+    let values-2 = c.into_factors.new.values in
+    let shifting = set values-2 p 1 in
+    let factors = set shifting p c.add.result in
+    let pivot : IsPivot c.args.t es (values n rows u v a b) p = subst (λ xs. IsPivot c.args.t es xs p) is c.in-Some.ensures in
+    let inside : p < length rows = omega (arith, pivot.inside, length-values n rows u v a b) in
+    let room : p < length values-2 = omega (arith, inside, c.requires.basis.wide, size, c.into_factors.auto.values) in
+    let room-2 : p < length shifting = omega (arith, room, length-set values-2 p 1) in
+    let raised : multiplier factors p ≡ a =
+    ap (λ x. x ⊕ 1) (get_or-set_same shifting p c.add.result 0 room-2 ∙ c.add.ensures) ∙ add_assoc a 1 1 ∙ ap (◌⊕◌ a) (add_self 1) ∙ add_zero a in
+    let rows-step = subst (λ x. IsFamilyStep n (map f c.step-2.new.self.rows.items) rows factors p x c.args.t (get_or es p 0 + c.args.t * p + 2)) raised c.in_ok-step.ensures.rows in
+    let shifted : multiplier shifting p ≡ 0 = ap (λ x. x ⊕ 1) (get_or-set_same values-2 p 1 0 room) ∙ add_self 1 in
+    let change =
+    subst (λ x. IsWindowStep n m c.step.new.self.cells.items cells shifting p x v) shifted
+    (subst (λ k. IsWindowStep k m c.step.new.self.cells.items cells shifting p (multiplier shifting p) v) c.requires.window.0 c.step.ensures.step) in
+    window-follows c.args.t n rows es (map f c.step-2.new.self.rows.items) factors p a _ c.requires.basis inside refl rows-step
+    m b v cells c.step.new.self.cells.items shifting window change (λ g o. sym (get_or-set_other shifting p g c.add.result 0 o))

@@ -1,20 +1,28 @@
-use Rattle.std.proofs.Common.{◌≡◌, length, get_or, sym, ap, subst, ◌∙◌, arith}
-use Rattle.std.proofs.lemmas.List.{length-replicate, get_or-replicate}
-use Rattle.gs_interpolate.specs.Basis.{polynomial, IsLed}
-use Rattle.gs_interpolate.proofs.Leading.{led-power_of_y}
+use Rattle.std.proofs.Common.{◌≡◌, ◌+◌, ◌*◌, ◌/◌, ◌%◌, ◌≤◌, List, ℕ, length, map, get_or, sym, ap, subst, ◌∙◌, arith, Vec, Global}
+use Rattle.std.proofs.Math.Nat.{mul-mod_left}
+use Rattle.std.proofs.lemmas.List.{length-map, length-replicate, get_or-replicate}
+use Rattle.gs_interpolate.specs.Family.{member}
+use Rattle.gs_interpolate.specs.Basis.{IsLed}
+use Rattle.gs_interpolate.proofs.Leading.{led-power}
 use Rattle.gs_interpolate.proofs.basis.Basis.new.Goals as goal
 
 pub returns-clause-basis : goal.returns-clause-basis
 returns-clause-basis c = λ t.
-    let gs = c.loop-j.polynomials.items in
+    let f : Vec ℕ Global → List ℕ = λ r. r.items in
     let n = c.args.n in
-    let size = c.loop-j.invariant.size in
-    let all : length gs ≡ n = omega arith in
+    let lanes = (n + 15) / 16 * 16 in
+    let rows = map f c.loop-j.rows.items in
+    let all : length rows ≡ n = omega (arith, length-map c.loop-j.rows.items f, c.loop-j.invariant.size) in
+    let wide : length rows ≤ lanes = omega (arith, all) in
     let zeros = c.in_ok-exponents.ensures.items_if_clones_equal (λ y e. e) in
+    let once : 1 * lanes ≡ lanes = omega arith in
     record {
       size = ap length zeros ∙ length-replicate n 0 ∙ sym all;
+      wide = wide;
+      whole = λ j l.
+          let power = c.loop-j.invariant.each j (omega (arith, l, all)) in
+          ap (λ k. k % lanes) (power.size ∙ sym once) ∙ mul-mod_left 1 lanes;
       each = λ j l.
-          subst (λ k. IsLed t k (polynomial gs j) (get_or c.in_ok-exponents.exponents.items j 0) j) (sym all)
-          (subst (λ e. IsLed t n (polynomial gs j) e j) (sym (ap (λ es. get_or es j 0) zeros ∙ get_or-replicate n j 0 0 (omega arith)))
-          (led-power_of_y t j n (polynomial gs j) (c.loop-j.invariant.each j (omega arith))));
+          subst (λ e. IsLed t (member lanes rows j) e j) (sym (ap (λ es. get_or es j 0) zeros ∙ get_or-replicate n j 0 0 (omega (arith, l, all))))
+          (led-power t lanes rows wide (λ k h. c.loop-j.invariant.each k (omega (arith, h, all))) j l);
     }

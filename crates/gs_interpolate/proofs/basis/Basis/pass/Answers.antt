@@ -1,23 +1,68 @@
-use Rattle.std.proofs.Common.{arith}
+use Rattle.std.proofs.Common.{ℕ, List, length, map, ap, subst, ◌∙◌, arith, take_at, Vec, Global}
+use Rattle.gs_interpolate.specs.Window.{IsWindow}
+use Rattle.gs_interpolate.specs.Basis.{values, IsMeeting}
 use Rattle.gs_interpolate.proofs.Passing.{under-room, under-met, under-row, under-all}
 use Rattle.gs_interpolate.proofs.basis.Basis.pass.Goals as goal
 
 pub meet-requires-clause-room : goal.meet-requires-clause-room
 meet-requires-clause-room c =
-    under-room c.args.t c.args.self.now.polynomials.items c.args.self.now.exponents.items c.orders.self.polynomials.items c.orders.self.exponents.items
-    c.args.a c.args.b c.args.m c.rows.v c.orders.u _ c.orders.invariant (omega arith) c.requires.room
+    let f : Vec ℕ Global → List ℕ = λ r. r.items in
+    under-room c.args.t c.args.self.now.lanes (map f c.args.self.now.rows.items) c.args.self.now.exponents.items
+    (map f c.orders.self.rows.items) c.orders.self.exponents.items
+    c.args.a c.args.b c.args.m c.rows.v c.orders.u _ c.orders.invariant.under (omega arith) c.requires.room
 
 pub orders-preserved : goal.orders-preserved
 orders-preserved c =
-    under-met c.args.t c.args.self.now.polynomials.items c.args.self.now.exponents.items c.orders.self.polynomials.items c.orders.self.exponents.items
-    c.meet.new.self.polynomials.items c.meet.new.self.exponents.items c.args.a c.args.b c.args.m c.rows.v c.orders.u c.orders.invariant (omega arith) c.in_ok-meet.ensures
+    let f : Vec ℕ Global → List ℕ = λ r. r.items in
+    let h = c.orders.invariant in
+    let t = c.args.t in
+    let n = c.args.self.now.lanes in
+    let m = c.args.m in
+    let a = c.args.a in
+    let u = c.orders.u in
+    let v = c.rows.v in
+    let mid = map f c.orders.self.rows.items in
+    let made = map f c.meet.new.self.rows.items in
+    let met = c.in_ok-meet.ensures in
+    let follows =
+    subst (λ k. (b : ℕ) → IsWindow n k c.orders.window.cells.items mid a b v → IsWindow n k c.meet.new.window.cells.items made a b v) h.order
+    (subst (λ l. (b : ℕ) → IsWindow l c.orders.window.m c.orders.window.cells.items mid a b v → IsWindow l c.orders.window.m c.meet.new.window.cells.items made a b v) h.lanes met.window) in
+    let meeting =
+    subst (λ k. (b : ℕ) → IsWindow n k c.orders.window.cells.items mid a b v
+    → IsMeeting t n mid c.orders.self.exponents.items made c.meet.new.self.exponents.items (values n mid u v a b) a) h.order
+    (subst (λ l. (b : ℕ) → IsWindow l c.orders.window.m c.orders.window.cells.items mid a b v
+    → IsMeeting t l mid c.orders.self.exponents.items made c.meet.new.self.exponents.items (values l mid u v a b) a) h.lanes met.met) in
+    record {
+      lanes = met.lanes.0 ∙ h.lanes;
+      side = met.lanes.1 ∙ h.side;
+      order = met.lanes.2 ∙ h.order;
+      room =
+          ap length (take_at c.meet.new.factors _ c.orders.factors.len (c.meet.auto.factors ∙ c.deref_mut.ensures.len))
+          ∙ c.meet.auto.factors ∙ ap length c.deref_mut.ensures.value ∙ h.room;
+      window = follows c.args.b h.window;
+      under =
+          under-met t n (map f c.args.self.now.rows.items) c.args.self.now.exponents.items mid c.orders.self.exponents.items
+          made c.meet.new.self.exponents.items a c.args.b m v u h.under (omega arith) (meeting c.args.b h.window);
+    }
 
 pub rows-preserved : goal.rows-preserved
 rows-preserved c =
-    under-row c.args.t c.args.self.now.polynomials.items c.args.self.now.exponents.items c.orders.self.polynomials.items c.orders.self.exponents.items
-    c.args.a c.args.b c.args.m c.rows.v c.orders.u c.orders.invariant (omega arith)
+    let f : Vec ℕ Global → List ℕ = λ r. r.items in
+    let h = c.orders.invariant in
+    let window = h.window in
+    record {
+      lanes = h.lanes;
+      side = h.side;
+      order = h.order;
+      room = h.room;
+      window = record { size = window.size; each = λ u w g from l k. window.each u w g (omega arith) l k };
+      under =
+          under-row c.args.t c.args.self.now.lanes (map f c.args.self.now.rows.items) c.args.self.now.exponents.items
+          (map f c.orders.self.rows.items) c.orders.self.exponents.items c.args.a c.args.b c.args.m c.rows.v c.orders.u h.under (omega arith);
+    }
 
-pub returns : goal.returns
-returns c =
-    under-all c.args.t c.args.self.now.polynomials.items c.args.self.now.exponents.items c.rows.self.polynomials.items c.rows.self.exponents.items
-    c.args.a c.args.b c.args.m c.rows.v c.rows.invariant (omega arith)
+pub returns-clause-passed : goal.returns-clause-passed
+returns-clause-passed c =
+    let f : Vec ℕ Global → List ℕ = λ r. r.items in
+    under-all c.args.t c.args.self.now.lanes (map f c.args.self.now.rows.items) c.args.self.now.exponents.items
+    (map f c.rows.self.rows.items) c.rows.self.exponents.items c.args.a c.args.b c.args.m c.rows.v c.rows.invariant.under (omega arith)

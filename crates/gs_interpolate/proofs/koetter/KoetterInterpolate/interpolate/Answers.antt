@@ -1,9 +1,11 @@
-use Rattle.std.proofs.Common.{◌≡◌, ◌≤◌, length, sum, get_or, subst, ◌∙◌, arith, inl, inr}
-use Rattle.std.proofs.lemmas.List.{get_or_default}
-use Rattle.bi_poly.specs.Hasse.{HasZero}
-use Rattle.gs_interpolate.specs.Basis.{polynomial}
+use Rattle.std.proofs.Common.{◌≡◌, ◌<◌, ◌≤◌, List, ℕ, length, map, sum, get_or, refl, sym, subst, ◌∙◌, arith, inl, inr, Vec, Global}
 use Rattle.std.proofs.lemmas.Bool.{cases_lt}
+use Rattle.std.proofs.lemmas.List.{get_or_default, length-map}
+use Rattle.std.proofs.lemmas.Result.{IfOk-weaker}
+use Rattle.bi_poly.specs.Hasse.{HasZero}
+use Rattle.gs_interpolate.specs.Family.{member}
 use Rattle.gs_interpolate.specs.Monomials.{conditions}
+use Rattle.gs_interpolate.specs.Basis.{IsBasis}
 use Rattle.gs_interpolate.proofs.Passing.{conditions-next}
 use Rattle.gs_interpolate.proofs.Lightest.{lightest_interpolates}
 use Rattle.gs_interpolate.proofs.koetter.KoetterInterpolate.interpolate.Goals as goal
@@ -11,6 +13,7 @@ use Rattle.gs_interpolate.proofs.koetter.KoetterInterpolate.interpolate.Goals as
 pub loop-a-init : goal.loop-a-init
 loop-a-init c = record {
   size = omega (arith, c.in_ok-basis.ensures.size, c.len.ensures);
+  lanes = refl;
   basis = c.in_ok-basis.ensures.basis c.args.t;
   zeros = λ k j l. absurd (omega arith);
   few = let none = c.in_ok-basis.ensures.sum in omega arith;
@@ -18,31 +21,50 @@ loop-a-init c = record {
 
 pub loop-a-preserved : goal.loop-a-preserved
 loop-a-preserved c =
+    let f : Vec ℕ Global → List ℕ = λ r. r.items in
     let h = c.loop-a.invariant in
     let i = c.loop-a.a-index in
+    let m = c.args.m in
     let points = c.args.points.now in
-    let P = c.in_ok-pass.ensures in
+    let old = c.loop-a.basis in
+    let new = c.pass.new.self in
+    let rows = map f new.rows.items in
+    let P = c.in_ok-pass.ensures.passed in
+    let lanes = c.in_ok-pass.ensures.lanes in
+    let before = length-map old.rows.items f in
+    let after = length-map new.rows.items f in
+    let size : length new.rows.items ≡ length old.rows.items = omega (arith, before, after, P.size) in
     record {
-      size = P.size ∙ h.size;
-      basis = P.basis;
-      zeros = λ k j l.
-          elim (cases_lt k i) [
-            | inl below ↦ P.kept _ _ c.args.m (λ g. h.zeros k g below) j
+      size = size ∙ h.size;
+      lanes = lanes ∙ h.lanes;
+      basis = subst (λ n. IsBasis c.args.t n rows new.exponents.items) (sym lanes) P.basis;
+      zeros = λ k j l inside.
+          let here : j < length (map f old.rows.items) = omega (arith, inside, size, before) in
+          subst (λ n. HasZero (member n rows j) (get_or points k (0, 0)).0 (get_or points k (0, 0)).1 m) (sym lanes)
+          (elim (cases_lt k i) [
+            | inl below ↦ P.kept _ _ m (λ g s. h.zeros k g below (omega (arith, s, before))) j here
             | inr past ↦
                 let same : i ≡ k = omega arith in
-                subst (λ x. HasZero (polynomial c.pass.new.self.polynomials.items j) (get_or points x (0, 0)).0 (get_or points x (0, 0)).1 c.args.m) same (P.zeros j)
-          ];
-      few = let rise = P.rise in let few = h.few in let next = conditions-next i c.args.m in omega arith;
+                subst (λ x. HasZero (member old.lanes rows j) (get_or points x (0, 0)).0 (get_or points x (0, 0)).1 m) same (P.zeros j here)
+          ]);
+      few = let rise = P.rise in let few = h.few in let next = conditions-next i m in omega arith;
     }
 
 pub returns : goal.returns
 returns c =
+    let f : Vec ℕ Global → List ℕ = λ r. r.items in
     let points = c.args.points.now in
     let m = c.args.m in
     let h = c.loop-a.invariant in
-    let gs = c.loop-a.basis.polynomials.items in
+    let n = c.loop-a.basis.lanes in
+    let rows = map f c.loop-a.basis.rows.items in
+    let count = length-map c.loop-a.basis.rows.items f in
     let all : c.loop-a.a-index ≡ length points = omega arith in
-    lightest_interpolates points m c.args.t c.args.d c.in_ok-lengths.lengths.items gs c.loop-a.basis.exponents.items c.into_lightest.result
-    c.in_ok-lengths.ensures h.size h.basis (subst (λ k. sum c.loop-a.basis.exponents.items ≤ conditions k m) all h.few)
-    (λ k d l j. subst (λ p. HasZero (polynomial gs j) p.0 p.1 m) (get_or_default points k (0, 0) d l) (h.zeros k j (omega arith)))
+    IfOk-weaker c.into_lightest.result _ _
+    (λ q light.
+    lightest_interpolates points m c.args.t c.args.d n c.in_ok-lengths.lengths.items rows c.loop-a.basis.exponents.items q
+    c.in_ok-lengths.ensures (count ∙ h.size) h.basis (subst (λ k. sum c.loop-a.basis.exponents.items ≤ conditions k m) all h.few)
+    (λ k d l j inside.
+    subst (λ p. HasZero (member n rows j) p.0 p.1 m) (get_or_default points k (0, 0) d l) (h.zeros k j (omega (arith, l, all)) (omega (arith, inside, count))))
+    light)
     c.into_lightest.ensures

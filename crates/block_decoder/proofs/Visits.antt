@@ -1,0 +1,153 @@
+-- The vectors that the decoder visits, put together from those below each next polynomial.
+use Rattle.std.proofs.Common.{◌≡◌, ◌≢◌, ℕ, ◌+◌, ◌-◌, ◌*◌, ◌<◌, ◌≤◌, List, [], ◌∷◌, ◌++◌, length, All, AllPairs, Contains, refl, sym, ap, subst, ◌∙◌, arith, append_assoc}
+use Rattle.std.proofs.lemmas.List.{length-append}
+use Rattle.std.proofs.lemmas.List.Elements.{All-nil, All-cons, All-append, All-weaker, Contains-append_left, Contains-append_right}
+use Rattle.std.proofs.lemmas.List.Kept.{AllPairs-cons}
+use Rattle.std.proofs.lemmas.List.Sums.{length-filter}
+use Rattle.gf256.specs.Polynomial.{IsPolynomial}
+use Rattle.wire_frames.specs.Answer.{Answer}
+use Rattle.block_decoder.specs.Agreed.{holds_first, weight, HasColumns}
+use Rattle.block_decoder.specs.Numbers.{bound_of, column_nodes, most_columns, most_nodes}
+use Rattle.block_decoder.specs.Narrowing.{IsVisited, AreVisited, CountsFrom}
+use Rattle.block_decoder.proofs.HeavyByLength.{few_by_length}
+use Rattle.block_decoder.proofs.Leaves.{NodesBy, few_nodes, nodes-nothing, nodes-none, nodes-after, nodes-more, nodes-whole}
+use Rattle.block_decoder.proofs.Pairs.{AllPairs-nil, AllPairs-append}
+use Rattle.block_decoder.proofs.Runs.{HasRun, visits}
+use Rattle.block_decoder.proofs.Vectors.{differ_by_beginning, differ_by_last}
+
+-- a visited vector that begins with v and one of these polynomials
+pub record IsVisitedBy (nexts : List (List ℕ)) (answers : List Answer) (width t h : ℕ) (v vector : List (List ℕ)) : Type 0 where
+  pub next : List ℕ
+  pub listed : Contains nexts next
+  pub visited : IsVisited answers width t h (v ++ next ∷ []) vector
+
+-- no more columns were decoded than there are different such vectors, and the nodes of few lists were counted
+pub record CountsBy (nexts : List (List ℕ)) (answers : List Answer) (width t h most : ℕ) (v : List (List ℕ)) (old_cols new_cols old_nodes new_nodes : ℕ) : Type 0 where
+  pub visited : List (List (List ℕ))
+  pub different : AllPairs (λ v w. v ≢ w) visited
+  pub each : All (IsVisitedBy nexts answers width t h v) visited
+  pub cols : new_cols ≤ old_cols + length visited
+  pub nodes : NodesBy nexts answers t h most v old_nodes new_nodes
+
+module _ (answers : List Answer) (width t h most : ℕ) (v : List (List ℕ)) where
+  -- nothing is visited yet
+  pub counts-nothing : (c0 c1 n0 n1 : ℕ) → c1 ≤ c0 → n1 ≤ n0 → CountsFrom answers width t h most v c0 c1 n0 n1
+  counts-nothing c0 c1 n0 n1 cols nodes = record {
+    visited = [];
+    are = record { different = AllPairs-nil (λ v w. v ≢ w); each = All-nil (IsVisited answers width t h v) };
+    cols = omega (arith, cols);
+    nodes = nodes-nothing answers t h most v n0 n1 nodes;
+  }
+
+  pub counts-none : (cols nodes : ℕ) → CountsBy [] answers width t h most v cols cols nodes nodes
+  counts-none cols nodes = record {
+    visited = [];
+    different = AllPairs-nil (λ v w. v ≢ w);
+    each = All-nil (IsVisitedBy [] answers width t h v);
+    cols = omega arith;
+    nodes = nodes-none answers t h most v nodes;
+  }
+
+  -- those below one more polynomial, with fewer answers
+  pub counts-more : (nexts : List (List ℕ)) (p : List ℕ) (c0 c1 c2 n0 n1 n2 : ℕ) → HasColumns width answers
+      → All (IsPolynomial t) v → ((q : List ℕ) → Contains nexts q → IsPolynomial t q) → IsPolynomial t p
+      → ¬ Contains nexts p → weight (v ++ p ∷ []) answers < weight v answers
+      → CountsBy nexts answers width t h most v c0 c1 n0 n1
+      → CountsFrom answers width t h most (v ++ p ∷ []) c1 c2 n1 n2
+      → CountsBy (nexts ++ p ∷ []) answers width t h most v c0 c2 n0 n2
+  counts-more nexts p c0 c1 c2 n0 n1 n2 columns degree others next_degree new fewer before below =
+      let size = length-append before.visited below.visited in
+      let first = before.cols in
+      let second = below.cols in
+      record {
+        visited = before.visited ++ below.visited;
+        different = AllPairs-append (λ v w. v ≢ w) before.visited below.visited before.different below.are.different (λ i d k j e l. apart (before.each i d k) (below.are.each j e l));
+        each = All-append (IsVisitedBy (nexts ++ p ∷ []) answers width t h v) before.visited below.visited
+            (All-weaker (IsVisitedBy nexts answers width t h v) (IsVisitedBy (nexts ++ p ∷ []) answers width t h v)
+            (λ u is. record { next = is.next; listed = Contains-append_left nexts (p ∷ []) is.next is.listed; visited = is.visited })
+            before.visited before.each)
+            (All-weaker (IsVisited answers width t h (v ++ p ∷ [])) (IsVisitedBy (nexts ++ p ∷ []) answers width t h v)
+            (λ u is. record { next = p; listed = Contains-append_right nexts (p ∷ []) p (0, omega arith, refl); visited = is })
+            below.visited below.are.each);
+        cols = omega (arith, size, first, second);
+        nodes = nodes-more answers width t h most columns v degree nexts p n0 n1 n2 others next_degree new fewer before.nodes below.nodes;
+      }
+    where
+      apart : {u w : List (List ℕ)} → IsVisitedBy nexts answers width t h v u
+          → IsVisited answers width t h (v ++ p ∷ []) w → u ≢ w
+      apart {u} {w} is other equal =
+          differ_by_beginning (v ++ is.next ∷ []) (v ++ p ∷ []) is.visited.more other.more
+          (length-append v (is.next ∷ []) ∙ sym (length-append v (p ∷ [])))
+          (differ_by_last v is.next p (λ same. new (subst (Contains nexts) same is.listed)))
+          (sym is.visited.begins ∙ equal ∙ other.begins)
+
+-- a run alone
+pub counts-run : (answers : List Answer) (width t h most : ℕ) (v : List (List ℕ)) (n : ℕ) (bytes : List ℕ)
+    (c0 c1 n0 : ℕ) → HasRun answers width t h v n bytes → c1 ≤ c0 + n
+    → CountsFrom answers width t h most v c0 c1 n0 n0
+counts-run answers width t h most v n bytes c0 c1 n0 r e =
+    let count = r.count in
+    record { visited = r.visited; are = r.are; cols = omega (arith, e, count); nodes = nodes-nothing answers t h most v n0 n0 (omega arith) }
+
+-- a run, the column after it, and what is below each polynomial of that column
+pub counts-whole : (answers : List Answer) (width t h most : ℕ) (v : List (List ℕ)) (n : ℕ) (bytes : List ℕ)
+    (nexts : List (List ℕ)) (c0 c1 c2 n0 n1 n2 : ℕ) → (r : HasRun answers width t h v n bytes)
+    → All (IsPolynomial t) v → length v + n < width → h ≤ weight (v ++ r.more) answers → c1 ≤ c0 + n + 1
+    → n1 ≤ n0 + most → CountsBy nexts answers width t h most (v ++ r.more) c1 c2 n1 n2
+    → CountsFrom answers width t h most v c0 c2 n0 n2
+counts-whole answers width t h most v n bytes nexts c0 c1 c2 n0 n1 n2 r degree short enough cols nodes below =
+    let w = v ++ r.more in
+    let long : length w ≡ length v + n = length-append v r.more ∙ ap (λ m. length v + m) r.size in
+    let count = r.count in
+    let size = length-append (w ∷ r.visited) below.visited in
+    let c = below.cols in
+    let first : All (λ u. length u < length v + n + 1) (w ∷ r.visited) =
+    All-cons (λ u. length u < length v + n + 1) w r.visited (omega (arith, long)) (λ k d l. let shorter = r.before k d l in omega (arith, shorter)) in
+    record {
+      visited = (w ∷ r.visited) ++ below.visited;
+      are = record {
+        different = AllPairs-append (λ v w. v ≢ w) (w ∷ r.visited) below.visited
+            (AllPairs-cons (λ v w. v ≢ w) w r.visited (λ k d l same. let shorter = r.before k d l in let equal = ap length same in omega (arith, shorter, equal, long)) r.are.different)
+            below.different
+            (λ i d k j e l same.
+            let is = below.each j e l in
+            let shorter = first i d k in
+            let equal = ap length same in
+            let one = ap length is.visited.begins in
+            let two = length-append (w ++ is.next ∷ []) is.visited.more in
+            let three = length-append w (is.next ∷ []) in
+            omega (arith, shorter, equal, one, two, three, long));
+        each = All-append (IsVisited answers width t h v) (w ∷ r.visited) below.visited
+            (All-cons (IsVisited answers width t h v) w r.visited (visits answers width t h v r.more degree r.degree (let s = r.size in omega (arith, short, s)) enough) r.are.each)
+            (λ j e l.
+            let is = below.each j e l in record {
+              more = r.more ++ (is.next ∷ is.visited.more);
+              begins = is.visited.begins ∙ append_assoc w (is.next ∷ []) is.visited.more ∙ append_assoc v r.more (is.next ∷ is.visited.more);
+              short = is.visited.short;
+              heavy = is.visited.heavy;
+            });
+      };
+      cols = omega (arith, c, cols, size, count);
+      nodes = nodes-after answers t h most v r.more n0 n2 (sym (length-filter (holds_first w) answers) ∙ ap length r.held ∙ length-filter (holds_first v) answers)
+          (nodes-whole answers t h most w nexts n0 n1 n2 enough nodes below.nodes);
+    }
+
+-- ---- how many there are in all
+
+-- from the empty vector: one for the first column, and Johnson's bound for each further one
+few_visits : (answers : List Answer) (width t h : ℕ) → HasColumns width answers → t < h → length answers * t < h * h
+    → (vs : List (List (List ℕ))) → AreVisited answers width t h [] vs
+    → length vs ≤ 1 + (width - 1) * bound_of (length answers) t h
+few_visits answers width t h columns less strong vs are =
+    few_by_length answers columns.indices columns.different t h less strong width vs are.different
+    (λ i d l. (are.each i d l).heavy) (λ i d l. (are.each i d l).short)
+
+-- so many columns and nodes are counted
+pub counts-few : (answers : List Answer) (width t h c0 c1 n0 n1 : ℕ) → HasColumns width answers → t < h
+    → length answers * t < h * h → CountsFrom answers width t h (column_nodes (length answers) t h) [] c0 c1 n0 n1
+    → (c1 ≤ c0 + most_columns (length answers) t h width) × (n1 ≤ n0 + most_nodes (length answers) t h width)
+unfolding most_columns most_nodes
+counts-few answers width t h c0 c1 n0 n1 columns less strong counts =
+    let few = few_visits answers width t h columns less strong counts.visited counts.are in
+    let cols = counts.cols in
+    (omega (arith, few, cols), few_nodes answers t h (column_nodes (length answers) t h) n0 n1 less strong counts.nodes)

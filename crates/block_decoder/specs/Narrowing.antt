@@ -1,0 +1,72 @@
+-- The narrowing of answers to those that may agree, column by column.
+use Rattle.std.specs.Prelude.{◌≡◌, ℕ, ◌+◌, ◌<◌, ◌≤◌, List, [], ◌∷◌, ◌++◌, length, map, take, slice_index, All, AllPairs, Contains, ◌≢◌, ◌==◌, Bool}
+use Rattle.std.specs.List.{filter}
+use Rattle.gf256.specs.Polynomial.{val, IsPolynomial}
+use Rattle.wire_frames.specs.Answer.{Answer}
+use Rattle.block_decoder.specs.Agreed.{holds_first, weight, constants_of}
+use Rattle.block_decoder.specs.Leaves.{NodesFrom}
+use Rattle.block_decoder.specs.Vectors.{IsHeavyVector}
+
+-- the answers at which the polynomials hold, in their first columns
+abbrev pub holding : List (List ℕ) → List Answer → List Answer
+holding polynomials answers = filter (holds_first polynomials) answers
+
+-- the points of a column: the index of each answer with its byte there
+abbrev pub points_of : List Answer → ℕ → List (ℕ × ℕ)
+points_of answers column = map (λ a. (a.index, slice_index a.payload column)) answers
+
+-- whether the polynomial takes the answer's byte in a column
+abbrev pub meets : List ℕ → ℕ → Answer → Bool
+meets polynomial column answer = val polynomial answer.index == slice_index answer.payload column
+
+-- some of the answers: those that pass a test
+pub record IsPart (answers part : List Answer) : Type 0 where
+  pub test : Answer → Bool
+  pub is : part ≡ filter test answers
+
+-- polynomials of degree at most t, one for each of the first columns, whose constants begin the block, with the answers at
+-- which they hold, of which there are h
+pub record IsCandidate (answers : List Answer) (t h : ℕ) (kept : List Answer) (column : ℕ) (block : List ℕ) : Type 0 where
+  pub polynomials : List (List ℕ)
+  pub one_a_column : length polynomials ≡ column
+  pub degree : All (IsPolynomial t) polynomials
+  pub held : kept ≡ holding polynomials answers
+  pub enough : h ≤ length kept
+  pub constants : take column block ≡ constants_of polynomials
+
+-- the polynomials can be continued, by one for each column that is left, to polynomials that hold at h answers, and whose
+-- constants are the block
+pub record ContinuesFrom (answers : List Answer) (width t h : ℕ) (polynomials : List (List ℕ)) (block : List ℕ) : Type 0 where
+  pub more : List (List ℕ)
+  pub one_a_column : length polynomials + length more ≡ width
+  pub degree : All (IsPolynomial t) more
+  pub enough : h ≤ weight (polynomials ++ more) answers
+  pub constants : block ≡ constants_of (polynomials ++ more)
+
+-- the same where the next polynomial is one of these
+pub record ContinuesBy (nexts : List (List ℕ)) (answers : List Answer) (width t h : ℕ)
+    (polynomials : List (List ℕ)) (block : List ℕ) : Type 0 where
+  pub next : List ℕ
+  pub listed : Contains nexts next
+  pub continues : ContinuesFrom answers width t h (polynomials ++ next ∷ []) block
+
+-- a vector of fewer polynomials than there are columns, which begins with these and is heavy
+pub record IsVisited (answers : List Answer) (width t h : ℕ) (polynomials vector : List (List ℕ)) : Type 0 where
+  pub more : List (List ℕ)
+  pub begins : vector ≡ polynomials ++ more
+  pub short : length vector < width
+  pub heavy : IsHeavyVector answers (length vector) t h vector
+
+-- different such vectors
+pub record AreVisited (answers : List Answer) (width t h : ℕ)
+    (polynomials : List (List ℕ)) (visited : List (List (List ℕ))) : Type 0 where
+  pub different : AllPairs (λ v w. v ≢ w) visited
+  pub each : All (IsVisited answers width t h polynomials) visited
+
+-- no more columns were decoded than there are different such vectors, and the nodes of few lists were counted
+pub record CountsFrom (answers : List Answer) (width t h most : ℕ)
+    (polynomials : List (List ℕ)) (old_cols new_cols old_nodes new_nodes : ℕ) : Type 0 where
+  pub visited : List (List (List ℕ))
+  pub are : AreVisited answers width t h polynomials visited
+  pub cols : new_cols ≤ old_cols + length visited
+  pub nodes : NodesFrom answers t h most polynomials old_nodes new_nodes

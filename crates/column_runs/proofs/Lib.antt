@@ -1,0 +1,10 @@
+pub mod OnOne
+pub mod ColumnPoints
+pub mod Basis
+pub mod Extension
+pub mod SameLanes
+pub mod DifferenceRows
+pub mod Agreed
+pub mod TileColumns
+pub mod RunColumns
+pub mod Tiles

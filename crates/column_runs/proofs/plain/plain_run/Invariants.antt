@@ -1,0 +1,8 @@
+use Rattle.std.proofs.Common.{◌<◌, ◌+◌, ℕ, map, get_or}
+use Rattle.column_runs.specs.Run.{points_at, IsConstant}
+use Rattle.column_runs.proofs.plain.plain_run.Given as goal
+
+-- the constants of the columns so far
+abbrev pub invariant-loop-column : goal.invariant-loop-column
+invariant-loop-column l =
+    (c : ℕ) → c < l.column → IsConstant (points_at l.xs (map (λ row. row.now) l.rows) (l.from + c)) l.t (get_or l.out c 0)

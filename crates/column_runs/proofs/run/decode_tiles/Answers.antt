@@ -1,0 +1,60 @@
+use Rattle.std.proofs.Common.{◌≡◌, ◌+◌, ◌-◌, ◌≤◌, ℕ, List, Bor, Vec, Global, length, map, take, drop, ◌∙◌, arith, length-drop}
+use Rattle.std.proofs.lemmas.List.{length-take-le}
+use Rattle.column_runs.proofs.DifferenceRows.{room_kept}
+use Rattle.column_runs.proofs.Tiles.{follow_more, constants_more, ends_early}
+use Rattle.column_runs.proofs.run.decode_tiles.Goals as goal
+
+-- a part of a list that lies within it
+length-part : (out : List ℕ) (done size : ℕ) → done + size ≤ length out → length (take size (drop done out)) ≡ size
+length-part out done size room = let rest = length-drop done out in length-take-le size (drop done out) (omega (arith, rest, room))
+
+pub decode_tile-columns-requires-clause-room : goal.decode_tile-columns-requires-clause-room
+decode_tile-columns-requires-clause-room g c =
+    let done = c.tiles.done in
+    let part = done + c.min-size.result - done in
+    let least = c.min-size.ensures in
+    let within = c.tiles.invariant.within in
+    let long = c.tiles.auto.out in
+    let sums = c.tiles.auto.sums in
+    let size = length-part c.tiles.out done part (omega (arith, least, within, long)) in
+    room_kept c.args.differences.now c.tiles.differences (length (take part (drop done c.tiles.out))) c.tiles.auto.differences c.tiles.invariant.sizes
+    (λ k d l. let room = c.requires.room k d l in omega (arith, room, size, least, sums))
+
+pub tiles-preserved : goal.tiles-preserved
+tiles-preserved g c =
+    let rows = map (λ (row : Bor (List ℕ)). row.now) c.args.rows.now in
+    let others = map (λ (f : Vec ℕ Global). f.items) c.args.factors.now.others.items in
+    let zero = c.args.factors.now.zero.items in
+    let done = c.tiles.done in
+    let new = c.decode_tile-columns.new.out in
+    let part = done + c.min-size.result - done in
+    let least = c.min-size.ensures in
+    let within = c.tiles.invariant.within in
+    let long = c.tiles.auto.out in
+    let room : done + part ≤ length c.tiles.out = omega (arith, least, within, long) in
+    let size = c.decode_tile-columns.auto.out ∙ length-part c.tiles.out done part room in
+    let tile = c.decode_tile-columns.ensures.tile in
+    let most = tile.within in
+    record {
+      within = omega (arith, most, size, room, long);
+      follow = follow_more c.tiles.out new done part room size rows c.args.from others zero c.decode_tile-columns.result tile c.tiles.invariant.follow;
+      constants =
+          constants_more c.tiles.out new done part room size rows c.args.from others zero c.decode_tile-columns.result tile c.tiles.invariant.constants;
+      sizes = λ i. c.decode_tile-columns.ensures.sizes i ∙ c.tiles.invariant.sizes i;
+      counted = omega arith;
+    }
+
+pub returns-then-columns-size-clause-tile : goal.returns-then-columns-size-clause-tile
+returns-then-columns-size-clause-tile g c =
+    let rows = map (λ (row : Bor (List ℕ)). row.now) c.args.rows.now in
+    let others = map (λ (f : Vec ℕ Global). f.items) c.args.factors.now.others.items in
+    let done = c.tiles.done in
+    let part = done + c.min-size.result - done in
+    let least = c.min-size.ensures in
+    let within = c.tiles.invariant.within in
+    let long = c.tiles.auto.out in
+    let room : done + part ≤ length c.tiles.out = omega (arith, least, within, long) in
+    let size = c.decode_tile-columns.auto.out ∙ length-part c.tiles.out done part room in
+    let less = c.if-columns-size.true in
+    ends_early c.tiles.out c.decode_tile-columns.new.out done part room size rows c.args.from others c.args.factors.now.zero.items
+    c.decode_tile-columns.result c.decode_tile-columns.ensures.tile (omega (arith, less)) c.tiles.invariant.follow c.tiles.invariant.constants

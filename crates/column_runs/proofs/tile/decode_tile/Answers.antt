@@ -1,0 +1,67 @@
+use Rattle.std.proofs.Common.{◌≡◌, ◌+◌, ◌≤◌, ◌<◌, ℕ, List, [], Bor, Vec, Global, length, map, get_or, take, drop, All, sym, ap, subst, ◌∙◌, arith, get_or-take, get_or-drop, length-drop}
+use Rattle.std.proofs.lemmas.List.{length-take-le}
+use Rattle.column_runs.specs.Tile.{with_differences, Agree}
+use Rattle.column_runs.proofs.ColumnPoints.{length-rows}
+use Rattle.column_runs.proofs.DifferenceRows.{items_at, length-items, room_kept}
+use Rattle.column_runs.proofs.TileColumns.{is_tile}
+use Rattle.column_runs.proofs.tile.decode_tile.Goals as goal
+
+-- the beginning of a row from a column on has as many places as are asked for
+length-first : (rows : List (List ℕ)) (from n : ℕ) (row : List ℕ) → 0 < length rows → All (λ row. from + n ≤ length row) rows
+    → row ≡ drop from (get_or rows 0 []) → length (take n row) ≡ n
+length-first rows from n row some widths is =
+    let wide = widths 0 [] some in
+    let size = ap length is ∙ length-drop from (get_or rows 0 []) in
+    length-take-le n row (omega (arith, wide, size))
+
+pub agreeing-columns-requires-clause-room : goal.agreeing-columns-requires-clause-room
+agreeing-columns-requires-clause-room c =
+    let rows = map (λ (row : Bor (List ℕ)). row.now) c.args.rows.now in
+    let n = length c.args.out.now in
+    let count = length-rows c.args.rows.now in
+    let some : 0 < length rows = let all = c.requires.rows in omega (arith, count, all) in
+    let size = length-first rows c.args.from n c.row_from.result.now some c.requires.widths c.row_from.ensures in
+    subst (λ n. All (λ (d : Vec ℕ Global). n ≤ length d.items) c.subtract.new.differences) (sym size)
+    (room_kept c.args.differences.now c.subtract.new.differences n c.subtract.auto.differences c.subtract.ensures.sizes c.requires.room)
+
+pub extend-requires-clause-room : goal.extend-requires-clause-room
+extend-requires-clause-room c =
+    let rows = map (λ (row : Bor (List ℕ)). row.now) c.args.rows.now in
+    let n = length c.args.out.now in
+    let count = length-rows c.args.rows.now in
+    let some : 0 < length rows = let all = c.requires.rows in omega (arith, count, all) in
+    let size = length-first rows c.args.from n c.row_from.result.now some c.requires.widths c.row_from.ensures in
+    subst (λ n. All (λ (d : Vec ℕ Global). n ≤ length d.items) c.subtract.new.differences) (sym size)
+    (room_kept c.args.differences.now c.subtract.new.differences n c.subtract.auto.differences c.subtract.ensures.sizes c.requires.room)
+
+pub returns-clause-tile : goal.returns-clause-tile
+returns-clause-tile c =
+    let rows = map (λ (row : Bor (List ℕ)). row.now) c.args.rows.now in
+    let from = c.args.from in
+    let n = length c.args.out.now in
+    let row = c.row_from.result.now in
+    let first = take n row in
+    let ds = map (λ (d : Vec ℕ Global). d.items) c.subtract.new.differences in
+    let others = c.args.factors.now.others.items in
+    let lists = map (λ (f : Vec ℕ Global). f.items) others in
+    let zero = c.args.factors.now.zero.items in
+    let count = length-rows c.args.rows.now in
+    let some : 0 < length rows = let all = c.requires.rows in omega (arith, count, all) in
+    let size = length-first rows from n row some c.requires.widths c.row_from.ensures in
+    let many = length-items others in
+    let held = length-items c.subtract.new.differences ∙ c.subtract.auto.differences ∙ c.requires.count in
+    let list = c.deref.ensures.value in
+    let factors = c.deref-2.ensures.value in
+    let Agrees = λ (vs : List (Vec ℕ Global)) (k : ℕ). Agree rows from first ds (map (λ (f : Vec ℕ Global). f.items) vs) k (length vs) in
+    is_tile rows from first ds c.subtract.ensures.each
+    (λ k l. get_or-take n row k 0 (omega (arith, l, size)) ∙ ap (λ r. get_or r k 0) c.row_from.ensures ∙ get_or-drop from (get_or rows 0 []) k 0)
+    lists
+    (λ k l.
+    let m : k < length others = omega (arith, l, many) in
+    ap length (sym (items_at others k c.args.factors.now.zero m)) ∙ c.requires.factors k c.args.factors.now.zero m ∙ sym held)
+    zero c.extend.new.sums c.agreeing-columns.result (sym held) (c.extend.auto.sums ∙ sym size) c.agreeing-columns.ensures.within
+    (λ k l. subst (λ n. Agree rows from first ds lists k n) (sym many) (subst (λ vs. Agrees vs k) list (c.agreeing-columns.ensures.agree k l)))
+    (λ l agree.
+    c.agreeing-columns.ensures.differ l
+    (subst (λ vs. Agrees vs c.agreeing-columns.result) (sym list) (subst (λ n. Agree rows from first ds lists c.agreeing-columns.result n) many agree)))
+    (λ k l. c.extend.ensures k l ∙ ap (λ f. with_differences f ds (get_or first k 0) k) factors)

@@ -1,0 +1,4 @@
+pub mod OnOne
+pub mod Run
+pub mod Lagrange
+pub mod Tile

@@ -1,0 +1,58 @@
+//! Runs of columns, a column at a time.
+
+ghost use Rattle.std.specs.Prelude.{◌≡◌, ◌≢◌, ◌+◌, ◌<◌, ◌≤◌, length, map, All, AllPairs, IfOk};
+ghost use Rattle.column_runs.specs.Run.{points_at, IsRun};
+
+use crate::one_polynomial::{lie_on, through_first};
+use crate::rows::row_from;
+use std::alloc::{AllocError, Global};
+
+/// The same as [`decode_run`](crate::decode_run), by interpolating each column for itself. It is the yardstick in tests, and
+/// counts nothing.
+///
+/// # Errors
+///
+/// `AllocError` where there is no memory for the points of a column, or to interpolate.
+pub fn plain_run(
+    alloc: Global,
+    xs: &[u8],
+    rows: &[&[u8]],
+    t: u32,
+    from: usize,
+    out: &mut [u8],
+) -> Result<usize, AllocError>
+    requires enough { t < length xs.now }
+    requires rows { length rows.now ≡ length xs.now }
+    requires widths { All (λ row. from + length out.old ≤ length row) (map (λ row. row.now) rows.now) }
+    requires distinct { AllPairs (λ x y. x ≢ y) xs.now }
+    ensures { IfOk result (λ n. IsRun xs.now (map (λ row. row.now) rows.now) t from out.new n) }
+{
+    for column in 0..out.len() {
+        let points = points_at(alloc, xs, rows, from, column)?;
+        let through = through_first(alloc, &points, t)?;
+        if !lie_on(&through, &points) {
+            return Ok(column);
+        }
+        out[column] = through[0];
+    }
+    Ok(out.len())
+}
+
+/// The points of a column, counted from column `from` on.
+fn points_at(
+    alloc: Global,
+    xs: &[u8],
+    rows: &[&[u8]],
+    from: usize,
+    column: usize,
+) -> Result<Vec<(u8, u8)>, AllocError>
+    requires rows { length rows.now ≡ length xs.now }
+    requires widths { All (λ row. from + column < length row) (map (λ row. row.now) rows.now) }
+    ensures { IfOk result (λ v. v.items ≡ points_at xs.now (map (λ row. row.now) rows.now) (from + column)) }
+{
+    let mut points = Vec::with_capacity(alloc, xs.len())?;
+    for place in 0..xs.len() {
+        points.push((xs[place], row_from(rows, place, from)[column]))?;
+    }
+    Ok(points)
+}

@@ -1,0 +1,111 @@
+//! Runs of columns whose points lie on one polynomial each.
+
+ghost use Rattle.std.specs.Prelude.{◌≡◌, ◌≢◌, ◌+◌, ◌^◌, ◌<◌, ◌≤◌, length, map, All, AllPairs, IfOk, MatchResult};
+ghost use Rattle.column_runs.specs.Run.{IsRun};
+ghost use Rattle.column_runs.specs.Tile.{IsTile};
+
+use crate::lagrange::{Factors, factors_by_first};
+use crate::rows::rows_are_bytes;
+use crate::tile::decode_tile;
+use std::alloc::{AllocError, Global};
+use std::sync::ledger::Ledger;
+use uni_poly::steps::Steps;
+
+/// The most columns that are decoded at once.
+const TILE: usize = 1024;
+
+/// The longest run of columns, from column `from` on, in each of which the points lie on one polynomial of degree at most
+/// `t`. The points of a column are each of the `xs` with the byte of its row there. The constants of these polynomials go
+/// into `out`, and their number is returned; there are no more of them than `out` has places, and what stands behind them in
+/// `out` is not said.
+///
+/// There are more than `t` of the `xs`, no two of them equal, and for each a row that has a byte for each place of `out`,
+/// from column `from` on.
+///
+/// With the `xs` `01 02 03`, the rows `13 10`, `10 10` and `11 11`, and `t` 1, the run from column 0 on has one column, with
+/// the constant `12`.
+///
+/// `cols` counts the columns of the run.
+///
+/// # Errors
+///
+/// `AllocError` where there is no memory, before the first column.
+pub fn decode_run<C: Ledger>(
+    alloc: Global,
+    xs: &[u8],
+    rows: &[&[u8]],
+    t: u32,
+    from: usize,
+    out: &mut [u8],
+    cols: &mut Steps<C>,
+) -> Result<usize, AllocError>
+    requires enough { t < length xs.now }
+    requires rows { length rows.now ≡ length xs.now }
+    requires widths { All (λ row. from + length out.old ≤ length row) (map (λ row. row.now) rows.now) }
+    requires distinct { AllPairs (λ x y. x ≢ y) xs.now }
+    ensures run { IfOk result (λ n. IsRun xs.now (map (λ row. row.now) rows.now) t from out.new n) }
+    ensures cols { MatchResult result (λ n. cols.new ≡ cols.old + n) (λ _. cols.new ≡ cols.old) }
+{
+    let factors = factors_by_first(alloc, xs, t)?;
+    let mut differences = rows_of_zeros(alloc, t as usize, TILE)?;
+    let mut sums = vec![in alloc; 0; TILE]?;
+    rows_are_bytes(rows);
+    Ok(decode_tiles(rows, from, &factors, &mut differences, &mut sums, out, cols))
+}
+
+/// So many rows of zeros, of so many columns each.
+fn rows_of_zeros(alloc: Global, count: usize, columns: usize) -> Result<Vec<Vec<u8>>, AllocError>
+    ensures { IfOk result (λ v. (length v.items ≡ count) × All (λ row. length row.items ≡ columns) v.items) }
+{
+    let mut rows = Vec::with_capacity(alloc, count)?;
+    for _row in 0..count {
+        rows.push(vec![in alloc; 0; columns]?)?;
+    }
+    Ok(rows)
+}
+
+/// The columns from `from` on in which each row past those that the factors go by has the byte that its factors give, tile
+/// by tile, each as long as `sums`. There are as many as before the first other one, and `out` has a place for each that may
+/// be taken; there go the bytes that the factors for 0 give.
+fn decode_tiles<C: Ledger>(
+    rows: &[&[u8]],
+    from: usize,
+    factors: &Factors,
+    differences: &mut [Vec<u8>],
+    sums: &mut [u8],
+    out: &mut [u8],
+    cols: &mut Steps<C>,
+) -> usize
+    requires rows { length rows.now ≡ length factors.now.zero.items + 1 + length factors.now.others.items }
+    requires factors { All (λ f. length f.items ≡ length factors.now.zero.items) factors.now.others.items }
+    requires widths { All (λ row. from + length out.old ≤ length row) (map (λ row. row.now) rows.now) }
+    requires memory { from + length out.old < 2 ^ 64 }
+    requires count { length differences.old ≡ length factors.now.zero.items }
+    requires some { 0 < length sums.old }
+    requires room { All (λ d. length sums.old ≤ length d.items) differences.old }
+    ensures tile { IsTile (map (λ row. row.now) rows.now) from (map (λ f. f.items) factors.now.others.items)
+        factors.now.zero.items out.new result }
+    ensures cols { cols.new ≡ cols.old + result }
+{
+    let mut done = 0;
+    'tiles: while done < out.len() {
+        let size = sums.len().min(out.len() - done);
+        let tile = &mut out[done..done + size];
+        let columns = decode_tile(rows, from + done, factors, differences, sums, tile);
+        count(columns, cols);
+        done += columns;
+        if columns < size {
+            return done;
+        }
+    }
+    done
+}
+
+/// Counts so many columns.
+fn count<C: Ledger>(columns: usize, cols: &mut Steps<C>)
+    ensures { cols.new ≡ cols.old + columns }
+{
+    for _column in 0..columns {
+        cols.tick();
+    }
+}

@@ -1,0 +1,3 @@
+pub mod StreamBytes
+pub mod Workloads
+pub mod AnswerColumns

@@ -1,0 +1,75 @@
+use Rattle.std.proofs.Common.{◌≡◌, ◌+◌, ◌-◌, ◌*◌, ◌/◌, ◌%◌, ◌<◌, ◌++◌, List, ℕ, [], length, map, get_or, drop, sym, ap, subst, ◌∙◌, arith, take_at, Vec, Global}
+use Rattle.std.proofs.lemmas.List.{length-replicate, length-map, get_or-map}
+use Rattle.gf256.specs.Field.{◌⊕◌, ◌⊗◌}
+use Rattle.gf256.specs.Polynomial.{coef}
+use Rattle.uni_poly.specs.Taylor.{taylor}
+use Rattle.uni_poly.proofs.Taylor.{taylor_lt}
+use Rattle.bi_poly.specs.Rows.{row}
+use Rattle.gs_interpolate.specs.Family.{lane}
+use Rattle.gs_interpolate.proofs.Windows.{AreExpanded, row_values, expanded-none, expanded-next, expanded-at, values-none, values-next, is_window}
+use Rattle.gs_interpolate.proofs.window.Window.of.Goals as goal
+
+pub loop-j-init : goal.loop-j-init
+loop-j-init c =
+    let s = c.args.m * c.args.lanes in
+    let m = c.args.m in
+    let f : Vec ℕ Global → List ℕ = λ r. r.items in
+    let rows = map f c.args.rows.now in
+    let zeros = c.in_ok-cells.ensures.items_if_clones_equal (λ y e. e) in
+    let zeros-2 = c.in_ok-next.ensures.items_if_clones_equal (λ y e. e) in
+    let count = length-map c.args.rows.now f in
+    record {
+      size = ap length zeros ∙ length-replicate (m * s) 0;
+      room = ap length zeros-2 ∙ length-replicate (m * s) 0;
+      sums = expanded-none s m c.args.b c.in_ok-cells.cells.items (λ k. row_values c.args.lanes c.args.a k (drop (length c.args.rows.now) rows)) zeros
+          (λ g e. subst (λ i. coef (row_values c.args.lanes c.args.a g (drop i rows)) e ≡ 0) count (values-none c.args.lanes c.args.a g e rows));
+    }
+
+pub expanded-requires-clause-whole : goal.expanded-requires-clause-whole
+expanded-requires-clause-whole c =
+    let f : Vec ℕ Global → List ℕ = λ r. r.items in
+    let j = c.loop-j.j - 1 in
+    let inside : j < length c.args.rows.now = omega arith in
+    ap (λ r. length r % c.args.lanes) (c.deref.ensures.value ∙ ap f c.index-rows-j.is ∙ sym (get_or-map f c.args.rows.now j _ [] inside))
+    ∙ c.requires.whole j inside
+
+pub loop-j-preserved : goal.loop-j-preserved
+loop-j-preserved c =
+    let n = c.args.lanes in
+    let m = c.args.m in
+    let s = m * n in
+    let a = c.args.a in
+    let b = c.args.b in
+    let f : Vec ℕ Global → List ℕ = λ r. r.items in
+    let rows = map f c.args.rows.now in
+    let j = c.loop-j.j - 1 in
+    let made = c.loop-j.cells.items in
+    let next = c.horner.new.next in
+    let first = c.in_ok-first.first.items in
+    let inside : j < length rows = omega (arith, length-map c.args.rows.now f) in
+    let one : c.loop-j.j ≡ j + 1 = omega arith in
+    let held : c.deref.result.now ≡ row rows j = c.deref.ensures.value ∙ ap f c.index-rows-j.is ∙ sym (get_or-map f c.args.rows.now j _ [] (omega arith)) in
+    let done = subst (λ i. AreExpanded s m b made (λ k. row_values n a k (drop i rows))) one c.loop-j.invariant.sums in
+    let small : length first ≡ s = c.in_ok-first.ensures.size in
+    let each = subst (λ r. (u g : ℕ) → u < m → g < n → get_or first (u * n + g) 0 ≡ taylor (lane n g r) a u) held c.in_ok-first.ensures.expanded in
+    let is = λ (k : ℕ) (l : k < s). expanded-at n m a first (row rows j) k c.requires.some l each in
+    let sums : (k : ℕ) → k < length made → get_or next k 0 ≡ get_or (first ++ made) k 0 ⊕ b ⊗ get_or made k 0 =
+    subst (λ (ys : List ℕ). (k : ℕ) → k < length made → get_or next k 0 ≡ get_or (ys ++ made) k 0 ⊕ b ⊗ get_or made k 0) c.deref-in-loop-j-2.ensures.value
+    (subst (λ (xs : List ℕ). (k : ℕ) → k < length xs → get_or next k 0 ≡ get_or (c.deref-in-loop-j-2.result.now ++ xs) k 0 ⊕ b ⊗ get_or xs k 0) c.deref-in-loop-j.ensures.value c.horner.ensures) in
+    let all = values-next s m n a b next rows j inside
+    (expanded-next s m b made next first (λ k. taylor (lane n (k % n) (row rows j)) a (k / n)) (λ k. row_values n a k (drop (j + 1) rows)) c.loop-j.invariant.size small is (λ k. taylor_lt (lane n (k % n) (row rows j)) a (k / n)) done sums) in
+    let long : length next ≡ length c.loop-j.next.items = c.horner.auto.next ∙ ap length c.deref_mut.ensures.value in
+    let items : c.swap.new.x.items ≡ next =
+    ap (λ v. v.items) c.swap.ensures.x_after ∙ take_at next _ c.loop-j.next.len (c.horner.auto.next ∙ c.deref_mut.ensures.len) in
+    record {
+      size = ap length items ∙ long ∙ c.loop-j.invariant.room;
+      room = ap (λ v. length v.items) c.swap.ensures.y_after ∙ c.loop-j.invariant.size;
+      sums = λ u g l h. ap (λ xs. get_or xs (u * s + g) 0) items ∙ all u g l h;
+    }
+
+pub returns-clause-window : goal.returns-clause-window
+returns-clause-window c =
+    let f : Vec ℕ Global → List ℕ = λ r. r.items in
+    let none : c.loop-j.j ≡ 0 = omega arith in
+    is_window c.args.lanes c.args.m c.args.a c.args.b c.loop-j.cells.items (map f c.args.rows.now) (omega (arith, c.requires.wide, length-map c.args.rows.now f)) c.loop-j.invariant.size
+    (subst (λ i. AreExpanded (c.args.m * c.args.lanes) c.args.m c.args.b c.loop-j.cells.items (λ k. row_values c.args.lanes c.args.a k (drop i (map f c.args.rows.now)))) none c.loop-j.invariant.sums)

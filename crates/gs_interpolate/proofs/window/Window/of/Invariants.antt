@@ -1,0 +1,10 @@
+use Rattle.std.proofs.Common.{◌≡◌, ◌*◌, drop, length, map}
+use Rattle.gs_interpolate.proofs.Windows.{AreExpanded, row_values}
+use Rattle.gs_interpolate.proofs.window.Window.of.Given as goal
+
+abbrev pub invariant-loop-j : goal.invariant-loop-j
+invariant-loop-j l = record {
+  size : length l.cells.items ≡ l.m * (l.m * l.lanes);
+  room : length l.next.items ≡ l.m * (l.m * l.lanes);
+  sums : AreExpanded (l.m * l.lanes) l.m l.b l.cells.items (λ k. row_values l.lanes l.a k (drop l.j (map (λ r. r.items) l.rows)));
+}

@@ -1,0 +1,38 @@
+-- The status that a run ends with for a fault.
+use Rattle.block_matrix.specs.declared.matrix.LoadFault.{LoadFault}
+use Rattle.block_matrix.specs.declared.matrix.LoadFault.TheVariants.{EmptyFile as NoBytes, TooBig as TooManyBytes}
+use Rattle.block_matrix.specs.declared.matrix.LoadFault.TheVariants.{ReadFault as Unloadable, Memory as NoRoom}
+use Rattle.fetch_client.specs.declared.plan.FetchFault.{FetchFault}
+use Rattle.fetch_client.specs.declared.plan.FetchFault.TheVariants.{CoinsFault, CoinsEnded as TooFewCoins}
+use Rattle.fetch_client.specs.declared.plan.FetchFault.TheVariants.{Memory as NoMemory}
+use Rattle.pir_words.specs.declared.asked.WordsFault.{WordsFault}
+use Rattle.pir_words.specs.declared.asked.WordsFault.TheVariants.{Usage as Formless, Memory as NoMemoryForWords}
+use Rattle.replay.specs.declared.ReplayFault.{ReplayFault}
+use Rattle.replay.specs.declared.ReplayFault.TheVariants.{ReadFault as Unreadable, BadSession, Memory as Unfinished}
+use Rattle.pir_tool.specs.declared.status.Status.{Status}
+use Rattle.pir_tool.specs.declared.status.Status.TheVariants.{Usage, ReadFault, BadInput, Memory}
+use Rattle.pir_tool.specs.declared.status.Bad.TheVariants.{Session, EmptyFile, TooBig, CoinsEnded}
+
+-- of the words
+abbrev pub of_words : WordsFault → Status
+of_words Formless = Usage
+of_words NoMemoryForWords = Memory
+
+-- of a database that can't be loaded
+abbrev pub of_load : LoadFault → Status
+of_load NoBytes = BadInput EmptyFile
+of_load (TooManyBytes limit) = BadInput (TooBig limit)
+of_load Unloadable = ReadFault
+of_load NoRoom = Memory
+
+-- of a fetch
+abbrev pub of_fetch : FetchFault → Status
+of_fetch CoinsFault = ReadFault
+of_fetch (TooFewCoins taken) = BadInput (CoinsEnded taken)
+of_fetch NoMemory = Memory
+
+-- of a replay
+abbrev pub of_replay : ReplayFault → Status
+of_replay Unreadable = ReadFault
+of_replay (BadSession place) = BadInput (Session place)
+of_replay Unfinished = Memory
