@@ -1,9 +1,6 @@
 //! The program `pir`. It makes the ports of the system and reads the words; `pir_tool::run` does the rest.
 #![tactic(auto)]
 
-#[cfg(test)]
-mod tests;
-
 use os_ports::OsPorts;
 use pir_tool::{Ending, Status, ending_of, run};
 use std::env;
@@ -11,11 +8,7 @@ use std::io::{self, ErrorKind, Input, Print};
 use std::net::Net;
 use std::process::{ExitCode, Processes};
 use std::rt::{Env, Files};
-#[cfg(test)]
-use std::test::Fail;
 use std::thread::Threads;
-#[cfg(test)]
-use tests::words_from;
 
 /// The words after the program's name. Words that are no UTF-8 have no form.
 fn words_of<R: Env + AllocGlobal>(rt: &R) -> Result<Vec<String>, Status> {
@@ -66,17 +59,4 @@ fn main(rt: HostRuntime) -> ExitCode {
         let _ = eprintln!(rt; "{line}");
     }
     code
-}
-
-// No test of its own, but what a child of a demonstration runs. It is started with the words of `serve`, and tests are
-// started by their full names: so this one stands here.
-#[cfg(test)]
-#[test]
-fn serve(rt: HostRuntime) -> Result<(), Fail> {
-    let words = words_from(&rt, 1)?;
-    if words.len() > 1 {
-        let mut ports = OsPorts::new(&rt)?;
-        assert!(rt; run_words(&rt, &words, &mut ports) == Status::One);
-    }
-    Ok(())
 }
