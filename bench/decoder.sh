@@ -15,7 +15,7 @@ if [ ! -e "$peers/column.cc" ]; then
 elif ! command -v g++ >/dev/null; then
   echo "g++ isn't installed: the C++ program is skipped, and there is no ratio"
 else
-  g++ -O3 -std=c++17 -msse4.2 "$peers/column.cc" -o "$built/column" -lpthread
+  g++ -O3 -std=c++17 -msse4.2 -w "$peers/column.cc" -o "$built/column" -lpthread
   have=yes
 fi
 
@@ -35,16 +35,28 @@ points() {
   done
 }
 
-for shape in "8 1 3" "8 3 5" "20 3 8" "32 5 13" "32 28 30" "32 15 23" "20 3 12"; do
-  read -r k t h <<<"$shape"
-  [ $have = yes ] && "$built/column" bench 0.3 "$k,$t,$h" >"$built/lines"
-  for kind in agree few; do
-    # shellcheck disable=SC2046
-    read -r time count < <("$top/crates/bench_column/out/bench_column" "$t" "$h" "$rounds" $(points $kind "$k"))
-    theirs=
-    if [ $have = yes ] && [ $kind = few ]; then
-      theirs=$(awk -F'|' '$2 ~ /^ *few/ { split($4, a, " "); split($5, b, " "); print a[1] + b[1] }' "$built/lines")
+# least FIRST SECOND: the lesser number of the two; FIRST may be empty.
+least() { awk -v a="$1" -v b="$2" 'BEGIN { print (a == "" || b + 0 < a + 0) ? b : a }'; }
+
+# The two take turns, and the best time of each counts, so that a busy machine spoils neither alone. The last number says how
+# many times ROUNDS the list is made in a turn.
+for shape in "8 1 3 40" "8 3 5 10" "20 3 8 2" "32 5 13 1" "32 28 30 1" "32 15 23 40" "20 3 12 200"; do
+  read -r k t h often <<<"$shape"
+  agree=
+  few=
+  theirs=
+  for _ in 1 2 3; do
+    if [ $have = yes ]; then
+      "$built/column" bench 0.1 "$k,$t,$h" >"$built/lines"
+      theirs=$(least "$theirs" "$(awk -F'|' '$2 ~ /^ *few/ { split($4, a, " "); split($5, b, " "); print a[1] + b[1] }' "$built/lines")")
     fi
-    told "column $k,$t,$h $kind, $count listed" "$(awk -v ns="$time" 'BEGIN { print ns / 1e6 }')" "$theirs"
+    # shellcheck disable=SC2046
+    read -r time agree_count < <("$top/crates/bench_column/out/bench_column" "$t" "$h" "$((rounds * often))" $(points agree "$k"))
+    agree=$(least "$agree" "$time")
+    # shellcheck disable=SC2046
+    read -r time few_count < <("$top/crates/bench_column/out/bench_column" "$t" "$h" "$((rounds * often))" $(points few "$k"))
+    few=$(least "$few" "$time")
   done
+  told "column $k,$t,$h agree, $agree_count listed" "$(awk -v ns="$agree" 'BEGIN { print ns / 1e6 }')" ""
+  told "column $k,$t,$h few, $few_count listed" "$(awk -v ns="$few" 'BEGIN { print ns / 1e6 }')" "$theirs"
 done

@@ -10,9 +10,6 @@ import random
 import struct
 import sys
 
-degree, agreement, servers, width, liars, seed = map(int, sys.argv[1:7])
-rng = random.Random(seed)
-
 powers = [1]
 for _ in range(254):
     last = powers[-1]
@@ -28,24 +25,33 @@ def product(a, b):
 
 
 tables = [bytes(product(a, b) for b in range(256)) for a in range(256)]
-coefficients = [rng.randbytes(width) for _ in range(degree + 1)]
 
 
-def answer(index):
-    if index > servers - liars:
-        return rng.randbytes(width)
-    total = bytes(width)
-    factor = 1
-    for row in coefficients:
-        scaled = row.translate(tables[factor])
-        total = bytes(x ^ y for x, y in zip(total, scaled))
-        factor = product(factor, index)
-    return total
+def answers(degree, servers, width, liars, first, seed):
+    """The payloads of the servers in order; the last so many lie in the columns from the first on."""
+    rng = random.Random(seed)
+    coefficients = [rng.randbytes(width) for _ in range(degree + 1)]
+    for index in range(1, servers + 1):
+        total = bytes(width)
+        factor = 1
+        for row in coefficients:
+            scaled = row.translate(tables[factor])
+            total = bytes(x ^ y for x, y in zip(total, scaled))
+            factor = product(factor, index)
+        if index > servers - liars:
+            total = total[:first] + rng.randbytes(width - first)
+        yield total
 
 
-numbers = struct.pack(">QII", 7, 1, width)
-out = sys.stdout.buffer
-out.write(b"PIRS" + bytes([1, 1, degree, agreement, servers, 0, 0, 0]) + numbers)
-for index in range(1, servers + 1):
-    frame = b"PIRA" + bytes([1, 1, index, 0]) + numbers + answer(index)
-    out.write(struct.pack(">BBI", index, 1, len(frame)) + frame)
+def main():
+    degree, agreement, servers, width, liars, seed = map(int, sys.argv[1:7])
+    numbers = struct.pack(">QII", 7, 1, width)
+    out = sys.stdout.buffer
+    out.write(b"PIRS" + bytes([1, 1, degree, agreement, servers, 0, 0, 0]) + numbers)
+    for index, payload in enumerate(answers(degree, servers, width, liars, 0, seed), 1):
+        frame = b"PIRA" + bytes([1, 1, index, 0]) + numbers + payload
+        out.write(struct.pack(">BBI", index, 1, len(frame)) + frame)
+
+
+if __name__ == "__main__":
+    main()

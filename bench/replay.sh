@@ -1,17 +1,18 @@
 #!/usr/bin/env bash
-# Replays a session of eight servers, two of them lying, beside reading the same bytes with sha256sum. It prints the
-# time of each, their ratio, and the greatest memory of the replay. usage: bench/replay.sh [DEGREE AGREEMENT [RUNS]]
+# Replays a session of some servers, eight if not said, of which the last LIARS lie, two if not said, beside reading the same
+# bytes with sha256sum. It prints the time of each, their ratio, and the greatest memory of the replay beside the session's
+# size. usage: bench/replay.sh [DEGREE AGREEMENT [RUNS [SERVERS LIARS]]]
 set -eu
 top=$(cd "$(dirname "$0")/.." && pwd)
-degree=${1:-3} agreement=${2:-5} runs=${3:-5}
+degree=${1:-3} agreement=${2:-5} runs=${3:-5} servers=${4:-8} liars=${5:-2}
 work=$(mktemp -d)
 trap 'rm -rf "$work"' EXIT
-python3 "$top/bench/make_session.py" "$degree" "$agreement" 8 65536 2 1 >"$work/session"
+python3 "$top/bench/make_session.py" "$degree" "$agreement" "$servers" 65536 "$liars" 1 >"$work/session"
 "$top/pir" replay "$work/session" >"$work/text" || echo "status $?"
 head -c 60 "$work/text"
 echo
 python3 - "$top/crates/pir/out/pir" "$work/session" "$runs" <<'PY'
-import re, subprocess, sys, time
+import os, re, subprocess, sys, time
 program, session, runs = sys.argv[1], sys.argv[2], int(sys.argv[3])
 def best(words):
     times = []
@@ -31,5 +32,5 @@ def peak():
     return f"{memory.group(1)} KiB" if memory else "not seen"
 digest = best(["sha256sum", session])
 replay = best([program, "replay", session])
-print(f"replay {replay * 1000:.1f} ms, sha256sum {digest * 1000:.1f} ms, ratio {replay / digest:.1f}, peak {peak()}")
+print(f"replay {replay * 1000:.1f} ms, sha256sum {digest * 1000:.1f} ms, ratio {replay / digest:.1f}, peak {peak()} for a session of {os.path.getsize(session) // 1024} KiB")
 PY

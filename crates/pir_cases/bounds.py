@@ -132,4 +132,5 @@ def two_lines(chance):
     return sorted((x, times(a, x) ^ b if i < 3 else times(c, x) ^ d) for i, x in enumerate(places))
 
 
-main()
+if __name__ == "__main__":
+    main()

@@ -7,7 +7,8 @@ and shares nothing with the reader that is tested. Nothing runs it but a person 
 """
 import sys
 
-MOST_DEGREE, MOST_SERVERS, MOST_ROWS, MOST_WIDTH, MOST_CELLS = 31, 32, 1 << 20, 1 << 16, 1 << 30
+MOST_DEGREE, MOST_SERVERS, MOST_BLOCKS = 31, 32, 16
+MOST_ROWS, MOST_WIDTH, MOST_CELLS = 1 << 20, 1 << 16, 1 << 30
 BYTES = [0, 1, 2, 3, 4, 16, 26, 27, 31, 32, 33, 64, 128, 255]
 
 
@@ -35,19 +36,20 @@ def place(data):
 
     try:
         number(4, 0x50495253, 0x50495253)
-        number(1, 1, 1)
+        version = number(1, 1, 2)
         scheme = number(1, 1, 2)
         degree = number(1, 1, MOST_DEGREE)
         agreement = number(1, degree + 1, degree + 1 if scheme == 2 else MOST_SERVERS)
         servers = number(1, agreement, agreement if scheme == 2 else MOST_SERVERS)
-        number(3, 0, 0)
+        blocks = number(1, 0, 0) + 1 if version == 1 else number(1, 1, MOST_BLOCKS)
+        number(2, 0, 0)
         number(8, 0, 2**64 - 1)
         rows = number(4, 1, MOST_ROWS)
-        width = number(4, 1, min(MOST_WIDTH, MOST_CELLS // rows))
+        width = number(4, 1, min(MOST_WIDTH // blocks, MOST_CELLS // rows))
         for index in range(1, servers + 1):
             number(1, index, index)
             present = number(1, 0, 1)
-            length = number(4, 0, 24 + width if present else 0)
+            length = number(4, 0, 24 + blocks * width if present else 0)
             for _ in range(length):
                 number(1, 0, 255)
         if at < len(data):

@@ -80,6 +80,7 @@ fn listed_by_elimination(
     )
 }
 
+/// The list as it is made where Koetter's iteration interpolates; `None` where the numbers have none.
 pub fn listed_by_koetter(
     alloc: Global,
     points: &[(u8, u8)],

@@ -14,13 +14,6 @@ pub fn from_slices(alloc: Global, slices: &[&[u8]]) -> Result<BiPoly, AllocError
     Ok(BiPoly::from_rows(rows))
 }
 
-/// How many rows there are.
-pub fn row_count(q: &BiPoly) -> usize
-    ensures { result ≡ length q.now }
-{
-    q.rows().len()
-}
-
 /// Whether it is small enough for its weighted degree.
 pub fn is_within_limits(q: &BiPoly) -> bool
     ensures { IsTrue result → IsWithinLimits q.now }

@@ -1,5 +1,5 @@
 // Polynomials in two variables.
-use crate::rows::{are, from_slices, has_rows, is_nonzero, is_same, is_within_limits, row_count};
+use crate::rows::{are, from_slices, has_rows, is_nonzero, is_same, is_within_limits};
 use bi_poly::BiPoly;
 use std::alloc::{AllocError, Global};
 
@@ -63,34 +63,6 @@ fn one_root_is_shifted_to_zero(rt: HostRuntime) -> Result<(), AllocError> {
     assert!(rt; has_rows(&shifted, &[&[], &[0x01, 0x01], &[0x00, 0x01]]));
     let constant = shifted.at_zero(rt.alloc())?;
     assert!(rt; constant.as_slice() == [0x00, 0x01, 0x00].as_slice());
-    Ok(())
-}
-
-/// Adds `factor` times `p`, where it has no more rows.
-fn add_multiple(q: &mut BiPoly, p: &BiPoly, factor: u8) -> Result<(), AllocError> {
-    if row_count(p) <= row_count(q) {
-        q.add_scaled(p, factor)?;
-    }
-    Ok(())
-}
-
-#[test]
-fn products_and_multiples_worked(rt: HostRuntime) -> Result<(), AllocError> {
-    let mut q = two_roots(rt.alloc())?;
-    let product = q.times_linear(rt.alloc(), 0x01)?;
-    assert!(rt;
-        are(
-            product.rows(),
-            &[&[0x00, 0x01, 0x01], &[0x01, 0x00, 0x01], &[0x01, 0x01]]
-        )
-    );
-    add_multiple(&mut q, &product, 0x02)?;
-    assert!(rt;
-        are(
-            q.rows(),
-            &[&[0x00, 0x03, 0x02], &[0x03, 0x01, 0x02], &[0x03, 0x02]]
-        )
-    );
     Ok(())
 }
 

@@ -2,6 +2,12 @@
 //! workers it prints a line with the word `product`, the shape, that number, the best time of so many calls in nanoseconds,
 //! and a checksum of the product.
 //!
+//! bench_product products ROWS WIDTH CALLS WORKERS COUNT..: the products of COUNT queries, with a line for each COUNT: the
+//! word, the shape, the numbers of workers and of queries, the best time, and a checksum of all products.
+//!
+//! bench_product answers ROWS WIDTH CALLS WORKERS COUNT..: such lines, with the word `answers`, of the answers in the XOR
+//! scheme to COUNT bitmaps.
+//!
 //! bench_product answer ROWS WIDTH CALLS ..: one such line, with the word `answer`, of the answer in the XOR scheme to a
 //! bitmap with about half of its bits set. Further words aren't used: an answer has one worker.
 //!
@@ -14,7 +20,8 @@ ghost use Rattle.chor_xor.specs.Bitmap.{size_of};
 use anyhow::{Context, Result, bail};
 use block_matrix::Matrix;
 use chor_xor::answer_into;
-use server_product::{OpenGate, product_into};
+use server_answer::answers_into;
+use server_product::{OpenGate, product_into, products_into};
 use std::alloc::Global;
 use std::env;
 use std::io::Print;
@@ -102,6 +109,60 @@ fn best_product<R: Clock + Threads + Sync>(
     Ok(best)
 }
 
+/// The best time of the products of `count` queries, of so many calls, in nanoseconds. The last ones stay in `out`.
+fn best_products<R: Clock + Threads + Sync>(
+    rt: &R,
+    matrix: &Matrix,
+    queries: &[u8],
+    count: u8,
+    workers: u8,
+    calls: u64,
+    scratch: &mut [u8],
+    out: &mut [u8],
+) -> Result<u128>
+    requires some { 1 ≤ workers }
+    requires few { workers ≤ 16 }
+    requires few_queries { count ≤ 16 }
+    requires queries { length queries.now ≡ count * length matrix.now.rows }
+    requires scratch { length scratch.old ≡ workers * (count * matrix.now.width) }
+    requires room { length out.old ≡ count * matrix.now.width }
+{
+    let mut best = u128::MAX;
+    for _ in 0..calls {
+        let start = Instant::now(rt)?;
+        products_into(rt, matrix, queries, count, workers, scratch, &OpenGate, out);
+        best = best.min(start.elapsed(rt)?.as_nanos());
+    }
+    Ok(best)
+}
+
+/// The best time of the answers to `count` bitmaps, of so many calls, in nanoseconds. The last ones stay in `out`.
+fn best_answers<R: Clock + Threads + Sync>(
+    rt: &R,
+    matrix: &Matrix,
+    bitmaps: &[u8],
+    count: u8,
+    workers: u8,
+    calls: u64,
+    scratch: &mut [u8],
+    out: &mut [u8],
+) -> Result<u128>
+    requires some { 1 ≤ workers }
+    requires few { workers ≤ 16 }
+    requires few_bitmaps { count ≤ 16 }
+    requires bitmaps { length bitmaps.now ≡ count * size_of (length matrix.now.rows) }
+    requires scratch { length scratch.old ≡ workers * (count * matrix.now.width) }
+    requires room { length out.old ≡ count * matrix.now.width }
+{
+    let mut best = u128::MAX;
+    for _ in 0..calls {
+        let start = Instant::now(rt)?;
+        answers_into(rt, matrix, bitmaps, count, workers, scratch, &OpenGate, out);
+        best = best.min(start.elapsed(rt)?.as_nanos());
+    }
+    Ok(best)
+}
+
 /// The best time of so many answers, in nanoseconds. The last one stays in `out`.
 fn best_answer<R: Clock>(
     rt: &R,
@@ -147,6 +208,86 @@ fn measure_product<R: Clock + Print + Threads + Sync>(
     Ok(())
 }
 
+/// How many bytes the products of so many queries have.
+fn places_of(count: u8, matrix: &Matrix) -> usize
+    ensures is { result ≡ count * matrix.now.width }
+    ensures few { result ≤ 16777216 }
+{
+    count as usize * matrix.width() as usize
+}
+
+/// Makes the matrix and the queries, and prints a line for each number of queries.
+fn measure_products<R: Clock + Print + Threads + Sync>(
+    rt: &R,
+    alloc: Global,
+    rows: u32,
+    width: u32,
+    calls: u64,
+    workers: u8,
+    counts: &[u8],
+) -> Result<()> {
+    let mut state = SEED;
+    let matrix = matrix_of(alloc, &mut state, rows, width)?;
+    let workers = workers.clamp(1, 16);
+    for &count in counts {
+        let count = count.clamp(1, 16);
+        let mut queries = vec![in alloc; 0; count as usize * matrix.rows() as usize]?;
+        fill(&mut state, &mut queries);
+        let places = places_of(count, &matrix);
+        let mut out = vec![in alloc; 0; places]?;
+        let mut scratch = vec![in alloc; 0; workers as usize * places]?;
+        let best = best_products(
+            rt,
+            &matrix,
+            &queries,
+            count,
+            workers,
+            calls,
+            &mut scratch,
+            &mut out,
+        )?;
+        let sum = checksum(&out);
+        println!(rt; "products {rows} {width} {workers} {count} {best} {sum:016x}")?;
+    }
+    Ok(())
+}
+
+/// Makes the matrix and the bitmaps, and prints a line for each number of bitmaps.
+fn measure_answers<R: Clock + Print + Threads + Sync>(
+    rt: &R,
+    alloc: Global,
+    rows: u32,
+    width: u32,
+    calls: u64,
+    workers: u8,
+    counts: &[u8],
+) -> Result<()> {
+    let mut state = SEED;
+    let matrix = matrix_of(alloc, &mut state, rows, width)?;
+    let workers = workers.clamp(1, 16);
+    for &count in counts {
+        let count = count.clamp(1, 16);
+        let mut bitmaps = vec![in alloc; 0; count as usize * matrix.rows().div_ceil(8) as usize]?;
+        fill(&mut state, &mut bitmaps);
+        let places = places_of(count, &matrix);
+        let mut out = vec![in alloc; 0; places]?;
+        let mut scratch = vec![in alloc; 0; workers as usize * places]?;
+        let best = best_answers(
+            rt,
+            &matrix,
+            &bitmaps,
+            count,
+            workers,
+            calls,
+            &mut scratch,
+            &mut out,
+        )?;
+        let sum = checksum(&out);
+        println!(rt; "answers {rows} {width} {workers} {count} {best} {sum:016x}")?;
+    }
+    Ok(())
+}
+
 /// Makes the matrix and the bitmap, and prints a line, with the best time of so many calls if that is more than one.
 fn measure_answer<R: Clock + Print>(
     rt: &R,
@@ -188,7 +329,15 @@ fn main(rt: HostRuntime) -> Result<()> {
     }
     match word.as_str() {
         "product" => measure_product(&rt, rt.alloc(), rows, width, calls, &workers),
+        "products" => {
+            let (first, counts) = workers.split_first().context("workers")?;
+            measure_products(&rt, rt.alloc(), rows, width, calls, *first, counts)
+        }
+        "answers" => {
+            let (first, counts) = workers.split_first().context("workers")?;
+            measure_answers(&rt, rt.alloc(), rows, width, calls, *first, counts)
+        }
         "answer" => measure_answer(&rt, rt.alloc(), rows, width, calls),
-        _ => bail!("neither product nor answer"),
+        _ => bail!("neither product nor products nor answers nor answer"),
     }
 }

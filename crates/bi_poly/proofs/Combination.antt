@@ -1,21 +1,21 @@
--- The Hasse derivatives and the coefficients of sums with multiples, and of products with x - a.
-use Rattle.std.proofs.Common.{◌≡◌, ℕ, zero, suc, ◌+◌, ◌<◌, ◌≤◌, List, [], length, refl, sym, ap, ap₂, ◌∙◌, subst, arith, inl, inr}
+-- The Hasse derivatives and the coefficients of products with x - a.
+use Rattle.std.proofs.Common.{◌≡◌, ℕ, zero, suc, ◌<◌, ◌≤◌, List, [], length, refl, sym, ap, ap₂, ◌∙◌, subst, arith, inl, inr}
 use Rattle.std.proofs.lemmas.Bool.{cases_lt}
 use Rattle.std.proofs.lemmas.List.{get_or_past, get_or-map, length-map}
 use Rattle.gf256.specs.Field.{◌⊕◌, ◌⊗◌}
 use Rattle.gf256.specs.Sums.{sum_to}
 use Rattle.gf256.specs.Polynomial.{coef}
-use Rattle.gf256.proofs.Xor.{add_zero, zero_add, add_lt}
-use Rattle.gf256.proofs.FieldLaws.{mul_zero, mul_lt, zero_mul}
+use Rattle.gf256.proofs.Xor.{add_zero, zero_add}
+use Rattle.gf256.proofs.FieldLaws.{mul_zero, zero_mul}
 use Rattle.uni_poly.specs.Product.{linear, product}
 use Rattle.uni_poly.specs.Taylor.{taylor}
 use Rattle.uni_poly.proofs.Addition.{add_list, coef-add_list}
 use Rattle.uni_poly.proofs.Products.{scale_list, coef-scale_list}
 use Rattle.uni_poly.proofs.Taylor.{taylor-same, taylor-zero, taylor_lt}
-use Rattle.uni_poly.proofs.LinearFactor.{before, coef-product_linear, length-product_linear, taylor-product_linear, val-product_linear, IsBytes-product}
+use Rattle.uni_poly.proofs.LinearFactor.{before, coef-product_linear, taylor-product_linear, val-product_linear}
 use Rattle.bi_poly.specs.Rows.{row, cell, AreBytes}
 use Rattle.bi_poly.specs.Hasse.{hasse}
-use Rattle.bi_poly.specs.Combination.{IsScaledSum2, times_linear_rows}
+use Rattle.bi_poly.specs.Combination.{times_linear_rows}
 use Rattle.bi_poly.proofs.Derivatives.{taylor-derivative}
 use Rattle.bi_poly.proofs.Expansion.{derivatives-row}
 use Rattle.bi_poly.proofs.Hasse.{derivatives, hasse-derivative}
@@ -44,20 +44,6 @@ hasse-rows s q p f u x y v a b h =
     ∙ ap (◌⊕◌ (taylor Q b v)) (taylor-scale_list f P b v)
     ∙ ap₂ (λ k l. k ⊕ f ⊗ l) (sym (hasse-taylor q x v a b)) (sym (hasse-taylor p y v a b))
 
--- the derivatives of a sum with a multiple
-pub hasse-scaled_sum : (s q p : List (List ℕ)) (f u v a b : ℕ) → IsScaledSum2 s q p f → hasse s u v a b ≡ hasse q u v a b ⊕ f ⊗ hasse p u v a b
-hasse-scaled_sum s q p f u v a b h =
-    hasse-rows s q p f u u u v a b
-    (λ j. taylor-same (row s j) (add_list (row q j) (scale_list f (row p j))) a u
-    (λ e. let each = h.each j in each.each e ∙ sym (coef-add_list (row q j) (scale_list f (row p j)) e ∙ ap (◌⊕◌ (coef (row q j) e)) (coef-scale_list f (row p j) e)))
-    ∙ taylor-add_list (row q j) (scale_list f (row p j)) a u
-    ∙ ap (◌⊕◌ (taylor (row q j) a u)) (taylor-scale_list f (row p j) a u))
-
--- its coefficients
-pub cell-scaled_sum : (s q p : List (List ℕ)) (f j i : ℕ) → IsScaledSum2 s q p f → cell s j i ≡ cell q j i ⊕ f ⊗ cell p j i
-unfolding cell
-cell-scaled_sum s q p f j i h = let each = h.each j in each.each i
-
 -- a row of the product with x - r
 pub row-times_linear : (q : List (List ℕ)) (r j : ℕ) → j < length q → row (times_linear_rows q r) j ≡ product (row q j) (linear r)
 row-times_linear q r j l = get_or-map (λ p. product p (linear r)) q j [] [] l
@@ -65,18 +51,6 @@ row-times_linear q r j l = get_or-map (λ p. product p (linear r)) q j [] [] l
 -- past the last row there is none
 pub past-times_linear : (q : List (List ℕ)) (r j : ℕ) → length q ≤ j → row (times_linear_rows q r) j ≡ []
 past-times_linear q r j l = let size = length-map q (λ p. product p (linear r)) in get_or_past (times_linear_rows q r) j [] (omega arith)
-
--- there are as many rows
-pub length-times_linear : (q : List (List ℕ)) (r : ℕ) → length (times_linear_rows q r) ≡ length q
-length-times_linear q r = length-map q (λ p. product p (linear r))
-
--- each at most one longer
-pub width-times_linear : (q : List (List ℕ)) (r j : ℕ) → length (row (times_linear_rows q r) j) ≤ length (row q j) + 1
-width-times_linear q r j =
-    elim (cases_lt j (length q)) [
-      | inl l ↦ let e = ap length (row-times_linear q r j l) ∙ length-product_linear (row q j) r in omega arith
-      | inr l ↦ let e = ap length (past-times_linear q r j l) in omega arith
-    ]
 
 -- nothing times x - r
 empty : (a w u v f : ℕ) → taylor [] a w ≡ taylor [] a u ⊕ f ⊗ taylor [] a v
@@ -142,17 +116,3 @@ cell-times_linear_first q r j h = cell-times_linear q r j 0 h ∙ zero_add _
 pub cell-times_linear_later : (q : List (List ℕ)) (r j i : ℕ) → AreBytes q → cell (times_linear_rows q r) j (suc i) ≡ cell q j i ⊕ cell q j (suc i) ⊗ r
 unfolding before cell
 cell-times_linear_later q r j i h = cell-times_linear q r j (suc i) h
-
--- the sum has bytes as coefficients
-pub AreBytes-scaled_sum : (s q p : List (List ℕ)) (f : ℕ) → IsScaledSum2 s q p f → AreBytes q → AreBytes s
-AreBytes-scaled_sum s q p f h b j i =
-    subst (λ x. x < 256) (sym (cell-scaled_sum s q p f j i h)) (add_lt (cell q j i) (f ⊗ cell p j i) (b j i) (mul_lt f (cell p j i)))
-
--- and so has the product
-pub AreBytes-times_linear : (q : List (List ℕ)) (r : ℕ) → AreBytes (times_linear_rows q r)
-unfolding cell coef
-AreBytes-times_linear q r j i =
-    elim (cases_lt j (length q)) [
-      | inl l ↦ subst (λ p. coef p i < 256) (sym (row-times_linear q r j l)) (IsBytes-product (row q j) (linear r) i)
-      | inr l ↦ subst (λ p. coef p i < 256) (sym (past-times_linear q r j l)) (omega arith)
-    ]

@@ -9,5 +9,4 @@ pub mod Shift
 pub mod Zeros
 pub mod Peeling
 pub mod Expansion
-pub mod ScaledSums
 pub mod Combination

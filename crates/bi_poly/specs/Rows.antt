@@ -33,8 +33,3 @@ pub record IsWithinLimits (q : List (List ℕ)) : Type 0 where
 pub record IsWidth (q : List (List ℕ)) (w : ℕ) : Type 0 where
   pub enough : (j : ℕ) → length (row q j) ≤ w
   pub least : (n : ℕ) → ((j : ℕ) → length (row q j) ≤ n) → w ≤ n
-
--- s is q with x and y exchanged: its rows are the columns of q
-pub record IsTransposed (q s : List (List ℕ)) : Type 0 where
-  pub rows : IsWidth q (length s)
-  pub each : (i : ℕ) → i < length s → row s i ≡ column q i

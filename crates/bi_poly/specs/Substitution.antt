@@ -1,10 +1,10 @@
 -- Substitutions for y (Roth and Ruckenstein 2000).
 use Rattle.std.specs.Prelude.{◌≡◌, ℕ, zero, suc, ◌+◌, ◌<◌, ◌≤◌, List, ◌++◌, length, map, replicate}
+use Rattle.std.specs.List.{range_with_len}
 use Rattle.gf256.specs.Sums.{sum_to}
 use Rattle.gf256.specs.Polynomial.{coef}
 use Rattle.uni_poly.specs.Product.{product}
 use Rattle.uni_poly.specs.Taylor.{taylor}
-use Rattle.bi_poly.specs.Hasse.{derivative}
 use Rattle.bi_poly.specs.Rows.{row, cell, column}
 
 -- p times phi ^ j: p multiplied by phi, j times
@@ -29,7 +29,7 @@ pub record IsShiftedRoot (q : List (List ℕ)) (gamma : ℕ) (s : List (List ℕ
   pub low : (j i : ℕ) → i < j → cell s j i ≡ 0
   pub size : (j n : ℕ) → ((k : ℕ) → length (row q k) ≤ n) → length (row s j) ≤ n + j
 
--- row j of q(x, x * y + gamma), from the columns of q: j zeros, and then the Hasse derivatives of
--- order j of the columns
-abbrev pub shifted_row : List (List ℕ) → ℕ → ℕ → List ℕ
-shifted_row columns gamma j = replicate j 0 ++ map (λ c. derivative c gamma j) columns
+-- row j of q(x, x * y + gamma), where no row of q is longer than width: j zeros, and then the
+-- Hasse derivatives of order j of the columns
+abbrev pub shifted_row : List (List ℕ) → ℕ → ℕ → ℕ → List ℕ
+shifted_row q width gamma j = replicate j 0 ++ map (λ i. taylor (column q i) gamma j) (range_with_len 0 width)

@@ -8,8 +8,8 @@
 //! point times the powers about it, and a zero of multiplicity m becomes a factor `(x - a)^m` once
 //! a polynomial through that point stands for y.
 //!
-//! Not promised: anything of time. `shift_root` takes, for each pair of rows, as many products as
-//! the longest row has coefficients, and `at_poly` for each row as many as the product has
+//! Not promised: anything of time. `shift_root` adds, for each pair of rows, at most one to the
+//! other as a multiple, 16 coefficients at once, and `at_poly` for each row as many as the product has
 //! coefficients times those of `phi`.
 #![tactic(auto)]
 
@@ -17,17 +17,18 @@ pub mod laws;
 mod product;
 mod row;
 
-ghost use Rattle.std.specs.Prelude.{◌≡◌, ◌<◌, ◌≤◌, length, map, MatchOption, IfOk};
-ghost use Rattle.std.specs.List.{range_with_len};
-ghost use Rattle.bi_poly.specs.Rows.{row as row_of, column, IsZero, IsWithinLimits, IsWidth, IsTransposed};
+ghost use Rattle.std.specs.Prelude.{◌≡◌, ℕ, ◌<◌, ◌≤◌, length, map, slice_index, MatchOption, IfOk};
+ghost use Rattle.gf256.specs.Field.{◌⊕◌};
+ghost use Rattle.uni_poly.specs.Taylor.{taylor};
+ghost use Rattle.bi_poly.specs.Rows.{row as row_of, column, IsZero, IsWithinLimits, IsWidth};
 ghost use Rattle.bi_poly.specs.Degree.{IsWeightedDegree, IsOrderInX, without_first};
 ghost use Rattle.bi_poly.specs.Hasse.{hasse};
 ghost use Rattle.bi_poly.specs.Substitution.{IsAtPoly, IsShiftedRoot, shifted_row};
-ghost use Rattle.bi_poly.specs.Combination.{IsScaledSum2, times_linear_rows};
 
 use crate::product::multiply_and_add;
 pub use crate::row::is_odd_binomial;
-use crate::row::{add_scaled, coefficient, degree, derivative, drop_first, order};
+use crate::row::{coefficient, degree, derivative, drop_first, order};
+use gf256::rows::clear;
 use std::alloc::{AllocError, Global};
 use std::marker::Model;
 
@@ -97,39 +98,6 @@ impl BiPoly {
             power = gf256::mul(power, b);
         }
         sum
-    }
-
-    /// Adds `factor` times `p`, which must have no more rows. A row of `p` that is longer makes
-    /// this one's longer.
-    ///
-    /// # Errors
-    ///
-    /// `AllocError` where there is no memory for a longer row. Some rows have their sums then, and
-    /// the others have not.
-    pub fn add_scaled(&mut self, p: &BiPoly, factor: u8) -> Result<(), AllocError>
-        requires { length p.now ≤ length self.old }
-        ensures { IfOk result (λ _. IsScaledSum2 self.new self.old p.now factor) }
-    {
-        for j in 0..p.len() {
-            add_scaled(&mut self.rows[j], p.row(j), factor)?;
-        }
-        Ok(())
-    }
-
-    /// The product with `x - a`, each of whose rows is one longer: that of `y^2 + (1 + x)*y + x`
-    /// and `x - 1` is `(1 + x)*y^2 + (1 + x^2)*y + x + x^2`.
-    ///
-    /// # Errors
-    ///
-    /// `AllocError` where there is no memory for the rows.
-    pub fn times_linear(&self, alloc: Global, a: u8) -> Result<BiPoly, AllocError>
-        ensures { IfOk result (λ s. s ≡ times_linear_rows self.now a) }
-    {
-        let mut rows = Vec::new(alloc);
-        for j in 0..self.len() {
-            rows.push(uni_poly::mul_by_linear(alloc, self.row(j), a)?)?;
-        }
-        Ok(BiPoly { rows })
     }
 
     /// The weighted degree, x having the weight 1 and y the weight `t`, at most 254: the greatest
@@ -234,38 +202,39 @@ impl BiPoly {
         width
     }
 
-    /// The polynomial with x and y exchanged, whose rows are the columns of this one.
-    fn transposed(&self, alloc: Global) -> Result<BiPoly, AllocError>
-        ensures { IfOk result (IsTransposed self.now) }
+    /// Adds to each of the `sums` the Hasse derivative of order `j` at `gamma` of the column at its
+    /// place: row `k` goes into all of them at once, times `gamma^(k - j)`, where `C(k, j)` is odd.
+    fn add_derivatives(&self, sums: &mut [u8], j: usize, gamma: u8)
+        requires { (k : ℕ) → length (row_of self.now k) ≤ length sums.old }
+        ensures { (i : ℕ) → slice_index sums.new i
+            ≡ slice_index sums.old i ⊕ taylor (column self.now i) gamma j }
     {
-        let mut columns = Vec::new(alloc);
-        for i in 0..self.width() {
-            columns.push(self.column(alloc, i)?)?;
+        let mut power = 1;
+        for k in j..self.len() {
+            if is_odd_binomial(k, j) {
+                uni_poly::add_scaled(sums, self.row(k), power);
+            }
+            power = gf256::mul(power, gamma);
         }
-        Ok(BiPoly { rows: columns })
     }
 
-    /// Row `j` of what [`BiPoly::shift_root`] gives, where this is the transpose of what it is
-    /// called on.
-    fn shifted_row(&self, alloc: Global, j: usize, gamma: u8) -> Result<Vec<u8>, AllocError>
-        ensures { IfOk result (λ v. v.items ≡ shifted_row self.now gamma j) }
+    /// Row `j` of what [`BiPoly::shift_root`] gives. `sums` has room for the longest row of this.
+    fn shifted_row(
+        &self,
+        alloc: Global,
+        j: usize,
+        gamma: u8,
+        sums: &mut [u8],
+    ) -> Result<Vec<u8>, AllocError>
+        requires { (k : ℕ) → length (row_of self.now k) ≤ length sums.old }
+        ensures { IfOk result (λ v. v.items ≡ shifted_row self.now (length sums.old) gamma j) }
     {
-        let mut made = vec![in alloc; 0; j]?;
-        for i in 0..self.len() {
-            made.push(derivative(self.row(i), j, gamma))?;
-        }
+        clear(sums);
+        self.add_derivatives(sums, j, gamma);
+        let mut made = Vec::with_capacity(alloc, sums.len().saturating_add(j))?;
+        made.resize(j, 0)?;
+        made.extend_from_slice(sums)?;
         Ok(made)
-    }
-
-    /// The first `count` of these rows.
-    fn shifted_rows(&self, alloc: Global, count: usize, gamma: u8) -> Result<BiPoly, AllocError>
-        ensures { IfOk result (λ s. s ≡ map (shifted_row self.now gamma) (range_with_len 0 count)) }
-    {
-        let mut rows = Vec::new(alloc);
-        for j in 0..count {
-            rows.push(self.shifted_row(alloc, j, gamma)?)?;
-        }
-        Ok(BiPoly { rows })
     }
 
     /// The polynomial where `x*y + gamma` stands for y (Roth and Ruckenstein 2000): its y-roots are
@@ -275,11 +244,15 @@ impl BiPoly {
     ///
     /// # Errors
     ///
-    /// `AllocError` where there is no memory for the rows, or for a copy of these.
+    /// `AllocError` where there is no memory for the rows, or for one more.
     pub fn shift_root(&self, alloc: Global, gamma: u8) -> Result<BiPoly, AllocError>
         ensures { IfOk result (IsShiftedRoot self.now gamma) }
     {
-        let columns = self.transposed(alloc)?;
-        columns.shifted_rows(alloc, self.len(), gamma)
+        let mut sums = vec![in alloc; 0; self.width()]?;
+        let mut rows = Vec::new(alloc);
+        for j in 0..self.len() {
+            rows.push(self.shifted_row(alloc, j, gamma, &mut sums)?)?;
+        }
+        Ok(BiPoly { rows })
     }
 }

@@ -4,10 +4,7 @@ ghost use Rattle.std.specs.Prelude.{◌≡◌, ◌++◌, ◌-◌, if◌then◌el
 ghost use Rattle.gf256.specs.Polynomial.{coef};
 ghost use Rattle.uni_poly.specs.Coefficients.{IsZero};
 ghost use Rattle.bi_poly.specs.Degree.{IsDegree, IsOrder};
-ghost use Rattle.bi_poly.specs.Combination.{IsScaledSum};
 ghost use Rattle.bi_poly.specs.Hasse.{binomial_parity, derivative};
-
-use std::alloc::AllocError;
 
 /// Whether the binomial coefficient of `n` over `k` is odd: exactly where the bits of `k` are among
 /// those of `n` (Lucas 1878).
@@ -71,24 +68,4 @@ pub fn drop_first(p: &mut Vec<u8>, n: usize)
     let n = n.min(p.len());
     p.copy_within(n.., 0);
     p.truncate(p.len() - n);
-}
-
-/// Puts zeros at the end of `p` until it has `n` coefficients.
-fn lengthen(p: &mut Vec<u8>, n: usize) -> Result<(), AllocError>
-    ensures { IfOk result (λ _. p.new.items ≡ p.old.items ++ replicate (n - length p.old.items) 0) }
-{
-    let missing = n.saturating_sub(p.len());
-    for _ in 0..missing {
-        p.push(0)?;
-    }
-    Ok(())
-}
-
-/// Adds `factor` times `p` to `acc`, which becomes as long as `p` where it is shorter.
-pub fn add_scaled(acc: &mut Vec<u8>, p: &[u8], factor: u8) -> Result<(), AllocError>
-    ensures { IfOk result (λ _. IsScaledSum acc.new.items acc.old.items p.now factor) }
-{
-    lengthen(acc, p.len())?;
-    uni_poly::add_scaled(acc, p, factor);
-    Ok(())
 }

@@ -1,16 +1,16 @@
 -- The sum of the usable answers of a session, server by server.
 use Rattle.std.proofs.Common.{◌≡◌, ℕ, suc, ◌+◌, ◌<◌, ◌≤◌, List, [], ◌∷◌, ◌++◌, length, map, get_or, replicate, None, Some, refl, sym, ap, ap₂, ◌∙◌, arith, inl, inr}
 use Rattle.std.proofs.lemmas.Bool.{cases_lt}
-use Rattle.std.proofs.lemmas.List.{append_assoc, append-nil, length-append, map-append, get_or_append_left, get_or_push, get_or-replicate, get_or_past, length-replicate}
+use Rattle.std.proofs.lemmas.List.{length-append, map-append, get_or_append_left, get_or_push, get_or-replicate, get_or_past, length-replicate}
 use Rattle.gf256.specs.Field.{◌⊕◌}
 use Rattle.gf256.specs.Sums.{sum_to}
 use Rattle.gf256.proofs.Sums.{sum_to-same}
 use Rattle.chor_xor.specs.Chosen.{combined_at, combined}
 use Rattle.chor_xor.proofs.ChosenSums.{combined-is}
-use Rattle.wire_frames.specs.Answer.{Answer, answers, with_answer}
+use Rattle.wire_frames.specs.Answer.{Answer, answers, block_len}
 use Rattle.wire_frames.specs.Session.{Transcript}
 use Rattle.block_decoder.specs.Usable.{payload_of}
-use Rattle.block_decoder.proofs.Collected.{rest_of, rest_of-step, rest_of-none}
+use Rattle.block_decoder.proofs.Collected.{HasCollected, collected_none, collected_absent, collected_present, collected_all}
 
 -- the payloads of answers
 abbrev pub payloads_of : List Answer → List (List ℕ)
@@ -30,10 +30,10 @@ combined_at-push payloads payload c =
 -- the answers of the servers before the next are summed
 pub record HasCombined (session : Transcript) (sum : List ℕ) (k next : ℕ) : Type 0 where
   pub made : List Answer
-  pub answers_are : made ++ rest_of session next ≡ answers session
+  pub collected : HasCollected session made next
   pub count : k ≡ length made
   pub few : k < next
-  pub size : length sum ≡ session.params.s
+  pub size : length sum ≡ (block_len session.params)
   pub is : (c : ℕ) → get_or sum c 0 ≡ combined_at (payloads_of made) c
 
 -- a list of one number has it everywhere, where it is the default too
@@ -45,15 +45,15 @@ get_or-replicate_default n x c =
     ]
 
 -- nothing yet
-pub combined_none : (session : Transcript) (sum : List ℕ) → sum ≡ replicate session.params.s 0 → HasCombined session sum 0 1
-unfolding rest_of combined_at sum_to
+pub combined_none : (session : Transcript) (sum : List ℕ) → sum ≡ replicate (block_len session.params) 0 → HasCombined session sum 0 1
+unfolding combined_at sum_to
 combined_none session sum zeros = record {
   made = [];
-  answers_are = refl;
+  collected = collected_none session;
   count = refl;
   few = omega arith;
-  size = ap length zeros ∙ length-replicate session.params.s (let none : ℕ = 0 in none);
-  is = λ c. ap (λ (xs : List ℕ). get_or xs c 0) zeros ∙ get_or-replicate_default session.params.s 0 c;
+  size = ap length zeros ∙ length-replicate (block_len session.params) (let none : ℕ = 0 in none);
+  is = λ c. ap (λ (xs : List ℕ). get_or xs c 0) zeros ∙ get_or-replicate_default (block_len session.params) 0 c;
 }
 
 -- the next server's answer isn't usable
@@ -61,7 +61,7 @@ pub combined_absent : (session : Transcript) (sum : List ℕ) (k next : ℕ) →
     → HasCombined session sum k next → HasCombined session sum k (next + 1)
 combined_absent session sum k next low high absent so_far = record {
   made = so_far.made;
-  answers_are = ap (λ rest. so_far.made ++ rest) (sym (rest_of-step session next low high ∙ ap (λ p. with_answer next p (rest_of session (next + 1))) absent)) ∙ so_far.answers_are;
+  collected = collected_absent session so_far.made next low high absent so_far.collected;
   count = so_far.count;
   few = let l = so_far.few in omega (arith, l);
   size = so_far.size;
@@ -77,9 +77,7 @@ combined_present session sum new k next payload low high present size added so_f
     let longer = length-append so_far.made (one ∷ []) in
     record {
       made = so_far.made ++ one ∷ [];
-      answers_are = append_assoc so_far.made (one ∷ []) (rest_of session (next + 1))
-          ∙ ap (λ rest. so_far.made ++ rest) (sym (rest_of-step session next low high ∙ ap (λ p. with_answer next p (rest_of session (next + 1))) present))
-          ∙ so_far.answers_are;
+      collected = collected_present session so_far.made next payload low high present so_far.collected;
       count = let n = so_far.count in omega (arith, n, longer);
       few = let l = so_far.few in omega (arith, l);
       size = size ∙ so_far.size;
@@ -89,9 +87,9 @@ combined_present session sum new k next payload low high present size added so_f
 
 -- when all servers are passed, the answers are counted and summed
 pub combined_all : (session : Transcript) (sum : List ℕ) (k : ℕ) → length session.records ≡ session.params.n → HasCombined session sum k (session.params.n + 1)
-    → (k ≡ length (answers session)) × (sum ≡ combined session.params.s (payloads_of (answers session)))
+    → (k ≡ length (answers session)) × (sum ≡ combined (block_len session.params) (payloads_of (answers session)))
 combined_all session sum k all done =
-    let whole : done.made ≡ answers session = sym (append-nil done.made) ∙ ap (λ rest. done.made ++ rest) (sym (rest_of-none session all)) ∙ done.answers_are in (
+    let whole = collected_all session done.made all done.collected in (
       done.count ∙ ap length whole,
-      combined-is (payloads_of (answers session)) sum session.params.s done.size (λ c. done.is c ∙ ap (λ (made : List Answer). combined_at (payloads_of made) c) whole),
+      combined-is (payloads_of (answers session)) sum (block_len session.params) done.size (λ c. done.is c ∙ ap (λ (made : List Answer). combined_at (payloads_of made) c) whole),
     )

@@ -21,7 +21,7 @@ pub mod Johnson
 pub mod HeavyVectors
 pub mod Vectors
 mod Holding
-mod Continued
+pub mod Continued
 mod Kept
 mod Runs
 mod Visits

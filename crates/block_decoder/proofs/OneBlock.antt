@@ -7,7 +7,7 @@ use Rattle.std.proofs.lemmas.Bool.{cases_lt}
 use Rattle.std.proofs.lemmas.Cmp.{nat_list_cmp_total}
 use Rattle.std.proofs.lemmas.List.Elements.{Contains-get_or}
 use Rattle.std.proofs.lemmas.Map.Keys.{Less-from_sorted}
-use Rattle.wire_frames.specs.Answer.{Answer, answers}
+use Rattle.wire_frames.specs.Answer.{block_len, Answer, answers}
 use Rattle.wire_frames.specs.Limits.{IsInRange}
 use Rattle.wire_frames.specs.Session.{Transcript}
 use Rattle.column_lists.specs.declared.TheConstants.{MOST_POINTS}
@@ -84,7 +84,7 @@ combined_is_listed answers width n h (TooCostly equations) all is = absurd is
 combined_is_listed answers width n h (Listed blocks) all is = let one = ap length is.1 in omega (arith, one)
 
 -- where h <= k and 2 h > k + t the verdict on a session lists one block, or none, in either scheme
-pub close_verdict_is_listed : (session : Transcript) (verdict : Verdict) → IsInRange session.params → HasColumns session.params.s (answers session)
+pub close_verdict_is_listed : (session : Transcript) (verdict : Verdict) → IsInRange session.params → HasColumns (block_len session.params) (answers session)
     → length session.records ≤ session.params.n → session.params.h ≤ length (answers session) → length (answers session) + session.params.t < 2 * session.params.h
     → IsVerdict session verdict → ListsAtMostOne verdict
 close_verdict_is_listed session verdict range columns few enough close is =
@@ -92,6 +92,6 @@ close_verdict_is_listed session verdict range columns few enough close is =
     let usable = length-answers_from-le 1 p session.records in
     let servers = range.few_servers in
     elim range.scheme [
-      | inl shamir ↦ close_is_listed (answers session) p.s p.t p.h verdict columns (omega (arith, usable, few, servers)) enough close (is.shamir shamir)
-      | inr xor ↦ let all = range.all_answer xor in combined_is_listed (answers session) p.s p.n p.h verdict (omega (arith, all, enough)) (is.xor xor)
+      | inl shamir ↦ close_is_listed (answers session) (block_len p) p.t p.h verdict columns (omega (arith, usable, few, servers)) enough close (is.shamir shamir)
+      | inr xor ↦ let all = range.all_answer xor in combined_is_listed (answers session) (block_len p) p.n p.h verdict (omega (arith, all, enough)) (is.xor xor)
     ]

@@ -1,7 +1,7 @@
 -- A session has one verdict at most.
 use Rattle.std.proofs.Common.{◌≡◌, ℕ, List, inl, inr, sym, ap, ap₂, ◌∙◌, arith}
 use Rattle.std.proofs.lemmas.Cmp.{nat_list_cmp_total}
-use Rattle.wire_frames.specs.Answer.{Answer, answers}
+use Rattle.wire_frames.specs.Answer.{Answer, answers, block_len}
 use Rattle.wire_frames.specs.Limits.{IsInRange}
 use Rattle.wire_frames.specs.Session.{Transcript}
 use Rattle.block_decoder.specs.Agreed.{Lists}
@@ -56,6 +56,6 @@ pub one_verdict : (session : Transcript) (one other : Verdict) → IsInRange ses
 one_verdict session one other range p q =
     let params = session.params in
     elim range.scheme [
-      | inl shamir ↦ one_decided (answers session) params.s params.t params.h one other (p.shamir shamir) (q.shamir shamir)
-      | inr xor ↦ one_combined (answers session) params.s params.n params.h one other (p.xor xor) (q.xor xor)
+      | inl shamir ↦ one_decided (answers session) (block_len params) params.t params.h one other (p.shamir shamir) (q.shamir shamir)
+      | inr xor ↦ one_combined (answers session) (block_len params) params.n params.h one other (p.xor xor) (q.xor xor)
     ]

@@ -9,7 +9,7 @@ use Rattle.std.proofs.lemmas.List.{length-append}
 use Rattle.std.proofs.lemmas.List.Elements.{All-nil, All-cons}
 use Rattle.std.proofs.lemmas.Map.Lookups.{exact_bytes}
 use Rattle.wire_frames.specs.declared.session.SessionParams.{SessionParams}
-use Rattle.wire_frames.specs.Answer.{Answer, answers, answers_from, asked, usable, with_answer}
+use Rattle.wire_frames.specs.Answer.{Answer, answers, answers_from, asked, block_len, usable, with_answer}
 use Rattle.wire_frames.specs.Session.{Transcript}
 use Rattle.chor_xor.specs.Chosen.{combined}
 use Rattle.column_lists.specs.Numbers.{cost}
@@ -112,17 +112,17 @@ filled_with : (width i : ℕ) (payload : Option (List ℕ)) (rest : List Answer)
 filled_with width i None rest size filled = filled
 filled_with width i (Some payload) rest size filled = All-cons (λ (a : Answer). length a.payload ≡ width) (record { index = i; payload = payload }) rest (size payload refl) filled
 
-filled_from : (i : ℕ) (p : SessionParams) (records : List (Option (List ℕ))) → Filled p.s (answers_from i p records)
-filled_from i p [] = All-nil (λ (a : Answer). length a.payload ≡ p.s)
+filled_from : (i : ℕ) (p : SessionParams) (records : List (Option (List ℕ))) → Filled (block_len p) (answers_from i p records)
+filled_from i p [] = All-nil (λ (a : Answer). length a.payload ≡ block_len p)
 filled_from i p (None ∷ records) = filled_from (i + 1) p records
-filled_from i p (Some bytes ∷ records) = filled_with p.s i (usable bytes (asked p i)) (answers_from (i + 1) p records) (λ payload e. usable_size bytes payload (asked p i) e) (filled_from (i + 1) p records)
+filled_from i p (Some bytes ∷ records) = filled_with (block_len p) i (usable bytes (asked p i)) (answers_from (i + 1) p records) (λ payload e. usable_size bytes payload (asked p i) e) (filled_from (i + 1) p records)
 
 -- there is a verdict on each session
 pub some_verdict : (session : Transcript) → HasVerdict session
 some_verdict session =
     let p = session.params in
-    let (decided, is_decided) = some_decided (answers session) p.s p.t p.h (filled_from 1 p session.records) in
-    let (summed, is_summed) = some_combined (answers session) p.s p.n p.h in
+    let (decided, is_decided) = some_decided (answers session) (block_len p) p.t p.h (filled_from 1 p session.records) in
+    let (summed, is_summed) = some_combined (answers session) (block_len p) p.n p.h in
     elim (cases_lt p.scheme 2) [
       | inl low ↦ record { verdict = decided; is = record { shamir = λ e. is_decided; xor = λ e. absurd (omega (arith, e, low)) } }
       | inr high ↦ record { verdict = summed; is = record { shamir = λ e. absurd (omega (arith, e, high)); xor = λ e. is_summed } }

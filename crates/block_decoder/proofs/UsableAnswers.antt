@@ -1,6 +1,6 @@
 -- Which records have a usable answer; the usable answers of a session: their indices ascend, and their payloads are
 -- bytes, one for each column.
-use Rattle.std.proofs.Common.{◌≡◌, ℕ, ◌+◌, ◌<◌, ◌≤◌, ◌&&◌, Bool, true, false, cond, nat_eq, List, [], ◌∷◌, ◌++◌, length, get_or, take, drop, All, AllPairs, Option, None, Some, option_and_then, IfSome, bytes_eq, refl, sym, ap, ap₂, subst, ◌∙◌, arith, eqb-true}
+use Rattle.std.proofs.Common.{◌≡◌, ◌≢◌, ℕ, ◌+◌, ◌*◌, ◌<◌, ◌≤◌, ◌&&◌, Bool, true, false, cond, nat_eq, List, [], ◌∷◌, ◌++◌, length, get_or, take, drop, All, AllPairs, Option, None, Some, option_and_then, IfSome, bytes_eq, refl, sym, ap, ap₂, subst, ◌∙◌, arith, eqb-true}
 use Rattle.std.proofs.Math.Seq.{take-append_seam, drop-append_seam}
 use Rattle.std.proofs.lemmas.Bool.{eq-eqb, and_parts}
 use Rattle.std.proofs.lemmas.List.{length-append, length-drop}
@@ -13,7 +13,7 @@ use Rattle.wire_frames.specs.declared.sizes.TheConstants.{FRAME_HEADER_LEN}
 use Rattle.wire_frames.specs.declared.header.QueryHeader.{QueryHeader}
 use Rattle.wire_frames.specs.declared.session.SessionParams.{SessionParams}
 use Rattle.wire_frames.specs.Header.{answer_header}
-use Rattle.wire_frames.specs.Answer.{Answer, answers, answers_from, asked, usable, with_answer}
+use Rattle.wire_frames.specs.Answer.{block_len, Answer, answers, answers_from, asked, usable, with_answer}
 use Rattle.wire_frames.specs.Session.{Transcript, Fits}
 use Rattle.block_decoder.specs.Agreed.{Filled, HasColumns}
 
@@ -25,27 +25,27 @@ when_some false x b e = absurd (cc)
 
 -- a usable answer's payload stands behind its header
 pub usable_payload : (bytes payload : List ℕ) (q : QueryHeader) → usable bytes q ≡ Some payload → drop FRAME_HEADER_LEN bytes ≡ payload
-usable_payload bytes payload q e = (when_some (bytes_eq (take FRAME_HEADER_LEN bytes) (answer_header q 0) && nat_eq (length bytes) (answer_len q.s)) (drop FRAME_HEADER_LEN bytes) payload e).1
+usable_payload bytes payload q e = (when_some (bytes_eq (take FRAME_HEADER_LEN bytes) (answer_header q 0) && nat_eq (length bytes) (answer_len q.count q.s)) (drop FRAME_HEADER_LEN bytes) payload e).1
 
 -- a usable answer has a byte for each column
-pub usable_size : (bytes payload : List ℕ) (q : QueryHeader) → usable bytes q ≡ Some payload → length payload ≡ q.s
+pub usable_size : (bytes payload : List ℕ) (q : QueryHeader) → usable bytes q ≡ Some payload → length payload ≡ q.count * q.s
 usable_size bytes payload q e =
-    let parts = when_some (bytes_eq (take FRAME_HEADER_LEN bytes) (answer_header q 0) && nat_eq (length bytes) (answer_len q.s)) (drop FRAME_HEADER_LEN bytes) payload e in
-    let tests = and_parts (bytes_eq (take FRAME_HEADER_LEN bytes) (answer_header q 0)) (nat_eq (length bytes) (answer_len q.s)) parts.0 in
-    let size = eqb-true (length bytes) (answer_len q.s) tests.1 in
+    let parts = when_some (bytes_eq (take FRAME_HEADER_LEN bytes) (answer_header q 0) && nat_eq (length bytes) (answer_len q.count q.s)) (drop FRAME_HEADER_LEN bytes) payload e in
+    let tests = and_parts (bytes_eq (take FRAME_HEADER_LEN bytes) (answer_header q 0)) (nat_eq (length bytes) (answer_len q.count q.s)) parts.0 in
+    let size = eqb-true (length bytes) (answer_len q.count q.s) tests.1 in
     let rest = length-drop FRAME_HEADER_LEN bytes in
     let same = ap length parts.1 in
     omega (arith, size, rest, same)
 
 -- the frame of status 0 with a byte for each column is usable
-pub usable_frame : (payload : List ℕ) (q : QueryHeader) → length payload ≡ q.s → usable (answer_header q 0 ++ payload) q ≡ Some payload
+pub usable_frame : (payload : List ℕ) (q : QueryHeader) → length payload ≡ q.count * q.s → usable (answer_header q 0 ++ payload) q ≡ Some payload
 usable_frame payload q size =
     let header = answer_header q 0 in
     let whole = length-append header payload in
     let front : take FRAME_HEADER_LEN (header ++ payload) ≡ header = take-append_seam header payload in
     let rest : drop FRAME_HEADER_LEN (header ++ payload) ≡ payload = drop-append_seam header payload in
     let first : bytes_eq (take FRAME_HEADER_LEN (header ++ payload)) header ≡ true = (bytes_eq-Decides (take FRAME_HEADER_LEN (header ++ payload)) header).1 front in
-    let second : nat_eq (length (header ++ payload)) (answer_len q.s) ≡ true = eq-eqb (length (header ++ payload)) (answer_len q.s) (omega (arith, whole, size)) in
+    let second : nat_eq (length (header ++ payload)) (answer_len q.count q.s) ≡ true = eq-eqb (length (header ++ payload)) (answer_len q.count q.s) (omega (arith, whole, size)) in
     ap (λ t. cond t (Some (drop FRAME_HEADER_LEN (header ++ payload))) None) (ap₂ ◌&&◌ first second) ∙ ap Some rest
 
 -- the first record's answer in front of the others
@@ -98,7 +98,7 @@ bytes_if_usable bytes payload q small e = subst (All (λ b. b < 256)) (usable_pa
 
 -- a record of bytes has a usable payload of bytes, where it has one
 payload_is : (x : Option (List ℕ)) (payload : List ℕ) (q : QueryHeader) → IfSome x (All (λ b. b < 256)) → option_and_then (λ bytes. usable bytes q) x ≡ Some payload
-    → (length payload ≡ q.s) × All (λ b. b < 256) payload
+    → (length payload ≡ q.count * q.s) × All (λ b. b < 256) payload
 payload_is None payload q small e = absurd (cc)
 payload_is (Some bytes) payload q small e = (usable_size bytes payload q e, bytes_if_usable bytes payload q small e)
 
@@ -107,25 +107,25 @@ if_is None P h = tt
 if_is (Some x) P h = h x refl
 
 in_order_from : (records : List (Option (List ℕ))) (i : ℕ) (p : SessionParams) → All (λ r. IfSome r (All (λ b. b < 256))) records
-    → AreInOrder p.s i (i + length records) (answers_from i p records)
-in_order_from [] i p small = in_order_none p.s i (i + 0)
+    → AreInOrder (block_len p) i (i + length records) (answers_from i p records)
+in_order_from [] i p small = in_order_none (block_len p) i (i + 0)
 in_order_from (x ∷ records) i p small =
     let Record : Option (List ℕ) → Type 0 = λ r. IfSome r (All (λ b. b < 256)) in
     let payload = option_and_then (λ bytes. usable bytes (asked p i)) x in
-    let Payload : List ℕ → Type 0 = λ y. (length y ≡ p.s) × All (λ b. b < 256) y in
+    let Payload : List ℕ → Type 0 = λ y. (length y ≡ block_len p) × All (λ b. b < 256) y in
     let last : i + 1 + length records ≡ i + length (x ∷ records) = omega arith in
-    subst (AreInOrder p.s i (i + length (x ∷ records))) (sym (answers_from-cons i p x records))
-    (in_order_with p.s i (i + length (x ∷ records)) payload (answers_from (i + 1) p records) (omega arith)
+    subst (AreInOrder (block_len p) i (i + length (x ∷ records))) (sym (answers_from-cons i p x records))
+    (in_order_with (block_len p) i (i + length (x ∷ records)) payload (answers_from (i + 1) p records) (omega arith)
     (if_is payload Payload (λ y e. payload_is x y (asked p i) (All-head Record x records small) e))
-    (subst (λ high. AreInOrder p.s (i + 1) high (answers_from (i + 1) p records)) last (in_order_from records (i + 1) p (All-tail Record x records small))))
+    (subst (λ high. AreInOrder (block_len p) (i + 1) high (answers_from (i + 1) p records)) last (in_order_from records (i + 1) p (All-tail Record x records small))))
 
 -- the usable answers stand in the order of their indices, which are those of the session's servers
 pub answers_in_order : (session : Transcript) → All (λ r. IfSome r (All (λ b. b < 256))) session.records
-    → AreInOrder session.params.s 1 (1 + length session.records) (answers session)
+    → AreInOrder (block_len session.params) 1 (1 + length session.records) (answers session)
 answers_in_order session small = in_order_from session.records 1 session.params small
 
 -- so they have columns
-pub columns-answers : (session : Transcript) → length session.records ≤ 255 → All (λ r. IfSome r (All (λ b. b < 256))) session.records → HasColumns session.params.s (answers session)
+pub columns-answers : (session : Transcript) → length session.records ≤ 255 → All (λ r. IfSome r (All (λ b. b < 256))) session.records → HasColumns (block_len session.params) (answers session)
 columns-answers session few small =
     let order = answers_in_order session small in
     record {
@@ -134,6 +134,12 @@ columns-answers session few small =
       indices = λ i d l. let b = order.below i d l in omega (arith, b, few);
       different = λ i j d before within same. let r = order.ascending i j d before within in omega (arith, r, same);
     }
+
+-- and none is of server 0
+pub nonzero-answers : (session : Transcript) → All (λ r. IfSome r (All (λ b. b < 256))) session.records → All (λ a. a.index ≢ 0) (answers session)
+nonzero-answers session small = λ i d l is.
+    let from = (answers_in_order session small).from i d l in
+    omega (arith, from, is)
 
 -- records that fit are bytes
 pub bytes_from_fits : (most : ℕ) (records : List (Option (List ℕ))) → All (Fits most) records → All (λ r. IfSome r (All (λ b. b < 256))) records

@@ -1,7 +1,7 @@
 -- The verdict on the answers of a session.
 use Rattle.std.specs.Prelude.{◌≡◌, ℕ, ◌*◌, ◌<◌, ◌≤◌, ◌⊎◌, ⊤, List, [], ◌∷◌, length, map}
 use Rattle.wire_frames.specs.declared.scheme.TheConstants.{SHAMIR, XOR}
-use Rattle.wire_frames.specs.Answer.{Answer, answers}
+use Rattle.wire_frames.specs.Answer.{block_len, Answer, answers}
 use Rattle.wire_frames.specs.Session.{Transcript}
 use Rattle.chor_xor.specs.Chosen.{combined}
 use Rattle.column_lists.specs.Numbers.{cost}
@@ -33,9 +33,9 @@ IsCombined all width n h (Listed blocks) =
 -- the verdict on a session, by its usable answers: in Shamir's scheme, and in the XOR scheme
 pub record IsVerdict (session : Transcript) (verdict : Verdict) : Type 0 where
   pub shamir : session.params.scheme ≡ SHAMIR
-      → IsDecided (answers session) session.params.s session.params.t session.params.h verdict
+      → IsDecided (answers session) (block_len session.params) session.params.t session.params.h verdict
   pub xor : session.params.scheme ≡ XOR
-      → IsCombined (answers session) session.params.s session.params.n session.params.h verdict
+      → IsCombined (answers session) (block_len session.params) session.params.n session.params.h verdict
 
 -- k answers are fewer than h, or their agreement is so weak that Johnson's bound says nothing, or the cost is too high
 abbrev pub IsUnlisted : ℕ → ℕ → ℕ → Type 0

@@ -1,14 +1,12 @@
 //! The answers of servers, as [`decide`](crate::decide) takes them: the numbers of the servers, ascending, and the payloads in
 //! the same order, one after another.
 
-ghost use Rattle.std.specs.Prelude.{◌≡◌, ◌*◌, ◌<◌, length, map, All, IfOk};
-ghost use Rattle.std.specs.List.{filter};
+ghost use Rattle.std.specs.Prelude.{◌≡◌, ◌*◌, ◌<◌, length, IfOk};
 ghost use Rattle.block_decoder.specs.Agreed.{answers_of, answer_at};
-ghost use Rattle.block_decoder.specs.Narrowing.{meets, points_of};
 
+use crate::answer_set::AnswerSet;
 use std::alloc::{AllocError, Global};
 use std::marker::Model;
-use uni_poly::eval;
 
 /// What servers answered.
 #[derive(Drop)]
@@ -35,7 +33,14 @@ impl<'a> Model for Answer<'a> {
 }
 
 impl<'a> Answer<'a> {
-    /// The number of the server, where the polynomials take the payload's bytes.
+    /// The number of a server, where the polynomials take the payload's bytes, and these, one for each column.
+    pub fn new(index: u8, payload: &'a [u8]) -> Self
+        ensures { result ≡ record { index = index; payload = payload.now } }
+    {
+        Answer { index, payload }
+    }
+
+    /// The number of the server.
     pub fn index(&self) -> u8
         ensures { result ≡ self.now.index }
     {
@@ -96,76 +101,21 @@ impl<'a> PackedAnswers<'a> {
         ensures { result ≡ answer_at self.now place }
     {
         let from = place * self.width;
-        Answer {
-            index: self.indices[place],
-            payload: &self.bytes[from..from + self.width],
-        }
+        Answer::new(self.indices[place], &self.bytes[from..from + self.width])
     }
 
-    /// All of them.
-    pub fn to_vec(&self, alloc: Global) -> Result<Vec<Answer<'a>>, AllocError>
-        ensures { IfOk result (λ v. v.items ≡ self.now) }
+    /// All of them as a set.
+    ///
+    /// # Errors
+    ///
+    /// `AllocError` where there is no memory for their places.
+    pub(crate) fn to_set(&self, alloc: Global) -> Result<AnswerSet<'a>, AllocError>
+        ensures { IfOk result (λ set. set ≡ self.now) }
     {
-        let mut all = Vec::with_capacity(alloc, self.len())?;
+        let mut all = AnswerSet::with_room(alloc, self.len())?;
         for place in 0..self.len() {
             all.push(self.at(place))?;
         }
         Ok(all)
     }
-}
-
-/// The numbers of the servers.
-pub fn indices_of(alloc: Global, answers: &[Answer<'_>]) -> Result<Vec<u8>, AllocError>
-    ensures { IfOk result (λ v. v.items ≡ map (λ a. a.index) answers.now) }
-{
-    answers.iter().map(|answer| answer.index()).collect(alloc)
-}
-
-/// The payloads, which are not copied.
-pub fn payloads_of<'a>(alloc: Global, answers: &[Answer<'a>]) -> Result<Vec<&'a [u8]>, AllocError>
-    ensures { IfOk result (λ v. map (λ payload. payload.now) v.items ≡ map (λ a. a.payload) answers.now) }
-{
-    let mut payloads = Vec::with_capacity(alloc, answers.len())?;
-    for answer in answers {
-        payloads.push(answer.payload())?;
-    }
-    Ok(payloads)
-}
-
-/// The points of a column: the number of each server with its byte there.
-pub fn points_of(
-    alloc: Global,
-    answers: &[Answer<'_>],
-    column: usize,
-) -> Result<Vec<(u8, u8)>, AllocError>
-    requires { All (λ a. column < length a.payload) answers.now }
-    ensures { IfOk result (λ v. v.items ≡ points_of answers.now column) }
-{
-    let mut points = Vec::with_capacity(alloc, answers.len())?;
-    for answer in answers {
-        points.push((answer.index(), answer.payload()[column]))?;
-    }
-    Ok(points)
-}
-
-/// The answers whose byte in the column the polynomial takes.
-pub fn meeting<'a>(
-    alloc: Global,
-    answers: &[Answer<'a>],
-    polynomial: &[u8],
-    column: usize,
-) -> Result<Vec<Answer<'a>>, AllocError>
-    requires { All (λ a. column < length a.payload) answers.now }
-    ensures { IfOk result (λ v. v.items ≡ filter (meets polynomial.now column) answers.now) }
-{
-    let mut kept = Vec::new(alloc);
-    for answer in answers {
-        if eval(polynomial, answer.index()) == answer.payload()[column] {
-            kept.push(Answer {
-                index: answer.index,
-                payload: answer.payload,
-            })?;
-        }
-    }
-    Ok(kept)
 }

@@ -1,7 +1,7 @@
 //! The verdict in the XOR scheme.
 
 ghost use Rattle.std.specs.Prelude.{◌≡◌, length, IfOk};
-ghost use Rattle.wire_frames.specs.Answer.{answers};
+ghost use Rattle.wire_frames.specs.Answer.{block_len, answers};
 ghost use Rattle.block_decoder.specs.Verdict.{IsCombined};
 
 use crate::listing::Listing;
@@ -16,10 +16,10 @@ use wire_frames::Session;
 pub(crate) fn combine_all(alloc: Global, session: &Session) -> Result<Verdict, AllocError>
     requires { length session.now.records ≡ session.now.params.n }
     ensures { IfOk result (IsCombined (answers session.now)
-        session.now.params.s session.now.params.n session.now.params.h) }
+        (block_len session.now.params) session.now.params.n session.now.params.h) }
 {
     let params = session.params();
-    let mut sum = vec![in alloc; 0; params.s as usize]?;
+    let mut sum = vec![in alloc; 0; params.block_len() as usize]?;
     let mut k = 0;
     for index in 1..params.n + 1 {
         if let Some(payload) = usable_payload(session, index) {

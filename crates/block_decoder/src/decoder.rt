@@ -3,11 +3,12 @@
 ghost use Rattle.std.specs.Prelude.{◌≡◌, ◌≢◌, ◌+◌, ◌*◌, ◌^◌, ◌<◌, ◌≤◌, ◌⊎◌, length, All, IfOk};
 ghost use Rattle.std.specs.List.Sorted.{IsStrictlyIncreasing};
 ghost use Rattle.wire_frames.specs.declared.TheConstants.{MOST_SERVERS};
-ghost use Rattle.block_decoder.specs.Agreed.{answers_of};
+ghost use Rattle.block_decoder.specs.Agreed.{answers_of, HasColumns};
 ghost use Rattle.block_decoder.specs.Numbers.{bound_of, most_columns, most_nodes};
 ghost use Rattle.block_decoder.specs.Vectors.{HeavyVectorsAreFew};
 ghost use Rattle.block_decoder.specs.Verdict.{IsDecided, IsUnlisted, ListsNoMoreThan, least_columns};
 
+use crate::answer_set::AnswerSet;
 use crate::answers::PackedAnswers;
 use crate::narrowing::list_agreed;
 use crate::verdict::Verdict;
@@ -41,8 +42,8 @@ use uni_poly::steps::Steps;
 /// `t`. `cols` rises by at least one for a listing, and by `s` where a block is listed; for the other verdicts neither
 /// rises. A listing has at most [`bound`] blocks.
 ///
-/// Memory is taken for one block, for the answers of each candidate and the list that it comes from, and for the blocks
-/// that are listed; none column by column.
+/// The payloads are read where they lie. Memory is taken for one block, for the places of all answers and of those of each
+/// candidate, for the list that it comes from, and for the blocks that are listed; none column by column.
 ///
 /// The answers 1, 2, 3 with the payloads `cfd2`, `4073`, `cce5` (t 1, h 3, s 2) agree on the block `4344`.
 ///
@@ -75,7 +76,36 @@ pub fn decide<I: Interpolate, C: Ledger, N: Ledger>(
     ensures unlisted { IsUnlisted (length indices.now) t h → (cols.new ≡ cols.old) × (nodes.new ≡ nodes.old) }
     ensures few { IfOk result (ListsNoMoreThan (bound_of (length indices.now) t h)) }
 {
-    let k = indices.len() as u32;
+    let answers = PackedAnswers::new(indices, bytes, s as usize).to_set(alloc)?;
+    decide_among(alloc, way, answers, t, h, s, cols, nodes)
+}
+
+/// The same for answers that lie wherever they do, `s` bytes each.
+pub(crate) fn decide_among<I: Interpolate, C: Ledger, N: Ledger>(
+    alloc: Global,
+    way: &I,
+    answers: AnswerSet<'_>,
+    t: u32,
+    h: u32,
+    s: u32,
+    cols: &mut Steps<C>,
+    nodes: &mut Steps<N>,
+) -> Result<Verdict, AllocError>
+    requires columns { HasColumns s answers }
+    requires nonzero { All (λ a. a.index ≢ 0) answers }
+    requires few { length answers ≤ MOST_SERVERS }
+    requires agreement { (1 ≤ t) × (t < h) }
+    requires width { 1 ≤ s }
+    ensures verdict { IfOk result (IsDecided answers.entry s t h) }
+    ensures cols { cols.new ≤ cols.old + most_columns (length answers.entry) t h s }
+    ensures nodes { nodes.new ≤ nodes.old + most_nodes (length answers.entry) t h s }
+    ensures least { cols.old ≤ cols.new }
+    ensures least_nodes { nodes.old ≤ nodes.new }
+    ensures listed { IfOk result (λ verdict. cols.old + least_columns s verdict ≤ cols.new) }
+    ensures unlisted { IsUnlisted (length answers.entry) t h → (cols.new ≡ cols.old) × (nodes.new ≡ nodes.old) }
+    ensures few { IfOk result (ListsNoMoreThan (bound_of (length answers.entry) t h)) }
+{
+    let k = answers.len() as u32;
     if k < h {
         return Ok(Verdict::TooFew { k, h });
     }
@@ -86,7 +116,6 @@ pub fn decide<I: Interpolate, C: Ledger, N: Ledger>(
     if cost > MOST_COST {
         return Ok(Verdict::TooCostly { cost });
     }
-    let answers = PackedAnswers::new(indices, bytes, s as usize);
     let listing = list_agreed(alloc, way, answers, s as usize, t, h, cols, nodes)?;
     Ok(Verdict::Listed(listing))
 }

@@ -1,15 +1,16 @@
 //! The verdict on a session.
 
-ghost use Rattle.std.specs.Prelude.{◌≡◌, ◌+◌, ◌*◌, ◌≤◌, length, IfOk};
+ghost use Rattle.std.specs.Prelude.{◌≡◌, ◌≢◌, ◌+◌, ◌≤◌, length, All, IfOk};
 ghost use Rattle.wire_frames.specs.declared.scheme.TheConstants.{SHAMIR, XOR};
-ghost use Rattle.wire_frames.specs.Answer.{answers};
+ghost use Rattle.wire_frames.specs.Answer.{answers, block_len};
+ghost use Rattle.block_decoder.specs.Agreed.{HasColumns};
 ghost use Rattle.block_decoder.specs.Numbers.{bound_of, most_columns, most_nodes};
 ghost use Rattle.block_decoder.specs.Verdict.{IsUnlisted, IsVerdict, ListsNoMoreThan, least_columns};
-ghost use Rattle.block_decoder.specs.Usable.{IsCollected};
 
-use crate::answers::ServerAnswers;
+use crate::answer_set::AnswerSet;
+use crate::answers::Answer;
 use crate::combining::combine_all;
-use crate::decoder::decide;
+use crate::decoder::decide_among;
 use crate::usable::usable_payload;
 use crate::verdict::Verdict;
 use gs_interpolate::Interpolate;
@@ -28,8 +29,8 @@ use wire_frames::{Scheme, Session};
 ///
 /// # Errors
 ///
-/// `AllocError` where there is no memory for a copy of `n` payloads, for the decoder or for a block; in the XOR scheme
-/// for the block.
+/// `AllocError` where there is no memory for the places of the payloads, which aren't copied, for the decoder or for a
+/// block; in the XOR scheme for the block.
 pub fn judge<I: Interpolate, C: Ledger, N: Ledger>(
     alloc: Global,
     way: &I,
@@ -40,13 +41,13 @@ pub fn judge<I: Interpolate, C: Ledger, N: Ledger>(
     requires all { length session.now.records ≡ session.now.params.n }
     ensures verdict { IfOk result (IsVerdict session.now) }
     ensures cols { cols.new ≤ cols.old
-        + most_columns (length (answers session.now)) session.now.params.t session.now.params.h session.now.params.s }
+        + most_columns (length (answers session.now)) session.now.params.t session.now.params.h (block_len session.now.params) }
     ensures nodes { nodes.new ≤ nodes.old
-        + most_nodes (length (answers session.now)) session.now.params.t session.now.params.h session.now.params.s }
+        + most_nodes (length (answers session.now)) session.now.params.t session.now.params.h (block_len session.now.params) }
     ensures least { cols.old ≤ cols.new }
     ensures least_nodes { nodes.old ≤ nodes.new }
     ensures listed { session.now.params.scheme ≡ SHAMIR
-        → IfOk result (λ verdict. cols.old + least_columns session.now.params.s verdict ≤ cols.new) }
+        → IfOk result (λ verdict. cols.old + least_columns (block_len session.now.params) verdict ≤ cols.new) }
     ensures unlisted { IsUnlisted (length (answers session.now)) session.now.params.t session.now.params.h
         → (cols.new ≡ cols.old) × (nodes.new ≡ nodes.old) }
     ensures few { session.now.params.scheme ≡ SHAMIR → IfOk result (ListsNoMoreThan
@@ -56,15 +57,14 @@ pub fn judge<I: Interpolate, C: Ledger, N: Ledger>(
     let params = session.params();
     match Scheme::of(params.scheme) {
         Scheme::Shamir => {
-            let usable = collect_usable(alloc, session)?;
-            decide(
+            let usable = usable_answers(alloc, session)?;
+            decide_among(
                 alloc,
                 way,
-                &usable.indices,
-                &usable.payloads,
+                usable,
                 u32::from(params.t),
                 u32::from(params.h),
-                params.s,
+                params.block_len(),
                 cols,
                 nodes,
             )
@@ -73,20 +73,19 @@ pub fn judge<I: Interpolate, C: Ledger, N: Ledger>(
     }
 }
 
-/// Copies the usable answers into memory that is taken once, for all that there may be.
-fn collect_usable(alloc: Global, session: &Session) -> Result<ServerAnswers, AllocError>
+/// The usable answers, whose payloads stay where the session has them.
+fn usable_answers<'a>(alloc: Global, session: &'a Session) -> Result<AnswerSet<'a>, AllocError>
     requires all { length session.now.records ≡ session.now.params.n }
-    ensures { IfOk result (λ u. IsCollected session.now u.indices.items u.payloads.items) }
+    ensures answers { IfOk result (λ set. set ≡ answers session.now) }
+    ensures columns { IfOk result (HasColumns (block_len session.now.params)) }
+    ensures nonzero { IfOk result (λ set. All (λ a. a.index ≢ 0) set) }
+    ensures few { IfOk result (λ set. length set ≤ session.now.params.n) }
 {
-    let params = session.params();
-    let most = usize::from(params.n);
-    let mut indices = Vec::with_capacity(alloc, most)?;
-    let mut payloads = Vec::with_capacity(alloc, most * params.s as usize)?;
-    for index in 1..params.n + 1 {
+    let mut usable = AnswerSet::with_room(alloc, session.record_count() as usize)?;
+    for index in 1..session.params().n + 1 {
         if let Some(payload) = usable_payload(session, index) {
-            indices.push(index)?;
-            payloads.extend_from_slice(payload)?;
+            usable.push(Answer::new(index, payload))?;
         }
     }
-    Ok(ServerAnswers { indices, payloads })
+    Ok(usable)
 }

@@ -15,6 +15,7 @@
 //! block of their own; that a wrong answer is noticed in the XOR scheme; that memory is found.
 #![tactic(auto)]
 
+mod answer_set;
 mod answers;
 mod combining;
 mod decoder;
@@ -22,15 +23,13 @@ mod judging;
 pub mod laws;
 mod listing;
 mod narrowing;
-mod plain;
 mod usable;
 mod verdict;
 mod write;
 
-pub use answers::ServerAnswers;
+pub use answers::{Answer, PackedAnswers, ServerAnswers};
 pub use decoder::{bound, decide};
 pub use judging::judge;
 pub use listing::Listing;
-pub use plain::{MOST_PLAIN_DEGREE, plain_listing};
 pub use verdict::Verdict;
 pub use write::write_verdict;

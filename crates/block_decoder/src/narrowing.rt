@@ -14,7 +14,7 @@ ghost use Rattle.block_decoder.specs.Gains.{Gains};
 ghost use Rattle.block_decoder.specs.Narrowing.{points_of as points_in, CountsFrom, ContinuesFrom, IsCandidate, IsPart};
 ghost use Rattle.block_decoder.specs.Numbers.{column_nodes, most_columns, most_nodes};
 
-use crate::answers::{Answer, PackedAnswers, indices_of, meeting, payloads_of, points_of};
+use crate::answer_set::AnswerSet;
 use crate::listing::Listing;
 use column_lists::{column_list, decode_run};
 use gs_interpolate::Interpolate;
@@ -27,7 +27,7 @@ use uni_poly::steps::Steps;
 #[derive(Drop)]
 pub struct Narrowing<'a, I: Interpolate> {
     way: &'a I,
-    answers: PackedAnswers<'a>,
+    answers: AnswerSet<'a>,
     degree: u32,
     agreement: u32,
     width: usize,
@@ -43,7 +43,7 @@ pub struct Narrowing<'a, I: Interpolate> {
 pub fn list_agreed<I: Interpolate, C: Ledger, N: Ledger>(
     alloc: Global,
     way: &I,
-    answers: PackedAnswers<'_>,
+    answers: AnswerSet<'_>,
     width: usize,
     t: u32,
     h: u32,
@@ -65,7 +65,6 @@ pub fn list_agreed<I: Interpolate, C: Ledger, N: Ledger>(
     ensures tried { OnOk result (cols.old < cols.new) }
     ensures found { IfOk result (λ l. 0 < length l → cols.old + width ≤ cols.new) }
 {
-    let all = answers.to_vec(alloc)?;
     let mut block = vec![in alloc; 0; width]?;
     let mut listing = Listing::new(alloc);
     let narrowing = Narrowing {
@@ -75,7 +74,15 @@ pub fn list_agreed<I: Interpolate, C: Ledger, N: Ledger>(
         agreement: h,
         width,
     };
-    narrowing.extend(alloc, &all, 0, &mut block, &mut listing, cols, nodes)?;
+    narrowing.extend(
+        alloc,
+        &narrowing.answers,
+        0,
+        &mut block,
+        &mut listing,
+        cols,
+        nodes,
+    )?;
     Ok(listing)
 }
 
@@ -88,7 +95,7 @@ impl<'a, I: Interpolate> Narrowing<'a, I> {
     fn extend<C: Ledger, N: Ledger>(
         &self,
         alloc: Global,
-        kept: &[Answer<'_>],
+        kept: &AnswerSet<'_>,
         column: usize,
         block: &mut [u8],
         listing: &mut Listing,
@@ -120,7 +127,7 @@ impl<'a, I: Interpolate> Narrowing<'a, I> {
         let list = self.list(alloc, kept, next, cols, nodes)?;
         for polynomial in &list {
             block[next] = polynomial[0];
-            let fewer = meeting(alloc, kept, polynomial, next)?;
+            let fewer = kept.meeting(alloc, polynomial, next)?;
             self.extend(alloc, &fewer, next + 1, block, listing, cols, nodes)?;
         }
         Ok(())
@@ -130,7 +137,7 @@ impl<'a, I: Interpolate> Narrowing<'a, I> {
     fn decode<C: Ledger>(
         &self,
         alloc: Global,
-        kept: &[Answer<'_>],
+        kept: &AnswerSet<'_>,
         column: usize,
         block: &mut [u8],
         cols: &mut Steps<C>,
@@ -145,8 +152,8 @@ impl<'a, I: Interpolate> Narrowing<'a, I> {
             (drop column block.new)) }
         ensures cols { MatchResult result (λ n. cols.new ≡ cols.old + n) (λ _. cols.new ≡ cols.old) }
     {
-        let indices = indices_of(alloc, kept)?;
-        let payloads = payloads_of(alloc, kept)?;
+        let indices = kept.indices(alloc)?;
+        let payloads = kept.payloads(alloc)?;
         decode_run(
             alloc,
             &indices,
@@ -162,7 +169,7 @@ impl<'a, I: Interpolate> Narrowing<'a, I> {
     fn list<C: Ledger, N: Ledger>(
         &self,
         alloc: Global,
-        kept: &[Answer<'_>],
+        kept: &AnswerSet<'_>,
         column: usize,
         cols: &mut Steps<C>,
         nodes: &mut Steps<N>,
@@ -178,7 +185,7 @@ impl<'a, I: Interpolate> Narrowing<'a, I> {
             + column_nodes (length self.now.answers) self.now.degree self.now.agreement }
         ensures rises { (cols.old ≤ cols.new) × (nodes.old ≤ nodes.new) }
     {
-        let points = points_of(alloc, kept, column)?;
+        let points = kept.points(alloc, column)?;
         column_list(
             alloc,
             self.way,

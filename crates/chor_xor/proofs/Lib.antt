@@ -5,3 +5,4 @@ pub mod ChosenSums
 pub mod FourSums
 pub mod RunSums
 pub mod NextBits
+pub mod BlockSums

@@ -1,12 +1,12 @@
 -- Sums over runs of rows.
-use Rattle.std.proofs.Common.{◌≡◌, ℕ, ◌+◌, ◌*◌, ◌/◌, ◌≤◌, ◌<◌, List, [], length, get_or, sym, ap, ap₂, ◌∙◌, arith}
+use Rattle.std.proofs.Common.{◌≡◌, ℕ, ◌+◌, ◌-◌, ◌*◌, ◌/◌, ◌≤◌, ◌<◌, List, [], length, get_or, sym, ap, ap₂, ◌∙◌, arith}
 use Rattle.gf256.specs.Field.{◌⊕◌}
 use Rattle.gf256.specs.Product.{IsMatrix}
 use Rattle.gf256.specs.Sums.{run_sum}
 use Rattle.gf256.proofs.Xor.{add_assoc, add_zero, add_swap}
-use Rattle.gf256.proofs.RunSums.{run-zero, run-join, run-next, run-all}
+use Rattle.gf256.proofs.RunSums.{run-zero, run-join, run-next}
 use Rattle.chor_xor.specs.Bitmap.{bit_of}
-use Rattle.chor_xor.specs.Chosen.{given, chosen_at}
+use Rattle.chor_xor.specs.Chosen.{given}
 use Rattle.chor_xor.proofs.ChosenSums.{given-chosen, given-left}
 use Rattle.chor_xor.proofs.FourSums.{four_at}
 
@@ -27,9 +27,10 @@ run-step bitmap row rows r s c from j next is l le lt bit e none =
 
 -- the rows of the four quarters that are added, up to one place in each; the last takes the rows
 -- that are left over
-unfoldable pub quarters : List ℕ → List (List ℕ) → ℕ → ℕ → ℕ → ℕ → ℕ → ℕ → ℕ
-quarters bitmap rows k quarter a b c d =
-    run_sum (given bitmap rows k) 0 a ⊕ run_sum (given bitmap rows k) quarter b ⊕ run_sum (given bitmap rows k) (2 * quarter) c ⊕ run_sum (given bitmap rows k) (3 * quarter) d
+unfoldable pub quarters : List ℕ → List (List ℕ) → ℕ → ℕ → ℕ → ℕ → ℕ → ℕ → ℕ → ℕ
+quarters bitmap rows k from quarter a b c d =
+    run_sum (given bitmap rows k) from a ⊕ run_sum (given bitmap rows k) (from + quarter) b
+    ⊕ run_sum (given bitmap rows k) (from + 2 * quarter) c ⊕ run_sum (given bitmap rows k) (from + 3 * quarter) d
 
 in_pairs : (a b c d w x y z : ℕ) → (a ⊕ w) ⊕ (b ⊕ x) ⊕ (c ⊕ y) ⊕ (d ⊕ z) ≡ (a ⊕ b ⊕ c ⊕ d) ⊕ (w ⊕ x ⊕ y ⊕ z)
 in_pairs a b c d w x y z =
@@ -38,13 +39,13 @@ in_pairs a b c d w x y z =
     ∙ add_swap (a ⊕ b ⊕ c) (w ⊕ x ⊕ y) d z
 
 -- no rows yet, where those before the places have no bits
-pub quarters-none : (bitmap : List ℕ) (rows : List (List ℕ)) (k quarter a b c d : ℕ)
-    → ((j : ℕ) → 0 ≤ j → j < a → bit_of bitmap j ≡ 0) → ((j : ℕ) → quarter ≤ j → j < b → bit_of bitmap j ≡ 0)
-    → ((j : ℕ) → 2 * quarter ≤ j → j < c → bit_of bitmap j ≡ 0) → ((j : ℕ) → 3 * quarter ≤ j → j < d → bit_of bitmap j ≡ 0)
-    → quarters bitmap rows k quarter a b c d ≡ 0
+pub quarters-none : (bitmap : List ℕ) (rows : List (List ℕ)) (k from quarter a b c d : ℕ)
+    → ((j : ℕ) → from ≤ j → j < a → bit_of bitmap j ≡ 0) → ((j : ℕ) → from + quarter ≤ j → j < b → bit_of bitmap j ≡ 0)
+    → ((j : ℕ) → from + 2 * quarter ≤ j → j < c → bit_of bitmap j ≡ 0) → ((j : ℕ) → from + 3 * quarter ≤ j → j < d → bit_of bitmap j ≡ 0)
+    → quarters bitmap rows k from quarter a b c d ≡ 0
 unfolding quarters
-quarters-none bitmap rows k quarter a b c d na nb nc nd =
-    ap₂ ◌⊕◌ (ap₂ ◌⊕◌ (ap₂ ◌⊕◌ (run-left bitmap rows k 0 a na) (run-left bitmap rows k quarter b nb)) (run-left bitmap rows k (2 * quarter) c nc)) (run-left bitmap rows k (3 * quarter) d nd)
+quarters-none bitmap rows k from quarter a b c d na nb nc nd =
+    ap₂ ◌⊕◌ (ap₂ ◌⊕◌ (ap₂ ◌⊕◌ (run-left bitmap rows k from a na) (run-left bitmap rows k (from + quarter) b nb)) (run-left bitmap rows k (from + 2 * quarter) c nc)) (run-left bitmap rows k (from + 3 * quarter) d nd)
     ∙ (let e : 0 ⊕ 0 ⊕ 0 ⊕ 0 ≡ 0 = simp add_zero in e)
 
 -- row j of a quarter that begins with row `from` is read, and the next of its rows whose bit is set
@@ -57,13 +58,14 @@ pub record IsStep (bitmap row : List ℕ) (rows : List (List ℕ)) (from j next 
   pub others : (i : ℕ) → j + 1 ≤ i → i < next → bit_of bitmap i ≡ 0
 
 -- one more row of each
-pub quarters-next : (bitmap : List ℕ) (rows : List (List ℕ)) (r s k quarter a b c d a2 b2 c2 d2 : ℕ) (ra rb rc rd : List ℕ)
+pub quarters-next : (bitmap : List ℕ) (rows : List (List ℕ)) (r s k from quarter a b c d a2 b2 c2 d2 : ℕ) (ra rb rc rd : List ℕ)
     → IsMatrix rows r s → a < r → b < r → c < r → d < r
-    → IsStep bitmap ra rows 0 a a2 → IsStep bitmap rb rows quarter b b2 → IsStep bitmap rc rows (2 * quarter) c c2 → IsStep bitmap rd rows (3 * quarter) d d2
-    → quarters bitmap rows k quarter a2 b2 c2 d2 ≡ quarters bitmap rows k quarter a b c d ⊕ four_at ra rb rc rd k
+    → IsStep bitmap ra rows from a a2 → IsStep bitmap rb rows (from + quarter) b b2
+    → IsStep bitmap rc rows (from + 2 * quarter) c c2 → IsStep bitmap rd rows (from + 3 * quarter) d d2
+    → quarters bitmap rows k from quarter a2 b2 c2 d2 ≡ quarters bitmap rows k from quarter a b c d ⊕ four_at ra rb rc rd k
 unfolding quarters four_at
-quarters-next bitmap rows r s k quarter a b c d a2 b2 c2 d2 ra rb rc rd is la lb lc ld sa sb sc sd =
-    ap₂ ◌⊕◌ (ap₂ ◌⊕◌ (ap₂ ◌⊕◌ (step ra 0 a a2 la sa) (step rb quarter b b2 lb sb)) (step rc (2 * quarter) c c2 lc sc)) (step rd (3 * quarter) d d2 ld sd)
+quarters-next bitmap rows r s k from quarter a b c d a2 b2 c2 d2 ra rb rc rd is la lb lc ld sa sb sc sd =
+    ap₂ ◌⊕◌ (ap₂ ◌⊕◌ (ap₂ ◌⊕◌ (step ra from a a2 la sa) (step rb (from + quarter) b b2 lb sb)) (step rc (from + 2 * quarter) c c2 lc sc)) (step rd (from + 3 * quarter) d d2 ld sd)
     ∙ in_pairs _ _ _ _ _ _ _ _
   where
     step : (row : List ℕ) (from j next : ℕ) → j < r → IsStep bitmap row rows from j next
@@ -77,17 +79,20 @@ with_rests a b c d w x y z = together (a ⊕ b ⊕ c ⊕ d) w x y z ∙ sym (in_
     together : (s w x y z : ℕ) → s ⊕ w ⊕ x ⊕ y ⊕ z ≡ s ⊕ (w ⊕ x ⊕ y ⊕ z)
     together s w x y z = simp add_assoc
 
--- the quarters and their rests are all rows
-pub quarters-all : (bitmap : List ℕ) (rows : List (List ℕ)) (k r quarter a b c d : ℕ) → r ≡ length rows → quarter ≡ r / 4
-    → a ≤ quarter → quarter ≤ b → b ≤ 2 * quarter → 2 * quarter ≤ c → c ≤ 3 * quarter → 3 * quarter ≤ d → d ≤ r
-    → quarters bitmap rows k quarter a b c d ⊕ run_sum (given bitmap rows k) a quarter ⊕ run_sum (given bitmap rows k) b (2 * quarter)
-    ⊕ run_sum (given bitmap rows k) c (3 * quarter) ⊕ run_sum (given bitmap rows k) d r ≡ chosen_at bitmap rows k
-unfolding quarters chosen_at
-quarters-all bitmap rows k r quarter a b c d is q la lb mb lc mc ld md =
-    let R = run_sum (given bitmap rows k) in
-    with_rests (R 0 a) (R quarter b) (R (2 * quarter) c) (R (3 * quarter) d) (R a quarter) (R b (2 * quarter)) (R c (3 * quarter)) (R d r)
-    ∙ ap₂ ◌⊕◌ (ap₂ ◌⊕◌ (ap₂ ◌⊕◌ (run-join (given bitmap rows k) 0 a quarter (omega arith) la) (run-join (given bitmap rows k) quarter b (2 * quarter) lb mb)) (run-join (given bitmap rows k) (2 * quarter) c (3 * quarter) lc mc)) (run-join (given bitmap rows k) (3 * quarter) d r ld md)
-    ∙ ap (λ s. s ⊕ R (2 * quarter) (3 * quarter) ⊕ R (3 * quarter) r) (run-join (given bitmap rows k) 0 quarter (2 * quarter) (omega arith) (omega arith))
-    ∙ ap (λ s. s ⊕ R (3 * quarter) r) (run-join (given bitmap rows k) 0 (2 * quarter) (3 * quarter) (omega arith) (omega arith))
-    ∙ run-join (given bitmap rows k) 0 (3 * quarter) r (omega arith) (omega (arith, ld, md))
-    ∙ ap (R 0) is ∙ run-all (given bitmap rows k) (length rows)
+-- the quarters and their rests are the whole run
+pub quarters-all : (bitmap : List ℕ) (rows : List (List ℕ)) (k from to quarter a b c d : ℕ) → from ≤ to → quarter ≡ (to - from) / 4
+    → from ≤ a → a ≤ from + quarter → from + quarter ≤ b → b ≤ from + 2 * quarter → from + 2 * quarter ≤ c → c ≤ from + 3 * quarter → from + 3 * quarter ≤ d → d ≤ to
+    → quarters bitmap rows k from quarter a b c d ⊕ run_sum (given bitmap rows k) a (from + quarter) ⊕ run_sum (given bitmap rows k) b (from + 2 * quarter)
+    ⊕ run_sum (given bitmap rows k) c (from + 3 * quarter) ⊕ run_sum (given bitmap rows k) d to ≡ run_sum (given bitmap rows k) from to
+unfolding quarters
+quarters-all bitmap rows k from to quarter a b c d le q la ma lb mb lc mc ld md =
+    let f = given bitmap rows k in
+    let R = run_sum f in
+    let p1 = from + quarter in
+    let p2 = from + 2 * quarter in
+    let p3 = from + 3 * quarter in
+    with_rests (R from a) (R p1 b) (R p2 c) (R p3 d) (R a p1) (R b p2) (R c p3) (R d to)
+    ∙ ap₂ ◌⊕◌ (ap₂ ◌⊕◌ (ap₂ ◌⊕◌ (run-join f from a p1 la ma) (run-join f p1 b p2 lb mb)) (run-join f p2 c p3 lc mc)) (run-join f p3 d to ld md)
+    ∙ ap (λ s. s ⊕ R p2 p3 ⊕ R p3 to) (run-join f from p1 p2 (omega arith) (omega arith))
+    ∙ ap (λ s. s ⊕ R p3 to) (run-join f from p2 p3 (omega arith) (omega arith))
+    ∙ run-join f from p3 to (omega arith) (omega arith)

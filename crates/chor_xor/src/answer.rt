@@ -14,37 +14,50 @@ use gf256::rows::{add_row, clear};
 /// and `43 44` the bitmap `c0` has the answer `02 06`.
 ///
 /// The bitmap has a bit for each row, and so `ceil(rows / 8)` bytes; unused bits aren't read. It
-/// takes no memory. It goes over the rows of four quarters side by side, so that the memory is read
-/// in four streams.
+/// takes no memory.
 pub fn answer_into(matrix: &Matrix, bitmap: &[u8], out: &mut [u8])
     requires bitmap { length bitmap.now ≡ size_of (length matrix.now.rows) }
     requires room { length out.old ≡ matrix.now.width }
     ensures { out.new ≡ chosen matrix.now bitmap.now }
 {
     clear(out);
-    let rows = matrix.rows();
-    let quarter = rows / 4;
-    let mut a = next_set(bitmap, 0, quarter);
-    let mut b = next_set(bitmap, quarter, 2 * quarter);
-    let mut c = next_set(bitmap, 2 * quarter, 3 * quarter);
-    let mut d = next_set(bitmap, 3 * quarter, rows);
-    'fours: while a < quarter && b < 2 * quarter && c < 3 * quarter && d < rows {
+    add_chosen_rows(matrix, bitmap, 0, matrix.rows(), out);
+}
+
+/// Adds the rows from `from` up to `to` whose bit is set, in each column. It goes over the rows of
+/// four quarters side by side, so that the memory is read in four streams.
+pub fn add_chosen_rows(matrix: &Matrix, bitmap: &[u8], from: u32, to: u32, sum: &mut [u8])
+    requires order { from ≤ to }
+    requires within { to ≤ length matrix.now.rows }
+    requires bitmap { length bitmap.now ≡ size_of (length matrix.now.rows) }
+    requires room { length sum.old ≡ matrix.now.width }
+    ensures { (k : ℕ) → slice_index sum.new k
+        ≡ slice_index sum.old k ⊕ run_sum (given bitmap.now matrix.now.rows k) from to }
+{
+    // Its contract bounds the number of rows, and says that they are bytes.
+    let _rows = matrix.rows();
+    let quarter = (to - from) / 4;
+    let mut a = next_set(bitmap, from, from + quarter);
+    let mut b = next_set(bitmap, from + quarter, from + 2 * quarter);
+    let mut c = next_set(bitmap, from + 2 * quarter, from + 3 * quarter);
+    let mut d = next_set(bitmap, from + 3 * quarter, to);
+    'fours: while a < from + quarter && b < from + 2 * quarter && c < from + 3 * quarter && d < to {
         add_four_rows(
-            out,
+            sum,
             matrix.row(a),
             matrix.row(b),
             matrix.row(c),
             matrix.row(d),
         );
-        a = next_set(bitmap, a + 1, quarter);
-        b = next_set(bitmap, b + 1, 2 * quarter);
-        c = next_set(bitmap, c + 1, 3 * quarter);
-        d = next_set(bitmap, d + 1, rows);
+        a = next_set(bitmap, a + 1, from + quarter);
+        b = next_set(bitmap, b + 1, from + 2 * quarter);
+        c = next_set(bitmap, c + 1, from + 3 * quarter);
+        d = next_set(bitmap, d + 1, to);
     }
-    add_rows(matrix, bitmap, a, quarter, out);
-    add_rows(matrix, bitmap, b, 2 * quarter, out);
-    add_rows(matrix, bitmap, c, 3 * quarter, out);
-    add_rows(matrix, bitmap, d, rows, out);
+    add_rows(matrix, bitmap, a, from + quarter, sum);
+    add_rows(matrix, bitmap, b, from + 2 * quarter, sum);
+    add_rows(matrix, bitmap, c, from + 3 * quarter, sum);
+    add_rows(matrix, bitmap, d, to, sum);
 }
 
 /// Adds the rows from `from` up to `to` whose bit is set, one after the other.

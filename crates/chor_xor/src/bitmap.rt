@@ -87,9 +87,9 @@ pub fn has_unused_bits(bitmap: &[u8], r: u32) -> bool
     bitmap[bitmap.len() - 1] & ((1 << unused_in_last(r)) - 1) != 0
 }
 
-/// Whether row `j` has its bit set.
+/// Whether row `j`, for which the bitmap has a bit, has it set.
 #[inline(always)]
-pub(crate) fn is_set(bitmap: &[u8], j: u32) -> bool
+pub fn is_set(bitmap: &[u8], j: u32) -> bool
     requires { j < 8 * length bitmap.now }
     ensures { bit_of bitmap.now j ≡ (if result then 1 else 0) }
 {

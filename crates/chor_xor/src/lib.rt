@@ -8,7 +8,8 @@
 //!
 //! Promised, for all coins: [`bitmap_into`] writes exactly these bitmaps, [`answer_into`] exactly
 //! the XOR of the rows, and [`laws::answers_sum_to_the_block`] says that the answers, put together
-//! by [`combine_into`], are the block. [`has_unused_bits`] tells whether a bitmap has a bit for no
+//! by [`combine_into`], are the block. [`add_chosen_rows`] adds the rows of a run, and [`is_set`] tells
+//! whether a bitmap asks for a row. [`has_unused_bits`] tells whether a bitmap has a bit for no
 //! row. No call takes memory, and none can fail.
 //!
 //! Not promised: that fewer than n servers together learn nothing. That holds where the coins are
@@ -20,5 +21,5 @@ mod answer;
 mod bitmap;
 pub mod laws;
 
-pub use answer::{answer_into, combine_into};
-pub use bitmap::{bitmap_into, has_unused_bits};
+pub use answer::{add_chosen_rows, answer_into, combine_into};
+pub use bitmap::{bitmap_into, has_unused_bits, is_set};

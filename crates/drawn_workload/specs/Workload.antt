@@ -8,12 +8,23 @@ use Rattle.wire_frames.specs.Limits.{IsInRange}
 use Rattle.drawn_workload.specs.declared.order.TheConstants.{NUMBER_LEN}
 use Rattle.drawn_workload.specs.declared.order.Workload.{Workload}
 use Rattle.wire_frames.specs.declared.scheme.TheConstants.{SHAMIR}
+use Rattle.wire_frames.specs.declared.version.TheConstants.{SINGLE}
 use Rattle.block_matrix.specs.Database.{Database, database}
 use Rattle.drawn_workload.specs.Stream.{drawn}
 
 -- its numbers are those of a session of Shamir's scheme, and of the servers some may lie
 pub record IsWorkload (w : Workload) : Type 0 where
-  pub numbers : IsInRange (record { scheme = SHAMIR; t = w.degree; h = w.agree; n = w.servers; session = 0; r = w.rows; s = w.width })
+  pub numbers : IsInRange (record {
+    version = SINGLE;
+    scheme = SHAMIR;
+    t = w.degree;
+    h = w.agree;
+    n = w.servers;
+    count = 1;
+    session = 0;
+    r = w.rows;
+    s = w.width;
+  })
   pub liars : w.liars ≤ w.servers
 
 -- the stream of the seed gives the database, then the number of a session, then the coins, then the lies

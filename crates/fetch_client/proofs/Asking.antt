@@ -10,7 +10,7 @@ use Rattle.wire_frames.specs.Session.{Transcript}
 use Rattle.fetch_client.specs.declared.plan.FetchPlan.{FetchPlan}
 use Rattle.wire_frames.specs.Header.{query_header}
 use Rattle.fetch_client.specs.Plan.{params_of}
-use Rattle.fetch_client.specs.Sent.{sent, header_to, payload_to, queries_from, session_number}
+use Rattle.fetch_client.specs.Sent.{sent, header_to, payload_for, queries_from, session_number}
 use Rattle.fetch_client.specs.Link.{LinkAsked, LinkBreaks}
 use Rattle.fetch_client.proofs.Schemes.{payload_of_session}
 use Rattle.fetch_client.specs.Fetched.{AsksNext}
@@ -32,30 +32,30 @@ breaks_reading address frame most p old mid v u is_open given failed =
     }
 
 -- the next server was asked with its frame
-pub asked_next : (p : FetchPlan) (address coins frame : List ℕ) (index most : ℕ) (answer : Option (List ℕ))
+pub asked_next : (p : FetchPlan) (blocks address coins frame : List ℕ) (index most : ℕ) (answer : Option (List ℕ))
     (before after : Transcript) (old new : World)
-    → index ≡ length before.records + 1 → frame ≡ sent p coins index → most ≡ answer_len p.s
+    → index ≡ length before.records + 1 → frame ≡ sent p blocks coins index → most ≡ answer_len (length blocks) p.s
     → after ≡ record before { records = before.records ++ answer ∷ [] }
     → LinkAsked address frame most answer (old.at (link index)) (new.at (link index))
-    → AsksNext p address coins before after old new
-asked_next p address coins frame index most answer before after old new next is room session asked =
+    → AsksNext p blocks address coins before after old new
+asked_next p blocks address coins frame index most answer before after old new next is room session asked =
     let count = length before.records in
     let same : link index ≡ link 1 + count = omega (arith, next) in
     let by_frame = subst (λ (f : List ℕ). LinkAsked address f most answer (old.at (link index)) (new.at (link index)))
-    (is ∙ ap (sent p coins) next) asked in
-    let by_size = subst (λ (m : ℕ). LinkAsked address (sent p coins (count + 1)) m answer (old.at (link index))
+    (is ∙ ap (sent p blocks coins) next) asked in
+    let by_size = subst (λ (m : ℕ). LinkAsked address (sent p blocks coins (count + 1)) m answer (old.at (link index))
     (new.at (link index))) room by_frame in
     record {
       answer = answer;
       session = session;
-      asked = subst (λ (port : ℕ). LinkAsked address (sent p coins (count + 1)) (answer_len p.s) answer (old.at port)
+      asked = subst (λ (port : ℕ). LinkAsked address (sent p blocks coins (count + 1)) (answer_len (length blocks) p.s) answer (old.at port)
           (new.at port)) same by_size;
     }
 
 -- a header and a payload are a frame; a payload doesn't depend on the session's number
-pub sent_is : (p : FetchPlan) (coins : List ℕ) (i : ℕ) (header payload : List ℕ)
-    → header ≡ query_header (header_to p coins i)
-    → payload ≡ payload_to (params_of p 0) (queries_from coins) p.block i → header ++ payload ≡ sent p coins i
+pub sent_is : (p : FetchPlan) (blocks coins : List ℕ) (i : ℕ) (header payload : List ℕ)
+    → header ≡ query_header (header_to p (length blocks) coins i)
+    → payload ≡ payload_for (params_of p 1 0) (queries_from coins) blocks i → header ++ payload ≡ sent p blocks coins i
 unfolding sent
-sent_is p coins i header payload a b =
-    ap₂ (λ (x y : List ℕ). x ++ y) a (b ∙ payload_of_session p (session_number coins) (queries_from coins) i)
+sent_is p blocks coins i header payload a b =
+    ap₂ (λ (x y : List ℕ). x ++ y) a (b ∙ payload_of_session p (length blocks) (session_number coins) (queries_from coins) blocks i)

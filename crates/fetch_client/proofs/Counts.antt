@@ -1,5 +1,5 @@
 -- How many steps judging a session takes, at most.
-use Rattle.std.proofs.Common.{◌≡◌, ℕ, ◌+◌, ◌≤◌, length, sym, subst, arith}
+use Rattle.std.proofs.Common.{◌≡◌, ℕ, List, ◌+◌, ◌*◌, ◌≤◌, length, sym, subst, arith}
 use Rattle.std.specs.Prelude.{Result, Err}
 use Rattle.wire_frames.specs.Answer.{answers}
 use Rattle.wire_frames.specs.Session.{Transcript}
@@ -12,11 +12,11 @@ use Rattle.fetch_client.specs.Fetched.{CountsForSome, FetchCounts}
 
 -- where memory ran out when a session had a record of each server, no more steps are counted than judging some answers
 -- takes, of which there are no more than servers
-pub counts_of_all : (most : ℕ → ℕ → ℕ → ℕ → ℕ) (p q : FetchPlan) (session : Transcript) (result : Result (Transcript × Verdict) FetchFault)
+pub counts_of_all : (most : ℕ → ℕ → ℕ → ℕ → ℕ) (p q : FetchPlan) (blocks : List ℕ) (session : Transcript) (result : Result (Transcript × Verdict) FetchFault)
     (before now : ℕ) → result ≡ Err Memory → q ≡ p → length session.records ≡ q.n
-    → now ≤ before + most (length (answers session)) q.t q.h q.s → FetchCounts most p result before now
-counts_of_all most p q session result before now fault same whole bounded =
+    → now ≤ before + most (length (answers session)) q.t q.h (length blocks * q.s) → FetchCounts most p blocks result before now
+counts_of_all most p q blocks session result before now fault same whole bounded =
     let few = length-answers_from-le 1 session.params session.records in
-    let some : CountsForSome most q before now = record { answers = length (answers session); few = omega (arith, few, whole); bounded = bounded } in
-    subst (λ (r : Result (Transcript × Verdict) FetchFault). FetchCounts most p r before now) (sym fault)
-    (subst (λ (o : FetchPlan). CountsForSome most o before now) same some)
+    let some : CountsForSome most q blocks before now = record { answers = length (answers session); few = omega (arith, few, whole); bounded = bounded } in
+    subst (λ (r : Result (Transcript × Verdict) FetchFault). FetchCounts most p blocks r before now) (sym fault)
+    (subst (λ (o : FetchPlan). CountsForSome most o blocks before now) same some)

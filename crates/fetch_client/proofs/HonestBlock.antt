@@ -1,12 +1,12 @@
 -- In Shamir's sharing the block that enough honest servers hold is agreed on, and so listed.
-use Rattle.std.proofs.Common.{◌≡◌, ℕ, zero, suc, ◌+◌, ◌*◌, ◌<◌, ◌≤◌, Bool, List, [], ◌∷◌, length, map, get_or, Contains, count_by, bytes_eq, sym, ap, subst, ◌∙◌, arith}
+use Rattle.std.proofs.Common.{◌≡◌, ℕ, zero, suc, ◌+◌, ◌*◌, ◌<◌, ◌≤◌, Bool, List, [], ◌∷◌, All, length, map, get_or, Contains, count_by, bytes_eq, sym, ap, subst, ◌∙◌, arith}
 use Rattle.std.specs.List.{range_with_len}
 use Rattle.std.proofs.lemmas.List.{ext_get_or, length-map, get_or-map}
 use Rattle.std.proofs.lemmas.List.Elements.{All-map}
 use Rattle.std.proofs.lemmas.List.FromFn.{length-map-range_with_len, get_or-map-range_with_len}
 use Rattle.std.proofs.lemmas.List.Sums.{count_by-le-length}
 use Rattle.std.proofs.lemmas.Slice.Eq.{bytes_eq-Decides}
-use Rattle.gf256.specs.Polynomial.{coef, IsPolynomial}
+use Rattle.gf256.specs.Polynomial.{coef, val, IsPolynomial}
 use Rattle.shamir_share.specs.Query.{query}
 use Rattle.wire_frames.specs.declared.TheConstants.{MOST_SERVERS}
 use Rattle.wire_frames.specs.declared.scheme.TheConstants.{SHAMIR}
@@ -19,23 +19,35 @@ use Rattle.block_decoder.specs.declared.verdict.Verdict.TheVariants.{Listed, Too
 use Rattle.block_decoder.proofs.OneBlock.{close_is_listed}
 use Rattle.block_decoder.proofs.Places.{places_of, ascending-places_of, within-places_of, pass-places_of, length-places_of}
 use Rattle.gf256.specs.Product.{IsMatrix, product}
-use Rattle.fetch_client.specs.Honest.{IsHonest, answer_by, block_of}
-use Rattle.fetch_client.specs.Sent.{payload_to}
-use Rattle.fetch_client.proofs.Schemes.{answer_of_shamir, payload_of_shamir}
-use Rattle.fetch_client.proofs.HonestColumns.{column_polynomial, degree-column_polynomial, reply_is, constant-column_polynomial}
+use Rattle.wire_frames.specs.Turns.{in_turn, piece}
+use Rattle.wire_frames.proofs.Turns.{All-in_turn, in_turn-one, in_turn-same, length-in_turn, length-piece, map-in_turn, piece-whole, piece_fits}
+use Rattle.fetch_client.specs.Plan.{query_coins}
+use Rattle.fetch_client.specs.Honest.{IsHonest, answer_by, block_of, blocks_of}
+use Rattle.fetch_client.specs.Sent.{vector_at}
+use Rattle.fetch_client.proofs.Schemes.{answer_of_shamir, coins_of_shamir, payload_of_shamir}
+use Rattle.fetch_client.proofs.HonestColumns.{column_of, column_polynomial, column_polynomial-is, degree-column_polynomial, reply_is, constant-column_polynomial}
 
--- at least h of the answers are the products of the matrix and the queries for the block
-pub record AreProducts (answers : List Answer) (matrix : List (List ℕ)) (coins : List ℕ) (t r s block h : ℕ) : Type 0 where
+-- the answer at an index to the queries for the blocks: for each the product of its query and the matrix
+abbrev pub products_at : List (List ℕ) → List ℕ → List ℕ → ℕ → ℕ → ℕ → ℕ → List ℕ
+products_at matrix coins blocks t r s a =
+    in_turn (length blocks) (λ v. product matrix s (query (piece (r * t) v coins) t r (get_or blocks v 0) a))
+
+-- at least h of the answers are such
+pub record AreProducts (answers : List Answer) (matrix : List (List ℕ)) (coins blocks : List ℕ) (t r s h : ℕ) : Type 0 where
   pub matrix_is : IsMatrix matrix r s
-  pub enough : h ≤ count_by (λ a. bytes_eq a.payload (product matrix s (query coins t r block a.index))) answers
+  pub enough : h ≤ count_by (λ a. bytes_eq a.payload (products_at matrix coins blocks t r s a.index)) answers
 
 -- honest servers answer so
-pub products_from_honest : (session : Transcript) (matrix : List (List ℕ)) (coins : List ℕ) (block : ℕ) → session.params.scheme ≡ SHAMIR → IsHonest session matrix coins block
-    → AreProducts (answers session) matrix coins session.params.t session.params.r session.params.s block session.params.h
-products_from_honest session matrix coins block one honest =
+pub products_from_honest : (session : Transcript) (matrix : List (List ℕ)) (coins blocks : List ℕ) → session.params.scheme ≡ SHAMIR → IsHonest session matrix coins blocks
+    → AreProducts (answers session) matrix coins blocks session.params.t session.params.r session.params.s session.params.h
+products_from_honest session matrix coins blocks one honest =
     let p = session.params in
-    let same : ◌≡◌ {A = ℕ → List ℕ} (answer_by p matrix coins block) (λ a. product matrix p.s (query coins p.t p.r block a)) =
-    λ i a. (answer_of_shamir p one matrix (payload_to p coins block a) ∙ ap (product matrix p.s) (payload_of_shamir p one coins block a)) i in
+    let each : (a : ℕ) → answer_by p matrix coins blocks a ≡ products_at matrix coins blocks p.t p.r p.s a = λ a.
+    in_turn-same (length blocks) _ _ (λ v l.
+    answer_of_shamir p one matrix (vector_at p coins blocks a v)
+    ∙ ap (product matrix p.s) (payload_of_shamir p one (piece (query_coins p) v coins) (get_or blocks v 0) a
+    ∙ ap (λ (n : ℕ). query (piece n v coins) p.t p.r (get_or blocks v 0) a) (coins_of_shamir p one))) in
+    let same : ◌≡◌ {A = ℕ → List ℕ} (answer_by p matrix coins blocks) (products_at matrix coins blocks p.t p.r p.s) = λ i a. each a i in
     record {
       matrix_is = honest.matrix_is;
       enough = subst (λ (f : ℕ → List ℕ). p.h ≤ count_by (λ (a : Answer). bytes_eq a.payload (f a.index)) (answers session)) same honest.enough;
@@ -55,36 +67,98 @@ constants_are matrix coins t r s block is size within =
     sym (constant-column_polynomial matrix coins t r s block is size within c) ∙ ap (λ p. coef p 0) (sym (get_or-map-range_with_len f 0 s c c [] inside (omega arith)))
     ∙ sym (get_or-map (λ p. coef p 0) (map f (range_with_len 0 s)) c [] 0 (omega (arith, inside, m))))
 
--- the block that h honest servers hold is agreed on
-pub honest_is_agreed : (answers : List Answer) (matrix : List (List ℕ)) (coins : List ℕ) (t r s block h : ℕ) → length coins ≡ r * t → block < r
-    → AreProducts answers matrix coins t r s block h → Agreed answers s t h (block_of matrix block)
-honest_is_agreed answers matrix coins t r s block h size within honest =
+-- the polynomials of all columns of one block
+abbrev columns : List (List ℕ) → List ℕ → ℕ → ℕ → ℕ → ℕ → List (List ℕ)
+columns matrix coins t r s block = map (column_of matrix coins t r block) (range_with_len 0 s)
+
+module _ (matrix : List (List ℕ)) (coins : List ℕ) (t r s block : ℕ) (is : IsMatrix matrix r s) (size : length coins ≡ r * t) where
+  abbrev own_columns : List (List ℕ)
+  own_columns = columns matrix coins t r s block
+
+  columns_are : map (column_polynomial matrix coins t r s block is size) (range_with_len 0 s) ≡ own_columns
+  columns_are =
+      let each : ◌≡◌ {A = ℕ → List ℕ} (column_polynomial matrix coins t r s block is size) (column_of matrix coins t r block) =
+      λ i c. column_polynomial-is matrix coins t r s block is size c i in
+      ap (λ (f : ℕ → List ℕ). map f (range_with_len 0 s)) each
+
+  columns_reply : (a : ℕ) → map (λ p. val p a) own_columns ≡ product matrix s (query coins t r block a)
+  columns_reply a = ap (map (λ p. val p a)) (sym columns_are) ∙ reply_is matrix coins t r s block is size a
+
+  columns_degree : All (IsPolynomial t) own_columns
+  columns_degree = subst (All (IsPolynomial t)) columns_are
+      (All-map (IsPolynomial t) (column_polynomial matrix coins t r s block is size) (range_with_len 0 s) (λ i d l. degree-column_polynomial matrix coins t r s block is size (get_or (range_with_len 0 s) i d)))
+
+  columns_constants : block < r → block_of matrix block ≡ constants_of own_columns
+  columns_constants within = constants_are matrix coins t r s block is size within ∙ ap constants_of columns_are
+
+-- the polynomials of all columns of all blocks
+module _ (matrix : List (List ℕ)) (coins blocks : List ℕ) (t r s : ℕ) (is : IsMatrix matrix r s) (size : length coins ≡ length blocks * (r * t)) (within : All (λ b. b < r) blocks) where
+  abbrev columns_at : ℕ → List (List ℕ)
+  columns_at v = columns matrix (piece (r * t) v coins) t r s (get_or blocks v 0)
+
+  own : (v : ℕ) → v < length blocks → length (piece (r * t) v coins) ≡ r * t
+  own v l = length-piece (r * t) v coins (omega (arith, piece_fits v (length blocks) (r * t) l, size))
+
+  pub all_columns : List (List ℕ)
+  all_columns = in_turn (length blocks) columns_at
+
+  pub length-all_columns : length all_columns ≡ length blocks * s
+  unfolding all_columns
+  length-all_columns = length-in_turn (length blocks) s columns_at (λ v l. length-map-range_with_len (column_of matrix (piece (r * t) v coins) t r (get_or blocks v 0)) 0 s)
+
+  pub degree-all_columns : All (IsPolynomial t) all_columns
+  unfolding all_columns
+  degree-all_columns = All-in_turn (IsPolynomial t) (length blocks) columns_at (λ v l. columns_degree matrix (piece (r * t) v coins) t r s (get_or blocks v 0) is (own v l))
+
+  pub reply-all_columns : (a : ℕ) → map (λ p. val p a) all_columns ≡ products_at matrix coins blocks t r s a
+  unfolding all_columns
+  reply-all_columns a =
+      map-in_turn (length blocks) (λ p. val p a) columns_at
+      ∙ in_turn-same (length blocks) _ _ (λ v l. columns_reply matrix (piece (r * t) v coins) t r s (get_or blocks v 0) is (own v l) a)
+
+  pub constants-all_columns : blocks_of matrix blocks ≡ constants_of all_columns
+  unfolding all_columns
+  constants-all_columns =
+      in_turn-same (length blocks) _ _ (λ v l. columns_constants matrix (piece (r * t) v coins) t r s (get_or blocks v 0) is (own v l) (within v 0 l))
+      ∙ sym (map-in_turn (length blocks) (λ p. coef p 0) columns_at)
+
+-- where one block is asked for there is one product
+pub one_product : (matrix : List (List ℕ)) (coins : List ℕ) (t r s block a : ℕ) → length coins ≡ r * t
+    → products_at matrix coins (block ∷ []) t r s a ≡ product matrix s (query coins t r block a)
+one_product matrix coins t r s block a size =
+    in_turn-one (λ v. product matrix s (query (piece (r * t) v coins) t r (get_or (block ∷ []) v 0) a))
+    ∙ ap (λ (l : List ℕ). product matrix s (query l t r block a)) (piece-whole (r * t) coins size)
+
+-- the blocks that h honest servers hold are agreed on, as one
+pub honest_is_agreed : (answers : List Answer) (matrix : List (List ℕ)) (coins blocks : List ℕ) (t r s h : ℕ) → length coins ≡ length blocks * (r * t) → All (λ b. b < r) blocks
+    → AreProducts answers matrix coins blocks t r s h → Agreed answers (length blocks * s) t h (blocks_of matrix blocks)
+honest_is_agreed answers matrix coins blocks t r s h size within honest =
     let none : Answer = record { index = 0; payload = [] } in
-    let test : Answer → Bool = λ a. bytes_eq a.payload (product matrix s (query coins t r block a.index)) in
+    let test : Answer → Bool = λ a. bytes_eq a.payload (products_at matrix coins blocks t r s a.index) in
     let places = places_of test answers none in
     let inside = within-places_of test answers none in
     let pass = pass-places_of test answers none in
-    let f = column_polynomial matrix coins t r s block honest.matrix_is size in
+    let is = honest.matrix_is in
     record {
-      polynomials = map f (range_with_len 0 s);
+      polynomials = all_columns matrix coins blocks t r s is size within;
       places = places;
-      one_a_column = length-map-range_with_len f 0 s;
-      degree = All-map (IsPolynomial t) f (range_with_len 0 s) (λ i d l. degree-column_polynomial matrix coins t r s block honest.matrix_is size (get_or (range_with_len 0 s) i d));
+      one_a_column = length-all_columns matrix coins blocks t r s is size within;
+      degree = degree-all_columns matrix coins blocks t r s is size within;
       ascending = ascending-places_of test answers none;
       within = inside;
       enough = let n = length-places_of test answers none in let e = honest.enough in omega (arith, n, e);
       agree = λ i d l.
           let a = answer_at answers (get_or places i d) in
-          (bytes_eq-Decides a.payload (product matrix s (query coins t r block a.index))).0 (pass i d l)
-          ∙ sym (reply_is matrix coins t r s block honest.matrix_is size a.index);
-      constants = constants_are matrix coins t r s block honest.matrix_is size within;
+          (bytes_eq-Decides a.payload (products_at matrix coins blocks t r s a.index)).0 (pass i d l)
+          ∙ sym (reply-all_columns matrix coins blocks t r s is size within a.index);
+      constants = constants-all_columns matrix coins blocks t r s is size within;
     }
 
 -- so it is listed, where blocks are
-pub honest_is_listed : (answers : List Answer) (matrix : List (List ℕ)) (coins : List ℕ) (t r s block h : ℕ) (blocks : List (List ℕ)) → length coins ≡ r * t → block < r
-    → AreProducts answers matrix coins t r s block h → IsDecided answers s t h (Listed blocks) → Contains blocks (block_of matrix block)
-honest_is_listed answers matrix coins t r s block h blocks size within honest is =
-    (is.3.exact (block_of matrix block)).1 (honest_is_agreed answers matrix coins t r s block h size within honest)
+pub honest_is_listed : (answers : List Answer) (matrix : List (List ℕ)) (coins asked : List ℕ) (t r s h : ℕ) (blocks : List (List ℕ)) → length coins ≡ length asked * (r * t) → All (λ b. b < r) asked
+    → AreProducts answers matrix coins asked t r s h → IsDecided answers (length asked * s) t h (Listed blocks) → Contains blocks (blocks_of matrix asked)
+honest_is_listed answers matrix coins asked t r s h blocks size within honest is =
+    (is.3.exact (blocks_of matrix asked)).1 (honest_is_agreed answers matrix coins asked t r s h size within honest)
 
 -- what has one member at most has only the one that it is known to have
 only_member : {X : Type 0} (xs : List X) (x : X) → length xs ≤ 1 → Contains xs x → xs ≡ x ∷ []
@@ -94,15 +168,15 @@ only_member (y ∷ []) x few (suc k, l, e) = absurd (omega arith)
 only_member (y ∷ z ∷ xs) x few c = absurd (omega arith)
 
 -- and alone where 2 h > k + t
-pub honest_is_alone : (answers : List Answer) (matrix : List (List ℕ)) (coins : List ℕ) (t r s block h : ℕ) (verdict : Verdict) → HasColumns s answers → length answers ≤ MOST_SERVERS → length coins ≡ r * t → block < r
-    → AreProducts answers matrix coins t r s block h → length answers + t < 2 * h → IsDecided answers s t h verdict → verdict ≡ Listed (block_of matrix block ∷ [])
-honest_is_alone answers matrix coins t r s block h verdict columns most size within honest close is =
+pub honest_is_alone : (answers : List Answer) (matrix : List (List ℕ)) (coins asked : List ℕ) (t r s h : ℕ) (verdict : Verdict) → HasColumns (length asked * s) answers → length answers ≤ MOST_SERVERS → length coins ≡ length asked * (r * t)
+    → All (λ b. b < r) asked → AreProducts answers matrix coins asked t r s h → length answers + t < 2 * h → IsDecided answers (length asked * s) t h verdict → verdict ≡ Listed (blocks_of matrix asked ∷ [])
+honest_is_alone answers matrix coins asked t r s h verdict columns most size within honest close is =
     let e = honest.enough in
-    let few = count_by-le-length (λ (a : Answer). bytes_eq a.payload (product matrix s (query coins t r block a.index))) answers in
-    by_verdict verdict (close_is_listed answers s t h verdict columns (omega (arith, most)) (omega (arith, e, few)) close is) is
+    let few = count_by-le-length (λ (a : Answer). bytes_eq a.payload (products_at matrix coins asked t r s a.index)) answers in
+    by_verdict verdict (close_is_listed answers (length asked * s) t h verdict columns (omega (arith, most)) (omega (arith, e, few)) close is) is
   where
-    by_verdict : (v : Verdict) → ListsAtMostOne v → IsDecided answers s t h v → v ≡ Listed (block_of matrix block ∷ [])
+    by_verdict : (v : Verdict) → ListsAtMostOne v → IsDecided answers (length asked * s) t h v → v ≡ Listed (blocks_of matrix asked ∷ [])
     by_verdict (TooFew k agree) none is = absurd none
     by_verdict (TooWeak k degree agree) none is = absurd none
     by_verdict (TooCostly equations) none is = absurd none
-    by_verdict (Listed blocks) few is = ap Listed (only_member blocks (block_of matrix block) few (honest_is_listed answers matrix coins t r s block h blocks size within honest is))
+    by_verdict (Listed blocks) few is = ap Listed (only_member blocks (blocks_of matrix asked) few (honest_is_listed answers matrix coins asked t r s h blocks size within honest is))

@@ -48,6 +48,10 @@ constant_elsewhere coins t block j differ =
 
 -- ---- the polynomials of the columns
 
+-- that of column c: the rows' polynomials, each times the byte of its row
+pub column_of : List (List ℕ) → List ℕ → ℕ → ℕ → ℕ → ℕ → List ℕ
+column_of matrix coins t r block c = combined (map (row_polynomial coins t block) (range_with_len 0 r)) (map (λ row. get_or row c 0) matrix) (t + 1)
+
 module _ (matrix : List (List ℕ)) (coins : List ℕ) (t r s block : ℕ) (is : IsMatrix matrix r s) (size : length coins ≡ r * t) where
   rows : List (List ℕ)
   rows = map (row_polynomial coins t block) (range_with_len 0 r)
@@ -73,6 +77,10 @@ module _ (matrix : List (List ℕ)) (coins : List ℕ) (t r s block : ℕ) (is :
   -- the rows' polynomials, each times the byte of its row
   pub column_polynomial : ℕ → List ℕ
   column_polynomial c = combined rows (column c) (t + 1)
+
+  pub column_polynomial-is : (c : ℕ) → column_polynomial c ≡ column_of matrix coins t r block c
+  unfolding column_polynomial rows column column_of
+  column_polynomial-is c = refl
 
   pub degree-column_polynomial : (c : ℕ) → IsPolynomial t (column_polynomial c)
   unfolding column_polynomial

@@ -1,5 +1,5 @@
 -- The frames of honest servers are usable, and so their payloads are honest answers.
-use Rattle.std.proofs.Common.{◌≡◌, ℕ, suc, ◌+◌, ◌-◌, ◌≤◌, ◌<◌, Bool, true, false, Option, None, Some, option_and_then, List, [], ◌∷◌, length, get_or, count_by, bytes_eq, refl, ap, ◌∙◌, arith}
+use Rattle.std.proofs.Common.{◌*◌, ◌≡◌, ℕ, suc, ◌+◌, ◌-◌, ◌≤◌, ◌<◌, Bool, true, false, Option, None, Some, option_and_then, List, [], ◌∷◌, length, get_or, count_by, bytes_eq, refl, ap, ◌∙◌, arith}
 use Rattle.std.specs.List.{range_with_len}
 use Rattle.std.proofs.lemmas.Slice.Eq.{bytes_eq-Decides}
 use Rattle.wire_frames.specs.declared.session.SessionParams.{SessionParams}
@@ -7,16 +7,15 @@ use Rattle.wire_frames.specs.Answer.{Answer, answers_from, asked, usable, with_a
 use Rattle.wire_frames.specs.Session.{Transcript}
 use Rattle.block_decoder.proofs.Counting.{one_if, count-cons}
 use Rattle.block_decoder.proofs.UsableAnswers.{usable_frame, answers_from-cons}
-use Rattle.fetch_client.specs.Sent.{payload_to}
 use Rattle.fetch_client.specs.Honest.{IsHonest, HonestRecords, answer_by, honest_frame, is_frame}
-use Rattle.fetch_client.proofs.Schemes.{length-honest_answer}
+use Rattle.fetch_client.proofs.Schemes.{length-answer_by}
 
-module _ (p : SessionParams) (matrix : List (List ℕ)) (coins : List ℕ) (block : ℕ) where
+module _ (p : SessionParams) (matrix : List (List ℕ)) (coins blocks : List ℕ) (count : length blocks ≡ p.count) where
   abbrev reply : ℕ → List ℕ
-  reply i = answer_by p matrix coins block i
+  reply i = answer_by p matrix coins blocks i
 
   abbrev frame : ℕ → List ℕ
-  frame i = honest_frame p matrix coins block i
+  frame i = honest_frame p matrix coins blocks i
 
   abbrev is_honest : Answer → Bool
   is_honest a = bytes_eq a.payload (reply a.index)
@@ -26,7 +25,7 @@ module _ (p : SessionParams) (matrix : List (List ℕ)) (coins : List ℕ) (bloc
 
   usable_honest : (i : ℕ) → usable (frame i) (asked p i) ≡ Some (reply i)
   unfolding honest_frame
-  usable_honest i = usable_frame (reply i) (asked p i) (length-honest_answer p matrix (payload_to p coins block i))
+  usable_honest i = usable_frame (reply i) (asked p i) (length-answer_by p matrix coins blocks i ∙ ap (λ (n : ℕ). n * p.s) count)
 
   -- one more server in front takes none away
   no_fewer : (i : ℕ) (o : Option (List ℕ)) (rest : List Answer) → count_by is_honest rest ≤ count_by is_honest (with_answer i o rest)
@@ -66,9 +65,10 @@ module _ (p : SessionParams) (matrix : List (List ℕ)) (coins : List ℕ) (bloc
       omega (arith, more, ih, step, one, all)
 
 -- where enough records are honest frames, enough answers are honest
-pub honest_from_records : (session : Transcript) (matrix : List (List ℕ)) (coins : List ℕ) (block : ℕ) → HonestRecords session matrix coins block → IsHonest session matrix coins block
-honest_from_records session matrix coins block records =
-    let few = count_frames session.params matrix coins block session.records session.records 1 (omega arith) (λ k l. let e : 1 + k - 1 ≡ k = omega arith in ap (λ k. get_or session.records k None) e) in
+pub honest_from_records : (session : Transcript) (matrix : List (List ℕ)) (coins blocks : List ℕ) → length blocks ≡ session.params.count
+    → HonestRecords session matrix coins blocks → IsHonest session matrix coins blocks
+honest_from_records session matrix coins blocks count records =
+    let few = count_frames session.params matrix coins blocks count session.records session.records 1 (omega arith) (λ k l. let e : 1 + k - 1 ≡ k = omega arith in ap (λ k. get_or session.records k None) e) in
     record {
       matrix_is = records.matrix_is;
       enough = let e = records.enough in omega (arith, few, e);

@@ -6,3 +6,4 @@ pub mod HonestFrames
 pub mod HonestXor
 pub mod HonestVerdicts
 pub mod Counts
+pub mod Ranges

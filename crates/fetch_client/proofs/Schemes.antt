@@ -1,5 +1,5 @@
 -- What the definitions of both schemes are in the one and in the other.
-use Rattle.std.proofs.Common.{◌≡◌, ℕ, ◌-◌, ◌*◌, List, length, ◌++◌, refl, ap}
+use Rattle.std.proofs.Common.{◌≡◌, ◌∙◌, ℕ, ◌-◌, ◌*◌, List, length, get_or, ◌++◌, refl, sym, ap}
 use Rattle.std.proofs.lemmas.List.FromFn.{length-map-range_with_len}
 use Rattle.gf256.specs.Product.{product_at, product}
 use Rattle.shamir_share.specs.Query.{query}
@@ -10,6 +10,8 @@ use Rattle.wire_frames.specs.declared.scheme.Scheme.TheVariants.{Shamir, Xor}
 use Rattle.wire_frames.specs.declared.session.SessionParams.{SessionParams}
 use Rattle.wire_frames.specs.Header.{query_header}
 use Rattle.wire_frames.specs.Scheme.{scheme_of, payload_len}
+use Rattle.wire_frames.specs.Turns.{in_turn, piece}
+use Rattle.wire_frames.proofs.Turns.{in_turn-same, length-in_turn}
 use Rattle.wire_frames.proofs.Schemes.{xor_is, shamir_is}
 use Rattle.chor_xor.specs.Bitmap.{bitmap, size_of}
 use Rattle.chor_xor.specs.Chosen.{chosen}
@@ -17,8 +19,8 @@ use Rattle.chor_xor.proofs.Shares.{length-bitmap}
 use Rattle.chor_xor.proofs.ChosenSums.{length-chosen}
 use Rattle.fetch_client.specs.declared.plan.FetchPlan.{FetchPlan}
 use Rattle.fetch_client.specs.Plan.{params_of, coins_for, query_coins}
-use Rattle.fetch_client.specs.Sent.{header_to, payload_in, payload_to, queries_from, sent}
-use Rattle.fetch_client.specs.Honest.{answer_in, honest_answer}
+use Rattle.fetch_client.specs.Sent.{header_to, payload_for, payload_in, payload_to, queries_from, sent, session_number, vector_at}
+use Rattle.fetch_client.specs.Honest.{answer_at, answer_by, answer_in, honest_answer}
 
 -- in the XOR scheme
 module _ (p : SessionParams) (two : p.scheme ≡ XOR) where
@@ -48,38 +50,54 @@ module _ (p : SessionParams) (one : p.scheme ≡ SHAMIR) where
   unfolding honest_answer
   answer_of_shamir matrix payload = ap (λ (s : Scheme). answer_in s p matrix payload) (shamir_is p.scheme one)
 
--- the coins of the queries don't depend on the session's number
-pub coins_of_session : (p : FetchPlan) (number : ℕ) → query_coins (params_of p number) ≡ query_coins (params_of p 0)
+-- the coins of the queries don't depend on the session's number, nor on how many blocks are asked for
+pub coins_of_session : (p : FetchPlan) (count number : ℕ) → query_coins (params_of p count number) ≡ query_coins (params_of p 1 0)
 unfolding query_coins
-coins_of_session p number = by_scheme (scheme_of p.scheme)
+coins_of_session p count number = by_scheme (scheme_of p.scheme)
   where
-    by_scheme : (s : Scheme) → coins_for s (params_of p number) ≡ coins_for s (params_of p 0)
+    by_scheme : (s : Scheme) → coins_for s (params_of p count number) ≡ coins_for s (params_of p 1 0)
     by_scheme Shamir = refl
     by_scheme Xor = refl
 
--- nor does the payload of a query
-pub payload_of_session : (p : FetchPlan) (number : ℕ) (coins : List ℕ) (i : ℕ)
-    → payload_to (params_of p 0) coins p.block i ≡ payload_to (params_of p number) coins p.block i
+-- nor does the vector of a query
+pub vector_of_session : (p : FetchPlan) (count number : ℕ) (coins : List ℕ) (block i : ℕ)
+    → payload_to (params_of p 1 0) coins block i ≡ payload_to (params_of p count number) coins block i
 unfolding payload_to
-payload_of_session p number coins i = by_scheme (scheme_of p.scheme)
+vector_of_session p count number coins block i = by_scheme (scheme_of p.scheme)
   where
-    by_scheme : (s : Scheme) → payload_in s (params_of p 0) coins p.block i ≡ payload_in s (params_of p number) coins p.block i
+    by_scheme : (s : Scheme) → payload_in s (params_of p 1 0) coins block i ≡ payload_in s (params_of p count number) coins block i
     by_scheme Shamir = refl
     by_scheme Xor = refl
+
+-- nor does its payload
+pub payload_of_session : (p : FetchPlan) (count number : ℕ) (coins blocks : List ℕ) (i : ℕ)
+    → payload_for (params_of p 1 0) coins blocks i ≡ payload_for (params_of p count number) coins blocks i
+payload_of_session p count number coins blocks i =
+    in_turn-same (length blocks) _ _ (λ v l.
+    ap (λ (n : ℕ). payload_to (params_of p 1 0) (piece n v coins) (get_or blocks v 0) i) (sym (coins_of_session p count number))
+    ∙ vector_of_session p count number (piece (query_coins (params_of p count number)) v coins) (get_or blocks v 0) i)
 
 -- what a server is sent in Shamir's sharing
-pub sent_in_shamir : (p : FetchPlan) (coins : List ℕ) (i : ℕ) → p.scheme ≡ SHAMIR
-    → sent p coins i ≡ query_header (header_to p coins i) ++ query (queries_from coins) p.t p.r p.block i
+pub sent_in_shamir : (p : FetchPlan) (blocks coins : List ℕ) (i : ℕ) → p.scheme ≡ SHAMIR
+    → sent p blocks coins i ≡ query_header (header_to p (length blocks) coins i)
+    ++ in_turn (length blocks) (λ v. query (piece (p.r * p.t) v (queries_from coins)) p.t p.r (get_or blocks v 0) i)
 unfolding sent
-sent_in_shamir p coins i one =
-    ap (λ (l : List ℕ). query_header (header_to p coins i) ++ l) (payload_of_shamir _ one (queries_from coins) p.block i)
+sent_in_shamir p blocks coins i one =
+    let params = params_of p (length blocks) (session_number coins) in
+    ap (λ (l : List ℕ). query_header (header_to p (length blocks) coins i) ++ l) (in_turn-same (length blocks) _ _ (λ v l.
+    ap (λ (n : ℕ). payload_to params (piece n v (queries_from coins)) (get_or blocks v 0) i) (coins_of_shamir params one)
+    ∙ payload_of_shamir params one (piece (p.r * p.t) v (queries_from coins)) (get_or blocks v 0) i))
 
 -- and in the XOR scheme
-pub sent_in_xor : (p : FetchPlan) (coins : List ℕ) (i : ℕ) → p.scheme ≡ XOR
-    → sent p coins i ≡ query_header (header_to p coins i) ++ bitmap (queries_from coins) p.n p.r p.block i
+pub sent_in_xor : (p : FetchPlan) (blocks coins : List ℕ) (i : ℕ) → p.scheme ≡ XOR
+    → sent p blocks coins i ≡ query_header (header_to p (length blocks) coins i)
+    ++ in_turn (length blocks) (λ v. bitmap (piece ((p.n - 1) * size_of p.r) v (queries_from coins)) p.n p.r (get_or blocks v 0) i)
 unfolding sent
-sent_in_xor p coins i two =
-    ap (λ (l : List ℕ). query_header (header_to p coins i) ++ l) (payload_of_xor _ two (queries_from coins) p.block i)
+sent_in_xor p blocks coins i two =
+    let params = params_of p (length blocks) (session_number coins) in
+    ap (λ (l : List ℕ). query_header (header_to p (length blocks) coins i) ++ l) (in_turn-same (length blocks) _ _ (λ v l.
+    ap (λ (n : ℕ). payload_to params (piece n v (queries_from coins)) (get_or blocks v 0) i) (coins_of_xor params two)
+    ∙ payload_of_xor params two (piece ((p.n - 1) * size_of p.r) v (queries_from coins)) (get_or blocks v 0) i))
 
 -- how long the payload of a query is
 pub length-payload_to : (p : SessionParams) (coins : List ℕ) (block i : ℕ)
@@ -104,3 +122,15 @@ length-honest_answer p matrix payload = by_scheme (scheme_of p.scheme)
     by_scheme : (s : Scheme) → length (answer_in s p matrix payload) ≡ p.s
     by_scheme Shamir = length-product matrix p.s payload
     by_scheme Xor = length-chosen (record { rows = matrix; width = p.s }) payload
+
+-- the payload of a query has a vector for each block
+pub length-payload_for : (p : SessionParams) (coins blocks : List ℕ) (i : ℕ)
+    → length (payload_for p coins blocks i) ≡ length blocks * payload_len (scheme_of p.scheme) p.r
+length-payload_for p coins blocks i =
+    length-in_turn (length blocks) (payload_len (scheme_of p.scheme) p.r) (vector_at p coins blocks i) (λ v l. length-payload_to p (piece (query_coins p) v coins) (get_or blocks v 0) i)
+
+-- and the answer to it a row
+pub length-answer_by : (p : SessionParams) (matrix : List (List ℕ)) (coins blocks : List ℕ) (i : ℕ)
+    → length (answer_by p matrix coins blocks i) ≡ length blocks * p.s
+length-answer_by p matrix coins blocks i =
+    length-in_turn (length blocks) p.s (answer_at p matrix coins blocks i) (λ v l. length-honest_answer p matrix (vector_at p coins blocks i v))

@@ -1,5 +1,5 @@
 -- What a fetch does.
-use Rattle.std.specs.Prelude.{ℕ, ◌≡◌, ◌+◌, ◌≤◌, ◌⊎◌, ◌++◌, ◌∷◌, List, [], length, Option, None, Result, Ok, Err}
+use Rattle.std.specs.Prelude.{ℕ, ◌≡◌, ◌+◌, ◌*◌, ◌≤◌, ◌⊎◌, ◌++◌, ◌∷◌, List, [], length, Option, None, Result, Ok, Err}
 use Rattle.std.specs.Prelude.{slice_index_or}
 use Rattle.pir_ports.specs.World.{World}
 use Rattle.pir_ports.specs.Number.{COINS, link}
@@ -22,79 +22,79 @@ use Rattle.fetch_client.specs.Link.{LinkAsked}
 use Rattle.fetch_client.specs.Honest.{FindsHonestBlock}
 
 -- one more server was asked, and its record is the last
-pub record AsksNext (p : FetchPlan) (address coins : List ℕ) (before after : Transcript)
+pub record AsksNext (p : FetchPlan) (blocks address coins : List ℕ) (before after : Transcript)
     (old new : World) : Type 0 where
   pub answer : Option (List ℕ)
   pub session : after ≡ record before { records = before.records ++ answer ∷ [] }
-  pub asked : LinkAsked address (sent p coins (length before.records + 1)) (answer_len p.s) answer
+  pub asked : LinkAsked address (sent p blocks coins (length before.records + 1)) (answer_len (length blocks) p.s) answer
       (old.at (link 1 + length before.records)) (new.at (link 1 + length before.records))
 
 -- each of the first n servers was asked, by its address, and the session has its record
-abbrev pub AskedEach : FetchPlan → List (List ℕ) → List ℕ → ℕ → Transcript → World → World → Type 0
-AskedEach p addresses coins n session old new =
-    Each (λ i. LinkAsked (slice_index_or addresses i []) (sent p coins (i + 1)) (answer_len p.s)
+abbrev pub AskedEach : FetchPlan → List ℕ → List (List ℕ) → List ℕ → ℕ → Transcript → World → World → Type 0
+AskedEach p blocks addresses coins n session old new =
+    Each (λ i. LinkAsked (slice_index_or addresses i []) (sent p blocks coins (i + 1)) (answer_len (length blocks) p.s)
     (slice_index_or session.records i None))
     (link 1) n old new
 
 -- every server was asked, with these coins, and this is the session
-pub record AsksAll (p : FetchPlan) (addresses : List (List ℕ)) (coins : List ℕ) (session : Transcript)
+pub record AsksAll (p : FetchPlan) (blocks : List ℕ) (addresses : List (List ℕ)) (coins : List ℕ) (session : Transcript)
     (old new : World) : Type 0 where
-  pub params : session.params ≡ params_of p (session_number coins)
+  pub params : session.params ≡ params_of p (length blocks) (session_number coins)
   pub whole : length session.records ≡ p.n
-  pub links : AskedEach p addresses coins p.n session old new
+  pub links : AskedEach p blocks addresses coins p.n session old new
 
 -- these coins were taken, and every server was asked with them, in this session
-pub record AsksWith (p : FetchPlan) (addresses : List (List ℕ)) (coins : List ℕ) (session : Transcript)
+pub record AsksWith (p : FetchPlan) (blocks : List ℕ) (addresses : List (List ℕ)) (coins : List ℕ) (session : Transcript)
     (old new : World) : Type 0 where
-  pub tossed : Tossed (need p) coins (old.at COINS) (new.at COINS)
-  pub asked : AsksAll p addresses coins session old new
+  pub tossed : Tossed (need p (length blocks)) coins (old.at COINS) (new.at COINS)
+  pub asked : AsksAll p blocks addresses coins session old new
 
 -- what taking the coins and asking every server answers, and what it did then. Without the coins no server is asked
-abbrev pub AsksServers : FetchPlan → List (List ℕ) → Result (Unit {0}) FetchFault → List ℕ → Transcript
+abbrev pub AsksServers : FetchPlan → List ℕ → List (List ℕ) → Result (Unit {0}) FetchFault → List ℕ → Transcript
     → World → World → Type 0
-AsksServers p addresses (Ok _) coins session old new = AsksWith p addresses coins session old new
-AsksServers p addresses (Err CoinsFault) coins session old new =
-    FailsShort COINS (need p) old new × Touches COINS old new
-AsksServers p addresses (Err (CoinsEnded taken)) coins session old new =
-    RunsOut (need p) taken (old.at COINS) (new.at COINS) × Touches COINS old new
-AsksServers p addresses (Err Memory) coins session old new = ⊥
+AsksServers p blocks addresses (Ok _) coins session old new = AsksWith p blocks addresses coins session old new
+AsksServers p blocks addresses (Err CoinsFault) coins session old new =
+    FailsShort COINS (need p (length blocks)) old new × Touches COINS old new
+AsksServers p blocks addresses (Err (CoinsEnded taken)) coins session old new =
+    RunsOut (need p (length blocks)) taken (old.at COINS) (new.at COINS) × Touches COINS old new
+AsksServers p blocks addresses (Err Memory) coins session old new = ⊥
 
 -- every server was asked, with some coins and in some session
-pub record AsksSome (p : FetchPlan) (addresses : List (List ℕ)) (old new : World) : Type 0 where
+pub record AsksSome (p : FetchPlan) (blocks : List ℕ) (addresses : List (List ℕ)) (old new : World) : Type 0 where
   pub coins : List ℕ
   pub session : Transcript
-  pub asked : AsksWith p addresses coins session old new
+  pub asked : AsksWith p blocks addresses coins session old new
 
 -- every server was asked, with some coins, in this session; this is its verdict, which has the block of honest servers
-pub record Concludes (p : FetchPlan) (addresses : List (List ℕ)) (session : Transcript) (verdict : Verdict)
+pub record Concludes (p : FetchPlan) (blocks : List ℕ) (addresses : List (List ℕ)) (session : Transcript) (verdict : Verdict)
     (old new : World) : Type 0 where
   pub coins : List ℕ
-  pub asked : AsksWith p addresses coins session old new
+  pub asked : AsksWith p blocks addresses coins session old new
   pub judged : IsVerdict session verdict
-  pub found : FindsHonestBlock session (queries_from coins) p.block verdict
+  pub found : FindsHonestBlock session (queries_from coins) blocks verdict
 
 -- what a fetch answers, and what it did then. Without the coins no server is asked
-abbrev pub Fetches : FetchPlan → List (List ℕ) → Result (Transcript × Verdict) FetchFault → World → World → Type 0
-Fetches p addresses (Ok both) old new = Concludes p addresses both.0 both.1 old new
-Fetches p addresses (Err CoinsFault) old new = FailsShort COINS (need p) old new × Touches COINS old new
-Fetches p addresses (Err (CoinsEnded taken)) old new =
-    RunsOut (need p) taken (old.at COINS) (new.at COINS) × Touches COINS old new
-Fetches p addresses (Err Memory) old new = (new ≡ old) ⊎ AsksSome p addresses old new
+abbrev pub Fetches : FetchPlan → List ℕ → List (List ℕ) → Result (Transcript × Verdict) FetchFault → World → World → Type 0
+Fetches p blocks addresses (Ok both) old new = Concludes p blocks addresses both.0 both.1 old new
+Fetches p blocks addresses (Err CoinsFault) old new = FailsShort COINS (need p (length blocks)) old new × Touches COINS old new
+Fetches p blocks addresses (Err (CoinsEnded taken)) old new =
+    RunsOut (need p (length blocks)) taken (old.at COINS) (new.at COINS) × Touches COINS old new
+Fetches p blocks addresses (Err Memory) old new = (new ≡ old) ⊎ AsksSome p blocks addresses old new
 
 -- no more steps are counted than judging some answers takes, of which there are no more than servers; `most` bounds
 -- these steps for so many answers, a degree, an agreement and a width
-pub record CountsForSome (most : ℕ → ℕ → ℕ → ℕ → ℕ) (p : FetchPlan) (before now : ℕ) : Type 0 where
+pub record CountsForSome (most : ℕ → ℕ → ℕ → ℕ → ℕ) (p : FetchPlan) (blocks : List ℕ) (before now : ℕ) : Type 0 where
   pub answers : ℕ
   pub few : answers ≤ p.n
-  pub bounded : now ≤ before + most answers p.t p.h p.s
+  pub bounded : now ≤ before + most answers p.t p.h (length blocks * p.s)
 
 -- how many steps are counted at most: as many as judging the usable answers takes; where memory ran out, as many as
 -- judging some answers takes; and without the coins none
-abbrev pub FetchCounts : (ℕ → ℕ → ℕ → ℕ → ℕ) → FetchPlan → Result (Transcript × Verdict) FetchFault → ℕ → ℕ → Type 0
-FetchCounts most p (Ok both) before now = now ≤ before + most (length (answers both.0)) p.t p.h p.s
-FetchCounts most p (Err CoinsFault) before now = now ≡ before
-FetchCounts most p (Err (CoinsEnded taken)) before now = now ≡ before
-FetchCounts most p (Err Memory) before now = CountsForSome most p before now
+abbrev pub FetchCounts : (ℕ → ℕ → ℕ → ℕ → ℕ) → FetchPlan → List ℕ → Result (Transcript × Verdict) FetchFault → ℕ → ℕ → Type 0
+FetchCounts most p blocks (Ok both) before now = now ≤ before + most (length (answers both.0)) p.t p.h (length blocks * p.s)
+FetchCounts most p blocks (Err CoinsFault) before now = now ≡ before
+FetchCounts most p blocks (Err (CoinsEnded taken)) before now = now ≡ before
+FetchCounts most p blocks (Err Memory) before now = CountsForSome most p blocks before now
 
 -- Coins and the first n links alone are touched
 abbrev pub TouchesLinks : ℕ → World → World → Type 0

@@ -1,6 +1,6 @@
 -- Honest servers: what they answer, and that a verdict has the block that they hold (Goldberg 2007; in the XOR scheme Chor,
 -- Goldreich, Kushilevitz and Sudan 1995).
-use Rattle.std.specs.Prelude.{◌≡◌, ℕ, ◌+◌, ◌-◌, ◌*◌, ◌<◌, ◌≤◌, Bool, false, Option, None, Some, List, [], ◌∷◌, ◌++◌, length, slice_index_or, Contains, count_by, bytes_eq}
+use Rattle.std.specs.Prelude.{◌≡◌, ℕ, ◌+◌, ◌-◌, ◌*◌, ◌<◌, ◌≤◌, Bool, false, Option, None, Some, List, [], ◌∷◌, ◌++◌, length, slice_index, slice_index_or, Contains, count_by, bytes_eq}
 use Rattle.std.specs.List.{range_with_len}
 use Rattle.gf256.specs.Product.{IsMatrix, product}
 use Rattle.wire_frames.specs.declared.session.SessionParams.{SessionParams}
@@ -15,14 +15,19 @@ use Rattle.chor_xor.specs.Chosen.{chosen}
 use Rattle.block_decoder.specs.Verdict.{ListsAtMostOne}
 use Rattle.block_decoder.specs.declared.verdict.Verdict.{Verdict}
 use Rattle.block_decoder.specs.declared.verdict.Verdict.TheVariants.{Listed}
-use Rattle.fetch_client.specs.Sent.{payload_to}
+use Rattle.wire_frames.specs.Turns.{in_turn}
+use Rattle.fetch_client.specs.Sent.{vector_at}
 
 -- the block with this number: a row of the matrix
 abbrev pub block_of : List (List ℕ) → ℕ → List ℕ
 block_of matrix block = slice_index_or matrix block []
 
--- what an honest server that holds the matrix answers to the payload of a query: the product of the two, and in the XOR scheme
--- the sum of the rows that the payload has
+-- the blocks with these numbers, one behind another
+abbrev pub blocks_of : List (List ℕ) → List ℕ → List ℕ
+blocks_of matrix blocks = in_turn (length blocks) (λ v. block_of matrix (slice_index blocks v))
+
+-- what an honest server that holds the matrix answers to a vector of a query: the product of the two, and in the XOR scheme
+-- the sum of the rows that the vector has
 abbrev pub answer_in : Scheme → SessionParams → List (List ℕ) → List ℕ → List ℕ
 answer_in Shamir p matrix payload = product matrix p.s payload
 answer_in Xor p matrix payload = chosen (record { rows = matrix; width = p.s }) payload
@@ -31,19 +36,23 @@ answer_in Xor p matrix payload = chosen (record { rows = matrix; width = p.s }) 
 unfoldable pub honest_answer : SessionParams → List (List ℕ) → List ℕ → List ℕ
 honest_answer p matrix payload = answer_in (scheme_of p.scheme) p matrix payload
 
--- what honest server i answers in a session, to its own query for the block
-abbrev pub answer_by : SessionParams → List (List ℕ) → List ℕ → ℕ → ℕ → List ℕ
-answer_by p matrix coins block i = honest_answer p matrix (payload_to p coins block i)
+-- what honest server i answers in a session to the vector of its own query for block v of the list
+abbrev pub answer_at : SessionParams → List (List ℕ) → List ℕ → List ℕ → ℕ → ℕ → List ℕ
+answer_at p matrix coins blocks i v = honest_answer p matrix (vector_at p coins blocks i v)
+
+-- what it answers to the query for all blocks
+abbrev pub answer_by : SessionParams → List (List ℕ) → List ℕ → List ℕ → ℕ → List ℕ
+answer_by p matrix coins blocks i = in_turn (length blocks) (answer_at p matrix coins blocks i)
 
 -- the frame in which it answers: the header of status 0, and the answer
-unfoldable pub honest_frame : SessionParams → List (List ℕ) → List ℕ → ℕ → ℕ → List ℕ
-honest_frame p matrix coins block i = answer_header (asked p i) 0 ++ answer_by p matrix coins block i
+unfoldable pub honest_frame : SessionParams → List (List ℕ) → List ℕ → List ℕ → ℕ → List ℕ
+honest_frame p matrix coins blocks i = answer_header (asked p i) 0 ++ answer_by p matrix coins blocks i
 
 -- at least h of a session's usable answers are those of honest servers that hold the matrix
-pub record IsHonest (session : Transcript) (matrix : List (List ℕ)) (coins : List ℕ) (block : ℕ) : Type 0 where
+pub record IsHonest (session : Transcript) (matrix : List (List ℕ)) (coins blocks : List ℕ) : Type 0 where
   pub matrix_is : IsMatrix matrix session.params.r session.params.s
   pub enough : session.params.h
-      ≤ count_by (λ a. bytes_eq a.payload (answer_by session.params matrix coins block a.index)) (answers session)
+      ≤ count_by (λ a. bytes_eq a.payload (answer_by session.params matrix coins blocks a.index)) (answers session)
 
 -- whether a server's record is this frame
 abbrev pub is_frame : List ℕ → Option (List ℕ) → Bool
@@ -55,17 +64,17 @@ abbrev pub record_by : Transcript → ℕ → Option (List ℕ)
 record_by session i = slice_index_or session.records (i - 1) None
 
 -- at least h of a session's records are the frames of honest servers that hold the matrix
-pub record HonestRecords (session : Transcript) (matrix : List (List ℕ)) (coins : List ℕ) (block : ℕ) : Type 0 where
+pub record HonestRecords (session : Transcript) (matrix : List (List ℕ)) (coins blocks : List ℕ) : Type 0 where
   pub matrix_is : IsMatrix matrix session.params.r session.params.s
   pub enough : session.params.h
-      ≤ count_by (λ i. is_frame (honest_frame session.params matrix coins block i) (record_by session i))
+      ≤ count_by (λ i. is_frame (honest_frame session.params matrix coins blocks i) (record_by session i))
       (range_with_len 1 (length session.records))
 
 -- each of the session's n records is the frame of an honest server that holds the matrix
-pub record AllHonest (session : Transcript) (matrix : List (List ℕ)) (coins : List ℕ) (block : ℕ) : Type 0 where
+pub record AllHonest (session : Transcript) (matrix : List (List ℕ)) (coins blocks : List ℕ) : Type 0 where
   pub matrix_is : IsMatrix matrix session.params.r session.params.s
   pub each : (i : ℕ) → 1 ≤ i → i ≤ session.params.n
-      → record_by session i ≡ Some (honest_frame session.params matrix coins block i)
+      → record_by session i ≡ Some (honest_frame session.params matrix coins blocks i)
 
 -- 2 h > k + t, for k usable answers: so no two blocks are agreed on
 abbrev pub IsClose : Transcript → Type 0
@@ -79,21 +88,21 @@ ListsAmong verdict block = (blocks : List (List ℕ)) → verdict ≡ Listed blo
 abbrev pub ListsAlone : Verdict → List ℕ → Type 0
 ListsAlone verdict block = verdict ≡ Listed (block ∷ [])
 
--- whatever the matrix that enough honest servers hold: where the verdict lists blocks, its block is among them, and
--- where 2 h > k + t, the verdict lists it alone. The same where enough records are the frames of such servers. Whatever
+-- whatever the matrix that enough honest servers hold: where the verdict lists blocks, the asked ones, as one, are among them, and
+-- where 2 h > k + t, the verdict lists that alone. The same where enough records are the frames of such servers. Whatever
 -- the answers: where h <= k and 2 h > k + t, one block is listed, or none. In the XOR scheme, where h is n, enough honest
 -- servers are all, and the verdict lists their block alone
-pub record FindsHonestBlock (session : Transcript) (coins : List ℕ) (block : ℕ) (verdict : Verdict) : Type 0 where
-  pub listed : (matrix : List (List ℕ)) → IsHonest session matrix coins block
-      → ListsAmong verdict (block_of matrix block)
-  pub alone : (matrix : List (List ℕ)) → IsHonest session matrix coins block → IsClose session
-      → ListsAlone verdict (block_of matrix block)
+pub record FindsHonestBlock (session : Transcript) (coins blocks : List ℕ) (verdict : Verdict) : Type 0 where
+  pub listed : (matrix : List (List ℕ)) → IsHonest session matrix coins blocks
+      → ListsAmong verdict (blocks_of matrix blocks)
+  pub alone : (matrix : List (List ℕ)) → IsHonest session matrix coins blocks → IsClose session
+      → ListsAlone verdict (blocks_of matrix blocks)
   pub close : session.params.h ≤ length (answers session) → IsClose session → ListsAtMostOne verdict
-  pub listed_by_frames : (matrix : List (List ℕ)) → HonestRecords session matrix coins block
-      → ListsAmong verdict (block_of matrix block)
-  pub alone_by_frames : (matrix : List (List ℕ)) → HonestRecords session matrix coins block → IsClose session
-      → ListsAlone verdict (block_of matrix block)
-  pub xor : session.params.scheme ≡ XOR → (matrix : List (List ℕ)) → IsHonest session matrix coins block
-      → ListsAlone verdict (block_of matrix block)
-  pub xor_by_frames : session.params.scheme ≡ XOR → (matrix : List (List ℕ)) → AllHonest session matrix coins block
-      → ListsAlone verdict (block_of matrix block)
+  pub listed_by_frames : (matrix : List (List ℕ)) → HonestRecords session matrix coins blocks
+      → ListsAmong verdict (blocks_of matrix blocks)
+  pub alone_by_frames : (matrix : List (List ℕ)) → HonestRecords session matrix coins blocks → IsClose session
+      → ListsAlone verdict (blocks_of matrix blocks)
+  pub xor : session.params.scheme ≡ XOR → (matrix : List (List ℕ)) → IsHonest session matrix coins blocks
+      → ListsAlone verdict (blocks_of matrix blocks)
+  pub xor_by_frames : session.params.scheme ≡ XOR → (matrix : List (List ℕ)) → AllHonest session matrix coins blocks
+      → ListsAlone verdict (blocks_of matrix blocks)

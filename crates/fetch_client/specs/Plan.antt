@@ -1,31 +1,54 @@
 -- The plan of a fetch.
-use Rattle.std.specs.Prelude.{ℕ, ◌+◌, ◌-◌, ◌*◌, ◌<◌}
+use Rattle.std.specs.Prelude.{ℕ, ◌+◌, ◌-◌, ◌*◌, ◌<◌, ◌≤◌, ◌==◌, if◌then◌else◌, List, length, All}
 use Rattle.wire_frames.specs.declared.session.SessionParams.{SessionParams}
 use Rattle.wire_frames.specs.declared.scheme.Scheme.{Scheme}
 use Rattle.wire_frames.specs.declared.scheme.Scheme.TheVariants.{Shamir, Xor}
 use Rattle.wire_frames.specs.Limits.{IsInRange}
+use Rattle.wire_frames.specs.declared.version.TheConstants.{SINGLE, SEVERAL}
+use Rattle.wire_frames.specs.declared.TheConstants.{MOST_BLOCKS, MOST_WIDTH}
 use Rattle.wire_frames.specs.Scheme.{scheme_of, payload_len}
 use Rattle.fetch_client.specs.declared.coins.TheConstants.{NUMBER_LEN}
 use Rattle.fetch_client.specs.declared.plan.FetchPlan.{FetchPlan}
 
--- the numbers of the session that a plan is fetched in, which has this number
-abbrev pub params_of : FetchPlan → ℕ → SessionParams
-params_of p number = record { scheme = p.scheme; t = p.t; h = p.h; n = p.n; session = number; r = p.r; s = p.s }
+-- the version in which so many blocks are asked for: 1 for one
+unfoldable pub version_for : ℕ → ℕ
+version_for count = if count == 1 then SINGLE else SEVERAL
 
--- its numbers are those of a session, and the block is one of the database
-pub record IsPlan (p : FetchPlan) : Type 0 where
-  pub numbers : IsInRange (params_of p 0)
-  pub block : p.block < p.r
+-- the numbers of the session in which so many blocks are fetched by a plan, which has this number
+abbrev pub params_of : FetchPlan → ℕ → ℕ → SessionParams
+params_of p count number = record {
+  version = version_for count;
+  scheme = p.scheme;
+  t = p.t;
+  h = p.h;
+  n = p.n;
+  count = count;
+  session = number;
+  r = p.r;
+  s = p.s;
+}
 
--- how many coins the queries of a scheme take: t for each row, and in the XOR scheme a bitmap for each server but the last
+-- its numbers are those of a session
+abbrev pub IsPlan : FetchPlan → Type 0
+IsPlan p = IsInRange (record (params_of p 1 0) { version = SINGLE })
+
+-- these are blocks that may be asked for at once: some, and each of the database
+pub record AreBlocks (p : FetchPlan) (blocks : List ℕ) : Type 0 where
+  pub some : 1 ≤ length blocks
+  pub few : length blocks ≤ MOST_BLOCKS
+  pub each : All (λ b. b < p.r) blocks
+  pub few_bytes : length blocks * p.s ≤ MOST_WIDTH
+
+-- how many coins the queries of a scheme take for each block: t for each row, and in the XOR scheme a bitmap for each server
+-- but the last
 abbrev pub coins_for : Scheme → SessionParams → ℕ
 coins_for Shamir p = p.r * p.t
 coins_for Xor p = (p.n - 1) * payload_len Xor p.r
 
--- how many coins the queries of a session take
+-- how many coins the queries of a session take for each block
 unfoldable pub query_coins : SessionParams → ℕ
 query_coins p = coins_for (scheme_of p.scheme) p
 
--- how many coins a plan needs: those of the session's number, and those of the queries
-abbrev pub need : FetchPlan → ℕ
-need p = NUMBER_LEN + query_coins (params_of p 0)
+-- how many coins a plan needs for so many blocks: those of the session's number, and those of the queries
+abbrev pub need : FetchPlan → ℕ → ℕ
+need p count = NUMBER_LEN + count * query_coins (params_of p 1 0)

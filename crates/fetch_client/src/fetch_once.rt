@@ -1,10 +1,10 @@
 //! One fetch.
 
-ghost use Rattle.std.specs.Prelude.{◌≡◌, ◌≤◌, ◌+◌, length, map, string_bytes, IfOk, vec_len, []};
+ghost use Rattle.std.specs.Prelude.{◌≡◌, ◌≤◌, ◌+◌, ◌*◌, length, map, string_bytes, IfOk, vec_len, []};
 ghost use Rattle.wire_frames.specs.declared.scheme.TheConstants.{SHAMIR, XOR};
 ghost use Rattle.wire_frames.specs.Sizes.{answer_len};
 ghost use Rattle.wire_frames.specs.Answer.{answers};
-ghost use Rattle.fetch_client.specs.Plan.{IsPlan, params_of};
+ghost use Rattle.fetch_client.specs.Plan.{AreBlocks, IsPlan, params_of};
 ghost use Rattle.block_decoder.specs.Numbers.{most_columns, most_nodes};
 ghost use Rattle.block_decoder.specs.Verdict.{IsVerdict, least_columns};
 ghost use Rattle.fetch_client.specs.Sent.{frame_len, queries_from, session_number};
@@ -35,9 +35,9 @@ struct Room {
 /// Takes that memory.
 fn room_for(alloc: Global, queries: &Queries) -> Result<Room, AllocError>
     ensures session { IfOk result (λ room.
-        room.session ≡ record { params = params_of queries.now.plan 0; records = [] }) }
-    ensures frame { IfOk result (λ room. vec_len room.frame ≡ frame_len queries.now.plan) }
-    ensures answer { IfOk result (λ room. vec_len room.answer ≡ answer_len queries.now.plan.s) }
+        room.session ≡ record { params = params_of queries.now.plan (length queries.now.blocks) 0; records = [] }) }
+    ensures frame { IfOk result (λ room. vec_len room.frame ≡ frame_len queries.now.plan (length queries.now.blocks)) }
+    ensures answer { IfOk result (λ room. vec_len room.answer ≡ answer_len (length queries.now.blocks) queries.now.plan.s) }
 {
     Ok(Room {
         session: Session::new(alloc, queries.params())?,
@@ -61,11 +61,12 @@ fn ask_servers<P: Ports>(
     session: &mut Session,
 ) -> Result<(), FetchFault>
     requires addresses { length addresses.now ≡ queries.old.plan.n }
-    requires frame { length frame.old ≡ frame_len queries.old.plan }
-    requires answer { length answer.old ≡ answer_len queries.old.plan.s }
-    requires session { session.old ≡ record { params = params_of queries.old.plan 0; records = [] } }
+    requires frame { length frame.old ≡ frame_len queries.old.plan (length queries.old.blocks) }
+    requires answer { length answer.old ≡ answer_len (length queries.old.blocks) queries.old.plan.s }
+    requires session { session.old ≡ record { params = params_of queries.old.plan (length queries.old.blocks) 0; records = [] } }
     ensures plan { queries.new.plan ≡ queries.old.plan }
-    ensures asked { AsksServers queries.old.plan (map string_bytes addresses.now) result queries.new.coins session.new
+    ensures blocks { queries.new.blocks ≡ queries.old.blocks }
+    ensures asked { AsksServers queries.old.plan queries.old.blocks (map string_bytes addresses.now) result queries.new.coins session.new
         (P.world ports.old) (P.world ports.new) }
     ensures others { TouchesLinks queries.old.plan.n (P.world ports.old) (P.world ports.new) }
 {
@@ -91,35 +92,37 @@ fn conclude<I: Interpolate, C: Ledger, N: Ledger>(
     cols: &mut Steps<C>,
     nodes: &mut Steps<N>,
 ) -> Result<Verdict, AllocError>
-    requires params { session.now.params ≡ params_of queries.now.plan (session_number queries.now.coins) }
+    requires params { session.now.params ≡ params_of queries.now.plan
+        (length queries.now.blocks) (session_number queries.now.coins) }
     requires all { length session.now.records ≡ queries.now.plan.n }
     ensures judged { IfOk result (IsVerdict session.now) }
-    ensures found { IfOk result (FindsHonestBlock session.now (queries_from queries.now.coins) queries.now.plan.block) }
+    ensures found { IfOk result (FindsHonestBlock session.now (queries_from queries.now.coins) queries.now.blocks) }
     ensures cols { cols.new ≤ cols.old + most_columns (length (answers session.now))
-        queries.now.plan.t queries.now.plan.h queries.now.plan.s }
+        queries.now.plan.t queries.now.plan.h (length queries.now.blocks * queries.now.plan.s) }
     ensures nodes { nodes.new ≤ nodes.old + most_nodes (length (answers session.now))
-        queries.now.plan.t queries.now.plan.h queries.now.plan.s }
+        queries.now.plan.t queries.now.plan.h (length queries.now.blocks * queries.now.plan.s) }
     ensures least { cols.old ≤ cols.new }
     ensures least_nodes { nodes.old ≤ nodes.new }
     ensures listed { queries.now.plan.scheme ≡ SHAMIR
-        → IfOk result (λ verdict. cols.old + least_columns queries.now.plan.s verdict ≤ cols.new) }
+        → IfOk result (λ verdict. cols.old + least_columns (length queries.now.blocks * queries.now.plan.s) verdict ≤ cols.new) }
     ensures xor { queries.now.plan.scheme ≡ XOR → (cols.new ≡ cols.old) × (nodes.new ≡ nodes.old) }
 {
     let verdict = judge(alloc, way, session, cols, nodes)?;
-    honest_block_is_found(session, queries.query_coins(), queries.block(), &verdict);
+    honest_block_is_found(session, queries.query_coins(), queries.blocks(), &verdict);
     Ok(verdict)
 }
 
-/// Fetches one block: takes the coins, asks every server, and judges what they answered. Coins is open already; there
+/// Fetches blocks, from 1 to [`MOST_BLOCKS`](wire_frames::MOST_BLOCKS) in one query: takes the coins, asks every server, and judges what they answered. Coins is open already; there
 /// is one address for each server, in the order of their indices. Where the verdict takes an interpolation with
 /// multiplicities, it is made in this `way`. `cols` and `nodes` count the steps of the verdict, as in [`judge`]: the
 /// columns that are decoded, and the coefficients that are fixed in looking for roots. The XOR scheme takes no such
 /// step.
 ///
 /// All memory but that for judging is taken first. Then the coins are taken: 8 bytes for the number of the session,
-/// and for the queries `r * t`, which is `t` for each row, or in the XOR scheme `(n - 1) * ceil(r / 8)`, a bitmap for
-/// each server but the last. Then each server in turn is sent its query, whose payload has r bytes or, in the XOR
-/// scheme, `ceil(r / 8)`; and of its answer as many bytes as a whole one has are taken. A server whose link fails has
+/// and for the queries, for each block, `r * t`, which is `t` for each row, or in the XOR scheme
+/// `(n - 1) * ceil(r / 8)`, a bitmap for each server but the last. Then each server in turn is sent its query, whose
+/// payload has for each block r bytes or, in the XOR scheme, `ceil(r / 8)`: of version 1 for one block, and else of
+/// version 2; and of its answer as many bytes as a whole one has are taken. A server whose link fails has
 /// no record: nothing is done with a link after a failed call. None is left out, and no byte that is sent depends on
 /// an answer.
 ///
@@ -132,25 +135,27 @@ pub fn fetch<I: Interpolate, C: Ledger, N: Ledger, P: Ports>(
     alloc: Global,
     way: &I,
     plan: &FetchPlan,
+    blocks: &[u32],
     addresses: &[String],
     ports: &mut P,
     cols: &mut Steps<C>,
     nodes: &mut Steps<N>,
 ) -> Result<(Session, Verdict), FetchFault>
     requires plan { IsPlan plan.now }
+    requires blocks { AreBlocks plan.now blocks.now }
     requires addresses { length addresses.now ≡ plan.now.n }
-    ensures fetched { Fetches plan.now (map string_bytes addresses.now) result
+    ensures fetched { Fetches plan.now blocks.now (map string_bytes addresses.now) result
         (P.world ports.old) (P.world ports.new) }
     ensures others { TouchesLinks plan.now.n (P.world ports.old) (P.world ports.new) }
-    ensures cols { FetchCounts most_columns plan.now result cols.old cols.new }
-    ensures nodes { FetchCounts most_nodes plan.now result nodes.old nodes.new }
+    ensures cols { FetchCounts most_columns plan.now blocks.now result cols.old cols.new }
+    ensures nodes { FetchCounts most_nodes plan.now blocks.now result nodes.old nodes.new }
     ensures least { cols.old ≤ cols.new }
     ensures least_nodes { nodes.old ≤ nodes.new }
     ensures listed { plan.now.scheme ≡ SHAMIR
-        → IfOk result (λ both. cols.old + least_columns plan.now.s both.1 ≤ cols.new) }
+        → IfOk result (λ both. cols.old + least_columns (length blocks.now * plan.now.s) both.1 ≤ cols.new) }
     ensures xor { plan.now.scheme ≡ XOR → (cols.new ≡ cols.old) × (nodes.new ≡ nodes.old) }
 {
-    let mut queries = Queries::with_room(alloc, plan)?;
+    let mut queries = Queries::with_room(alloc, plan, blocks)?;
     let mut room = room_for(alloc, &queries)?;
     ask_servers(
         &mut queries,

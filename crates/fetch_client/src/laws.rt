@@ -1,6 +1,6 @@
 //! The law of the honest servers, as a call whose contract is the law. A call changes nothing.
 
-ghost use Rattle.std.specs.Prelude.{ℕ, List, ◌≡◌, ◌<◌, length};
+ghost use Rattle.std.specs.Prelude.{ℕ, List, ◌≡◌, ◌*◌, ◌<◌, length, All};
 ghost use Rattle.block_decoder.specs.Verdict.{IsVerdict};
 ghost use Rattle.fetch_client.specs.Honest.{FindsHonestBlock, HonestRecords, IsHonest};
 ghost use Rattle.fetch_client.specs.Plan.{query_coins};
@@ -14,13 +14,14 @@ use wire_frames::Session;
 /// servers did, where `h <= k` and `2h > k + t` the verdict lists one block, or none. In the XOR scheme, where `h` is `n`,
 /// the verdict lists the row alone where all `n` servers are honest (Chor, Goldreich, Kushilevitz and Sudan 1995).
 ///
-/// The queries are those of these coins for the row `block`: there are `r * t` coins, or in the XOR scheme
-/// `(n - 1) * ceil(r / 8)`.
-pub fn honest_block_is_found(session: &Session, coins: &[u8], block: u32, verdict: &Verdict)
-    requires coins { length coins.now ≡ query_coins session.now.params }
-    requires block { block < session.now.params.r }
+/// The queries are those of these coins for the rows `blocks`, which are as many as the session asks for, and whose rows
+/// count as one: there are for each block `r * t` coins, or in the XOR scheme `(n - 1) * ceil(r / 8)`.
+pub fn honest_block_is_found(session: &Session, coins: &[u8], blocks: &[u32], verdict: &Verdict)
+    requires count { length blocks.now ≡ session.now.params.count }
+    requires coins { length coins.now ≡ length blocks.now * query_coins session.now.params }
+    requires blocks { All (λ b. b < session.now.params.r) blocks.now }
     requires verdict { IsVerdict session.now verdict.now }
-    ensures { FindsHonestBlock session.now coins.now block verdict.now }
+    ensures { FindsHonestBlock session.now coins.now blocks.now verdict.now }
 {
     // What holds of every session is told by its calls alone.
     session.params();
@@ -29,7 +30,8 @@ pub fn honest_block_is_found(session: &Session, coins: &[u8], block: u32, verdic
 
 /// Where `h` or more of the records of a session are, byte by byte, the frames in which honest servers that hold one
 /// matrix answer, so many of the usable answers are honest.
-pub fn honest_frames_are_usable(session: &Session, coins: &[u8], block: u32)
-    ensures { (matrix : List (List ℕ)) → HonestRecords session.now matrix coins.now block
-        → IsHonest session.now matrix coins.now block }
+pub fn honest_frames_are_usable(session: &Session, coins: &[u8], blocks: &[u32])
+    requires { length blocks.now ≡ session.now.params.count }
+    ensures { (matrix : List (List ℕ)) → HonestRecords session.now matrix coins.now blocks.now
+        → IsHonest session.now matrix coins.now blocks.now }
 {}

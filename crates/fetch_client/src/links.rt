@@ -56,10 +56,11 @@ pub(crate) fn ask_next<P: Ports>(
 )
     requires next { index ≡ length session.old.records + 1 }
     requires last { index ≤ queries.now.plan.n }
-    requires frame { length frame.old ≡ frame_len queries.now.plan }
-    requires answer { length answer.old ≡ answer_len queries.now.plan.s }
-    requires params { session.old.params ≡ params_of queries.now.plan (session_number queries.now.coins) }
-    ensures asked { AsksNext queries.now.plan address.now queries.now.coins session.old session.new
+    requires frame { length frame.old ≡ frame_len queries.now.plan (length queries.now.blocks) }
+    requires answer { length answer.old ≡ answer_len (length queries.now.blocks) queries.now.plan.s }
+    requires params { session.old.params ≡ params_of queries.now.plan
+        (length queries.now.blocks) (session_number queries.now.coins) }
+    ensures asked { AsksNext queries.now.plan queries.now.blocks address.now queries.now.coins session.old session.new
         (P.world ports.old) (P.world ports.new) }
     ensures others { Touches (link index) (P.world ports.old) (P.world ports.new) }
 {

@@ -1,13 +1,14 @@
 //! What is to be fetched, and why it is not.
 
-ghost use Rattle.std.specs.Prelude.{◌≡◌};
+ghost use Rattle.std.specs.Prelude.{◌≡◌, ◌≤◌};
+ghost use Rattle.wire_frames.specs.declared.TheConstants.{MOST_CELLS};
 ghost use Rattle.wire_frames.specs.Scheme.{scheme_of};
-ghost use Rattle.fetch_client.specs.Plan.{IsPlan, need, params_of};
+ghost use Rattle.fetch_client.specs.Plan.{IsPlan, need, params_of, query_coins};
 
 use crate::coins::NUMBER_LEN;
 use std::alloc::AllocError;
 use thiserror::Error;
-use wire_frames::{Scheme, SessionParams};
+use wire_frames::{SEVERAL, SINGLE, Scheme, SessionParams};
 
 /// What is to be fetched, and how.
 #[derive(Clone, Copy, Debug, PartialEq, Eq)]
@@ -25,20 +26,21 @@ pub struct FetchPlan {
     pub r: u32,
     /// The width of a row, in bytes.
     pub s: u32,
-    /// The number of the row that is fetched, counted from 0.
-    pub block: u32,
 }
 
 impl FetchPlan {
-    /// The numbers of the session that it is fetched in, but for the session's number, which is 0.
-    pub(crate) fn params(&self) -> SessionParams
-        ensures { result ≡ params_of self.now 0 }
+    /// The numbers of the session in which so many blocks are fetched, but for the session's number, which is 0.
+    #[tactic(auto, unfolding(crate::specs::Plan::version_for))]
+    pub(crate) fn params(&self, count: u8) -> SessionParams
+        ensures { result ≡ params_of self.now count 0 }
     {
         SessionParams {
+            version: if count == 1 { SINGLE } else { SEVERAL },
             scheme: self.scheme,
             t: self.t,
             h: self.h,
             n: self.n,
+            count,
             session: 0,
             r: self.r,
             s: self.s,
@@ -52,19 +54,27 @@ impl FetchPlan {
         Scheme::of(self.scheme)
     }
 
-    /// How many coins it needs: those of the session's number, and `t` for each row or, in the XOR scheme, a bitmap
-    /// for each server but the last.
+    /// How many coins the queries take for each block: `t` for each row or, in the XOR scheme, a bitmap for each server
+    /// but the last.
     #[tactic(auto, unfolding(crate::specs::Plan::query_coins))]
-    pub(crate) fn coins_len(&self) -> usize
+    pub(crate) fn query_coins(&self) -> usize
         requires { IsPlan self.now }
-        ensures { result ≡ need self.now }
+        ensures is { result ≡ query_coins (params_of self.now 1 0) }
+        ensures few { result ≤ MOST_CELLS }
     {
         let scheme = self.scheme();
-        let coins = match scheme {
+        match scheme {
             Scheme::Shamir => self.r as usize * usize::from(self.t),
             Scheme::Xor => (usize::from(self.n) - 1) * scheme.payload_len(self.r),
-        };
-        NUMBER_LEN + coins
+        }
+    }
+
+    /// How many coins it needs for so many blocks: those of the session's number, and those of the queries.
+    pub(crate) fn coins_len(&self, count: u8) -> usize
+        requires { IsPlan self.now }
+        ensures { result ≡ need self.now count }
+    {
+        NUMBER_LEN + usize::from(count) * self.query_coins()
     }
 }
 

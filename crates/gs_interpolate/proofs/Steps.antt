@@ -1,7 +1,7 @@
 -- A step of the iteration in a row of polynomials side by side.
 use Rattle.std.proofs.Common.{◌≡◌, ◌≢◌, ℕ, zero, suc, ◌+◌, ◌-◌, ◌*◌, ◌<◌, ◌≤◌, List, ◌++◌, length, get_or, take, drop, replicate, refl, sym, ap, ap₂, subst, ◌∙◌, arith, inl, inr, add-one, add-mul}
 use Rattle.std.proofs.lemmas.Bool.{cases_lt}
-use Rattle.std.proofs.lemmas.List.{get_or_past, get_or_append_left, get_or-append_right, get_or-replicate, length-replicate}
+use Rattle.std.proofs.lemmas.List.{take_all, get_or_past, get_or_append_left, get_or-append_right, get_or-replicate, length-replicate}
 use borrow.Rule.Slice.PartMut.{put_mid}
 use Rattle.gf256.specs.Field.{◌⊕◌, ◌⊗◌}
 use Rattle.gf256.proofs.Xor.{add_comm}
@@ -106,3 +106,8 @@ row_step-longer n made before factors p a count k step = record {
   others = λ i g l h o. step.others i g l h o ∙ ap₂ (λ x y. x ⊕ y ⊗ get_or factors g 0) (longer before k (i * n + g)) (longer before k (i * n + p));
   rest = λ j l. step.rest j l ∙ longer before k j;
 }
+
+-- a list that was made longer by zeros
+pub resized : (old new : List ℕ) (n len missing : ℕ) → len ≡ length old → new ≡ take n old ++ replicate (n - len) 0 → n ≡ len + missing → new ≡ old ++ replicate missing 0
+resized old new n len missing size is long =
+    is ∙ ap₂ ◌++◌ (take_all n old (omega (arith, size, long))) (ap (λ k. replicate k 0) (let e : n - len ≡ missing = omega (arith, long) in e))

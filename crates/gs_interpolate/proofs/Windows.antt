@@ -1,7 +1,7 @@
 -- Horner's rule for polynomials side by side.
-use Rattle.std.proofs.Common.{◌≡◌, ℕ, zero, suc, ◌+◌, ◌-◌, ◌*◌, ◌/◌, ◌%◌, ◌<◌, ◌≤◌, List, [], ◌∷◌, ◌++◌, length, map, get_or, drop, replicate, sym, ap, ap₂, ◌∙◌, arith, inl, inr, add-mul, length-drop}
+use Rattle.std.proofs.Common.{◌≡◌, ℕ, zero, suc, ◌+◌, ◌-◌, ◌*◌, ◌/◌, ◌%◌, ◌<◌, ◌≤◌, List, [], ◌∷◌, ◌++◌, length, map, get_or, drop, sym, ap, ap₂, ◌∙◌, arith, inl, inr, add-mul, length-drop}
 use Rattle.std.proofs.lemmas.Bool.{cases_lt}
-use Rattle.std.proofs.lemmas.List.{get_or-drop, get_or_past, get_or_append_left, get_or-append_right, get_or-replicate, get_or-map, length-map, drop_more}
+use Rattle.std.proofs.lemmas.List.{get_or-drop, get_or_past, get_or_append_left, get_or-append_right, get_or-map, length-map, drop_more}
 use Rattle.std.proofs.lemmas.Nat.{div-mul-add, mod-mul-add}
 use Rattle.std.proofs.Math.Nat.{div-lt_iff_lt-mul, div-add-mod, mod-lt}
 use Rattle.gf256.specs.Field.{◌⊕◌, ◌⊗◌}
@@ -45,12 +45,11 @@ module _ (s m a : ℕ) (made next first : List ℕ) (c : ℕ → ℕ) (f : ℕ �
       (done (suc u) g l h)
 
 -- nothing is expanded to zeros
-pub expanded-none : (s m a : ℕ) (made : List ℕ) (f : ℕ → List ℕ) → made ≡ replicate (m * s) 0 → ((g e : ℕ) → coef (f g) e ≡ 0) → AreExpanded s m a made f
+pub expanded-none : (s m a : ℕ) (made : List ℕ) (f : ℕ → List ℕ) → ((k : ℕ) → k < m * s → get_or made k 0 ≡ 0) → ((g e : ℕ) → coef (f g) e ≡ 0) → AreExpanded s m a made f
 unfolding taylor coef
 expanded-none s m a made f zeros none u g l h =
     let fit = places_fit u m s l in
-    ap (λ r. get_or r (u * s + g) 0) zeros ∙ get_or-replicate (m * s) (u * s + g) 0 0 (omega (arith, fit, h))
-    ∙ sym (taylor-same (f g) [] a u (none g))
+    zeros (u * s + g) (omega (arith, fit, h)) ∙ sym (taylor-same (f g) [] a u (none g))
 
 -- the polynomials in the rest of a row, from x ^ k on
 abbrev pub rest_from : ℕ → List ℕ → ℕ → ℕ → List ℕ

@@ -2,6 +2,7 @@ pub mod Monomials
 pub mod Interpolant
 pub mod Conditions
 pub mod Layout
+pub mod Tables
 pub mod Family
 pub mod Window
 pub mod Basis

@@ -6,9 +6,10 @@ ghost use Rattle.gs_interpolate.specs.Window.{IsWindow};
 ghost use Rattle.gs_interpolate.specs.Monomials.{conditions};
 ghost use Rattle.gs_interpolate.specs.Basis.{values, factor, IsBasis, IsPivot, IsFirstNonzero, IsMeeting, IsPassing, IsLightest, IsPowerRow};
 
-use crate::family::{coefficients, step_rows};
+use crate::family::{Tables, coefficients, step_rows};
 use crate::window::Window;
 use bi_poly::BiPoly;
+use gf256::rows::{add_scaled_row, clear};
 use std::alloc::{AllocError, Global};
 
 /// More places, and rows of y, than any interpolation needs.
@@ -61,16 +62,15 @@ fn first_nonzero(values: &[u8]) -> Option<usize>
     None
 }
 
-/// Makes of each value its factor, that of the pivot's value which it is.
-fn into_factors(values: &mut [u8], p: usize)
-    requires inside { p < length values.old }
-    requires fails { slice_index values.old p ≢ 0 }
-    ensures { (j : ℕ) → slice_index values.new j ≡ factor values.old p j }
+/// Makes of each of the `factors` that of the pivot's value which its value is.
+fn set_factors(factors: &mut [u8], values: &[u8], p: usize)
+    requires same { length values.now ≡ length factors.old }
+    requires inside { p < length values.now }
+    requires fails { slice_index values.now p ≢ 0 }
+    ensures { (j : ℕ) → slice_index factors.new j ≡ factor values.now p j }
 {
-    let inverse = gf256::inv(values[p]);
-    for value in values.iter_mut() {
-        *value = gf256::mul(*value, inverse);
-    }
+    clear(factors);
+    add_scaled_row(factors, values, gf256::inv(values[p]));
 }
 
 impl Basis {
@@ -118,7 +118,7 @@ impl Basis {
     /// Takes a step with the pivot at place `p`.
     ///
     /// `AllocError` where there is no memory for longer rows.
-    fn step(&mut self, t: u32, factors: &[u8], p: usize) -> Result<(), AllocError>
+    fn step(&mut self, t: u32, factors: &[u8], p: usize, tables: &Tables) -> Result<(), AllocError>
         requires weight { t ≤ 254 }
         requires places { length self.old.rows.items ≤ MOST_PLACES }
         requires lanes { self.old.lanes ≤ MOST_LANES }
@@ -135,7 +135,7 @@ impl Basis {
             (slice_index self.old.exponents.items p + t * p + 2)) }
     {
         let reach = weight(t, self.exponents[p], p) + 2;
-        step_rows(&mut self.rows, factors, p, t, reach)?;
+        step_rows(&mut self.rows, factors, p, t, reach, tables)?;
         self.exponents[p] += 1;
         Ok(())
     }
@@ -149,6 +149,7 @@ impl Basis {
         u: usize,
         v: usize,
         a: u8,
+        tables: &Tables,
     ) -> Result<(), AllocError>
         requires weight { t ≤ 254 }
         requires places { length self.old.rows.items ≤ MOST_PLACES }
@@ -169,15 +170,15 @@ impl Basis {
             → IsWindow self.old.lanes window.old.m window.old.cells.items (map (λ r. r.items) self.old.rows.items) a b v
             → IsWindow self.old.lanes window.old.m window.new.cells.items (map (λ r. r.items) self.new.rows.items) a b v) }
     {
-        factors.copy_from_slice(window.values(u, v));
-        let Some(p) = self.pivot(t, &factors[..self.exponents.len()]) else {
+        let values = window.values(u, v);
+        let Some(p) = self.pivot(t, &values[..self.exponents.len()]) else {
             return Ok(());
         };
-        into_factors(factors, p);
+        set_factors(factors, values, p);
         factors[p] = 1;
-        window.step(factors, p, v);
+        window.step(factors, p, v, tables);
         factors[p] = gf256::add(a, 1);
-        self.step(t, factors, p)?;
+        self.step(t, factors, p, tables)?;
         Ok(())
     }
 
@@ -190,6 +191,7 @@ impl Basis {
         a: u8,
         b: u8,
         m: u32,
+        tables: &Tables,
     ) -> Result<(), AllocError>
         requires multiplicity { (1 ≤ m) × (m ≤ 255) }
         requires weight { t ≤ 254 }
@@ -206,7 +208,15 @@ impl Basis {
         let mut factors = vec![in alloc; 0; self.lanes]?;
         'rows: for v in 0..m {
             'orders: for u in 0..m - v {
-                self.meet(t, &mut window, &mut factors, u as usize, v as usize, a)?;
+                self.meet(
+                    t,
+                    &mut window,
+                    &mut factors,
+                    u as usize,
+                    v as usize,
+                    a,
+                    tables,
+                )?;
             }
         }
         Ok(())

@@ -3,12 +3,51 @@
 //! more lanes than polynomials.
 
 ghost use Rattle.std.specs.Prelude.{ℕ, ◌≡◌, ◌≢◌, ◌+◌, ◌*◌, ◌%◌, ◌<◌, ◌≤◌, length, map, slice_index, IfOk};
+ghost use Rattle.std.specs.Simd.Lanes.{chunk};
 ghost use Rattle.gf256.specs.Field.{◌⊕◌, ◌⊗◌};
 ghost use Rattle.gs_interpolate.specs.Family.{multiplier, IsRowStep, IsFamilyStep};
 
 use crate::basis::MOST_PLACES;
-use gf256::rows::add_scaled_row;
+use gf256::rows::{Products, add_scaled_row};
 use std::alloc::{AllocError, Global};
+use std::marker::Model;
+use std::simd::prelude::*;
+
+/// The products with every byte, made once. Contracts see the bytes.
+#[derive(Drop)]
+pub(crate) struct Tables {
+    all: Vec<Products>,
+}
+
+impl Model for Tables {
+    ghost use Rattle.std.specs.Prelude.{ℕ, List};
+    ghost use Rattle.gs_interpolate.specs.Tables.{AreAllBytes};
+
+    ghost Value = { List ℕ };
+
+    ghost view = { λ t. t.all.items };
+
+    ghost invariant = { λ t. AreAllBytes t.all.items };
+}
+
+impl Tables {
+    /// `AllocError` where there is no memory for them.
+    pub(crate) fn new(alloc: Global) -> Result<Tables, AllocError> {
+        let mut all = Vec::new(alloc);
+        for factor in 0..256u16 {
+            all.push(Products::of(factor as u8))?;
+        }
+        Ok(Tables { all })
+    }
+
+    /// The products with `factor`.
+    #[inline(always)]
+    fn products(&self, factor: u8) -> &Products
+        ensures { result.now ≡ factor }
+    {
+        &self.all[factor as usize]
+    }
+}
 
 /// Adds `own` times the factors. Where it is 0, there is nothing to do.
 fn add_multiple(cell: &mut [u8], factors: &[u8], own: u8)
@@ -19,6 +58,16 @@ fn add_multiple(cell: &mut [u8], factors: &[u8], own: u8)
         return;
     }
     add_scaled_row(cell, factors, own);
+}
+
+/// Adds `carry` to the coefficient of the polynomial at place `p`.
+#[inline(always)]
+fn add_carry(cell: &mut [u8], p: usize, carry: u8)
+    requires { p < length cell.old }
+    ensures pivot { slice_index cell.new p ≡ slice_index cell.old p ⊕ carry }
+    ensures others { (g : ℕ) → g ≢ p → slice_index cell.new g ≡ slice_index cell.old g }
+{
+    cell[p] = gf256::add(cell[p], carry);
 }
 
 /// Takes a step at one power of x, whose coefficients are `cell`. The polynomial at place `p` had the coefficient `carry` at
@@ -33,14 +82,110 @@ fn step_cell(cell: &mut [u8], factors: &[u8], p: usize, carry: u8) -> u8
 {
     let own = cell[p];
     add_multiple(cell, factors, own);
-    cell[p] = gf256::add(cell[p], carry);
+    add_carry(cell, p, carry);
     own
 }
 
-/// Takes a step in one row, at the powers of x below `x^count`: to each other polynomial the multiple of that at place `p`,
-/// the pivot, by its factor is added, and the pivot is multiplied by `x - a`, where its own factor is `a + 1`. For with
-/// `a + 1` times itself it is a times itself, and to that its product with x is added.
-pub(crate) fn step_row(row: &mut [u8], factors: &[u8], p: usize, count: usize)
+/// The last 16 factors, where there are two vectors of them; else those that there are.
+fn last_lanes<const VECTORS: usize>(factors: &[u8]) -> u8x16
+    requires vectors { (1 ≤ VECTORS) × (VECTORS ≤ 2) }
+    requires lanes { length factors.now ≡ VECTORS * 16 }
+    ensures { VECTORS ≡ 2 → result ≡ chunk 16 16 factors.now }
+{
+    if VECTORS == 2 {
+        u8x16::from_slice(&factors[16..])
+    } else {
+        u8x16::from_slice(&factors[0..])
+    }
+}
+
+/// Adds `own` times the factors, where these are the vector `low`, or the two vectors `low` and `high`. Where it is 0, there is
+/// nothing to do.
+#[inline(always)]
+fn add_held_multiple<const VECTORS: usize>(
+    cell: &mut [u8],
+    factors: &[u8],
+    low: u8x16,
+    high: u8x16,
+    own: u8,
+    tables: &Tables,
+)
+    requires vectors { (1 ≤ VECTORS) × (VECTORS ≤ 2) }
+    requires same { length factors.now ≡ length cell.old }
+    requires size { length cell.old ≡ VECTORS * 16 }
+    requires low { low ≡ chunk 0 16 factors.now }
+    requires high { VECTORS ≡ 2 → high ≡ chunk 16 16 factors.now }
+    ensures { (g : ℕ) → slice_index cell.new g ≡ slice_index cell.old g ⊕ own ⊗ slice_index factors.now g }
+{
+    if own == 0 {
+        return;
+    }
+    let products = tables.products(own);
+    let first = u8x16::from_slice(&cell[0..]) ^ products.times(low);
+    first.copy_to_slice(&mut cell[0..]);
+    if VECTORS == 1 {
+        return;
+    }
+    let second = u8x16::from_slice(&cell[16..]) ^ products.times(high);
+    second.copy_to_slice(&mut cell[16..]);
+}
+
+/// Takes a step at one power of x, as `step_cell` does, with the factors in one vector or two.
+#[inline(always)]
+fn step_held_cell<const VECTORS: usize>(
+    cell: &mut [u8],
+    factors: &[u8],
+    low: u8x16,
+    high: u8x16,
+    p: usize,
+    carry: u8,
+    tables: &Tables,
+) -> u8
+    requires vectors { (1 ≤ VECTORS) × (VECTORS ≤ 2) }
+    requires same { length factors.now ≡ length cell.old }
+    requires size { length cell.old ≡ VECTORS * 16 }
+    requires low { low ≡ chunk 0 16 factors.now }
+    requires high { VECTORS ≡ 2 → high ≡ chunk 16 16 factors.now }
+    requires inside { p < length cell.old }
+    ensures own { result ≡ slice_index cell.old p }
+    ensures pivot { slice_index cell.new p ≡ (slice_index cell.old p ⊕ slice_index cell.old p ⊗ slice_index factors.now p) ⊕ carry }
+    ensures others { (g : ℕ) → g ≢ p
+        → slice_index cell.new g ≡ slice_index cell.old g ⊕ slice_index cell.old p ⊗ slice_index factors.now g }
+{
+    let own = cell[p];
+    add_held_multiple::<VECTORS>(cell, factors, low, high, own, tables);
+    add_carry(cell, p, carry);
+    own
+}
+
+/// Takes a step in one row of 16 or 32 lanes, as `step_row` does. The factors stay in one vector or two.
+#[inline(always)]
+fn step_held_row<const VECTORS: usize>(
+    row: &mut [u8],
+    factors: &[u8],
+    p: usize,
+    count: usize,
+    tables: &Tables,
+)
+    requires vectors { (1 ≤ VECTORS) × (VECTORS ≤ 2) }
+    requires lanes { length factors.now ≡ VECTORS * 16 }
+    requires inside { p < length factors.now }
+    requires room { count * length factors.now ≤ length row.old }
+    ensures { IsRowStep (length factors.now) row.new row.old factors.now p (multiplier factors.now p) count }
+{
+    let lanes = factors.len();
+    let low = u8x16::from_slice(&factors[0..]);
+    let high = last_lanes::<VECTORS>(factors);
+    let mut carry = 0;
+    for i in 0..count {
+        let start = i * lanes;
+        let cell = &mut row[start..start + lanes];
+        carry = step_held_cell::<VECTORS>(cell, factors, low, high, p, carry, tables);
+    }
+}
+
+/// Takes a step in one row, as `step_row` does, whatever the lanes are.
+fn step_row_of_any(row: &mut [u8], factors: &[u8], p: usize, count: usize)
     requires inside { p < length factors.now }
     requires room { count * length factors.now ≤ length row.old }
     ensures { IsRowStep (length factors.now) row.new row.old factors.now p (multiplier factors.now p) count }
@@ -53,6 +198,21 @@ pub(crate) fn step_row(row: &mut [u8], factors: &[u8], p: usize, count: usize)
     }
 }
 
+/// Takes a step in one row, at the powers of x below `x^count`: to each other polynomial the multiple of that at place `p`,
+/// the pivot, by its factor is added, and the pivot is multiplied by `x - a`, where its own factor is `a + 1`. For with
+/// `a + 1` times itself it is a times itself, and to that its product with x is added.
+pub(crate) fn step_row(row: &mut [u8], factors: &[u8], p: usize, count: usize, tables: &Tables)
+    requires inside { p < length factors.now }
+    requires room { count * length factors.now ≤ length row.old }
+    ensures { IsRowStep (length factors.now) row.new row.old factors.now p (multiplier factors.now p) count }
+{
+    match factors.len() {
+        16 => step_held_row::<1>(row, factors, p, count, tables),
+        32 => step_held_row::<2>(row, factors, p, count, tables),
+        _ => step_row_of_any(row, factors, p, count),
+    }
+}
+
 /// Takes a step in one row, as `step_row` does. A row that has no place for so many coefficients is made longer, by zeros.
 ///
 /// `AllocError` where there is no memory for them.
@@ -61,6 +221,7 @@ fn step_long_row(
     factors: &[u8],
     p: usize,
     count: usize,
+    tables: &Tables,
 ) -> Result<(), AllocError>
     requires inside { p < length factors.now }
     requires small { count * length factors.now < usize.MAX }
@@ -70,10 +231,8 @@ fn step_long_row(
 {
     let room = count * factors.len();
     let missing = room.saturating_sub(row.len());
-    for _ in 0..missing {
-        row.push(0)?;
-    }
-    step_row(row, factors, p, count);
+    row.resize(row.len() + missing, 0)?;
+    step_row(row, factors, p, count, tables);
     Ok(())
 }
 
@@ -87,6 +246,7 @@ pub(crate) fn step_rows(
     p: usize,
     t: u32,
     reach: u64,
+    tables: &Tables,
 ) -> Result<(), AllocError>
     requires inside { p < length factors.now }
     requires small { reach * length factors.now < usize.MAX }
@@ -97,7 +257,7 @@ pub(crate) fn step_rows(
 {
     for j in 0..rows.len() {
         let count = reach.saturating_sub(t as u64 * j as u64) as usize;
-        step_long_row(&mut rows[j], factors, p, count)?;
+        step_long_row(&mut rows[j], factors, p, count, tables)?;
     }
     Ok(())
 }

@@ -2,6 +2,7 @@
 
 use crate::Interpolate;
 use crate::basis::Basis;
+use crate::family::Tables;
 use crate::layout::row_lengths;
 use bi_poly::BiPoly;
 use std::alloc::{AllocError, Global};
@@ -28,8 +29,9 @@ impl Interpolate for Koetter {
         let conditions = points.len() as u64 * m as u64 * (m as u64 + 1) / 2;
         let lengths = row_lengths(alloc, conditions as u32 + 1, t, d)?;
         let mut basis = Basis::new(alloc, lengths.len())?;
+        let tables = Tables::new(alloc)?;
         for &(a, b) in points {
-            basis.pass(alloc, t, a, b, m)?;
+            basis.pass(alloc, t, a, b, m, &tables)?;
         }
         basis.into_lightest(alloc, t)
     }

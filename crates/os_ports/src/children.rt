@@ -1,10 +1,13 @@
 // The child programs.
-use crate::streams::reach;
+use crate::limits::LINK;
+use crate::timed::connect;
+use crate::variables::CHILD;
 use std::alloc::Global;
 use std::io::{ErrorKind, Read};
 use std::net::Net;
 use std::process::{Child, Command, OpenProcess, Processes, Stdio};
 use std::rt::Env;
+use std::time::Clock;
 use std::{env, io};
 
 // A program that was started and said that it is ready.
@@ -15,6 +18,8 @@ struct Started<P: OpenProcess> {
     // A link to it was opened, so that it has met its guest, or will.
     has_guest: bool,
     process: Child<P>,
+    // Its standard input, to which nothing is written: it ends with this program, and the child with it.
+    _input: Option<P::Stdin>,
 }
 
 /// The children that were started, none of which was waited for.
@@ -26,13 +31,14 @@ pub struct Children<R: Processes> {
 // Waits until the child says that it is ready. Its output is closed then, so that it can't wait for a reader.
 fn await_ready<P: OpenProcess>(child: &mut Child<P>) -> io::Result<()> {
     let mut line = [0; 6];
-    if let Some(mut output) = child.stdout.take() {
-        output.read_exact(&mut line)?;
-    }
-    if line == *b"ready\n" {
+    let read = match child.stdout.take() {
+        Some(mut output) => output.read_exact(&mut line),
+        None => Ok(()),
+    };
+    if read.is_ok() && line == *b"ready\n" {
         Ok(())
     } else {
-        Err(io::Error::from(ErrorKind::InvalidData))
+        Err(io::Error::new(ErrorKind::InvalidData, "it didn't say that it is ready"))
     }
 }
 
@@ -56,6 +62,8 @@ impl<R: Processes> Children<R> {
         for word in words {
             command.arg(word.as_str())?;
         }
+        command.env(CHILD, "1")?;
+        command.stdin(Stdio::piped());
         command.stdout(Stdio::piped());
         let address = match words.last() {
             Some(word) => word.clone()?,
@@ -64,6 +72,8 @@ impl<R: Processes> Children<R> {
         // No memory is needed once the child runs, so that none is left behind.
         self.started.reserve(1)?;
         let mut process = command.spawn(rt)?;
+        // Kept open for as long as the child is there: a wait for it would close it before.
+        let input = process.stdin.take();
         if let Err(error) = await_ready(&mut process) {
             let _ = process.kill();
             let _ = process.wait();
@@ -73,6 +83,7 @@ impl<R: Processes> Children<R> {
             address,
             has_guest: false,
             process,
+            _input: input,
         })?;
         Ok(())
     }
@@ -88,10 +99,10 @@ impl<R: Processes> Children<R> {
     /// waits for all children. One to which it can't connect would wait for its guest, and is killed.
     pub fn end(&mut self, rt: &R)
     where
-        R: Net,
+        R: Net + Clock,
     {
         for child in self.started.iter_mut() {
-            if !child.has_guest && reach(rt, &child.address).is_err() {
+            if !child.has_guest && connect(rt, &child.address, LINK).is_err() {
                 let _ = child.process.kill();
             }
             let _ = child.process.wait();

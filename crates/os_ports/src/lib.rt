@@ -13,8 +13,16 @@
 
 mod children;
 mod counts;
+mod explainer;
+mod limits;
+mod parent;
+mod port_name;
 mod ports;
 mod standard;
 mod streams;
+mod system;
+mod timed;
+mod variables;
 
 pub use ports::OsPorts;
+pub use system::System;

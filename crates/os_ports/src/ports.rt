@@ -1,18 +1,18 @@
 // The ports of the system.
-ghost use Rattle.std.specs.Prelude.{◌≡◌, ℕ, slice_index, IfOk};
+ghost use Rattle.std.specs.Prelude.{◌≡◌, ◌≢◌, ◌+◌, ◌-◌, ◌^◌, ℕ, slice_index, min, IfOk};
+ghost use Rattle.pir_ports.specs.Number.{number};
 
 use crate::counts::Counts;
 use crate::standard::StandardStreams;
 use crate::streams::Streams;
+use crate::system::System;
 use pir_ports::{Failed, Port, Ports};
-use std::io::{self, Input, Print};
-use std::net::Net;
+use std::io::{self, ErrorKind};
 use std::os::fd::AsRawFd;
-use std::process::Processes;
-use std::rt::{Env, Files};
 
 /// Files, standard streams, TCP streams, a listener and child programs as ports. Each failed call is counted, also one
-/// for want of memory.
+/// for want of memory. Where the variable `PIR_EXPLAIN` of the environment is `1`, it is also explained, by a line on
+/// standard error with the port, the file or address, and the system's words.
 ///
 /// - `Input` is opened as standard input by the name `-`, and else as the file of that name.
 /// - `Output` is standard output.
@@ -22,13 +22,15 @@ use std::rt::{Env, Files};
 /// - `Door` is opened by the address to listen at, a text `host:port`.
 /// - `Guest` is the TCP stream to the guest that `next_guest` let in. That call first closes the stream
 ///   to the guest before, also where no other comes in, and waits for as long as none comes. One who gave up before
-///   being let in is passed over. Each read
-///   and each write on the stream may take ten seconds, and fails then.
-/// - `Link(i)` is opened as a TCP stream to the address, a text `host:port`. To open it, and each read
-///   and each write on it, may take ten seconds, and fails then.
+///   being let in is passed over. Each call on the stream may take three seconds, and all of them five and one more for
+///   each 65536 bytes that they moved; a call fails that takes longer, or comes later.
+/// - `Link(i)` is opened as a TCP stream to the address, a text `host:port`. Each call on it, to open it too, may
+///   take ten seconds (three where `Door` is open), and all of them twenty and one more for each 65536 bytes that they
+///   moved. The places of one name share that; how long looking a name up takes is the system's.
 /// - `Child(i)` is this same program, which `start_child` starts with its words. It succeeds once the child's
 ///   standard output begins with the line `ready`, for which it waits. A child that says something else, or ends
-///   before, is killed.
+///   before, is killed. A child's standard input stays open for as long as this program runs, and a child that waits
+///   for a guest fails once it ends: so it ends too.
 ///
 /// A port that isn't open, or is opened or used in another way, fails. A second `open` that succeeds
 /// closes what the port had open.
@@ -38,14 +40,14 @@ use std::rt::{Env, Files};
 /// ports.open(Port::Link(1), "localhost:7001")?;
 /// ```
 #[derive(Drop)]
-pub struct OsPorts<R: Files + Input + Print + Net + Processes + Env + AllocGlobal + Drop> {
+pub struct OsPorts<R: System> {
     // It is dropped last, so that the numbers are held for as long as anything is open.
     streams: Streams<R>,
     counts: Counts,
     standard: StandardStreams<R::File>,
 }
 
-impl<R: Files + Input + Print + Net + Processes + Env + AllocGlobal + Drop> OsPorts<R> {
+impl<R: System> OsPorts<R> {
     /// Ports over this runtime, none but `Output` open. It has to come before anything else is opened: where the
     /// program was started with a standard stream closed, its number is held from here on, for as long as there
     /// are the ports, so that no file, link, guest, listener or child's pipe is given it, and a use of the stream
@@ -79,9 +81,20 @@ impl<R: Files + Input + Print + Net + Processes + Env + AllocGlobal + Drop> OsPo
     {
         self.streams.end_children();
     }
+
+    // Counts a failed call on the port, and says why it failed where that is asked for. A name is that of a call which
+    // has one of its own.
+    fn fail(&mut self, p: Port, name: Option<&str>, error: &io::Error) -> Failed
+        ensures rose { slice_index self.new.counts (number p)
+            ≡ min (slice_index self.old.counts (number p) + 1) (2 ^ 64 - 1) }
+        ensures others { (q : ℕ) → q ≢ number p → slice_index self.new.counts q ≡ slice_index self.old.counts q }
+    {
+        self.streams.explain(p, name, error);
+        self.counts.raise(p)
+    }
 }
 
-impl<R: Files + Input + Print + Net + Processes + Env + AllocGlobal + Drop> Ports for OsPorts<R> {
+impl<R: System> Ports for OsPorts<R> {
     ghost use Rattle.os_ports.specs.Counted.{counts_alone};
 
     ghost world = { λ s. counts_alone s.counts };
@@ -89,35 +102,39 @@ impl<R: Files + Input + Print + Net + Processes + Env + AllocGlobal + Drop> Port
     fn open(&mut self, p: Port, name: &str) -> Result<(), Failed> {
         match self.streams.open(p, name) {
             Ok(()) => Ok(()),
-            Err(_) => Err(self.counts.raise(p)),
+            Err(error) => Err(self.fail(p, Some(name), &error)),
         }
     }
 
     fn take(&mut self, p: Port, into: &mut [u8]) -> Result<usize, Failed> {
         match self.streams.read(p, into) {
             Ok(n) => Ok(n),
-            Err(_) => Err(self.counts.raise(p)),
+            Err(error) => Err(self.fail(p, None, &error)),
         }
     }
 
     fn give(&mut self, p: Port, piece: &[u8]) -> Result<usize, Failed> {
         match self.streams.write(p, piece) {
             Ok(n) if n > 0 => Ok(n),
-            _ => Err(self.counts.raise(p)),
+            Ok(_) => Err(self.fail(p, None, &io::Error::from(ErrorKind::WriteZero))),
+            Err(error) => Err(self.fail(p, None, &error)),
         }
     }
 
     fn next_guest(&mut self) -> Result<(), Failed> {
         match self.streams.meet() {
             Ok(()) => Ok(()),
-            Err(_) => Err(self.counts.raise(Port::Door)),
+            Err(error) => Err(self.fail(Port::Door, None, &error)),
         }
     }
 
     fn start_child(&mut self, i: u8, words: &[String]) -> Result<(), Failed> {
         match self.streams.start(words) {
             Ok(()) => Ok(()),
-            Err(_) => Err(self.counts.raise(Port::Child(i))),
+            Err(error) => {
+                let address = words.last().map(|word| word.as_str());
+                Err(self.fail(Port::Child(i), address, &error))
+            }
         }
     }
 }

@@ -2,19 +2,19 @@
 ghost use Rattle.std.specs.Prelude.{◌≤◌, length, IfOk};
 
 use crate::children::Children;
+use crate::explainer::Explainer;
+use crate::limits::{GUEST, LINK, SERVER_LINK};
+use crate::parent::Parent;
+use crate::system::System;
+use crate::timed::{TimedStream, connect};
+use crate::variables::{CHILD, EXPLAIN, is_one};
 use pir_ports::Port;
 use std::fs::OpenOptions;
-use std::io::{ErrorKind, Input, Print, Read, Write};
-use std::net::{Net, OpenListener, OpenStream, TcpListener, TcpStream, ToSocketAddrs};
+use std::io::{ErrorKind, Input, Read, Write};
+use std::net::{Net, OpenListener, SocketAddr, TcpListener};
 use std::os::unix::fs::OpenOptionsExt;
-use std::process::Processes;
-use std::rt::{Env, Files};
-use std::time::Duration;
+use std::rt::Files;
 use std::{fs, io};
-
-// How long a link may wait to be opened, and then each read and each write on it, or on the stream to a
-// guest.
-const STREAM_SECONDS: u64 = 10;
 
 // The errors of Linux by which `accept` tells that one connection was given up: ENONET, EPROTO, ENOPROTOOPT,
 // EOPNOTSUPP, ENETDOWN, ENETUNREACH, ECONNABORTED, EHOSTDOWN and EHOSTUNREACH.
@@ -32,38 +32,28 @@ enum Source<R: Files + Input> {
 #[derive(Drop)]
 struct Link<R: Net> {
     server: u8,
-    stream: R::Stream,
+    stream: TimedStream<R::Stream>,
 }
 
 /// The open files and streams, and the children.
 #[derive(Drop)]
-pub struct Streams<R: Files + Input + Print + Net + Processes + Env + AllocGlobal + Drop> {
+pub struct Streams<R: System> {
     rt: R,
     input: Source<R>,
     database: Option<R::File>,
     coins: Option<R::File>,
     record: Option<R::File>,
     door: Option<R::Listener>,
-    guest: Option<R::Stream>,
+    // Where this program is a child, once Door is open.
+    parent: Option<Parent>,
+    guest: Option<TimedStream<R::Stream>>,
     links: Vec<Link<R>>,
     children: Children<R>,
+    explainer: Explainer,
 }
 
 fn closed() -> io::Error {
-    io::Error::from(ErrorKind::NotConnected)
-}
-
-/// Connects to the address, at the first of its places that answers.
-pub fn reach<R: Net>(rt: &R, address: &str) -> io::Result<R::Stream> {
-    let timeout = Duration::from_secs(STREAM_SECONDS);
-    let mut fault = io::Error::from(ErrorKind::NotFound);
-    for place in address.to_socket_addrs(rt)? {
-        match TcpStream::connect_timeout(rt, &place, timeout) {
-            Ok(stream) => return Ok(stream),
-            Err(error) => fault = error,
-        }
-    }
-    Err(fault)
+    io::Error::new(ErrorKind::NotConnected, "the port isn't open for that")
 }
 
 // Makes the file of a record anew. The block can be read off a record, so a new file is its owner's alone.
@@ -85,23 +75,35 @@ fn is_given_up(error: &io::Error) -> bool {
     }
 }
 
-// Lets the next guest in. One who gave up before is passed over.
-fn accept<L: OpenListener>(door: &L) -> io::Result<L::Stream> {
+// Lets the next guest in, and tells where it came from. One who gave up before is passed over.
+fn accept<L: OpenListener>(door: &L) -> io::Result<(L::Stream, SocketAddr)> {
     for _ in 0..u64::MAX {
         match door.accept() {
-            Ok((stream, _)) => return Ok(stream),
             Err(error) if is_given_up(&error) => {}
-            Err(error) => return Err(error),
+            met => return met,
         }
     }
     Err(io::Error::from(ErrorKind::ConnectionAborted))
 }
 
-// Lets each read and each write on the stream wait no longer than it may.
-fn limit_waits<S: OpenStream>(stream: &S) -> io::Result<()> {
-    let timeout = Some(Duration::from_secs(STREAM_SECONDS));
-    stream.set_read_timeout(timeout)?;
-    stream.set_write_timeout(timeout)
+// The same in a child: once its parent has ended, no guest comes in who wasn't there before.
+fn accept_beside<L: OpenListener>(
+    door: &L,
+    parent: &mut Parent,
+) -> io::Result<(L::Stream, SocketAddr)> {
+    for _ in 0..u64::MAX {
+        match accept(door) {
+            Err(error) if error.kind() == ErrorKind::WouldBlock => parent.await_guest()?,
+            met => return met,
+        }
+    }
+    Err(io::Error::from(ErrorKind::ConnectionAborted))
+}
+
+// The stream to the server.
+fn link_to<R: Net>(links: &mut [Link<R>], server: u8) -> Option<&mut TimedStream<R::Stream>> {
+    let link = links.iter_mut().find(|link| link.server == server)?;
+    Some(&mut link.stream)
 }
 
 // Reads from what is open.
@@ -124,10 +126,11 @@ fn write_to<S: Write>(sink: Option<&mut S>, piece: &[u8]) -> io::Result<usize>
     }
 }
 
-impl<R: Files + Input + Print + Net + Processes + Env + AllocGlobal + Drop> Streams<R> {
+impl<R: System> Streams<R> {
     /// Nothing but standard output is open.
     pub fn new(rt: R) -> Self {
         let alloc = rt.alloc();
+        let explainer = Explainer::new(alloc, is_one(&rt, EXPLAIN));
         Streams {
             rt,
             input: Source::Closed,
@@ -135,10 +138,17 @@ impl<R: Files + Input + Print + Net + Processes + Env + AllocGlobal + Drop> Stre
             coins: None,
             record: None,
             door: None,
+            parent: None,
             guest: None,
             links: Vec::new(alloc),
             children: Children::new(alloc),
+            explainer,
         }
+    }
+
+    /// Says why a call on the port failed, where that is asked for. A name is that of a call which has one of its own.
+    pub fn explain(&self, p: Port, name: Option<&str>, error: &io::Error) {
+        self.explainer.explain(&self.rt, p, name, error);
     }
 
     /// Opens the port by this name.
@@ -150,18 +160,35 @@ impl<R: Files + Input + Print + Net + Processes + Env + AllocGlobal + Drop> Stre
             Port::Database => self.database = Some(fs::open(&self.rt, name)?),
             Port::Coins => self.coins = Some(fs::open(&self.rt, name)?),
             Port::Record => self.record = Some(make_record(&self.rt, name)?),
-            Port::Door => self.door = Some(TcpListener::bind(&self.rt, name)?),
+            Port::Door => self.listen(name)?,
             Port::Link(i) => self.connect(i, name)?,
         }
+        self.explainer.note_name(p, name);
+        Ok(())
+    }
+
+    // Listens at the address.
+    fn listen(&mut self, address: &str) -> io::Result<()> {
+        let door = TcpListener::bind(&self.rt, address)?;
+        self.parent = if is_one(&self.rt, CHILD) {
+            Some(Parent::watch(&self.rt, &door)?)
+        } else {
+            None
+        };
+        self.door = Some(door);
         Ok(())
     }
 
     // Opens the link to the server.
     fn connect(&mut self, server: u8, address: &str) -> io::Result<()> {
-        let stream = reach(&self.rt, address)?;
+        let limit = if self.door.is_some() {
+            SERVER_LINK
+        } else {
+            LINK
+        };
+        let stream = connect(&self.rt, address, limit)?;
         self.children.note_link(address);
-        limit_waits(&stream)?;
-        match self.link(server) {
+        match link_to(&mut self.links, server) {
             Some(link) => *link = stream,
             None => self.links.push(Link { server, stream })?,
         }
@@ -171,15 +198,14 @@ impl<R: Files + Input + Print + Net + Processes + Env + AllocGlobal + Drop> Stre
     /// Closes the stream to the guest before, waits for the next guest, and opens the stream to it.
     pub fn meet(&mut self) -> io::Result<()> {
         self.guest = None;
-        match &self.door {
-            Some(door) => {
-                let stream = accept(door)?;
-                limit_waits(&stream)?;
-                self.guest = Some(stream);
-                Ok(())
-            }
-            None => Err(closed()),
-        }
+        let (stream, address) = match (&self.door, &mut self.parent) {
+            (Some(door), Some(parent)) => accept_beside(door, parent)?,
+            (Some(door), None) => accept(door)?,
+            (None, _) => return Err(closed()),
+        };
+        self.guest = Some(TimedStream::new(stream, GUEST));
+        self.explainer.note_guest(address);
+        Ok(())
     }
 
     /// Starts a child with these words, and waits until it says that it is ready.
@@ -191,12 +217,6 @@ impl<R: Files + Input + Print + Net + Processes + Env + AllocGlobal + Drop> Stre
     pub fn end_children(&mut self) {
         self.links.clear();
         self.children.end(&self.rt);
-    }
-
-    // The stream to the server.
-    fn link(&mut self, server: u8) -> Option<&mut R::Stream> {
-        let link = self.links.iter_mut().find(|link| link.server == server)?;
-        Some(&mut link.stream)
     }
 
     /// Reads from the port. A read that a signal interrupts is tried again.
@@ -223,8 +243,14 @@ impl<R: Files + Input + Print + Net + Processes + Env + AllocGlobal + Drop> Stre
             },
             Port::Database => read_from(self.database.as_mut(), into),
             Port::Coins => read_from(self.coins.as_mut(), into),
-            Port::Guest => read_from(self.guest.as_mut(), into),
-            Port::Link(i) => read_from(self.link(i), into),
+            Port::Guest => match &mut self.guest {
+                Some(guest) => guest.read(&self.rt, into),
+                None => Err(closed()),
+            },
+            Port::Link(i) => match link_to(&mut self.links, i) {
+                Some(link) => link.read(&self.rt, into),
+                None => Err(closed()),
+            },
             Port::Output | Port::Record | Port::Door | Port::Child(_) => Err(closed()),
         }
     }
@@ -248,8 +274,14 @@ impl<R: Files + Input + Print + Net + Processes + Env + AllocGlobal + Drop> Stre
         match p {
             Port::Output => io::writer(&self.rt).write(piece),
             Port::Record => write_to(self.record.as_mut(), piece),
-            Port::Guest => write_to(self.guest.as_mut(), piece),
-            Port::Link(i) => write_to(self.link(i), piece),
+            Port::Guest => match &mut self.guest {
+                Some(guest) => guest.write(&self.rt, piece),
+                None => Err(closed()),
+            },
+            Port::Link(i) => match link_to(&mut self.links, i) {
+                Some(link) => link.write(&self.rt, piece),
+                None => Err(closed()),
+            },
             Port::Input | Port::Database | Port::Coins | Port::Door | Port::Child(_) => {
                 Err(closed())
             }

@@ -1,13 +1,12 @@
 //! The program `pir`. It makes the ports of the system and reads the words; `pir_tool::run` does the rest.
 #![tactic(auto)]
 
-use os_ports::OsPorts;
+use os_ports::{OsPorts, System};
 use pir_tool::{Ending, Status, ending_of, run};
 use std::env;
-use std::io::{self, ErrorKind, Input, Print};
-use std::net::Net;
-use std::process::{ExitCode, Processes};
-use std::rt::{Env, Files};
+use std::io::{self, ErrorKind};
+use std::process::ExitCode;
+use std::rt::Env;
 use std::thread::Threads;
 
 /// The words after the program's name. Words that are no UTF-8 have no form.
@@ -28,7 +27,7 @@ fn words_of<R: Env + AllocGlobal>(rt: &R) -> Result<Vec<String>, Status> {
 fn run_words<R, S>(rt: &R, words: &[String], ports: &mut OsPorts<S>) -> Status
 where
     R: AllocGlobal + Threads + Sync,
-    S: Files + Input + Print + Net + Processes + Env + AllocGlobal + Drop,
+    S: System,
 {
     let status = run(rt, rt.alloc(), words, ports);
     ports.end_children();

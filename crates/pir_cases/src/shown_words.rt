@@ -35,6 +35,16 @@ fn shape<W: Write>(f: &mut Formatter<W>, rows: u32, width: u32) -> fmt::Result {
     write!(f, " rows {rows} width {width}")
 }
 
+/// Writes the blocks that are fetched, with commas between them.
+fn numbers<W: Write>(f: &mut Formatter<W>, blocks: &[u32]) -> fmt::Result {
+    let mut before = " block ";
+    for block in blocks {
+        write!(f, "{before}{block}")?;
+        before = ",";
+    }
+    Ok(())
+}
+
 /// Writes a degree and an agreement.
 fn agreement<W: Write>(f: &mut Formatter<W>, degree: u8, agree: u8) -> fmt::Result {
     write!(f, " degree {degree} agree {agree}")
@@ -46,7 +56,7 @@ fn fetch<W: Write>(f: &mut Formatter<W>, asked: &Asked) -> fmt::Result {
         scheme,
         rows,
         width,
-        block,
+        blocks,
         degree,
         agree,
         coins,
@@ -58,7 +68,7 @@ fn fetch<W: Write>(f: &mut Formatter<W>, asked: &Asked) -> fmt::Result {
     };
     number(f, "fetch scheme", u64::from(*scheme))?;
     shape(f, *rows, *width)?;
-    number(f, " block", u64::from(*block))?;
+    numbers(f, blocks.as_slice())?;
     agreement(f, *degree, *agree)?;
     text(f, " coins", coins.as_str())?;
     match keep {

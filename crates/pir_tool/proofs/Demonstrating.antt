@@ -1,5 +1,5 @@
 -- A demonstration from its first child to the verdict.
-use Rattle.std.proofs.Common.{◌≡◌, ◌∙◌, ◌⊎◌, inl, inr, ℕ, ◌+◌, ◌<◌, ◌≤◌, List, length, map, refl, lit<, sym, ap, subst, arith}
+use Rattle.std.proofs.Common.{◌≡◌, ◌∙◌, ◌⊎◌, inl, inr, ℕ, ◌+◌, ◌<◌, ◌≤◌, List, [], ◌∷◌, length, map, refl, lit<, sym, ap, subst, arith}
 use Rattle.std.specs.Prelude.{Some, None}
 use Rattle.std.specs.List.{range_with_len}
 use Rattle.std.proofs.lemmas.List.{length-map}
@@ -64,12 +64,12 @@ demonstrated_as o Memory old new d = inr d
 
 -- the children were started with these words, and then a block was fetched from these addresses
 pub demonstrates : (o : DemoOrder) (addresses : List (List ℕ)) (lists : List (List (List ℕ))) (status : Status) (w v u : World) → addresses ≡ addresses_from o.port o.servers → lists ≡ words_of_children o
-    → StartsAll lists w v → FetchEnds (record { plan = plan_of o; addresses = addresses; coins = o.coins; keep = None }) status v u → TouchesFetch o.servers v u → DemoOutcome o status w u
+    → StartsAll lists w v → FetchEnds (record { plan = plan_of o; blocks = o.block ∷ []; addresses = addresses; coins = o.coins; keep = None }) status v u → TouchesFetch o.servers v u → DemoOutcome o status w u
 demonstrates o addresses lists status w v u at words starts ends others = demonstrated_as o status w u record {
   between = v;
   starts = subst (λ l. StartsAll l w v) words starts;
   fetched = record {
-    ends = subst (λ a. FetchEnds (record { plan = plan_of o; addresses = a; coins = o.coins; keep = None }) status v u) at ends;
+    ends = subst (λ a. FetchEnds (record { plan = plan_of o; blocks = o.block ∷ []; addresses = a; coins = o.coins; keep = None }) status v u) at ends;
     others = others;
   };
 }
@@ -78,7 +78,7 @@ demonstrates o addresses lists status w v u at words starts ends others = demons
 module _ (o : FetchOrder) (w v z : World) (same : (q : ℕ) → q < PORT_COUNT → v.at q ≡ w.at q) (fits : (link 1) + o.plan.n ≤ PORT_COUNT) where
   in_session_before : (coins : List ℕ) (session : Transcript) → InSession o coins session v z → InSession o coins session w z
   in_session_before coins session s = record {
-    tossed = subst (λ (c : Cell). Tossed (need o.plan) coins (named o.coins c) (z.at COINS)) (same 3 (lit< tt)) s.tossed;
+    tossed = subst (λ (c : Cell). Tossed (need o.plan (length o.blocks)) coins (named o.coins c) (z.at COINS)) (same 3 (lit< tt)) s.tossed;
     asked = record {
       params = s.asked.params;
       whole = s.asked.whole;
@@ -120,7 +120,7 @@ module _ (o : DemoOrder) (old new : World) (few : o.servers < 256) (none : NoneR
   told_after v held same told = ap (λ (c : Cell). c.holds) (same 3 (lit< tt)) ∙ told
 
   module _ (held : List ℕ) (told : (old.at COINS).holds ≡ Some held) where
-    reports : (status : Status) → need (plan_of o) ≤ length held → Demonstrated o status old new → DemoReported o status old new ⊎ (status ≡ Memory)
+    reports : (status : Status) → need (plan_of o) 1 ≤ length held → Demonstrated o status old new → DemoReported o status old new ⊎ (status ≡ Memory)
     reports status enough d =
         let same = d.starts.ports in
         elim ((fetch_promised (fetch_from_children o) status d.between new d.fetched.ends).reported held (told_after d.between held same told) enough (none_after d.between same)) [
@@ -132,13 +132,13 @@ module _ (o : DemoOrder) (old new : World) (few : o.servers < 256) (none : NoneR
           | inr m ↦ inr m
         ]
 
-    lacks : (status : Status) → length held < need (plan_of o) → Demonstrated o status old new → (status ≡ BadInput (CoinsEnded (length held))) ⊎ (status ≡ Memory)
+    lacks : (status : Status) → length held < need (plan_of o) 1 → Demonstrated o status old new → (status ≡ BadInput (CoinsEnded (length held))) ⊎ (status ≡ Memory)
     lacks status short d =
         let same = d.starts.ports in
         (fetch_promised (fetch_from_children o) status d.between new d.fetched.ends).too_few_coins held (told_after d.between held same told) short (none_after d.between same)
 
     -- where there are coins enough, the verdict is reported
-    demo_reported : (status : Status) → need (plan_of o) ≤ length held → DemoOutcome o status old new → DemoReported o status old new ⊎ (status ≡ Memory)
+    demo_reported : (status : Status) → need (plan_of o) 1 ≤ length held → DemoOutcome o status old new → DemoReported o status old new ⊎ (status ≡ Memory)
     demo_reported One enough d = reports One enough d
     demo_reported Usage enough d = reports Usage enough d
     demo_reported NoBlock enough d = reports NoBlock enough d
@@ -154,7 +154,7 @@ module _ (o : DemoOrder) (old new : World) (few : o.servers < 256) (none : NoneR
     demo_reported Memory enough d = inr refl
 
     -- where there are fewer, that is said
-    demo_too_few : (status : Status) → length held < need (plan_of o) → DemoOutcome o status old new → (status ≡ BadInput (CoinsEnded (length held))) ⊎ (status ≡ Memory)
+    demo_too_few : (status : Status) → length held < need (plan_of o) 1 → DemoOutcome o status old new → (status ≡ BadInput (CoinsEnded (length held))) ⊎ (status ≡ Memory)
     demo_too_few One short d = lacks One short d
     demo_too_few Usage short d = lacks Usage short d
     demo_too_few NoBlock short d = lacks NoBlock short d

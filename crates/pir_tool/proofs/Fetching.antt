@@ -12,7 +12,7 @@ use Rattle.wire_frames.specs.Session.{Transcript, session_bytes}
 use Rattle.block_decoder.specs.declared.verdict.Verdict.{Verdict}
 use Rattle.block_decoder.specs.declared.verdict.Verdict.TheVariants.{Listed as IsListed, TooFew as IsTooFew, TooWeak as IsTooWeak, TooCostly as IsTooCostly}
 use Rattle.block_decoder.specs.Text.{text}
-use Rattle.fetch_client.specs.Plan.{IsPlan, need}
+use Rattle.fetch_client.specs.Plan.{AreBlocks, IsPlan, need}
 use Rattle.fetch_client.specs.Sent.{sent}
 use Rattle.fetch_client.specs.Link.{LinkAsked}
 use Rattle.fetch_client.specs.Fetched.{AsksWith, Concludes, TouchesLinks}
@@ -29,9 +29,11 @@ pub one_command : (wanted : Option Command) (asked other : Command) → wanted �
 one_command wanted asked other a b = ap (λ (o : Option Command). unwrap_or o asked) (sym a ∙ b)
 
 -- an order for as many servers as it has addresses is the one that its command gives
-pub order_is : (o : FetchOrder) → o.plan.n ≡ length o.addresses → order_of o.plan.scheme o.plan.r o.plan.s o.plan.block o.plan.t o.plan.h o.coins o.keep o.addresses ≡ o
+pub order_is : (o : FetchOrder) → o.plan.n ≡ length o.addresses
+    → order_of o.plan.scheme o.plan.r o.plan.s o.blocks o.plan.t o.plan.h o.coins o.keep o.addresses ≡ o
 order_is o is = ap (λ (n : ℕ). record {
-  plan = record { scheme = o.plan.scheme; t = o.plan.t; h = o.plan.h; n = n; r = o.plan.r; s = o.plan.s; block = o.plan.block };
+  plan = record { scheme = o.plan.scheme; t = o.plan.t; h = o.plan.h; n = n; r = o.plan.r; s = o.plan.s };
+  blocks = o.blocks;
   addresses = o.addresses;
   coins = o.coins;
   keep = o.keep;
@@ -39,7 +41,7 @@ order_is o is = ap (λ (n : ℕ). record {
 
 -- every server was asked after Coins was opened, and before other ports were touched
 pub asked_within : (o : FetchOrder) (coins : List ℕ) (session : Transcript) (w v u z : World) → (link 1) + o.plan.n ≤ PORT_COUNT → v.at COINS ≡ named o.coins (w.at COINS) → Touches COINS w v
-    → AsksWith o.plan o.addresses coins session v u → TouchesFiles u z → InSession o coins session w z
+    → AsksWith o.plan o.blocks o.addresses coins session v u → TouchesFiles u z → InSession o coins session w z
 asked_within o coins session w v u z fits is_open touch asks files =
     let p = o.plan in
     let t = asks.tossed in
@@ -48,13 +50,13 @@ asked_within o coins session w v u z fits is_open touch asks files =
       tossed = record {
         size = t.size;
         bytes = t.bytes;
-        cell = still ∙ t.cell ∙ ap (took (need p)) is_open;
-        told = subst (λ (c : Cell). IfSome c.holds (λ held. coins ≡ take (need p) held)) is_open t.told;
+        cell = still ∙ t.cell ∙ ap (took (need p (length o.blocks))) is_open;
+        told = subst (λ (c : Cell). IfSome c.holds (λ held. coins ≡ take (need p (length o.blocks)) held)) is_open t.told;
       };
       asked = record {
         params = asks.asked.params;
         whole = asks.asked.whole;
-        links = each_within (λ (i : ℕ). LinkAsked (slice_index_or o.addresses i []) (sent p coins (i + 1)) (answer_len p.s) (slice_index_or session.records i None)) (link 1) p.n w v u z
+        links = each_within (λ (i : ℕ). LinkAsked (slice_index_or o.addresses i []) (sent p o.blocks coins (i + 1)) (answer_len (length o.blocks) p.s) (slice_index_or session.records i None)) (link 1) p.n w v u z
             (λ i l. touch.others ((link 1) + i) (omega arith) (λ e. omega (arith, e)))
             (λ i l. files.others ((link 1) + i) (omega arith) (λ e. omega (arith, e)) (λ e. omega (arith, e))) asks.asked.links;
       };
@@ -88,9 +90,9 @@ ends_as o (IsTooWeak k t h) w z said = said
 ends_as o (IsTooCostly equations) w z said = said
 
 -- Coins was opened, every server was asked, and the session was reported
-pub ends_with_report : (o : FetchOrder) (session : Transcript) (verdict : Verdict) (status : Status) (w v u z : World) → IsPlan o.plan → v.at COINS ≡ named o.coins (w.at COINS) → Touches COINS w v
-    → Concludes o.plan o.addresses session verdict v u → TouchesLinks o.plan.n v u → Reports o.keep session verdict status u z → TouchesFiles u z → FetchEnds o status w z
-ends_with_report o session verdict status w v u z plan is_open touch fetched links reports files = elim reports [
+pub ends_with_report : (o : FetchOrder) (session : Transcript) (verdict : Verdict) (status : Status) (w v u z : World) → IsPlan o.plan → AreBlocks o.plan o.blocks → v.at COINS ≡ named o.coins (w.at COINS) → Touches COINS w v
+    → Concludes o.plan o.blocks o.addresses session verdict v u → TouchesLinks o.plan.n v u → Reports o.keep session verdict status u z → TouchesFiles u z → FetchEnds o status w z
+ends_with_report o session verdict status w v u z plan are is_open touch fetched links reports files = elim reports [
   | inl told ↦ elim told.1 [
     | inl whole ↦
         subst (λ (s : Status). FetchEnds o s w z) (sym whole.0) (ends_as o verdict w z record {
@@ -127,10 +129,10 @@ ends_with_report o session verdict status w v u z plan is_open touch fetched lin
     settled : Settled o session verdict w z
     settled = record {
       coins = fetched.coins;
-      fetched = asked_within o fetched.coins session w v u z (omega (arith, plan.numbers.few_servers)) is_open touch fetched.asked files;
+      fetched = asked_within o fetched.coins session w v u z (omega (arith, plan.few_servers)) is_open touch fetched.asked files;
       judged = fetched.judged;
       found = fetched.found;
-      held = held_row o.plan fetched.coins session plan fetched.asked.tossed.size fetched.asked.tossed.bytes fetched.asked.asked.params fetched.asked.asked.whole verdict fetched.found;
+      held = held_row o.plan o.blocks fetched.coins session plan are fetched.asked.tossed.size fetched.asked.tossed.bytes fetched.asked.asked.params fetched.asked.asked.whole verdict fetched.found;
     }
 
     still : (q : ℕ) → q < 256 → q ≢ COINS → u.at q ≡ w.at q

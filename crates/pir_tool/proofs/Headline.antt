@@ -109,7 +109,7 @@ unrecorded_rose None session old new none cut = cut
 unrecorded_rose (Some name) session old new none cut = none.0 cut.rose
 
 -- where there are coins enough, the verdict is reported
-reported : (o : FetchOrder) (status : Status) (old new : World) (held : List ℕ) → (old.at COINS).holds ≡ Some held → need o.plan ≤ length held → NoneRose (files_of o) old new
+reported : (o : FetchOrder) (status : Status) (old new : World) (held : List ℕ) → (old.at COINS).holds ≡ Some held → need o.plan (length o.blocks) ≤ length held → NoneRose (files_of o) old new
     → FetchEnds o status old new → FetchReported o status old new ⊎ (status ≡ Memory)
 reported o One old new held told enough none said = inl said
 reported o Usage old new held told enough none said = absurd said
@@ -131,14 +131,14 @@ reported o (BadInput (CoinsEnded taken)) old new held told enough none said =
 reported o Memory old new held told enough none said = inr refl
 
 -- no server is asked where there are too few coins
-no_coins : (o : FetchOrder) (status : Status) (old new : World) (held : List ℕ) → (old.at COINS).holds ≡ Some held → length held < need o.plan → FetchReported o status old new → ⊥
+no_coins : (o : FetchOrder) (status : Status) (old new : World) (held : List ℕ) → (old.at COINS).holds ≡ Some held → length held < need o.plan (length o.blocks) → FetchReported o status old new → ⊥
 no_coins o status old new held told few said =
     let tossed = said.settled.fetched.tossed in
-    let coins = at_told (λ (h : List ℕ). said.settled.coins ≡ take (need o.plan) h) (old.at COINS).holds held told tossed.told in
-    omega (arith, tossed.size, ap length coins, length-take (need o.plan) held, few)
+    let coins = at_told (λ (h : List ℕ). said.settled.coins ≡ take (need o.plan (length o.blocks)) h) (old.at COINS).holds held told tossed.told in
+    omega (arith, tossed.size, ap length coins, length-take (need o.plan (length o.blocks)) held, few)
 
 -- where there are fewer, that is said
-too_few : (o : FetchOrder) (status : Status) (old new : World) (held : List ℕ) → (old.at COINS).holds ≡ Some held → length held < need o.plan → NoneRose (files_of o) old new
+too_few : (o : FetchOrder) (status : Status) (old new : World) (held : List ℕ) → (old.at COINS).holds ≡ Some held → length held < need o.plan (length o.blocks) → NoneRose (files_of o) old new
     → FetchEnds o status old new → (status ≡ BadInput (CoinsEnded (length held))) ⊎ (status ≡ Memory)
 too_few o One old new held told few none said = absurd (no_coins o One old new held told few said)
 too_few o Usage old new held told few none said = absurd said

@@ -1,5 +1,5 @@
 -- A server's reply to the query of a fetch.
-use Rattle.std.proofs.Common.{◌≡◌, false, inl, inr, ℕ, ◌+◌, ◌<◌, ◌≤◌, ◌^◌, List, ◌++◌, length, take, drop, get_or, refl, sym, ◌∙◌, ap, ap₂, subst, arith, length-append, All}
+use Rattle.std.proofs.Common.{◌*◌, ◌||◌, ◌≡◌, Bool, false, inl, inr, ℕ, zero, suc, ◌+◌, ◌<◌, ◌≤◌, ◌^◌, List, ◌++◌, length, take, drop, get_or, refl, sym, ◌∙◌, ap, ap₂, subst, arith, length-append, All}
 use Rattle.std.proofs.Math.Seq.{take-append_seam, drop-append_seam}
 use Rattle.std.proofs.lemmas.Bool.{false≢true}
 use Rattle.std.proofs.lemmas.List.{take_all}
@@ -11,19 +11,23 @@ use Rattle.wire_frames.specs.declared.scheme.Scheme.TheVariants.{Shamir, Xor}
 use Rattle.wire_frames.specs.Scheme.{scheme_of, payload_len}
 use Rattle.wire_frames.specs.declared.header.QueryHeader.{QueryHeader}
 use Rattle.wire_frames.specs.declared.session.SessionParams.{SessionParams}
-use Rattle.wire_frames.specs.Header.{query_header, answer_to}
+use Rattle.wire_frames.specs.Header.{blocks_in, query_header}
+use Rattle.wire_frames.specs.Turns.{piece}
+use Rattle.wire_frames.proofs.Answering.{answer_to_query, blocks_in_query}
+use Rattle.wire_frames.proofs.Turns.{in_turn-same, piece-in_turn}
 use Rattle.wire_frames.specs.Limits.{IsQuery}
 use Rattle.wire_frames.specs.Query.{IsQueryHeader}
 use Rattle.wire_frames.proofs.Parsing.{same_digits}
 use Rattle.wire_frames.proofs.Servers.{scheme_in}
 use Rattle.fetch_client.specs.declared.coins.TheConstants.{NUMBER_LEN}
 use Rattle.fetch_client.specs.declared.plan.FetchPlan.{FetchPlan}
-use Rattle.fetch_client.specs.Plan.{IsPlan, params_of, need}
-use Rattle.fetch_client.specs.Sent.{frame_len, header_to, payload_in, payload_to, queries_from, sent, session_number}
-use Rattle.fetch_client.specs.Honest.{answer_in, honest_answer, honest_frame}
-use Rattle.fetch_client.proofs.Schemes.{length-payload_to}
-use Rattle.serve_core.specs.Service.{Service, payload_len_for}
-use Rattle.serve_core.specs.Reply.{IsShaped, Suits, RefusedByHeader, Replies, answer, answer_frame, payload, sets_unused}
+use Rattle.fetch_client.specs.Plan.{AreBlocks, IsPlan, params_of, need, query_coins}
+use Rattle.fetch_client.specs.Sent.{frame_len, header_to, payload_for, payload_in, payload_to, queries_from, sent, session_number, vector_at}
+use Rattle.fetch_client.specs.Honest.{answer_by, answer_in, honest_answer, honest_frame}
+use Rattle.fetch_client.proofs.Schemes.{length-payload_for, length-payload_to}
+use Rattle.fetch_client.proofs.Ranges.{range_of}
+use Rattle.serve_core.specs.Service.{Service, payload_len_for, vector_len_for}
+use Rattle.serve_core.specs.Reply.{IsShaped, Suits, RefusedByHeader, Replies, answer, answer_frame, answers, asked_of, payload, sets_unused, some_sets_unused}
 use Rattle.serve_core.specs.declared.met.Met.{Met}
 use Rattle.serve_core.specs.declared.met.Met.TheVariants.{Served, Refused, Gone, GuestFault}
 use Rattle.pir_tool.specs.HonestReply.{service_with, frame_of, RepliesHonestly}
@@ -40,32 +44,41 @@ module _ (q p : QueryHeader) (hq : IsQuery q) (hp : IsQuery p) (same : query_hea
   same_width : q.s ≡ p.s
   same_width = same_digits 4 q.s p.s (omega (arith, hq.shape.few_bytes)) (omega (arith, hp.shape.few_bytes)) (ap (λ (l : List ℕ). take 4 (drop 20 l)) same)
 
-module _ (p : FetchPlan) (within : p.block < p.r) (coins : List ℕ) (i : ℕ) (is_query : IsQuery (header_to p coins i)) (matrix : List (List ℕ)) (workers : ℕ) (is : IsMatrix matrix p.r p.s) where
+module _ (p : FetchPlan) (blocks : List ℕ) (are : AreBlocks p blocks) (coins : List ℕ) (i : ℕ) (is_query : IsQuery (header_to p (length blocks) coins i)) (matrix : List (List ℕ)) (workers : ℕ) (is : IsMatrix matrix p.r p.s) where
   abbrev params : SessionParams
-  params = params_of p (session_number coins)
+  params = params_of p (length blocks) (session_number coins)
 
   abbrev header : QueryHeader
-  header = header_to p coins i
+  header = header_to p (length blocks) coins i
+
+  abbrev own : List ℕ
+  own = queries_from coins
 
   abbrev asked_for : List ℕ
-  asked_for = payload_to params (queries_from coins) p.block i
+  asked_for = payload_for params own blocks i
 
-  front : take FRAME_HEADER_LEN (sent p coins i) ≡ query_header header
+  abbrev vector_len : ℕ
+  vector_len = payload_len (scheme_of p.scheme) p.r
+
+  front : take FRAME_HEADER_LEN (sent p blocks coins i) ≡ query_header header
   unfolding sent
   front = take-append_seam (query_header header) asked_for
 
-  rest : drop FRAME_HEADER_LEN (sent p coins i) ≡ asked_for
+  rest : drop FRAME_HEADER_LEN (sent p blocks coins i) ≡ asked_for
   unfolding sent
   rest = drop-append_seam (query_header header) asked_for
 
-  size : length (sent p coins i) ≡ frame_len p
+  size : length (sent p blocks coins i) ≡ frame_len p (length blocks)
   unfolding sent
-  size = length-append (query_header header) asked_for ∙ ap (λ n. FRAME_HEADER_LEN + n) (length-payload_to params (queries_from coins) p.block i)
+  size = length-append (query_header header) asked_for ∙ ap (λ n. FRAME_HEADER_LEN + n) (length-payload_for params own blocks i)
 
   abbrev service : Service
   service = service_with p matrix workers
 
-  suits : Suits service (sent p coins i)
+  is_header : IsQueryHeader (query_header header) header
+  is_header = record { range = is_query; spelled = refl }
+
+  suits : Suits service (sent p blocks coins i)
   suits = record {
     query = header;
     asks = record { whole = omega (arith, size); header = record { range = is_query; spelled = front } };
@@ -74,46 +87,71 @@ module _ (p : FetchPlan) (within : p.block < p.r) (coins : List ℕ) (i : ℕ) (
   }
 
   -- its payload is as long as the server takes it to be
-  size_is : payload_len_for service ≡ payload_len (scheme_of p.scheme) p.r
-  size_is = ap (payload_len (scheme_of p.scheme)) is.rows
+  asked : asked_of (sent p blocks coins i) ≡ length blocks
+  asked = ap blocks_in front ∙ blocks_in_query (query_header header) header is_header
 
-  query_is : payload service (sent p coins i) ≡ asked_for
-  query_is = ap₂ take size_is rest ∙ take_all (payload_len (scheme_of p.scheme) p.r) asked_for (let n = length-payload_to params (queries_from coins) p.block i in omega (arith, n))
+  vector_is : vector_len_for service ≡ vector_len
+  vector_is = ap (payload_len (scheme_of p.scheme)) is.rows
 
-  -- and sets no unused bit, of which only bitmaps have some
-  trim : sets_unused (scheme_of service.scheme) service.database (payload service (sent p coins i)) ≡ false
+  size_is : payload_len_for service (asked_of (sent p blocks coins i)) ≡ length blocks * vector_len
+  size_is = ap₂ (λ (n m : ℕ). n * m) asked vector_is
+
+  query_is : payload service (sent p blocks coins i) ≡ asked_for
+  query_is = ap₂ take size_is rest ∙ take_all (length blocks * vector_len) asked_for (let n = length-payload_for params own blocks i in omega (arith, n))
+
+  -- it has the vectors of the blocks
+  vectors_are : (v : ℕ) → v < length blocks → piece (vector_len_for service) v asked_for ≡ vector_at params own blocks i v
+  vectors_are v low = ap (λ (n : ℕ). piece n v asked_for) vector_is
+      ∙ piece-in_turn (length blocks) vector_len v (vector_at params own blocks i) (λ k _. length-payload_to params (piece (query_coins params) k own) (get_or blocks k 0) i) low
+
+  -- which set no unused bit, of which only bitmaps have some
+  trim_vector : (v : ℕ) → v < length blocks → sets_unused (scheme_of service.scheme) service.database (vector_at params own blocks i v) ≡ false
   unfolding payload_to
-  trim = ap (sets_unused (scheme_of p.scheme) service.database) query_is ∙ by_scheme (scheme_of p.scheme)
+  trim_vector v low = by_scheme (scheme_of p.scheme)
     where
-      by_scheme : (s : Scheme) → sets_unused s service.database (payload_in s params (queries_from coins) p.block i) ≡ false
+      by_scheme : (s : Scheme) → sets_unused s service.database (payload_in s params (piece (query_coins params) v own) (get_or blocks v 0) i) ≡ false
       by_scheme Shamir = refl
-      by_scheme Xor = ap (λ (r : ℕ). has_unused r (bitmap (queries_from coins) p.n p.r p.block i)) is.rows ∙ none_unused (queries_from coins) p.n p.r p.block i within
+      by_scheme Xor = ap (λ (r : ℕ). has_unused r (bitmap (piece (query_coins params) v own) p.n p.r (get_or blocks v 0) i)) is.rows
+          ∙ none_unused (piece (query_coins params) v own) p.n p.r (get_or blocks v 0) i (are.each v 0 low)
 
-  -- the server's answer is the honest one
-  answer_is : answer (scheme_of service.scheme) service.database asked_for ≡ honest_answer params matrix asked_for
+  trim_first : (n : ℕ) → n ≤ length blocks → some_sets_unused service n asked_for ≡ false
+  unfolding some_sets_unused
+  trim_first zero few = refl
+  trim_first (suc n) few = ap₂ (λ (x y : Bool). x || y) (trim_first n (omega (arith, few)))
+      (ap (sets_unused (scheme_of p.scheme) service.database) (vectors_are n (omega (arith, few))) ∙ trim_vector n (omega (arith, few)))
+
+  trim : some_sets_unused service (asked_of (sent p blocks coins i)) (payload service (sent p blocks coins i)) ≡ false
+  trim = ap₂ (some_sets_unused service) asked query_is ∙ trim_first (length blocks) (omega arith)
+
+  -- the server's answer to a vector is the honest one
+  answer_is : (vector : List ℕ) → answer (scheme_of service.scheme) service.database vector ≡ honest_answer params matrix vector
   unfolding honest_answer
-  answer_is = by_scheme (scheme_of p.scheme)
+  answer_is vector = by_scheme (scheme_of p.scheme)
     where
-      by_scheme : (s : Scheme) → answer s service.database asked_for ≡ answer_in s params matrix asked_for
+      by_scheme : (s : Scheme) → answer s service.database vector ≡ answer_in s params matrix vector
       by_scheme Shamir = refl
       by_scheme Xor = refl
 
-  frame_is : answer_frame service (take FRAME_HEADER_LEN (sent p coins i)) (payload service (sent p coins i)) ≡ frame_of p coins matrix i
+  answers_are : answers service (blocks_in (query_header header)) asked_for ≡ answer_by params matrix own blocks i
+  answers_are = ap (λ (n : ℕ). answers service n asked_for) (blocks_in_query (query_header header) header is_header)
+      ∙ in_turn-same (length blocks) _ _ (λ v low. ap (answer (scheme_of p.scheme) service.database) (vectors_are v low) ∙ answer_is (vector_at params own blocks i v))
+
+  frame_is : answer_frame service (take FRAME_HEADER_LEN (sent p blocks coins i)) (payload service (sent p blocks coins i)) ≡ frame_of p blocks coins matrix i
   unfolding honest_frame
-  frame_is = ap₂ (answer_frame service) front query_is ∙ ap (λ (l : List ℕ). answer_to (query_header header) 0 ++ l) answer_is
+  frame_is = ap₂ (answer_frame service) front query_is ∙ ap₂ (λ (h l : List ℕ). h ++ l) (answer_to_query header 0 is_query.blocks.some_version is_query.blocks.two_versions) answers_are
 
   -- another header has the same bytes, but is of another query: there is none
-  no_other : (other : QueryHeader) → IsQueryHeader (take FRAME_HEADER_LEN (sent p coins i)) other → (other.scheme ≡ p.scheme) × IsShaped service other
+  no_other : (other : QueryHeader) → IsQueryHeader (take FRAME_HEADER_LEN (sent p blocks coins i)) other → (other.scheme ≡ p.scheme) × IsShaped service other
   no_other other h =
       let same : query_header other ≡ query_header header = sym h.spelled ∙ front in
       (same_scheme other header h.range is_query same, record { rows = same_rows other header h.range is_query same ∙ sym is.rows; width = same_width other header h.range is_query same })
 
-  never_refused : (status : ℕ) → RefusedByHeader service (sent p coins i) status → ⊥
+  never_refused : (status : ℕ) → RefusedByHeader service (sent p blocks coins i) status → ⊥
   never_refused status (inl bad) = bad.1.none header (record { range = is_query; spelled = front })
   never_refused status (inr (inl other)) = other.1.other (no_other other.1.query other.1.asks.header).0
   never_refused status (inr (inr other)) = other.1.other (no_other other.1.query other.1.asks.header).1
 
-  only_reply : (met : Met) (frame : List ℕ) → Replies service (sent p coins i) met frame → (met ≡ Served) × (frame ≡ frame_of p coins matrix i)
+  only_reply : (met : Met) (frame : List ℕ) → Replies service (sent p blocks coins i) met frame → (met ≡ Served) × (frame ≡ frame_of p blocks coins matrix i)
   only_reply Served frame r = (refl, r.1 ∙ frame_is)
   only_reply (Refused status) frame (inl by_header, f) = absurd (never_refused status by_header)
   only_reply (Refused status) frame (inr by_payload, f) = absurd (false≢true (sym trim ∙ by_payload.1.unused_is))
@@ -121,13 +159,14 @@ module _ (p : FetchPlan) (within : p.block < p.r) (coins : List ℕ) (i : ℕ) (
   only_reply Gone frame (inr cut, none) = let few = cut.1 in absurd (omega (arith, size, few, size_is))
   only_reply GuestFault frame r = absurd r
 
-  the_reply : (met : Met) (frame : List ℕ) → (met ≡ Served) × (frame ≡ frame_of p coins matrix i) → Replies service (sent p coins i) met frame
-  the_reply met frame r = subst (λ (m : Met). Replies service (sent p coins i) m frame) (sym r.0)
+  the_reply : (met : Met) (frame : List ℕ) → (met ≡ Served) × (frame ≡ frame_of p blocks coins matrix i) → Replies service (sent p blocks coins i) met frame
+  the_reply met frame r = subst (λ (m : Met). Replies service (sent p blocks coins i) m frame) (sym r.0)
       (record { whole = record { suits = suits; enough = omega (arith, size, size_is) }; unused_is = trim }, r.1 ∙ sym frame_is)
 
 -- the reply is the frame of an honest server
-pub replies_honestly : (p : FetchPlan) (coins : List ℕ) (i : ℕ) (matrix : List (List ℕ)) (workers : ℕ) → p.block < p.r → IsQuery (header_to p coins i) → RepliesHonestly p coins i matrix workers
-replies_honestly p coins i matrix workers within is_query is met frame = (only_reply p within coins i is_query matrix workers is met frame, the_reply p within coins i is_query matrix workers is met frame)
+pub replies_honestly : (p : FetchPlan) (blocks : List ℕ) → AreBlocks p blocks → (coins : List ℕ) (i : ℕ) (matrix : List (List ℕ)) (workers : ℕ) → IsQuery (header_to p (length blocks) coins i)
+    → RepliesHonestly p blocks coins i matrix workers
+replies_honestly p blocks are coins i matrix workers is_query is met frame = (only_reply p blocks are coins i is_query matrix workers is met frame, the_reply p blocks are coins i is_query matrix workers is met frame)
 
 -- the number of a session has eight bytes
 session_below : (coins : List ℕ) → ((k : ℕ) → k < NUMBER_LEN → get_or coins k 0 < 256) → session_number coins < 2 ^ 64
@@ -136,14 +175,17 @@ session_below coins byte =
     omega (arith, byte 0 (omega arith), byte 1 (omega arith), byte 2 (omega arith), byte 3 (omega arith), byte 4 (omega arith), byte 5 (omega arith), byte 6 (omega arith), byte 7 (omega arith))
 
 -- what a fetch asks is a query
-pub asks_a_query : (p : FetchPlan) (coins : List ℕ) (i : ℕ) → IsPlan p → length coins ≡ need p → All (λ b. b < 256) coins → 1 ≤ i → i < 256 → IsQuery (header_to p coins i)
-asks_a_query p coins i plan size bytes some few =
-    let scheme = scheme_in p.scheme plan.numbers.scheme in
+pub asks_a_query : (p : FetchPlan) (blocks coins : List ℕ) (i : ℕ) → IsPlan p → AreBlocks p blocks → length coins ≡ need p (length blocks) → All (λ b. b < 256) coins → 1 ≤ i → i < 256
+    → IsQuery (header_to p (length blocks) coins i)
+asks_a_query p blocks coins i plan are size bytes some few =
+    let scheme = scheme_in p.scheme plan.scheme in
+    let range = range_of p blocks 0 plan are (omega arith) in
     record {
       some_scheme = scheme.0;
       two_schemes = scheme.1;
       some_index = some;
       few_indices = omega (arith, few);
       session = session_below coins (λ k l. bytes k 0 (omega (arith, size, l)));
-      shape = plan.numbers.shape;
+      shape = plan.shape;
+      blocks = range.blocks;
     }

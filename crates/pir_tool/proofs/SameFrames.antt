@@ -1,21 +1,24 @@
 -- A coalition is sent the same frames, in each scheme.
 use Rattle.std.proofs.Common.{◌≡◌, ◌≢◌, ℕ, ◌+◌, ◌-◌, ◌*◌, ◌<◌, ◌≤◌, List, ◌++◌, length, take, drop, get_or, All, refl, sym, ap, ap₂, subst, ◌∙◌, arith, length-append, length-drop}
 use Rattle.std.proofs.Math.Seq.{get_or-take, take-append_seam, drop-append_seam}
-use Rattle.std.proofs.lemmas.List.{length-take-le, take-append-drop}
+use Rattle.std.proofs.lemmas.List.{get_or_default, length-take-le, take-append-drop}
 use Rattle.std.proofs.lemmas.List.Elements.{All-take, All-drop, All-append}
-use Rattle.shamir_share.specs.Query.{query}
-use Rattle.chor_xor.specs.Bitmap.{bitmap, size_of}
+use Rattle.chor_xor.specs.Bitmap.{size_of}
 use Rattle.wire_frames.specs.declared.scheme.TheConstants.{SHAMIR, XOR}
+use Rattle.wire_frames.specs.Answer.{asked}
 use Rattle.wire_frames.specs.Header.{query_header}
+use Rattle.wire_frames.specs.Turns.{in_turn, piece}
+use Rattle.wire_frames.proofs.Turns.{in_turn-same}
 use Rattle.fetch_client.specs.declared.coins.TheConstants.{NUMBER_LEN}
 use Rattle.fetch_client.specs.declared.plan.FetchPlan.{FetchPlan}
 use Rattle.fetch_client.specs.Plan.{params_of, query_coins, need}
-use Rattle.fetch_client.specs.Sent.{session_number, payload_to, sent}
+use Rattle.fetch_client.specs.Sent.{session_number, payload_for, payload_to, sent, vector_at}
 use Rattle.fetch_client.proofs.Asking.{sent_is}
 use Rattle.fetch_client.proofs.Schemes.{coins_of_shamir, payload_of_shamir, coins_of_xor, payload_of_xor}
 use Rattle.privacy_law.specs.Bijection.{AreCoins, IsBijection}
-use Rattle.privacy_law.specs.Partner.{partner, partner_xor}
-use Rattle.pir_tool.specs.Privacy.{with_block, partner_coins, IsSentTheSame, partner_coins_xor, OthersAreSentTheSame}
+use Rattle.privacy_law.specs.Partner.{partner_list, partner_xor_list}
+use Rattle.privacy_law.proofs.PartnerLists.{IsBijection-list, IsBijection-xor_list, list_same, xor_list_same}
+use Rattle.pir_tool.specs.Privacy.{partner_coins, IsSentTheSame, partner_coins_xor, OthersAreSentTheSame}
 
 -- the number of a session is in the first coins
 session_front : (coins : List ℕ) → session_number (take NUMBER_LEN coins) ≡ session_number coins
@@ -71,53 +74,73 @@ module _ (n : ℕ) where
     right = λ coins is. behind_both b.inverse f coins is (b.right (drop NUMBER_LEN coins) (parts coins is).1);
   }
 
--- a frame is the same where the payload is
-same_frame : (p : FetchPlan) (other i : ℕ) (coins rest : List ℕ) → AreCoins (need p) coins
-    → payload_to (params_of p 0) rest other i ≡ payload_to (params_of p 0) (drop NUMBER_LEN coins) p.block i → sent (with_block p other) (take NUMBER_LEN coins ++ rest) i ≡ sent p coins i
-same_frame p other i coins rest is same =
-    let front = (parts (query_coins (params_of p 0)) coins is).0 in
+-- a frame is the same where each vector of its payload is
+same_frame : (p : FetchPlan) (blocks others : List ℕ) (i : ℕ) (coins rest : List ℕ) → length others ≡ length blocks → AreCoins (need p (length blocks)) coins
+    → ((v : ℕ) → v < length blocks → vector_at (params_of p 1 0) rest others i v ≡ vector_at (params_of p 1 0) (drop NUMBER_LEN coins) blocks i v)
+    → sent p others (take NUMBER_LEN coins ++ rest) i ≡ sent p blocks coins i
+same_frame p blocks others i coins rest as_many is same =
+    let params = params_of p 1 0 in
+    let front = (parts (length blocks * query_coins params) coins is).0 in
     let number : session_number (take NUMBER_LEN coins ++ rest) ≡ session_number coins =
     sym (session_front (take NUMBER_LEN coins ++ rest)) ∙ ap session_number (front_of (take NUMBER_LEN coins) rest front) ∙ session_front coins in
-    sym (sent_is (with_block p other) (take NUMBER_LEN coins ++ rest) i _ _ refl refl)
+    sym (sent_is p others (take NUMBER_LEN coins ++ rest) i _ _ refl refl)
     ∙ ap₂ (λ (x y : List ℕ). x ++ y)
-    (ap (λ (n : ℕ). query_header (record { scheme = p.scheme; index = i; session = n; r = p.r; s = p.s })) number)
-    (ap (λ (l : List ℕ). payload_to (params_of p 0) l other i) (rest_of (take NUMBER_LEN coins) rest front) ∙ same)
-    ∙ sent_is p coins i _ _ refl refl
+    (ap₂ (λ (q n : ℕ). query_header (asked (params_of p q n) i)) as_many number)
+    (ap (λ (l : List ℕ). payload_for params l others i) (rest_of (take NUMBER_LEN coins) rest front)
+    ∙ ap (λ (n : ℕ). in_turn n (vector_at params rest others i)) as_many ∙ in_turn-same (length blocks) _ _ same)
+    ∙ sent_is p blocks coins i _ _ refl refl
 
 -- in Shamir's sharing the frames are the same where the queries are
-module _ (p : FetchPlan) (one : p.scheme ≡ SHAMIR) (coalition : List ℕ) (other : ℕ) where
-  pub bijection_in_shamir : IsBijection (p.r * p.t) (λ coins. partner coins p.t coalition p.block other) → IsBijection (need p) (λ coins. partner_coins p coalition other coins)
-  unfolding partner_coins
-  bijection_in_shamir b =
-      let f : List ℕ → List ℕ = λ coins. partner coins p.t coalition p.block other in
-      bijection_behind (query_coins (params_of p 0)) f (subst (λ (n : ℕ). IsBijection n f) (sym (coins_of_shamir (params_of p 0) one)) b)
+module _ (p : FetchPlan) (one : p.scheme ≡ SHAMIR) (coalition blocks others : List ℕ) (as_many : length others ≡ length blocks)
+    (bytes : All (λ a. a < 256) coalition) (nonzero : All (λ a. a ≢ 0) coalition) where
+  abbrev changed : List ℕ → List ℕ
+  changed coins = partner_list coins p.t p.r coalition blocks others
 
-  pub same_in_shamir : ((coins : List ℕ) → AreCoins (p.r * p.t) coins → All (λ a. query (partner coins p.t coalition p.block other) p.t p.r other a ≡ query coins p.t p.r p.block a) coalition)
-      → IsSentTheSame p coalition other
+  pub bijection_in_shamir : IsBijection (need p (length blocks)) (λ coins. partner_coins p coalition blocks others coins)
   unfolding partner_coins
-  same_in_shamir same coins is = λ k d l.
-      let params = params_of p 0 in
+  bijection_in_shamir =
+      bijection_behind (length blocks * query_coins (params_of p 1 0)) changed
+      (subst (λ (n : ℕ). IsBijection (length blocks * n) changed) (sym (coins_of_shamir (params_of p 1 0) one)) (IsBijection-list p.t p.r coalition blocks others as_many bytes nonzero))
+
+  pub same_in_shamir : length coalition ≤ p.t → IsSentTheSame p coalition blocks others
+  unfolding partner_coins
+  same_in_shamir few coins is = λ k d l.
+      let params = params_of p 1 0 in
       let i = get_or coalition k d in
-      let coins_behind = subst (λ (n : ℕ). AreCoins n (drop NUMBER_LEN coins)) (coins_of_shamir params one) (parts (query_coins params) coins is).1 in
-      let rest = partner (drop NUMBER_LEN coins) p.t coalition p.block other in
-      same_frame p other i coins rest is
-      (payload_of_shamir params one rest other i ∙ same (drop NUMBER_LEN coins) coins_behind k d l ∙ sym (payload_of_shamir params one (drop NUMBER_LEN coins) p.block i))
+      let behind_number = drop NUMBER_LEN coins in
+      let own = coins_of_shamir params one in
+      let coins_behind = (parts (length blocks * query_coins params) coins is).1 in
+      let whole : length behind_number ≡ length blocks * (p.r * p.t) = coins_behind.size ∙ ap (λ (n : ℕ). length blocks * n) own in
+      same_frame p blocks others i coins (changed behind_number) as_many is (λ v low.
+      ap (λ (n : ℕ). payload_to params (piece n v (changed behind_number)) (get_or others v 0) i) own
+      ∙ payload_of_shamir params one (piece (p.r * p.t) v (changed behind_number)) (get_or others v 0) i
+      ∙ list_same behind_number p.t p.r coalition blocks others whole v i low few bytes nonzero (k, l, get_or_default coalition k i d l)
+      ∙ sym (payload_of_shamir params one (piece (p.r * p.t) v behind_number) (get_or blocks v 0) i)
+      ∙ sym (ap (λ (n : ℕ). payload_to params (piece n v behind_number) (get_or blocks v 0) i) own))
 
 -- in the XOR scheme they are where the bitmaps are
-module _ (p : FetchPlan) (two : p.scheme ≡ XOR) (left_out other : ℕ) where
-  pub bijection_in_xor : IsBijection ((p.n - 1) * size_of p.r) (λ coins. partner_xor coins p.n p.r left_out p.block other) → IsBijection (need p) (λ coins. partner_coins_xor p left_out other coins)
-  unfolding partner_coins_xor
-  bijection_in_xor b =
-      let f : List ℕ → List ℕ = λ coins. partner_xor coins p.n p.r left_out p.block other in
-      bijection_behind (query_coins (params_of p 0)) f (subst (λ (n : ℕ). IsBijection n f) (sym (coins_of_xor (params_of p 0) two)) b)
+module _ (p : FetchPlan) (two : p.scheme ≡ XOR) (left_out : ℕ) (blocks others : List ℕ) (as_many : length others ≡ length blocks) where
+  abbrev flipped : List ℕ → List ℕ
+  flipped coins = partner_xor_list coins p.n p.r left_out blocks others
 
-  pub same_in_xor : ((coins : List ℕ) → AreCoins ((p.n - 1) * size_of p.r) coins → (i : ℕ) → 1 ≤ i → i ≤ p.n → i ≢ left_out
-      → bitmap (partner_xor coins p.n p.r left_out p.block other) p.n p.r other i ≡ bitmap coins p.n p.r p.block i)
-      → OthersAreSentTheSame p left_out other
+  pub bijection_in_xor : IsBijection (need p (length blocks)) (λ coins. partner_coins_xor p left_out blocks others coins)
   unfolding partner_coins_xor
-  same_in_xor same coins is i first last ne =
-      let params = params_of p 0 in
-      let coins_behind = subst (λ (n : ℕ). AreCoins n (drop NUMBER_LEN coins)) (coins_of_xor params two) (parts (query_coins params) coins is).1 in
-      let rest = partner_xor (drop NUMBER_LEN coins) p.n p.r left_out p.block other in
-      same_frame p other i coins rest is
-      (payload_of_xor params two rest other i ∙ same (drop NUMBER_LEN coins) coins_behind i first last ne ∙ sym (payload_of_xor params two (drop NUMBER_LEN coins) p.block i))
+  bijection_in_xor =
+      bijection_behind (length blocks * query_coins (params_of p 1 0)) flipped
+      (subst (λ (n : ℕ). IsBijection (length blocks * n) flipped) (sym (coins_of_xor (params_of p 1 0) two)) (IsBijection-xor_list p.n p.r left_out blocks others as_many))
+
+  pub same_in_xor : All (λ b. b < p.r) blocks → All (λ b. b < p.r) others → 1 ≤ left_out → left_out ≤ p.n → OthersAreSentTheSame p left_out blocks others
+  unfolding partner_coins_xor
+  same_in_xor in_range others_in_range least most coins is i first last ne =
+      let params = params_of p 1 0 in
+      let size = (p.n - 1) * size_of p.r in
+      let behind_number = drop NUMBER_LEN coins in
+      let own = coins_of_xor params two in
+      let coins_behind = (parts (length blocks * query_coins params) coins is).1 in
+      let whole : length behind_number ≡ length blocks * size = coins_behind.size ∙ ap (λ (n : ℕ). length blocks * n) own in
+      same_frame p blocks others i coins (flipped behind_number) as_many is (λ v low.
+      ap (λ (n : ℕ). payload_to params (piece n v (flipped behind_number)) (get_or others v 0) i) own
+      ∙ payload_of_xor params two (piece size v (flipped behind_number)) (get_or others v 0) i
+      ∙ xor_list_same behind_number p.n p.r left_out blocks others whole v i low (in_range v 0 low) (others_in_range v 0 (omega (arith, low, as_many))) least most first last ne
+      ∙ sym (payload_of_xor params two (piece size v behind_number) (get_or blocks v 0) i)
+      ∙ sym (ap (λ (n : ℕ). payload_to params (piece n v behind_number) (get_or blocks v 0) i) own))

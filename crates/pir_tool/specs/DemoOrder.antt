@@ -25,20 +25,19 @@ abbrev pub asked_to_demonstrate : DemoOrder → Asked
 asked_to_demonstrate o = Demo o.port o.database o.rows o.width o.block o.servers o.degree o.agree o.coins
 
 -- a plan in Shamir's scheme
-abbrev pub plan_with : ℕ → ℕ → ℕ → ℕ → ℕ → ℕ → FetchPlan
-plan_with rows width block servers degree agree = record {
+abbrev pub plan_with : ℕ → ℕ → ℕ → ℕ → ℕ → FetchPlan
+plan_with rows width servers degree agree = record {
   scheme = SHAMIR;
   t = degree;
   h = agree;
   n = servers;
   r = rows;
   s = width;
-  block = block;
 }
 
 -- the plan of the fetch
 abbrev pub plan_of : DemoOrder → FetchPlan
-plan_of o = plan_with o.rows o.width o.block o.servers o.degree o.agree
+plan_of o = plan_with o.rows o.width o.servers o.degree o.agree
 
 -- the address of child i, counted from 1: on loopback, at the port that is greater by i
 unfoldable pub address_from : ℕ → ℕ → List ℕ
@@ -61,4 +60,4 @@ words_of_children o = map (λ i. words_to_serve o.database o.width (address_from
 
 -- the fetch from the children, which isn't recorded
 abbrev pub fetch_from_children : DemoOrder → FetchOrder
-fetch_from_children o = record { plan = plan_of o; addresses = addresses_from o.port o.servers; coins = o.coins; keep = None }
+fetch_from_children o = record { plan = plan_of o; blocks = o.block ∷ []; addresses = addresses_from o.port o.servers; coins = o.coins; keep = None }

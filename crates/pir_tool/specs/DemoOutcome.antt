@@ -55,8 +55,8 @@ files = OUTPUT ∷ COINS ∷ []
 -- children were started, each with its words, and the text of the verdict on the session with them is written whole;
 -- where it holds fewer, that is said, with their number
 pub record DemoPromise (o : DemoOrder) (status : Status) (old new : World) : Type 0 where
-  pub reported : (held : List ℕ) → (old.at COINS).holds ≡ Some held → need (plan_of o) ≤ length held
+  pub reported : (held : List ℕ) → (old.at COINS).holds ≡ Some held → need (plan_of o) 1 ≤ length held
       → NoneRose files old new → NoChildRose o.servers old new → DemoReported o status old new ⊎ (status ≡ Memory)
-  pub too_few_coins : (held : List ℕ) → (old.at COINS).holds ≡ Some held → length held < need (plan_of o)
+  pub too_few_coins : (held : List ℕ) → (old.at COINS).holds ≡ Some held → length held < need (plan_of o) 1
       → NoneRose files old new → NoChildRose o.servers old new
       → (status ≡ BadInput (CoinsEnded (length held))) ⊎ (status ≡ Memory)

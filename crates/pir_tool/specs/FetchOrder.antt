@@ -5,16 +5,18 @@ use Rattle.pir_words.specs.Form.{asked_of}
 use Rattle.pir_words.specs.declared.asked.Asked.{Asked}
 use Rattle.pir_words.specs.declared.asked.Asked.TheVariants.{Fetch}
 
--- the plan, the address of each server, the name of the coins, and that of the record, where one is kept
+-- the plan, the blocks that are fetched, the address of each server, the name of the coins, and that of the record, where
+-- one is kept
 pub record FetchOrder : Type 0 where
   pub plan : FetchPlan
+  pub blocks : List ℕ
   pub addresses : List (List ℕ)
   pub coins : List ℕ
   pub keep : Option (List ℕ)
 
 -- the command that orders it
 abbrev pub asked_by_order : FetchOrder → Asked
-asked_by_order o = Fetch o.plan.scheme o.plan.r o.plan.s o.plan.block o.plan.t o.plan.h o.coins o.keep o.addresses
+asked_by_order o = Fetch o.plan.scheme o.plan.r o.plan.s o.blocks o.plan.t o.plan.h o.coins o.keep o.addresses
 
 -- the words order it, of as many servers as there are addresses
 pub record Orders (words : List (List ℕ)) (o : FetchOrder) : Type 0 where

@@ -25,8 +25,8 @@ use Rattle.pir_tool.specs.declared.status.Bad.TheVariants.{Session, EmptyFile, T
 
 -- Coins was opened by its name and gave these coins, and every server was asked with them, in this session
 pub record InSession (o : FetchOrder) (coins : List ℕ) (session : Transcript) (old new : World) : Type 0 where
-  pub tossed : Tossed (need o.plan) coins (named o.coins (old.at COINS)) (new.at COINS)
-  pub asked : AsksAll o.plan o.addresses coins session old new
+  pub tossed : Tossed (need o.plan (length o.blocks)) coins (named o.coins (old.at COINS)) (new.at COINS)
+  pub asked : AsksAll o.plan o.blocks o.addresses coins session old new
 
 -- every server was asked in this session, and this is its verdict, which has the block of honest servers, and the row
 -- that enough servers hold
@@ -34,8 +34,8 @@ pub record Settled (o : FetchOrder) (session : Transcript) (verdict : Verdict) (
   pub coins : List ℕ
   pub fetched : InSession o coins session old new
   pub judged : IsVerdict session verdict
-  pub found : FindsHonestBlock session (queries_from coins) o.plan.block verdict
-  pub held : FindsHeldRow o.plan coins session verdict
+  pub found : FindsHonestBlock session (queries_from coins) o.blocks verdict
+  pub held : FindsHeldRow o.plan o.blocks coins session verdict
 
 -- Record was opened by this name, and has taken the file of the session
 pub record IsRecorded (name : List ℕ) (session : Transcript) (old new : World) : Type 0 where
@@ -72,12 +72,12 @@ pub record FetchCutShort (o : FetchOrder) (old new : World) : Type 0 where
 
 -- the coins can't be read, and no server was asked
 pub record FetchUnreadable (o : FetchOrder) (old new : World) : Type 0 where
-  pub unread : Unread COINS o.coins (need o.plan) old new
+  pub unread : Unread COINS o.coins (need o.plan (length o.blocks)) old new
   pub others : Touches COINS old new
 
 -- there are too few coins, and no server was asked
 pub record FetchRefused (o : FetchOrder) (taken : ℕ) (old new : World) : Type 0 where
-  pub short : RunsOut (need o.plan) taken (named o.coins (old.at COINS)) (new.at COINS)
+  pub short : RunsOut (need o.plan (length o.blocks)) taken (named o.coins (old.at COINS)) (new.at COINS)
   pub others : Touches COINS old new
 
 -- every server was asked, in some session
@@ -142,7 +142,7 @@ files_of o = OUTPUT ∷ COINS ∷ record_port o.keep
 -- server was asked, and the text of the session's verdict is written whole; where it holds fewer, that is said, with
 -- their number
 pub record FetchPromise (o : FetchOrder) (status : Status) (old new : World) : Type 0 where
-  pub reported : (held : List ℕ) → (old.at COINS).holds ≡ Some held → need o.plan ≤ length held
+  pub reported : (held : List ℕ) → (old.at COINS).holds ≡ Some held → need o.plan (length o.blocks) ≤ length held
       → NoneRose (files_of o) old new → FetchReported o status old new ⊎ (status ≡ Memory)
-  pub too_few_coins : (held : List ℕ) → (old.at COINS).holds ≡ Some held → length held < need o.plan
+  pub too_few_coins : (held : List ℕ) → (old.at COINS).holds ≡ Some held → length held < need o.plan (length o.blocks)
       → NoneRose (files_of o) old new → (status ≡ BadInput (CoinsEnded (length held))) ⊎ (status ≡ Memory)

@@ -1,5 +1,5 @@
 -- What a server that holds the database replies to the query of a fetch.
-use Rattle.std.specs.Prelude.{◌≡◌, ◌↔◌, ℕ, List}
+use Rattle.std.specs.Prelude.{◌≡◌, ◌↔◌, ℕ, List, length}
 use Rattle.gf256.specs.Product.{IsMatrix}
 use Rattle.fetch_client.specs.declared.plan.FetchPlan.{FetchPlan}
 use Rattle.fetch_client.specs.Plan.{params_of}
@@ -15,12 +15,12 @@ abbrev pub service_with : FetchPlan → List (List ℕ) → ℕ → Service
 service_with p matrix workers = record { database = record { rows = matrix; width = p.s }; scheme = p.scheme; workers = workers }
 
 -- the frame of honest server i in the session that is fetched with these coins
-abbrev pub frame_of : FetchPlan → List ℕ → List (List ℕ) → ℕ → List ℕ
-frame_of p coins matrix i = honest_frame (params_of p (session_number coins)) matrix (queries_from coins) p.block i
+abbrev pub frame_of : FetchPlan → List ℕ → List ℕ → List (List ℕ) → ℕ → List ℕ
+frame_of p blocks coins matrix i = honest_frame (params_of p (length blocks) (session_number coins)) matrix (queries_from coins) blocks i
 
 -- its reply to what it is sent is this frame, and nothing else
-abbrev pub RepliesHonestly : FetchPlan → List ℕ → ℕ → List (List ℕ) → ℕ → Type 0
-RepliesHonestly p coins i matrix workers = IsMatrix matrix p.r p.s
+abbrev pub RepliesHonestly : FetchPlan → List ℕ → List ℕ → ℕ → List (List ℕ) → ℕ → Type 0
+RepliesHonestly p blocks coins i matrix workers = IsMatrix matrix p.r p.s
     → (met : Met) (frame : List ℕ)
-    → Replies (service_with p matrix workers) (sent p coins i) met frame
-    ↔ ((met ≡ Served) × (frame ≡ frame_of p coins matrix i))
+    → Replies (service_with p matrix workers) (sent p blocks coins i) met frame
+    ↔ ((met ≡ Served) × (frame ≡ frame_of p blocks coins matrix i))

@@ -14,9 +14,10 @@ use Rattle.pir_tool.specs.declared.status.Status.{Status}
 use Rattle.pir_tool.specs.declared.status.Status.TheVariants.{Usage, Memory}
 
 -- what the words of `fetch` order
-abbrev pub order_of : ℕ → ℕ → ℕ → ℕ → ℕ → ℕ → List ℕ → Option (List ℕ) → List (List ℕ) → FetchOrder
-order_of scheme rows width block degree agree coins keep addresses = record {
-  plan = record { scheme = scheme; t = degree; h = agree; n = length addresses; r = rows; s = width; block = block };
+abbrev pub order_of : ℕ → ℕ → ℕ → List ℕ → ℕ → ℕ → List ℕ → Option (List ℕ) → List (List ℕ) → FetchOrder
+order_of scheme rows width blocks degree agree coins keep addresses = record {
+  plan = record { scheme = scheme; t = degree; h = agree; n = length addresses; r = rows; s = width };
+  blocks = blocks;
   addresses = addresses;
   coins = coins;
   keep = keep;
@@ -25,8 +26,8 @@ order_of scheme rows width block degree agree coins keep addresses = record {
 -- what the command did, by its status
 abbrev pub Outcome : Asked → Status → World → World → Type 0
 Outcome (Replay file) status old new = ReplayOutcome file status old new
-Outcome (Fetch scheme rows width block degree agree coins keep addresses) status old new =
-    FetchOutcome (order_of scheme rows width block degree agree coins keep addresses) status old new
+Outcome (Fetch scheme rows width blocks degree agree coins keep addresses) status old new =
+    FetchOutcome (order_of scheme rows width blocks degree agree coins keep addresses) status old new
 Outcome (Serve scheme database width guests listen workers) status old new = ServeOutcome (record {
   scheme = scheme;
   database = database;

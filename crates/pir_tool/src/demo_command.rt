@@ -19,6 +19,7 @@ impl<'a> Demonstration<'a> {
     fn plan(&self) -> FetchPlan
         ensures plan { result ≡ plan_of self.now }
         ensures ranges { IsPlan result }
+        ensures block { self.now.block < self.now.rows }
     {
         FetchPlan {
             scheme: SHAMIR,
@@ -27,7 +28,6 @@ impl<'a> Demonstration<'a> {
             n: self.servers,
             r: self.rows,
             s: self.width,
-            block: self.block,
         }
     }
 }
@@ -137,8 +137,10 @@ pub(crate) fn demonstrate<P: Ports>(alloc: Global, order: &Demonstration, ports:
     let Ok(()) = start_children(ports, &lists) else {
         return Status::ChildFault;
     };
+    let blocks = [order.block];
     let fetching = Fetching {
         plan: order.plan(),
+        blocks: &blocks,
         addresses: &addresses,
         coins: order.coins,
         record_name: None,

@@ -22,7 +22,7 @@ use std::sync::ledger::{Blank, Ledger};
 use uni_poly::steps::Steps;
 use wire_frames::{Session, write_session};
 
-/// Fetches the block, with counters of columns and of nodes that nobody reads, made of the blanks.
+/// Fetches the blocks, with counters of columns and of nodes that nobody reads, made of the blanks.
 fn fetch_once<C: Ledger, N: Ledger, P: Ports>(
     alloc: Global,
     cols: Blank,
@@ -32,14 +32,14 @@ fn fetch_once<C: Ledger, N: Ledger, P: Ports>(
 ) -> Result<(Session, Verdict), FetchFault>
     requires cols { IsOwn cols C.name C.parts }
     requires nodes { IsOwn nodes N.name N.parts }
-    ensures fetched { Fetches order.now.plan order.now.addresses result (P.world ports.old) (P.world ports.new) }
+    ensures fetched { Fetches order.now.plan order.now.blocks order.now.addresses result (P.world ports.old) (P.world ports.new) }
     ensures others { TouchesLinks order.now.plan.n (P.world ports.old) (P.world ports.new) }
 {
     let mut cols: Steps<C> = Steps::new(cols);
     let mut nodes: Steps<N> = Steps::new(nodes);
-    let (plan, addresses) = (&order.plan, order.addresses);
+    let (plan, blocks, addresses) = (&order.plan, order.blocks, order.addresses);
     fetch(
-        alloc, &Koetter, plan, addresses, ports, &mut cols, &mut nodes,
+        alloc, &Koetter, plan, blocks, addresses, ports, &mut cols, &mut nodes,
     )
 }
 
@@ -78,7 +78,7 @@ fn report_session<P: Ports>(
     }
 }
 
-/// Fetches a block: reads the coins from their file, asks every server, records the session where a file for it is
+/// Fetches blocks: reads the coins from their file, asks every server, records the session where a file for it is
 /// named, and writes the verdict's text.
 pub(crate) fn fetch_block<P: Ports>(alloc: Global, order: &Fetching, ports: &mut P) -> Status
     ensures ends { FetchEnds order.now result (P.world ports.old) (P.world ports.new) }

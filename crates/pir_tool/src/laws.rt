@@ -2,52 +2,57 @@
 
 ghost use Rattle.std.specs.Prelude.{◌≡◌, ◌≢◌, ◌<◌, ◌≤◌, ℕ, List, length, All};
 ghost use Rattle.wire_frames.specs.declared.scheme.TheConstants.{SHAMIR, XOR};
-ghost use Rattle.fetch_client.specs.Plan.{IsPlan, need};
+ghost use Rattle.fetch_client.specs.Plan.{AreBlocks, IsPlan, need};
 ghost use Rattle.pir_tool.specs.HonestReply.{RepliesHonestly};
 ghost use Rattle.privacy_law.specs.Bijection.{IsBijection};
 ghost use Rattle.pir_tool.specs.Privacy.{IsSentTheSame, OthersAreSentTheSame, partner_coins, partner_coins_xor};
 
 use fetch_client::FetchPlan;
-use privacy_law::laws::{all_but_one_see_no_block, coalition_sees_no_block};
 
 /// What a server that holds a database of the plan's shape replies to the frame that a fetch sends it, is the frame of
 /// an honest server: the header of status 0, and the product of its query and the rows (Goldberg 2007), or in the XOR
 /// scheme the XOR of the rows in its bitmap (Chor, Goldreich, Kushilevitz and Sudan 1995). It replies nothing else. So
 /// what `run` promises of honest frames, it promises of the replies of such servers.
-pub fn reply_is_the_honest_frame(plan: &FetchPlan, coins: &[u8], index: u8)
+pub fn reply_is_the_honest_frame(plan: &FetchPlan, blocks: &[u32], coins: &[u8], index: u8)
     requires plan { IsPlan plan.now }
-    requires coins { length coins.now ≡ need plan.now }
+    requires blocks { AreBlocks plan.now blocks.now }
+    requires coins { length coins.now ≡ need plan.now (length blocks.now) }
     requires index { 1 ≤ index }
-    ensures { (matrix : List (List ℕ)) (workers : ℕ) → RepliesHonestly plan.now coins.now index matrix workers }
+    ensures { (matrix : List (List ℕ)) (workers : ℕ) → RepliesHonestly plan.now blocks.now coins.now index matrix workers }
 {}
 
-/// In Shamir's sharing, what up to `t` servers together are sent for one block, they are sent for any other block from
+/// In Shamir's sharing, what up to `t` servers together are sent for some blocks, they are sent for as many others from
 /// other coins, byte for byte, the session's number included; and a bijection of all coins takes the one to the other.
-/// So as many coins lead to what they see for one block as for another: where the coins are uniform, secret and used
-/// once, what they see doesn't tell the block (Goldberg 2007; Shamir 1979). `coalition` has the indices of these
+/// So as many coins lead to what they see for some blocks as for others: where the coins are uniform, secret and used
+/// once, what they see doesn't tell the blocks (Goldberg 2007; Shamir 1979). `coalition` has the indices of these
 /// servers.
-pub fn coalition_is_sent_the_same(plan: &FetchPlan, coalition: &[u8], other: u32)
+pub fn coalition_is_sent_the_same(
+    plan: &FetchPlan,
+    coalition: &[u8],
+    blocks: &[u32],
+    others: &[u32],
+)
+    requires as_many { length others.now ≡ length blocks.now }
     requires scheme { plan.now.scheme ≡ SHAMIR }
     requires bound { length coalition.now ≤ plan.now.t }
     requires nonzero { All (λ a. a ≢ 0) coalition.now }
-    ensures bijection { IsBijection (need plan.now) (λ coins. partner_coins plan.now coalition.now other coins) }
-    ensures same { IsSentTheSame plan.now coalition.now other }
-{
-    coalition_sees_no_block(u32::from(plan.t), plan.r, coalition, plan.block, other);
-}
+    ensures bijection { IsBijection (need plan.now (length blocks.now))
+        (λ coins. partner_coins plan.now coalition.now blocks.now others.now coins) }
+    ensures same { IsSentTheSame plan.now coalition.now blocks.now others.now }
+{}
 
-/// In the XOR scheme the same holds of all servers but one, whichever that is: what they together are sent for one
-/// block, they are sent for any other block from other coins, byte for byte, the session's number included; and a
+/// In the XOR scheme the same holds of all servers but one, whichever that is: what they together are sent for some
+/// blocks, they are sent for as many others from other coins, byte for byte, the session's number included; and a
 /// bijection of all coins takes the one to the other (Chor, Goldreich, Kushilevitz and Sudan 1995). `left_out` is the
 /// index of the one.
-pub fn all_but_one_are_sent_the_same(plan: &FetchPlan, left_out: u8, other: u32)
+pub fn all_but_one_are_sent_the_same(plan: &FetchPlan, left_out: u8, blocks: &[u32], others: &[u32])
+    requires as_many { length others.now ≡ length blocks.now }
     requires scheme { plan.now.scheme ≡ XOR }
     requires first { 1 ≤ left_out }
     requires last { left_out ≤ plan.now.n }
-    requires block { plan.now.block < plan.now.r }
-    requires other_block { other < plan.now.r }
-    ensures bijection { IsBijection (need plan.now) (λ coins. partner_coins_xor plan.now left_out other coins) }
-    ensures same { OthersAreSentTheSame plan.now left_out other }
-{
-    all_but_one_see_no_block(u32::from(plan.n), plan.r, left_out, plan.block, other);
-}
+    requires blocks { All (λ b. b < plan.now.r) blocks.now }
+    requires other_blocks { All (λ b. b < plan.now.r) others.now }
+    ensures bijection { IsBijection (need plan.now (length blocks.now))
+        (λ coins. partner_coins_xor plan.now left_out blocks.now others.now coins) }
+    ensures same { OthersAreSentTheSame plan.now left_out blocks.now others.now }
+{}

@@ -30,6 +30,7 @@ fn text_of(word: &Option<Text>) -> Option<&str>
 }
 
 /// Does what the command says. It is told apart here and nowhere else.
+#[tactic(auto, using(fetch_client::proofs::Ranges::one_block))]
 #[rattlefmt::skip]
 pub(crate) fn obey<R: Threads + Sync, P: Ports>(rt: &R, alloc: Global, asked: &Asked, ports: &mut P) -> Status
     requires { InRange asked.now }
@@ -37,11 +38,12 @@ pub(crate) fn obey<R: Threads + Sync, P: Ports>(rt: &R, alloc: Global, asked: &A
 {
     match asked {
         Asked::Replay { file } => replay_file(alloc, file.as_str(), ports),
-        Asked::Fetch { scheme, rows, width, block, degree, agree, coins, keep, addresses } => {
+        Asked::Fetch { scheme, rows, width, blocks, degree, agree, coins, keep, addresses } => {
             let addresses = addresses.as_slice();
             let (scheme, t, h, n) = (*scheme, *degree, *agree, addresses.len() as u8);
-            let plan = FetchPlan { scheme, t, h, n, r: *rows, s: *width, block: *block };
-            let order = Fetching { plan, addresses, coins: coins.as_str(), record_name: text_of(keep) };
+            let plan = FetchPlan { scheme, t, h, n, r: *rows, s: *width };
+            let (blocks, coins, record_name) = (blocks.as_slice(), coins.as_str(), text_of(keep));
+            let order = Fetching { plan, blocks, addresses, coins, record_name };
             fetch_block(alloc, &order, ports)
         }
         Asked::Serve { scheme, database, width, conns, listen, workers } => {

@@ -6,10 +6,11 @@ use std::marker::Model;
 /// TCP has so many ports, from 0 on.
 pub(crate) const TCP_PORTS: u32 = 65536;
 
-/// What is fetched, from which servers, with which coins, and in which file the session is recorded, if it is.
+/// Which blocks are fetched, and how, from which servers, with which coins, and in which file the session is recorded, if it is.
 #[derive(Drop)]
 pub(crate) struct Fetching<'a, 'b> {
     pub(crate) plan: FetchPlan,
+    pub(crate) blocks: &'a [u32],
     pub(crate) addresses: &'a [String],
     pub(crate) coins: &'b str,
     pub(crate) record_name: Option<&'b str>,
@@ -18,19 +19,21 @@ pub(crate) struct Fetching<'a, 'b> {
 impl<'a, 'b> Model for Fetching<'a, 'b> {
     ghost use Rattle.std.specs.Prelude.{◌≡◌, length, map, string_bytes};
     ghost use Rattle.std.specs.Option.{option_copied};
-    ghost use Rattle.fetch_client.specs.Plan.{IsPlan};
+    ghost use Rattle.fetch_client.specs.Plan.{AreBlocks, IsPlan};
     ghost use Rattle.pir_tool.specs.FetchOrder.{FetchOrder};
 
     ghost Value = { FetchOrder };
 
     ghost view = { λ f. record {
       plan = f.plan;
+      blocks = f.blocks.now;
       addresses = map string_bytes f.addresses.now;
       coins = f.coins.now;
       keep = option_copied f.record_name;
     } };
 
-    ghost invariant = { λ f. IsPlan f.plan × (length f.addresses.now ≡ f.plan.n) };
+    ghost invariant = { λ f. IsPlan f.plan × AreBlocks f.plan f.blocks.now
+        × (length f.addresses.now ≡ f.plan.n) };
 }
 
 /// What is served, where, to how many guests, and by how many workers.
@@ -100,5 +103,5 @@ impl<'a> Model for Demonstration<'a> {
     } };
 
     ghost invariant = { λ d. (d.port + d.servers < TCP_PORTS)
-        × IsPlan (plan_with d.rows d.width d.block d.servers d.degree d.agree) };
+        × IsPlan (plan_with d.rows d.width d.servers d.degree d.agree) × (d.block < d.rows) };
 }

@@ -5,6 +5,7 @@ use Rattle.std.specs.Str.{bytes_eq}
 use Rattle.std.proofs.lemmas.Bool.{leb-true}
 use Rattle.clap.specs.Words.{Row, Text, all_of, first_of, subcommand_of}
 use Rattle.wire_frames.specs.Limits.{IsShape}
+use Rattle.wire_frames.proofs.Counts.{single_count}
 use Rattle.wire_frames.specs.declared.TheConstants.{LEAST_SERVERS, MOST_GUESTS, MOST_SERVERS, MOST_WIDTH}
 use Rattle.wire_frames.specs.declared.scheme.Scheme.{Scheme}
 use Rattle.wire_frames.specs.declared.scheme.Scheme.TheVariants.{Shamir, Xor}
@@ -13,7 +14,7 @@ use Rattle.wire_frames.specs.Scheme.{number_of}
 use Rattle.pir_words.specs.Numbers.{limited, number_in}
 use Rattle.pir_words.specs.Ranges.{FitsSession, block_in, scheme_in, servers_in, sharing_in, sizes_in, workers_in}
 use Rattle.pir_words.specs.ReplayForm.{replay_of}
-use Rattle.pir_words.specs.FetchForm.{addresses_in, fetch_of, fetch_sharing_in, xor_sharing_in}
+use Rattle.pir_words.specs.FetchForm.{addresses_in, blocks_in, fetch_of, fetch_sharing_in, xor_sharing_in}
 use Rattle.pir_words.specs.ServeForm.{serve_of}
 use Rattle.pir_words.specs.SelfrunForm.{selfrun_of}
 use Rattle.pir_words.specs.DemoForm.{demo_of}
@@ -24,7 +25,7 @@ use Rattle.pir_words.specs.declared.ranges.Sharing.{Sharing}
 use Rattle.pir_words.specs.declared.asked.Asked.{Asked}
 use Rattle.pir_words.specs.declared.asked.Asked.TheVariants.{Replay}
 use Rattle.pir_words.proofs.Chains.{some_is, test_of, value_of}
-use Rattle.pir_words.proofs.ValuesInRange.{block_range, limited_range, number_range, scheme_range, servers_range, shamir_fits, sharing_range, sizes_range, workers_range}
+use Rattle.pir_words.proofs.ValuesInRange.{block_range, blocks_range, limited_range, number_range, scheme_range, servers_range, shamir_fits, sharing_range, sizes_range, workers_range}
 
 -- all of n servers, and all but one
 xor_range : (n : ℕ) (m : List Row) (sharing : Sharing) → xor_sharing_in n m ≡ Some sharing → (LEAST_SERVERS ≤ n) × (record { degree = n - 1; agree = n } ≡ sharing)
@@ -48,6 +49,7 @@ xor_fits r s n shape two few = record {
   all_answer = λ e. refl;
   session = lit< tt;
   shape = shape;
+  blocks = single_count r s shape;
 }
 
 -- a session may have the sharing of a fetch
@@ -79,15 +81,15 @@ fetch_range : (m : List Row) (asked : Asked) → fetch_of m ≡ Some asked → I
 unfolding fetch_of
 fetch_range m asked e =
     let sizes = value_of (sizes_in m) _ asked e in
-    let block = value_of (block_in sizes.0.rows m) _ asked sizes.2 in
-    let scheme = value_of (scheme_in m) _ asked block.2 in
+    let blocks = value_of (blocks_in sizes.0 m) _ asked sizes.2 in
+    let scheme = value_of (scheme_in m) _ asked blocks.2 in
     let addresses = value_of (addresses_in m) _ asked scheme.2 in
     let n = length addresses.0 in
     let sharing = value_of (fetch_sharing_in scheme.0 n m) _ asked addresses.2 in
     subst InRange (some_is _ asked sharing.2) (record {
       numbers = fetch_fits scheme.0 n sizes.0.rows sizes.0.width m sharing.0
           (sizes_range m sizes.0 sizes.1) (addresses_range m addresses.0 addresses.1) sharing.1;
-      block = block_range sizes.0.rows m block.0 block.1;
+      together = blocks_range sizes.0 m blocks.0 blocks.1;
     })
 
 -- the values of `serve`
@@ -149,11 +151,9 @@ demo_range m asked e =
     subst InRange (some_is _ asked sharing.2) (record {
       some_port = p.0;
       few_ports = p.1;
-      fetch = record {
-        numbers = shamir_fits sizes.0.rows sizes.0.width sharing.0.degree sharing.0.agree n
-            (sizes_range m sizes.0 sizes.1) (sharing_range n m sharing.0 sharing.1) (servers_range m n servers.1).1;
-        block = block_range sizes.0.rows m block.0 block.1;
-      };
+      numbers = shamir_fits sizes.0.rows sizes.0.width sharing.0.degree sharing.0.agree n
+          (sizes_range m sizes.0 sizes.1) (sharing_range n m sharing.0 sharing.1) (servers_range m n servers.1).1;
+      block = block_range sizes.0.rows m block.0 block.1;
     })
 
 -- the values of a command by its name

@@ -4,3 +4,4 @@ pub mod Entered
 pub mod InRanges
 pub mod Parsing
 pub mod ValuesInRange
+pub mod NamedRows

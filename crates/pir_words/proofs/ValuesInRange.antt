@@ -1,18 +1,22 @@
 -- The values that several commands have are in their ranges.
-use Rattle.std.proofs.Common.{◌≡◌, ◌⊎◌, inl, inr, ℕ, ◌<◌, ◌≤◌, ◌*◌, ◌^◌, ◌&&◌, List, length, Some, codes, unwrap_or, refl, lit<, subst, arith}
-use Rattle.std.specs.Prelude.{nat_le, nat_lt}
+use Rattle.std.proofs.Common.{◌≡◌, ◌⊎◌, inl, inr, ℕ, ◌<◌, ◌≤◌, ◌*◌, ◌^◌, ◌&&◌, List, [], ◌∷◌, All, length, Option, Some, None, codes, unwrap_or, refl, lit<, subst, ap, arith}
+use Rattle.std.specs.Prelude.{nat_le, nat_lt, option_map}
 use Rattle.std.specs.List.{list_all}
 use Rattle.std.specs.Str.Parse.{digits_value}
 use Rattle.std.proofs.lemmas.Bool.{and_parts, leb-true, ltb-true}
+use Rattle.std.proofs.lemmas.List.Elements.{All-nil, All-cons}
 use Rattle.clap.specs.Words.{Row, Text, first_of}
 use Rattle.wire_frames.specs.Limits.{IsShape}
-use Rattle.wire_frames.specs.declared.TheConstants.{LEAST_SERVERS, MOST_DEGREE, MOST_SERVERS, MOST_ROWS, MOST_WIDTH, MOST_CELLS, MOST_WORKERS}
+use Rattle.wire_frames.proofs.Counts.{single_count}
+use Rattle.wire_frames.specs.declared.TheConstants.{LEAST_SERVERS, MOST_BLOCKS, MOST_DEGREE, MOST_SERVERS, MOST_ROWS, MOST_WIDTH, MOST_CELLS, MOST_WORKERS}
 use Rattle.wire_frames.specs.declared.scheme.Scheme.{Scheme}
 use Rattle.wire_frames.specs.declared.scheme.Scheme.TheVariants.{Shamir, Xor}
 use Rattle.wire_frames.specs.declared.scheme.TheConstants.{SHAMIR, XOR}
 use Rattle.wire_frames.specs.Scheme.{number_of}
+use Rattle.pir_words.specs.Chain.{◌>>=◌}
 use Rattle.pir_words.specs.Numbers.{is_digit, limited, number, number_in}
-use Rattle.pir_words.specs.Ranges.{FitsSession, block_in, servers_in, sharing_in, sizes_in, workers_in}
+use Rattle.pir_words.specs.Ranges.{FitsSession, block_in, row_named, servers_in, sharing_in, sizes_in, workers_in}
+use Rattle.pir_words.specs.FetchForm.{AreAtOnce, at_once, blocks_in, more_texts, rows_behind, rows_named}
 use Rattle.pir_words.specs.declared.ranges.Sizes.{Sizes}
 use Rattle.pir_words.specs.declared.ranges.Sharing.{Sharing}
 use Rattle.pir_words.proofs.Chains.{some_is, test_of, value_of}
@@ -59,13 +63,51 @@ sizes_range m sizes e =
       few_cells = leb-true _ _ cells.0;
     })
 
--- the block is one of the rows
+-- a row that a text names is one of the rows
+pub row_range : (rows : ℕ) (text : Text) (row : ℕ) → row_named rows text ≡ Some row → row < rows
+unfolding row_named
+row_range rows text row e =
+    let given = value_of (number text) _ row e in
+    let tested = test_of (nat_lt given.0 rows) _ row given.2 in
+    subst (λ b. b < rows) (some_is _ row tested.1) (ltb-true _ _ tested.0)
+
+-- and so is the block
 pub block_range : (rows : ℕ) (m : List Row) (block : ℕ) → block_in rows m ≡ Some block → block < rows
 unfolding block_in
 block_range rows m block e =
-    let given = value_of (number_in (codes "block") m) _ block e in
-    let tested = test_of (nat_lt given.0 rows) _ block given.2 in
-    subst (λ b. b < rows) (some_is _ block tested.1) (ltb-true _ _ tested.0)
+    let text = value_of (first_of (codes "block") m) _ block e in
+    row_range rows text.0 block text.2
+
+-- rows that texts name are too
+pub rows_range : (rows : ℕ) (texts : List Text) (named : List ℕ) → rows_named rows texts ≡ Some named → All (λ b. b < rows) named
+unfolding rows_named
+rows_range rows [] named e = subst (All (λ b. b < rows)) (some_is [] named e) (All-nil (λ b. b < rows))
+rows_range rows (text ∷ texts) named e =
+    let row = value_of (row_named rows text) _ named e in
+    let others = value_of (rows_named rows texts) _ named row.2 in
+    subst (All (λ b. b < rows)) (some_is (row.0 ∷ others.0) named others.2)
+    (All-cons (λ b. b < rows) row.0 others.0 (row_range rows text row.0 row.1) (rows_range rows texts others.0 others.1))
+
+-- and blocks that are read may be asked for at once
+pub blocks_range : (sizes : Sizes) (m : List Row) (blocks : List ℕ) → blocks_in sizes m ≡ Some blocks → AreAtOnce sizes.rows sizes.width blocks
+unfolding blocks_in at_once rows_behind
+blocks_range sizes m blocks e =
+    let block = value_of (block_in sizes.rows m) _ blocks e in
+    let all = value_of (rows_behind block.0 sizes.rows (more_texts (first_of (codes "more") m))) _ blocks block.2 in
+    let more = value_of (rows_named sizes.rows (more_texts (first_of (codes "more") m))) (λ others. Some (block.0 ∷ others)) all.0 (mapped (rows_named sizes.rows (more_texts (first_of (codes "more") m))) block.0 all.0 all.1) in
+    let tested = test_of (at_once sizes.width all.0) _ blocks all.2 in
+    let both = and_parts (nat_le (length all.0) MOST_BLOCKS) (nat_le (length all.0 * sizes.width) MOST_WIDTH) tested.0 in
+    let is = some_is (block.0 ∷ more.0) all.0 more.2 in
+    subst (AreAtOnce sizes.rows sizes.width) (some_is all.0 blocks tested.1) (record {
+      some = omega (arith, ap length is);
+      few = leb-true _ _ both.0;
+      each = subst (All (λ b. b < sizes.rows)) is (All-cons (λ b. b < sizes.rows) block.0 more.0 (block_range sizes.rows m block.0 block.1) (rows_range sizes.rows _ more.0 more.1));
+      few_bytes = leb-true _ _ both.1;
+    })
+  where
+    mapped : (o : Option (List ℕ)) (first : ℕ) (all : List ℕ) → option_map (λ others. first ∷ others) o ≡ Some all → (o >>= (λ others. Some (first ∷ others))) ≡ Some all
+    mapped None first all h = cc
+    mapped (Some others) first all h = h
 
 -- a scheme's number is one of the two
 pub scheme_range : (scheme : Scheme) → (number_of scheme ≡ SHAMIR) ⊎ (number_of scheme ≡ XOR)
@@ -114,6 +156,7 @@ shamir_fits r s t h n shape shares few = record {
   all_answer = λ e. omega (arith, e);
   session = lit< tt;
   shape = shape;
+  blocks = single_count r s shape;
 }
 
 -- there are as many workers as there may be

@@ -35,13 +35,14 @@ operands_rule name = record (new_rule name) { required = true; action = Some App
 unfoldable pub replay_app : App
 replay_app = with_rule (new_app (codes "replay")) (operand_rule (codes "file"))
 
--- `fetch --rows R --width S --block B --degree T --agree H ADDRESS..`
+-- `fetch --rows R --width S --block B --more B,.. --degree T --agree H ADDRESS..`
 unfoldable pub fetch_app : App
 fetch_app =
     let rows = with_option (new_app (codes "fetch")) (codes "rows") true in
     let width = with_option rows (codes "width") true in
     let block = with_option width (codes "block") true in
-    let scheme = with_option block (codes "scheme") false in
+    let more = with_option block (codes "more") false in
+    let scheme = with_option more (codes "scheme") false in
     let degree = with_option scheme (codes "degree") false in
     let agree = with_option degree (codes "agree") false in
     let coins = with_option agree (codes "coins") false in

@@ -1,10 +1,9 @@
 -- The form of `demo`.
-use Rattle.std.specs.Prelude.{ℕ, ◌≤◌, List, Option, Some, codes}
+use Rattle.std.specs.Prelude.{ℕ, ◌<◌, ◌≤◌, List, Option, Some, codes}
 use Rattle.clap.specs.Words.{Row, first_of}
 use Rattle.pir_words.specs.Chain.{◌>>=◌}
 use Rattle.pir_words.specs.Numbers.{limited}
-use Rattle.pir_words.specs.Ranges.{block_in, coins_in, servers_in, sharing_in, sizes_in}
-use Rattle.pir_words.specs.FetchForm.{IsFetch}
+use Rattle.pir_words.specs.Ranges.{FitsSession, block_in, coins_in, servers_in, sharing_in, sizes_in}
 use Rattle.wire_frames.specs.declared.scheme.TheConstants.{SHAMIR}
 use Rattle.pir_words.specs.declared.TheConstants.{LEAST_PORT, MOST_PORT}
 use Rattle.pir_words.specs.declared.ranges.Sizes.{Sizes}
@@ -24,8 +23,9 @@ demo_of m = do
   Some (Demo port database sizes.rows sizes.width block servers
       sharing.degree sharing.agree (coins_in m))
 
--- the values of `demo` are those of a fetch from n servers in Shamir's scheme, and a port
+-- the values of `demo` are those of a session of n servers in Shamir's scheme, the block is one of the rows, and there is a port
 pub record IsDemo (port r s b t h n : ℕ) : Type 0 where
   pub some_port : LEAST_PORT ≤ port
   pub few_ports : port ≤ MOST_PORT
-  pub fetch : IsFetch SHAMIR r s b t h n
+  pub numbers : FitsSession SHAMIR t h n r s
+  pub block : b < r

@@ -1,12 +1,13 @@
 -- The form of `fetch`.
-use Rattle.std.specs.Prelude.{ℕ, ◌-◌, ◌<◌, ◌&&◌, List, length, Option, Some, codes, is_none, nat_le}
+use Rattle.std.specs.Prelude.{ℕ, ◌*◌, ◌-◌, ◌<◌, ◌≤◌, ◌==◌, ◌&&◌, Bool, List, [], ◌∷◌, All, length, Option, None, Some, option_map, codes, is_none, nat_le}
+use Rattle.std.specs.List.{slice_split}
 use Rattle.clap.specs.Words.{Row, Text, all_of, first_of}
-use Rattle.wire_frames.specs.declared.TheConstants.{LEAST_SERVERS, MOST_SERVERS}
+use Rattle.wire_frames.specs.declared.TheConstants.{LEAST_SERVERS, MOST_BLOCKS, MOST_SERVERS, MOST_WIDTH}
 use Rattle.wire_frames.specs.declared.scheme.Scheme.{Scheme}
 use Rattle.wire_frames.specs.declared.scheme.Scheme.TheVariants.{Shamir, Xor}
 use Rattle.wire_frames.specs.Scheme.{number_of}
 use Rattle.pir_words.specs.Chain.{◌>>=◌, ◌>>◌}
-use Rattle.pir_words.specs.Ranges.{FitsSession, block_in, coins_in, scheme_in, sharing_in, sizes_in}
+use Rattle.pir_words.specs.Ranges.{FitsSession, block_in, coins_in, row_named, scheme_in, sharing_in, sizes_in}
 use Rattle.pir_words.specs.declared.ranges.Sizes.{Sizes}
 use Rattle.pir_words.specs.declared.ranges.Sharing.{Sharing}
 use Rattle.pir_words.specs.declared.asked.Asked.{Asked}
@@ -32,18 +33,58 @@ unfoldable pub fetch_sharing_in : Scheme → ℕ → List Row → Option Sharing
 fetch_sharing_in Shamir n m = sharing_in n m
 fetch_sharing_in Xor n m = xor_sharing_in n m
 
+-- a comma
+abbrev pub is_comma : ℕ → Bool
+is_comma c = c == 44
+
+-- the texts of further blocks, which commas split: none where none is given
+abbrev pub more_texts : Option Text → List Text
+more_texts None = []
+more_texts (Some text) = slice_split is_comma text
+
+-- the rows that texts name, each of so many
+unfoldable pub rows_named : ℕ → List Text → Option (List ℕ)
+rows_named rows [] = Some []
+rows_named rows (text ∷ texts) = do
+  row ← row_named rows text
+  others ← rows_named rows texts
+  Some (row ∷ others)
+
+-- a first row, and behind it those that texts name
+unfoldable pub rows_behind : ℕ → ℕ → List Text → Option (List ℕ)
+rows_behind first rows texts = option_map (λ others. first ∷ others) (rows_named rows texts)
+
+-- blocks that may be asked for at once, of so many bytes each
+unfoldable pub at_once : ℕ → List ℕ → Bool
+at_once width blocks = nat_le (length blocks) MOST_BLOCKS && nat_le (length blocks * width) MOST_WIDTH
+
+-- the blocks: that of `--block`, and then those of `--more`
+unfoldable pub blocks_in : Sizes → List Row → Option (List ℕ)
+blocks_in sizes m = do
+  block ← block_in sizes.rows m
+  blocks ← rows_behind block sizes.rows (more_texts (first_of (codes "more") m))
+  at_once sizes.width blocks
+  Some blocks
+
 -- `fetch` with its values, each in its range
 unfoldable pub fetch_of : List Row → Option Asked
 fetch_of m = do
   (sizes : Sizes) ← sizes_in m
-  block ← block_in sizes.rows m
+  blocks ← blocks_in sizes m
   scheme ← scheme_in m
   addresses ← addresses_in m
   (sharing : Sharing) ← fetch_sharing_in scheme (length addresses) m
-  Some (Fetch (number_of scheme) sizes.rows sizes.width block sharing.degree sharing.agree
+  Some (Fetch (number_of scheme) sizes.rows sizes.width blocks sharing.degree sharing.agree
       (coins_in m) (first_of (codes "record") m) addresses)
 
--- the values of `fetch` with n addresses are those of a session, and the block is one of the rows
-pub record IsFetch (scheme r s b t h n : ℕ) : Type 0 where
+-- these are blocks that may be asked for at once: some, each one of r rows, and all of them of few bytes
+pub record AreAtOnce (r s : ℕ) (blocks : List ℕ) : Type 0 where
+  pub some : 1 ≤ length blocks
+  pub few : length blocks ≤ MOST_BLOCKS
+  pub each : All (λ b. b < r) blocks
+  pub few_bytes : length blocks * s ≤ MOST_WIDTH
+
+-- the values of `fetch` with n addresses are those of a session, and the blocks may be asked for at once
+pub record IsFetch (scheme r s : ℕ) (blocks : List ℕ) (t h n : ℕ) : Type 0 where
   pub numbers : FitsSession scheme t h n r s
-  pub block : b < r
+  pub together : AreAtOnce r s blocks

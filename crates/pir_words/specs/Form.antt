@@ -46,8 +46,8 @@ asked_of words = do
   are_taken words
   asked_in (subcommand_of pir words)
 
--- what words that ask for this command, or for none, are read as: exactly that, or want of memory
-abbrev pub IsReadAs : Option Asked → Result Asked WordsFault → Type 0
+-- what words that ask for this value, as a command, or for none, are read as: exactly that, or want of memory
+abbrev pub IsReadAs : {A : Type 0} → Option A → Result A WordsFault → Type 0
 IsReadAs wanted (Ok asked) = wanted ≡ Some asked
 IsReadAs wanted (Err Usage) = wanted ≡ None
 IsReadAs wanted (Err Memory) = Unit {0}
@@ -55,7 +55,8 @@ IsReadAs wanted (Err Memory) = Unit {0}
 -- the values of a command are in their ranges
 abbrev pub InRange : Asked → Type 0
 InRange (Replay file) = Unit {0}
-InRange (Fetch scheme r s b t h coins keep addresses) = IsFetch scheme r s b t h (length addresses)
+InRange (Fetch scheme r s blocks t h coins keep addresses) =
+    IsFetch scheme r s blocks t h (length addresses)
 InRange (Serve scheme database s guests listen workers) = IsServe scheme s guests workers
 InRange (Selfrun seed r s n t h v workers slow) = IsSelfrun seed r s n t h v workers
 InRange (Demo port database r s b n t h coins) = IsDemo port r s b t h n

@@ -4,6 +4,7 @@ use Rattle.std.specs.Str.{bytes_eq}
 use Rattle.clap.specs.Words.{Row, Text, first_of}
 use Rattle.wire_frames.specs.Limits.{IsInRange}
 use Rattle.wire_frames.specs.declared.TheConstants.{LEAST_SERVERS, MOST_DEGREE, MOST_SERVERS, MOST_ROWS, MOST_WIDTH, MOST_CELLS, MOST_WORKERS}
+use Rattle.wire_frames.specs.declared.version.TheConstants.{SINGLE}
 use Rattle.wire_frames.specs.declared.scheme.Scheme.{Scheme}
 use Rattle.wire_frames.specs.declared.scheme.Scheme.TheVariants.{Shamir, Xor}
 use Rattle.pir_words.specs.Chain.{◌>>=◌, ◌>>◌}
@@ -19,12 +20,18 @@ sizes_in m = do
   nat_le (rows * width) MOST_CELLS
   Some (record { rows = rows; width = width })
 
+-- the row that a text names, of so many
+unfoldable pub row_named : ℕ → Text → Option ℕ
+row_named rows text = do
+  row ← number text
+  nat_lt row rows
+  Some row
+
 -- a block of so many rows
 unfoldable pub block_in : ℕ → List Row → Option ℕ
 block_in rows m = do
-  block ← number_in (codes "block") m
-  nat_lt block rows
-  Some block
+  text ← first_of (codes "block") m
+  row_named rows text
 
 -- the scheme of this name
 unfoldable pub scheme_named : Text → Option Scheme
@@ -48,11 +55,21 @@ sharing_in n m = do
   nat_lt t h && nat_le h n
   Some (record { degree = t; agree = h })
 
--- a session may have these numbers, whatever its own is: degree t and agreement h of n servers in a
--- scheme, and r rows of s bytes
+-- a session for one block may have these numbers, whatever its own is: degree t and agreement h of n
+-- servers in a scheme, and r rows of s bytes
 abbrev pub FitsSession : ℕ → ℕ → ℕ → ℕ → ℕ → ℕ → Type 0
 FitsSession scheme t h n r s =
-    IsInRange (record { scheme = scheme; t = t; h = h; n = n; session = 0; r = r; s = s })
+    IsInRange (record {
+      version = SINGLE;
+      scheme = scheme;
+      t = t;
+      h = h;
+      n = n;
+      count = 1;
+      session = 0;
+      r = r;
+      s = s;
+    })
 
 -- the number of workers, one where it isn't given
 unfoldable pub workers_in : List Row → Option ℕ

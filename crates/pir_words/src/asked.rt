@@ -1,5 +1,6 @@
 //! What words can ask for.
 
+use crate::blocks::Blocks;
 use crate::text::{Text, Texts};
 use clap::error::ErrorKind;
 use std::alloc::AllocError;
@@ -13,7 +14,7 @@ pub enum Asked {
         /// The file's name; `-` is standard input.
         file: Text,
     },
-    /// Fetch a block of a database that several servers hold.
+    /// Fetch a block of a database that several servers hold, or several in one query.
     Fetch {
         /// The scheme's number: 1, Shamir's, or 2, the XOR scheme.
         scheme: u8,
@@ -21,8 +22,8 @@ pub enum Asked {
         rows: u32,
         /// How many bytes a row has.
         width: u32,
-        /// The row to fetch, counted from 0.
-        block: u32,
+        /// The rows to fetch, counted from 0.
+        blocks: Blocks,
         /// The degree t: so many servers together learn nothing; in the XOR scheme all but one.
         degree: u8,
         /// How many answers have to agree; in the XOR scheme all.

@@ -62,7 +62,8 @@ fn fetch_command<'a>(alloc: Global) -> Result<Command<'a>, AllocError>
     let rows = with_option(alloc, start, "rows", true)?;
     let width = with_option(alloc, rows, "width", true)?;
     let block = with_option(alloc, width, "block", true)?;
-    let scheme = with_option(alloc, block, "scheme", false)?;
+    let more = with_option(alloc, block, "more", false)?;
+    let scheme = with_option(alloc, more, "scheme", false)?;
     let degree = with_option(alloc, scheme, "degree", false)?;
     let agree = with_option(alloc, degree, "agree", false)?;
     let coins = with_option(alloc, agree, "coins", false)?;

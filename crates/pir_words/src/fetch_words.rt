@@ -7,7 +7,8 @@ ghost use Rattle.pir_words.specs.FetchForm.{addresses_in, fetch_of, fetch_sharin
 ghost use Rattle.pir_words.specs.Form.{IsReadAs};
 
 use crate::asked::{Asked, WordsFault};
-use crate::ranges::{Sharing, block_at, coins_at, scheme_at, sharing_at, sizes_at};
+use crate::blocks::blocks_at;
+use crate::ranges::{Sharing, coins_at, scheme_at, sharing_at, sizes_at};
 use crate::text::Texts;
 use crate::values::{owned, owned_if_given, text_at, texts_at};
 use clap::ArgMatches;
@@ -60,7 +61,7 @@ pub fn read_fetch(alloc: Global, matches: &ArgMatches) -> Result<Asked, WordsFau
     ensures { IsReadAs (fetch_of (given matches.now)) result }
 {
     let sizes = sizes_at(matches).ok_or(WordsFault::Usage)?;
-    let block = block_at(matches, sizes.rows).ok_or(WordsFault::Usage)?;
+    let blocks = blocks_at(alloc, matches, sizes)?;
     let scheme = scheme_at(matches).ok_or(WordsFault::Usage)?;
     let addresses = addresses_at(matches).ok_or(WordsFault::Usage)?;
     let sharing = fetch_sharing_at(matches, scheme, addresses.len() as u8).ok_or(
@@ -73,7 +74,7 @@ pub fn read_fetch(alloc: Global, matches: &ArgMatches) -> Result<Asked, WordsFau
         scheme: scheme.number(),
         rows: sizes.rows,
         width: sizes.width,
-        block,
+        blocks,
         degree: sharing.degree,
         agree: sharing.agree,
         coins,

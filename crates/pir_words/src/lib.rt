@@ -20,6 +20,7 @@ ghost use Rattle.pir_words.specs.Command.{pir};
 ghost use Rattle.pir_words.specs.Form.{IsReadAs, InRange, are_taken, asked_by, asked_in, asked_of};
 
 mod asked;
+mod blocks;
 mod command;
 mod demo_words;
 mod fetch_words;
@@ -31,6 +32,7 @@ mod text;
 mod values;
 
 pub use asked::{Asked, WordsFault};
+pub use blocks::Blocks;
 use clap::ArgMatches;
 use command::pir_command;
 use demo_words::read_demo;
@@ -89,8 +91,8 @@ fn read_matches(alloc: Global, matches: &ArgMatches) -> Result<Asked, WordsFault
 /// | Command | Required | May be left out |
 /// |---|---|---|
 /// | `replay` | FILE | |
-/// | `fetch` | `--rows R --width S --block B --degree T --agree H`, two addresses or more | `--scheme shamir`, `--coins FILE` (`/dev/urandom`), `--record FILE` |
-/// | `fetch` | `--scheme xor --rows R --width S --block B`, two addresses or more | `--coins FILE` (`/dev/urandom`), `--record FILE` |
+/// | `fetch` | `--rows R --width S --block B --degree T --agree H`, two addresses or more | `--more B,B,..`, `--scheme shamir`, `--coins FILE` (`/dev/urandom`), `--record FILE` |
+/// | `fetch` | `--scheme xor --rows R --width S --block B`, two addresses or more | `--more B,B,..`, `--coins FILE` (`/dev/urandom`), `--record FILE` |
 /// | `serve` | `--database FILE --width S --conns GUESTS --listen ADDR` | `--scheme shamir` or `--scheme xor` (`shamir`), `--workers W` (1) |
 /// | `selfrun` | `--seed SEED --rows R --width S --servers N --degree T --agree H --liars V` | `--workers W` (1), `--slow` |
 /// | `demo` | `--port P --database FILE --rows R --width S --block B --servers N --degree T --agree H` | `--coins FILE` (`/dev/urandom`) |
@@ -102,8 +104,11 @@ fn read_matches(alloc: Global, matches: &ArgMatches) -> Result<Asked, WordsFault
 /// A number is one or more ASCII decimal digits, of a value below `2^64`: `002` is good, and `+2`
 /// is not. Any such number is a seed. The numbers R of rows and S of their bytes are at least 1 and
 /// at most [`MOST_ROWS`](wire_frames::MOST_ROWS) and [`MOST_WIDTH`](wire_frames::MOST_WIDTH), their
-/// product is at most [`MOST_CELLS`](wire_frames::MOST_CELLS), and the block B is below R. There
-/// are at least [`LEAST_SERVERS`](wire_frames::LEAST_SERVERS) servers and at most
+/// product is at most [`MOST_CELLS`](wire_frames::MOST_CELLS), and the block B is below R. Further
+/// blocks are such numbers too, split by single commas, in the order in which they are fetched, and
+/// may repeat; with B they are at most [`MOST_BLOCKS`](wire_frames::MOST_BLOCKS), and of at most
+/// [`MOST_WIDTH`](wire_frames::MOST_WIDTH) bytes together. There are at least
+/// [`LEAST_SERVERS`](wire_frames::LEAST_SERVERS) servers and at most
 /// [`MOST_SERVERS`](wire_frames::MOST_SERVERS), as many as `--servers` says or addresses stand.
 /// Degree and agreement of N servers have `1 <= T < H <= N`, and T is at most
 /// [`MOST_DEGREE`](wire_frames::MOST_DEGREE). In the XOR scheme neither may stand: the agreement is

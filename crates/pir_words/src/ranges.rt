@@ -2,7 +2,7 @@
 
 ghost use Rattle.std.specs.Prelude.{◌≡◌};
 ghost use Rattle.pir_words.specs.Numbers.{given};
-ghost use Rattle.pir_words.specs.Ranges.{block_in, coins_in, scheme_in, scheme_named, servers_in, sharing_in, sizes_in, workers_in};
+ghost use Rattle.pir_words.specs.Ranges.{block_in, coins_in, row_named, scheme_in, scheme_named, servers_in, sharing_in, sizes_in, workers_in};
 
 use crate::values::{limited_at, number_at, number_of, text_at};
 use clap::ArgMatches;
@@ -42,17 +42,25 @@ pub fn sizes_at(matches: &ArgMatches) -> Option<Sizes>
     }
 }
 
+/// The row that a text names, one of so many.
+#[tactic(auto, unfolding(crate::specs::Ranges::row_named))]
+pub fn row_named(text: &str, rows: u32) -> Option<u32>
+    ensures { result ≡ row_named rows text.now }
+{
+    let row = number_of(text)?;
+    if row < u64::from(rows) {
+        Some(row as u32)
+    } else {
+        None
+    }
+}
+
 /// The block, one of so many rows.
 #[tactic(auto, unfolding(crate::specs::Ranges::block_in))]
 pub fn block_at(matches: &ArgMatches, rows: u32) -> Option<u32>
     ensures { result ≡ block_in rows (given matches.now) }
 {
-    let block = number_at(matches, "block")?;
-    if block < u64::from(rows) {
-        Some(block as u32)
-    } else {
-        None
-    }
+    row_named(text_at(matches, "block")?, rows)
 }
 
 /// The scheme of this name.

@@ -3,3 +3,4 @@ pub mod ChangedPieces
 pub mod ChangedRows
 pub mod SameQueries
 pub mod SameBitmaps
+pub mod PartnerLists

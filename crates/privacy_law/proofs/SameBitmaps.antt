@@ -181,7 +181,7 @@ xor_back coins n r left_out b b2 =
     ]
 
 -- coins stay coins
-AreCoins-xor : (m : ℕ) (coins : List ℕ) (n r left_out b b2 : ℕ) → AreCoins m coins → AreCoins m (partner_xor coins n r left_out b b2)
+pub AreCoins-xor : (m : ℕ) (coins : List ℕ) (n r left_out b b2 : ℕ) → AreCoins m coins → AreCoins m (partner_xor coins n r left_out b b2)
 AreCoins-xor m coins n r left_out b b2 h =
     elim (cases_eq left_out n) [
       | inl same ↦ subst (AreCoins m) (sym (xor_stays coins n r left_out b b2 same)) h

@@ -1,8 +1,9 @@
 -- The partner of coins: from it a coalition is sent for one block what it is sent from the coins
 -- for another.
-use Rattle.std.specs.Prelude.{ℕ, ◌+◌, ◌-◌, List, ◌==◌, if◌then◌else◌}
+use Rattle.std.specs.Prelude.{ℕ, ◌+◌, ◌-◌, ◌*◌, List, length, slice_index, ◌==◌, if◌then◌else◌}
 use Rattle.gf256.specs.Polynomial.{coef}
 use Rattle.chor_xor.specs.Bitmap.{size_of, unit_byte}
+use Rattle.wire_frames.specs.Turns.{in_turn, piece}
 use Rattle.privacy_law.specs.Hiding.{hiding}
 use Rattle.privacy_law.specs.Pieces.{added}
 
@@ -20,8 +21,18 @@ partner coins t coalition b b2 =
 abbrev pub flipped : List ℕ → ℕ → ℕ → ℕ → List ℕ
 flipped coins r piece j = added coins (size_of r) piece (unit_byte j)
 
+-- for several blocks: one after another the partner of each block's own r * t coins
+unfoldable pub partner_list : List ℕ → ℕ → ℕ → List ℕ → List ℕ → List ℕ → List ℕ
+partner_list coins t r coalition bs b2s = in_turn (length bs) (λ i.
+    partner (piece (r * t) i coins) t coalition (slice_index bs i) (slice_index b2s i))
+
 -- in the XOR scheme of n servers, for all of them but one: the bits of both blocks are flipped in
 -- its bitmap, unless it is the last server, who alone has a bitmap that isn't coins
 unfoldable pub partner_xor : List ℕ → ℕ → ℕ → ℕ → ℕ → ℕ → List ℕ
 partner_xor coins n r left_out b b2 =
     if left_out == n then coins else flipped (flipped coins r (left_out - 1) b) r (left_out - 1) b2
+
+-- and for several blocks: one after another the partner of each block's own coins
+unfoldable pub partner_xor_list : List ℕ → ℕ → ℕ → ℕ → List ℕ → List ℕ → List ℕ
+partner_xor_list coins n r left_out bs b2s = in_turn (length bs) (λ i.
+    partner_xor (piece ((n - 1) * size_of r) i coins) n r left_out (slice_index bs i) (slice_index b2s i))

@@ -7,7 +7,8 @@
 //!
 //! Promised, for all coins: [`partner`] is that bijection for the polynomials of Shamir's scheme,
 //! of any degree and with at most as many members, and [`partner_xor`] for the bitmaps of the XOR
-//! scheme, with all servers but one. The same is sent, and the call with the blocks exchanged gives
+//! scheme, with all servers but one; [`partner_list`] and [`partner_xor_list`] are so for several
+//! blocks in one query. The same is sent, and the call with the blocks exchanged gives
 //! the coins back; want of memory is its only error. [`laws`] says the same of the definitions, in
 //! calls that take no memory and cannot fail.
 //!
@@ -17,8 +18,10 @@
 #![tactic(auto)]
 
 pub mod laws;
+mod lists;
 mod shamir;
 mod xor;
 
-pub use shamir::partner;
+pub use lists::{partner_list, partner_xor_list};
+pub use shamir::{hiding, partner};
 pub use xor::partner_xor;

@@ -54,8 +54,10 @@ pub fn partner(
     Ok(changed)
 }
 
-/// The product of `1 - x/a` over the members `a` of the coalition.
-fn hiding(alloc: Global, coalition: &[u8]) -> Result<Vec<u8>, AllocError>
+/// The product of `1 - x/a` over the members `a` of the coalition, none of which is 0 (Shamir 1979):
+/// one coefficient more than there are members. It is 1 at 0, and 0 at each member. Want of memory
+/// is the only error.
+pub fn hiding(alloc: Global, coalition: &[u8]) -> Result<Vec<u8>, AllocError>
     requires { All (λ a. a ≢ 0) coalition.now }
     ensures { IfOk result (λ v. v.items ≡ hiding coalition.now) }
 {

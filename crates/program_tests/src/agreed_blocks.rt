@@ -7,9 +7,10 @@ ghost use Rattle.wire_frames.specs.declared.TheConstants.{MOST_SERVERS};
 ghost use Rattle.block_decoder.specs.Numbers.{column_nodes};
 ghost use Rattle.block_decoder.specs.Verdict.{ListsNoMoreThan};
 
-use block_decoder::{Verdict, bound, decide, judge, plain_listing, write_verdict};
+use block_decoder::{Verdict, bound, decide, judge, write_verdict};
 use gs_interpolate::Koetter;
 use pir_ports::{MemPorts, Port};
+use plain_blocks::plain_listing;
 use std::alloc::{AllocError, Global};
 use std::marker::Brand;
 use std::sync::ledger::{Blank, Ledger};
@@ -325,10 +326,12 @@ fn judged<C: Ledger, N: Ledger>(
 
 // Two servers of the XOR scheme, with session number 7 and two rows of two bytes.
 const XOR_PAIR: SessionParams = SessionParams {
+    version: 1,
     scheme: 2,
     t: 1,
     h: 2,
     n: 2,
+    count: 1,
     session: 7,
     r: 2,
     s: 2,

@@ -38,6 +38,20 @@ impl Interpolate for Counted {
 /// The verdict on five answers of a byte, of which each three on a line agree on a block: `10`, `10`, `10`, `17`, `16`. One
 /// column is decoded.
 fn decided<C: Ledger, N: Ledger>(
+    alloc: Global,
+    way: &Counted,
+    cols: &mut Steps<C>,
+    nodes: &mut Steps<N>,
+) -> Result<Verdict, AllocError>
+    ensures { IfOk result (λ _. cols.new ≡ cols.old + 1) }
+{
+    let indices = [1, 2, 3, 4, 5];
+    let bytes = [0x10, 0x10, 0x10, 0x17, 0x16];
+    decide(alloc, way, &indices, &bytes, 1, 3, 1, cols, nodes)
+}
+
+/// The same, with counters made of the blanks.
+fn decided_with<C: Ledger, N: Ledger>(
     cols: Blank,
     nodes: Blank,
     alloc: Global,
@@ -48,28 +62,17 @@ fn decided<C: Ledger, N: Ledger>(
 {
     let mut cols: Steps<C> = Steps::new(cols);
     let mut nodes: Steps<N> = Steps::new(nodes);
-    let bytes = [0x10, 0x10, 0x10, 0x17, 0x16];
-    decide(
-        alloc,
-        way,
-        &[1, 2, 3, 4, 5],
-        &bytes,
-        1,
-        3,
-        1,
-        &mut cols,
-        &mut nodes,
-    )
+    decided(alloc, way, &mut cols, &mut nodes)
 }
 
-// A body that tries choices of answers never asks.
+// A body that tries choices of answers never asks. That one column is decoded is proved of `decided`.
 #[test]
 fn the_way_that_is_handed_on_is_asked_once(rt: HostRuntime) -> Result<(), Fail> {
     let way = Counted {
         calls: Cell::new(0),
         points: Cell::new(0),
     };
-    let verdict = decided::<Brand, Brand>(Blank::new(1), Blank::new(1), rt.alloc(), &way)?;
+    let verdict = decided_with::<Brand, Brand>(Blank::new(1), Blank::new(1), rt.alloc(), &way)?;
     let lists_two = match &verdict {
         Verdict::Listed(listing) => listing.len() == 2,
         _ => false,

@@ -1,6 +1,8 @@
-//! A block fetched from three servers in memory, and the texts of the faults of a fetch.
+//! A block, and two in one query, fetched from three servers in memory, and the texts of the faults of a fetch.
 
 ghost use Rattle.std.specs.Prelude.{◌≡◌, ◌<◌, length};
+ghost use Rattle.fetch_client.specs.Plan.{AreBlocks};
+ghost use Rattle.program_tests.specs.declared.one_fetch.TheConstants.{PLAN};
 
 use block_decoder::Verdict;
 use fetch_client::{FetchFault, FetchPlan, fetch};
@@ -13,8 +15,8 @@ use std::test::Fail;
 use uni_poly::steps::Steps;
 use wire_frames::Session;
 
-// The second of two rows of two bytes. The number of the session is 7, and the polynomials of the rows are `05 x` and
-// `01 + 07 x`.
+// Two rows of two bytes. The number of the session is 7, and the polynomials of the rows are `05 x` and `01 + 07 x` for
+// the second row, and `01 + 01 x` and `02 x` for the first.
 const PLAN: FetchPlan = FetchPlan {
     scheme: 1,
     t: 1,
@@ -22,7 +24,6 @@ const PLAN: FetchPlan = FetchPlan {
     n: 3,
     r: 2,
     s: 2,
-    block: 1,
 };
 
 // What the servers answer, and what the second is asked.
@@ -34,22 +35,37 @@ const ANSWERS: [&[u8; 26]; 3] = [
 
 const QUERY: &[u8] = b"PIRQ\x01\x01\x02\0\0\0\0\0\0\0\0\x07\0\0\0\x02\0\0\0\x02\x0a\x0f";
 
+// The same for both rows, the second first.
+const ANSWERS_OF_BOTH: [&[u8; 28]; 3] = [
+    b"PIRA\x02\x01\x01\0\0\0\0\0\0\0\0\x07\0\0\0\x02\0\0\0\x02\xcf\xd2\x86\x88",
+    b"PIRA\x02\x01\x02\0\0\0\0\0\0\0\0\x07\0\0\0\x02\0\0\0\x02\x40\x73\xd4\xcd",
+    b"PIRA\x02\x01\x03\0\0\0\0\0\0\0\0\x07\0\0\0\x02\0\0\0\x02\xcc\xe5\x13\x07",
+];
+
+const QUERIES_OF_BOTH: [&[u8; 28]; 3] = [
+    b"PIRQ\x02\x01\x01\x02\0\0\0\0\0\0\0\x07\0\0\0\x02\0\0\0\x02\x05\x06\0\x02",
+    b"PIRQ\x02\x01\x02\x02\0\0\0\0\0\0\0\x07\0\0\0\x02\0\0\0\x02\x0a\x0f\x03\x04",
+    b"PIRQ\x02\x01\x03\x02\0\0\0\0\0\0\0\x07\0\0\0\x02\0\0\0\x02\x0f\x08\x02\x06",
+];
+
 /// The fetch, with counters made of the blanks.
 fn fetched<C: Ledger, N: Ledger>(
     alloc: Global,
     cols: Blank,
     nodes: Blank,
+    blocks: &[u32],
     addresses: &[String],
     ports: &mut MemPorts,
 ) -> Result<(Session, Verdict), FetchFault>
     requires cols { (cols.name ≡ C.name) × (cols.parts ≡ C.parts) × (0 < cols.parts) }
     requires nodes { (nodes.name ≡ N.name) × (nodes.parts ≡ N.parts) × (0 < nodes.parts) }
     requires addresses { length addresses.now ≡ 3 }
+    requires blocks { AreBlocks PLAN blocks.now }
 {
     let mut cols: Steps<C> = Steps::new(cols);
     let mut nodes: Steps<N> = Steps::new(nodes);
     fetch(
-        alloc, &Koetter, &PLAN, addresses, ports, &mut cols, &mut nodes,
+        alloc, &Koetter, &PLAN, blocks, addresses, ports, &mut cols, &mut nodes,
     )
 }
 
@@ -80,8 +96,14 @@ fn a_block_is_fetched(rt: HostRuntime) -> Result<(), Fail> {
     let mut ports = ports_of_servers(alloc)?;
     let cols = Blank::new(1);
     let nodes = Blank::new(1);
-    let Ok((session, verdict)) = fetched::<Brand, Brand>(alloc, cols, nodes, &addresses, &mut ports)
-    else {
+    let Ok((session, verdict)) = fetched::<Brand, Brand>(
+        alloc,
+        cols,
+        nodes,
+        &[1],
+        &addresses,
+        &mut ports,
+    ) else {
         return Err(Fail::new("a fault"));
     };
     assert!(rt;
@@ -89,6 +111,39 @@ fn a_block_is_fetched(rt: HostRuntime) -> Result<(), Fail> {
     );
     assert!(rt; session.session() == 7 && session.record_count() == 3);
     assert!(rt; ports.seen(Port::Link(2)) == QUERY);
+    Ok(())
+}
+
+#[test]
+fn two_blocks_are_fetched_in_one_query(rt: HostRuntime) -> Result<(), Fail> {
+    let alloc = rt.alloc();
+    let addresses = addresses(alloc)?;
+    let mut ports = MemPorts::new(alloc, 7, &[], 3, 30)?;
+    ports.put(alloc, Port::Coins, b"\0\0\0\0\0\0\0\x07\x05\x07\x01\x02")?;
+    for i in 0..3u8 {
+        let link = Port::Link(i + 1);
+        ports.put(alloc, link, ANSWERS_OF_BOTH[i as usize])?;
+        ports.room(alloc, link, 28)?;
+    }
+    let cols = Blank::new(1);
+    let nodes = Blank::new(1);
+    let Ok((session, verdict)) = fetched::<Brand, Brand>(
+        alloc,
+        cols,
+        nodes,
+        &[1, 0],
+        &addresses,
+        &mut ports,
+    ) else {
+        return Err(Fail::new("a fault"));
+    };
+    assert!(rt;
+        matches!(&verdict, Verdict::Listed(blocks) if blocks.len() == 1 && blocks.get(0) == Some(b"CDAB".as_slice()))
+    );
+    assert!(rt; session.version() == 2 && session.count() == 2);
+    for i in 0..3u8 {
+        assert!(rt; ports.seen(Port::Link(i + 1)) == QUERIES_OF_BOTH[i as usize].as_slice());
+    }
     Ok(())
 }
 

@@ -12,7 +12,7 @@ use Rattle.pir_ports.specs.Whole.{Reads, IsFront}
 use Rattle.pir_ports.proofs.Cells.{took_none, reads_more, reads_end, touches_more}
 use Rattle.wire_frames.specs.declared.scheme.TheConstants.{SHAMIR, XOR}
 use Rattle.wire_frames.specs.Sizes.{answer_len}
-use Rattle.wire_frames.specs.Answer.{answers}
+use Rattle.wire_frames.specs.Answer.{answers, block_len}
 use Rattle.wire_frames.specs.Session.{Transcript, IsSession, Fits, session_bytes}
 use Rattle.wire_frames.specs.Beginning.{Begins, IsPlace}
 use Rattle.wire_frames.specs.Reading.{Reading, SoFar, Refused, Feeds, Ends}
@@ -73,13 +73,13 @@ length_seen n sub ys v u seen same hands =
 -- the least session: two servers, whose records are absent
 abbrev least : Transcript
 least = record {
-  params = record { scheme = 1; t = 1; h = 2; n = 2; session = 0; r = 1; s = 1 };
+  params = record { version = 1; scheme = 1; t = 1; h = 2; n = 2; count = 1; session = 0; r = 1; s = 1 };
   records = None ∷ None ∷ [];
 }
 
-fits_absent : All (Fits (answer_len 1)) (None ∷ None ∷ [])
-fits_absent = All-push (Fits (answer_len 1)) (None ∷ []) None (All-push (Fits (answer_len 1)) [] None
-    (All-nil (Fits (answer_len 1))) tt) tt
+fits_absent : All (Fits (answer_len 1 1)) (None ∷ None ∷ [])
+fits_absent = All-push (Fits (answer_len 1 1)) (None ∷ []) None (All-push (Fits (answer_len 1 1)) [] None
+    (All-nil (Fits (answer_len 1 1))) tt) tt
 
 -- no bytes begin a session
 pub nothing_begins : Begins []
@@ -104,6 +104,14 @@ nothing_begins = record {
         some_bytes = omega arith;
         few_bytes = omega arith;
         few_cells = omega arith;
+      };
+      blocks = record {
+        some_version = omega arith;
+        two_versions = omega arith;
+        some_blocks = omega arith;
+        few_blocks = omega arith;
+        one_block = λ _. refl;
+        few_bytes = omega arith;
       };
     };
     all = refl;
@@ -247,21 +255,21 @@ one_read session other bytes old new reads told is =
 -- and columns are counted for it where its verdict lists blocks
 pub counts_listed : (session : Transcript) (verdict : Verdict) (old new : Cell) (before now : ℕ)
     → ReadsWhole (Spells session) old new
-    → (session.params.scheme ≡ SHAMIR → before + least_columns session.params.s verdict ≤ now)
+    → (session.params.scheme ≡ SHAMIR → before + least_columns (block_len session.params) verdict ≤ now)
     → CountsListed old.holds before now verdict
 counts_listed session verdict old new before now reads least = λ bytes other told is scheme.
     let same = one_read session other bytes old new reads told is in
-    subst (λ (t : Transcript). before + least_columns t.params.s verdict ≤ now) same
+    subst (λ (t : Transcript). before + least_columns (block_len t.params) verdict ≤ now) same
     (least (ap (λ (t : Transcript). t.params.scheme) same ∙ scheme))
 
 -- steps are counted for the one session that Input held
 pub counts_of : (bound : ℕ → ℕ → ℕ → ℕ → ℕ) (session : Transcript) (old new : Cell) (before now : ℕ)
     → ReadsWhole (Spells session) old new
-    → now ≤ before + bound (length (answers session)) session.params.t session.params.h session.params.s
+    → now ≤ before + bound (length (answers session)) session.params.t session.params.h (block_len session.params)
     → (session.params.scheme ≡ XOR → now ≡ before) → ReplayCounts bound old.holds before now
 counts_of bound session old new before now reads most xor = record {
   most = λ bytes other told is.
-      subst (λ (t : Transcript). now ≤ before + bound (length (answers t)) t.params.t t.params.h t.params.s)
+      subst (λ (t : Transcript). now ≤ before + bound (length (answers t)) t.params.t t.params.h (block_len t.params))
       (same bytes other told is) most;
   xor = λ bytes other told is scheme.
       xor (ap (λ (t : Transcript). t.params.scheme) (same bytes other told is) ∙ scheme);

@@ -8,7 +8,7 @@ use Rattle.wire_frames.specs.declared.scheme.TheConstants.{SHAMIR, XOR}
 use Rattle.wire_frames.specs.declared.sizes.TheConstants.{SESSION_HEADER_LEN}
 use Rattle.wire_frames.specs.Session.{Transcript, IsSession}
 use Rattle.wire_frames.specs.Beginning.{Begins, IsPlace}
-use Rattle.wire_frames.specs.Answer.{answers}
+use Rattle.wire_frames.specs.Answer.{answers, block_len}
 use Rattle.block_decoder.specs.Verdict.{IsVerdict, least_columns}
 use Rattle.block_decoder.specs.declared.verdict.Verdict.{Verdict}
 use Rattle.replay.specs.declared.TheConstants.{PIECE_LEN}
@@ -79,7 +79,7 @@ ReadTo P (Err Memory) old new =
 -- held no session, none. `bound` bounds these steps for so many answers, a degree, an agreement and a width
 pub record ReplayCounts (bound : ℕ → ℕ → ℕ → ℕ → ℕ) (held : Option (List ℕ)) (before now : ℕ) : Type 0 where
   pub most : (bytes : List ℕ) (session : Transcript) → held ≡ Some bytes → IsSession bytes session
-      → now ≤ before + bound (length (answers session)) session.params.t session.params.h session.params.s
+      → now ≤ before + bound (length (answers session)) session.params.t session.params.h (block_len session.params)
   pub xor : (bytes : List ℕ) (session : Transcript) → held ≡ Some bytes → IsSession bytes session
       → session.params.scheme ≡ XOR → now ≡ before
   pub none : (bytes : List ℕ) → held ≡ Some bytes → (SpellsOne bytes → ⊥) → now ≡ before
@@ -88,7 +88,7 @@ pub record ReplayCounts (bound : ℕ → ℕ → ℕ → ℕ → ℕ) (held : Op
 abbrev pub CountsListed : Option (List ℕ) → ℕ → ℕ → Verdict → Type 0
 CountsListed held before now verdict = (bytes : List ℕ) (session : Transcript) → held ≡ Some bytes
     → IsSession bytes session
-    → session.params.scheme ≡ SHAMIR → before + least_columns session.params.s verdict ≤ now
+    → session.params.scheme ≡ SHAMIR → before + least_columns (block_len session.params) verdict ≤ now
 
 -- where nothing is judged no step is counted
 abbrev pub CountsNone : Result Verdict ReplayFault → ℕ → ℕ → Type 0

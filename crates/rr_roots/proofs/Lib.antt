@@ -2,3 +2,4 @@ mod Levels
 mod Multiplicities
 mod Children
 mod Nodes
+mod ByteValues

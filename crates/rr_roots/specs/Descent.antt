@@ -1,13 +1,14 @@
 -- The tree of the roots' coefficients (Roth and Ruckenstein 2000): a node has a polynomial in two variables, and below it
 -- are the y-roots of that polynomial, each after the coefficients on the way to the node.
-use Rattle.std.specs.Prelude.{◌≡◌, ℕ, ◌+◌, ◌<◌, ◌↔◌, List, ◌++◌, length, map, All, Contains}
+use Rattle.std.specs.Prelude.{◌≡◌, ℕ, ◌+◌, ◌<◌, ◌≤◌, ◌↔◌, List, ◌++◌, length, map, All, Contains}
 use Rattle.std.specs.Cmp.Lexicographic.{slice_cmp}
 use Rattle.std.specs.List.Sorted.{IsStrictlySortedBy}
 use Rattle.std.specs.Ordering.{nat_cmp}
 use Rattle.uni_poly.specs.Coefficients.{HasDegreeBelow}
-use Rattle.bi_poly.specs.Rows.{column}
+use Rattle.bi_poly.specs.Rows.{column, IsZero}
 use Rattle.bi_poly.specs.Degree.{IsOrderInX}
 use Rattle.rr_roots.specs.Roots.{IsYRoot}
+use Rattle.rr_roots.specs.Values.{ArePowers}
 
 -- phi is a y-root of q of n bytes
 pub record IsRootOfSize (q : List (List ℕ)) (n : ℕ) (phi : List ℕ) : Type 0 where
@@ -29,3 +30,9 @@ pub record Appends (P : List ℕ → Type 0) (prefix : List ℕ) (old new : List
 -- the lowest column of q that isn't 0, a polynomial in y, has a degree of at most d
 abbrev pub HasLowestColumnDegreeAtMost : List (List ℕ) → ℕ → Type 0
 HasLowestColumnDegreeAtMost q d = (r : ℕ) → IsOrderInX q r → HasDegreeBelow (column q r) (d + 1)
+
+-- q is not 0, and there is a row of the powers of all bytes for each of its rows
+pub record IsNode (q powers : List (List ℕ)) : Type 0 where
+  pub nonzero : ¬ IsZero q
+  pub enough : length q ≤ length powers
+  pub powers_are : ArePowers powers

@@ -5,15 +5,14 @@
 //! `q(x, x*y + gamma)`, which is the polynomial of the child.
 
 ghost use Rattle.std.specs.Prelude.{ℕ, [], ◌≡◌, ◌+◌, ◌*◌, ◌<◌, ◌≤◌, ◌↔◌, IsTrue, length, map, All, OnOk};
-ghost use Rattle.bi_poly.specs.Rows.{IsZero};
 ghost use Rattle.rr_roots.specs.Roots.{IsYRoot};
-ghost use Rattle.rr_roots.specs.Descent.{Appends, HasLowestColumnDegreeAtMost, IsRootOfSize};
+ghost use Rattle.rr_roots.specs.Descent.{Appends, HasLowestColumnDegreeAtMost, IsNode, IsRootOfSize};
 
+use crate::values::values_at_bytes;
 use bi_poly::BiPoly;
 use bi_poly::laws::coefficients_are_bytes;
 use std::alloc::{AllocError, Global};
 use std::sync::ledger::Ledger;
-use uni_poly::eval;
 use uni_poly::steps::Steps;
 
 /// Whether each coefficient of `p` is 0.
@@ -51,8 +50,9 @@ fn keep_root(
 }
 
 /// Appends to `roots` the y-roots of `q`, which must not be 0, that have `left` coefficients, in ascending order and each
-/// after `prefix`. `nodes` counts the nodes below this one: on each of the `left` levels at most as many as the degree in y
-/// of the lowest column of `q` that isn't 0, that is, of what stands before the lowest power of x.
+/// after `prefix`. `powers` has the powers of all bytes, a row for each row of `q`. `nodes` counts the nodes below this
+/// one: on each of the `left` levels at most as many as the degree in y of the lowest column of `q` that isn't 0, that is,
+/// of what stands before the lowest power of x.
 ///
 /// It calls itself to a depth of `left`, and holds one child's polynomial at a time beside its own.
 ///
@@ -63,12 +63,13 @@ fn keep_root(
 pub fn descend<N: Ledger>(
     alloc: Global,
     mut q: BiPoly,
+    powers: &[Vec<u8>],
     left: u32,
     prefix: &mut Vec<u8>,
     roots: &mut Vec<Vec<u8>>,
     nodes: &mut Steps<N>,
 ) -> Result<(), AllocError>
-    requires { ¬ IsZero q }
+    requires { IsNode q (map (λ r. r.items) powers.now) }
     ensures kept { OnOk result (prefix.new.items ≡ prefix.old.items) }
     ensures exact { OnOk result (Appends (IsRootOfSize q left) prefix.old.items
         (map (λ r. r.items) roots.old.items) (map (λ r. r.items) roots.new.items)) }
@@ -83,15 +84,16 @@ pub fn descend<N: Ledger>(
     q.strip_x();
     coefficients_are_bytes(&q);
     let constants = q.at_zero(alloc)?;
+    let values = values_at_bytes(alloc, &constants, powers)?;
     for byte in 0..256u16 {
-        let gamma = byte as u8;
-        if eval(&constants, gamma) != 0 {
+        if values[byte as usize] != 0 {
             continue;
         }
+        let gamma = byte as u8;
         let child = q.shift_root(alloc, gamma)?;
         prefix.push(gamma)?;
         nodes.tick();
-        descend(alloc, child, left - 1, prefix, roots, nodes)?;
+        descend(alloc, child, powers, left - 1, prefix, roots, nodes)?;
         prefix.pop();
     }
     Ok(())

@@ -8,12 +8,14 @@
 #![tactic(auto)]
 
 mod descent;
+mod values;
 
 ghost use Rattle.std.specs.Prelude.{ℕ, ◌≡◌, ◌+◌, ◌*◌, ◌<◌, ◌≤◌, length, map, IfOk};
 ghost use Rattle.bi_poly.specs.Rows.{IsZero};
 ghost use Rattle.rr_roots.specs.Roots.{HasDegreeInYAtMost, ListsYRoots};
 
 use crate::descent::descend;
+use crate::values::powers_of_bytes;
 use bi_poly::BiPoly;
 use std::alloc::{AllocError, Global};
 use std::sync::ledger::Ledger;
@@ -39,8 +41,9 @@ fn copy(alloc: Global, q: &BiPoly) -> Result<BiPoly, AllocError>
 /// that is, coefficients fixed. There are at most `t + 1` times as many as the greatest power of y with a row that is not
 /// 0, and at least `t + 1` where there is a root.
 ///
-/// It takes memory for the roots, for a copy of `q` and for one polynomial on each level of the tree, with as many rows as
-/// `q`, each longer by less than that number than the longest row of the level before. It is a recursion of depth `t + 1`.
+/// It takes memory for the roots, for a copy of `q`, for 256 bytes for each row of `q`, which are the powers of all bytes,
+/// and for one polynomial on each level of the tree, with as many rows as `q`, each longer by less than that number than
+/// the longest row of the level before. It is a recursion of depth `t + 1`.
 ///
 /// # Errors
 ///
@@ -61,6 +64,7 @@ pub fn y_roots<N: Ledger>(
     let mut roots = Vec::new(alloc);
     let mut prefix = Vec::new(alloc);
     let whole = copy(alloc, q)?;
-    descend(alloc, whole, t + 1, &mut prefix, &mut roots, nodes)?;
+    let powers = powers_of_bytes(alloc, q.rows().len())?;
+    descend(alloc, whole, &powers, t + 1, &mut prefix, &mut roots, nodes)?;
     Ok(roots)
 }

@@ -1,5 +1,5 @@
-//! Tests of the crates of the two schemes: queries and bitmaps, a server's product and answer, and the coins of another
-//! block. They stand in a crate of their own because a crate is proved once more for its tests.
+//! Tests of the crates of the two schemes: queries and bitmaps, a server's product and answer, the coins of another
+//! block, and databases in shares. They stand in a crate of their own because a crate is proved once more for its tests.
 #![tactic(auto)]
 
 #[cfg(test)]
@@ -12,3 +12,7 @@ mod partners;
 mod products;
 #[cfg(test)]
 mod queries;
+#[cfg(test)]
+mod several;
+#[cfg(test)]
+mod shares;

@@ -1,4 +1,6 @@
 mod Frame
+mod Written
+mod RoomFor
 pub mod OneReply
 mod Replying
 pub mod ServingOne

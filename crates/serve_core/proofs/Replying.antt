@@ -11,12 +11,11 @@ use Rattle.pir_ports.proofs.Cells.{took-took}
 use Rattle.pir_ports.proofs.Pieces.{gave_none}
 use Rattle.wire_frames.specs.declared.sizes.TheConstants.{FRAME_HEADER_LEN}
 use Rattle.wire_frames.specs.declared.header.QueryHeader.{QueryHeader}
-use Rattle.wire_frames.specs.Header.{answer_to}
+use Rattle.wire_frames.specs.Header.{answer_to, blocks_in}
 use Rattle.wire_frames.specs.Query.{IsQueryHeader}
-use Rattle.wire_frames.specs.Scheme.{scheme_of}
 use Rattle.serve_core.specs.Service.{Service, payload_len_for, query_len_for}
 use Rattle.serve_core.specs.Refusal.{refusal_status}
-use Rattle.serve_core.specs.Reply.{Asks, IsWholeWith, Suits, RefusedByHeader, answer_frame, header_of, payload, sets_unused}
+use Rattle.serve_core.specs.Reply.{Asks, IsWholeWith, Suits, RefusedByHeader, answer_frame, header_of, payload, query_len_of, some_sets_unused}
 use Rattle.serve_core.specs.Attended.{IsReply, Replied, IsBroken, Broke, Attends}
 use Rattle.serve_core.specs.Stages.{Judges, Gives, TakesPayload, Stops, HandlesPayload}
 use Rattle.serve_core.specs.declared.met.Met.{Met}
@@ -128,8 +127,11 @@ module _ (service : Service) (before header : List ℕ) (w v : World) (size : le
       there = came.there;
     }
 
-    suits : Judges service header (Ok tt) → Suits service h
-    suits judged = record { query = judged.0; asks = asks judged.0 judged.1.is; scheme = judged.1.scheme; shape = judged.2 }
+    suits : (count : ℕ) → Judges service header (Ok count) → Suits service h
+    suits count judged = record { query = judged.query; asks = asks judged.query judged.is.is; scheme = judged.is.scheme; shape = judged.shape }
+
+    query_len_is : query_len_for service (blocks_in header) ≡ query_len_of service h
+    query_len_is = ap (λ (l : List ℕ). query_len_for service (blocks_in l)) header_is
 
   -- the count of failed calls is as it was
   count : (v.at GUEST).faults ≡ (w.at GUEST).faults
@@ -149,13 +151,16 @@ module _ (service : Service) (before header : List ℕ) (w v : World) (size : le
     attends_refusal (inr failed) = subst (λ m. Attends service m w u) (sym failed.0)
         (gave_front service want FRAME_HEADER_LEN refusing w v u hands.cell (λ h e. refused h e refusal judged) failed.1)
 
-  module _ (judged : Judges service header (Ok tt)) where
+  module _ (asked : ℕ) (judged : Judges service header (Ok asked)) where
+    abbrev blocks : ℕ
+    blocks = blocks_in header
+
     -- the payload was taken
-    module _ (unused : Bool) (query : List ℕ) (x : World) (takes : TakesPayload unused service query v x) where
-      many : length takes.before ≡ payload_len_for service
+    module _ (unused : Bool) (query : List ℕ) (x : World) (takes : TakesPayload unused service blocks query v x) where
+      many : length takes.before ≡ payload_len_for service blocks
       many = takes.full ∙ takes.size
 
-      all_taken : x.at GUEST ≡ took (query_len_for service) (w.at GUEST)
+      all_taken : x.at GUEST ≡ took (query_len_for service blocks) (w.at GUEST)
       all_taken = takes.hands.cell ∙ ap (took (length takes.before)) hands.cell
           ∙ took-took (length takes.before) FRAME_HEADER_LEN (w.at GUEST)
           ∙ ap (λ n. took (FRAME_HEADER_LEN + n) (w.at GUEST)) many
@@ -166,58 +171,62 @@ module _ (service : Service) (before header : List ℕ) (w v : World) (size : le
 
         query_is : query ≡ payload service h
         query_is = sym (take_all (length takes.before) query (omega (arith, takes.full))) ∙ second.bytes
-            ∙ ap (λ n. take n (drop FRAME_HEADER_LEN h)) many
+            ∙ ap (λ n. take n (drop FRAME_HEADER_LEN h)) (many ∙ ap (λ (l : List ℕ). payload_len_for service (blocks_in l)) (header_is h e))
 
-        enough : query_len_for service ≤ length h
-        enough = omega (arith, second.there, many, length-drop FRAME_HEADER_LEN h, (came h e).there)
+        enough_taken : query_len_for service blocks ≤ length h
+        enough_taken = omega (arith, second.there, many, length-drop FRAME_HEADER_LEN h, (came h e).there)
+
+        enough : query_len_of service h ≤ length h
+        enough = omega (arith, enough_taken, query_len_is h e)
 
         whole_with : IsWholeWith unused service h
         whole_with = record {
-          whole = record { suits = suits h e judged; enough = enough };
-          unused_is = subst (λ q. sets_unused (scheme_of service.scheme) service.database q ≡ unused) query_is takes.unused_is;
+          whole = record { suits = suits h e asked judged; enough = enough };
+          unused_is = subst (λ q. some_sets_unused service (blocks_in (header_of h)) q ≡ unused) query_is
+              (subst (λ l. some_sets_unused service (blocks_in l) query ≡ unused) (header_is h e) takes.unused_is);
         }
 
     -- the payload is good
-    module _ (query : List ℕ) (x : World) (takes : TakesPayload false service query v x) where
+    module _ (query : List ℕ) (x : World) (takes : TakesPayload false service blocks query v x) where
       abbrev frame : List ℕ
       frame = answer_frame service header query
 
-      served : (h : List ℕ) → (w.at GUEST).holds ≡ Some h → IsReply service Served (query_len_for service) frame h
+      served : (h : List ℕ) → (w.at GUEST).holds ≡ Some h → IsReply service Served (query_len_for service blocks) frame h
       served h e = record {
         replies = (
           whole_with false query x takes h e,
           ap₂ (answer_frame service) (header_is h e) (query_is false query x takes h e),
         );
-        takes = refl;
-        there = enough false query x takes h e;
+        takes = query_len_is h e;
+        there = enough_taken false query x takes h e;
       }
 
       finishes : (met : Met) (u : World) → Gives Served frame met x u → Attends service met w u
       finishes met u (inl given) = subst (λ m. Attends service m w u) (sym given.0)
-          (gave_whole service Served (query_len_for service) frame w x u (all_taken false query x takes) served given.1)
+          (gave_whole service Served (query_len_for service blocks) frame w x u (all_taken false query x takes) served given.1)
       finishes met u (inr failed) = subst (λ m. Attends service m w u) (sym failed.0)
-          (gave_front service Served (query_len_for service) frame w x u (all_taken false query x takes) served failed.1)
+          (gave_front service Served (query_len_for service blocks) frame w x u (all_taken false query x takes) served failed.1)
 
     -- the payload sets an unused bit
-    module _ (query : List ℕ) (x : World) (takes : TakesPayload true service query v x) where
+    module _ (query : List ℕ) (x : World) (takes : TakesPayload true service blocks query v x) where
       abbrev refusing_payload : List ℕ
       refusing_payload = answer_to header 1
 
-      declined : (h : List ℕ) → (w.at GUEST).holds ≡ Some h → IsReply service (IsRefused 1) (query_len_for service) refusing_payload h
+      declined : (h : List ℕ) → (w.at GUEST).holds ≡ Some h → IsReply service (IsRefused 1) (query_len_for service blocks) refusing_payload h
       declined h e = record {
         replies = (inr (refl, whole_with true query x takes h e), ap (λ l. answer_to l 1) (header_is h e));
-        takes = inr ((refl, whole_with true query x takes h e), refl);
-        there = enough true query x takes h e;
+        takes = inr ((refl, whole_with true query x takes h e), query_len_is h e);
+        there = enough_taken true query x takes h e;
       }
 
       declines : (met : Met) (u : World) → Gives (IsRefused 1) refusing_payload met x u → Attends service met w u
       declines met u (inl given) = subst (λ m. Attends service m w u) (sym given.0)
-          (gave_whole service (IsRefused 1) (query_len_for service) refusing_payload w x u (all_taken true query x takes) declined given.1)
+          (gave_whole service (IsRefused 1) (query_len_for service blocks) refusing_payload w x u (all_taken true query x takes) declined given.1)
       declines met u (inr failed) = subst (λ m. Attends service m w u) (sym failed.0)
-          (gave_front service (IsRefused 1) (query_len_for service) refusing_payload w x u (all_taken true query x takes) declined failed.1)
+          (gave_front service (IsRefused 1) (query_len_for service blocks) refusing_payload w x u (all_taken true query x takes) declined failed.1)
 
     -- the guest ended before its payload was whole
-    stops : (u : World) → Stops service v u → Replied service Gone w u
+    stops : (u : World) → Stops service blocks v u → Replied service Gone w u
     stops u s = record {
       n = FRAME_HEADER_LEN + s.n;
       frame = [];
@@ -230,14 +239,14 @@ module _ (service : Service) (before header : List ℕ) (w v : World) (size : le
           let whole = (came h e).there in
           let rest = length-drop FRAME_HEADER_LEN h in
           record {
-            replies = (inr (suits h e judged, omega (arith, all, fewer, whole, rest, s.size)), refl);
+            replies = (inr (suits h e asked judged, omega (arith, all, fewer, whole, rest, s.size, query_len_is h e)), refl);
             takes = omega (arith, all, whole, rest);
             there = omega (arith, all, whole, rest);
           });
     }
 
     -- the guest failed before its payload was whole
-    breaks : (u : World) → FailsShort GUEST (payload_len_for service) v u → Broke service w u
+    breaks : (u : World) → FailsShort GUEST (payload_len_for service blocks) v u → Broke service w u
     breaks u f = record {
       n = FRAME_HEADER_LEN + f.after.n;
       given = [];
@@ -250,7 +259,7 @@ module _ (service : Service) (before header : List ℕ) (w v : World) (size : le
           let held : f.after.n ≤ length (drop FRAME_HEADER_LEN h)
           = subst (λ o. IfSome o (λ h. f.after.n ≤ length h)) (left h e) f.after.held in
           inl (record {
-            short = inr (suits h e judged, let l = f.fewer in omega arith);
+            short = inr (suits h e asked judged, let l = f.fewer in omega (arith, query_len_is h e));
             there = omega (arith, held, length-drop FRAME_HEADER_LEN h, (came h e).there);
             nothing = refl;
           }));

@@ -5,8 +5,8 @@ use Rattle.pir_ports.specs.Number.{GUEST}
 use Rattle.pir_ports.specs.Guests.{Meets}
 use Rattle.pir_ports.specs.Moves.{Rose, Touches, took, gave, counted}
 use Rattle.wire_frames.specs.declared.sizes.TheConstants.{FRAME_HEADER_LEN}
-use Rattle.serve_core.specs.Service.{Service, query_len_for}
-use Rattle.serve_core.specs.Reply.{Replies, ReplyTakes, Suits}
+use Rattle.serve_core.specs.Service.{Service}
+use Rattle.serve_core.specs.Reply.{Replies, ReplyTakes, Suits, query_len_of}
 use Rattle.serve_core.specs.declared.met.Met.{Met}
 use Rattle.serve_core.specs.declared.met.Met.TheVariants.{GuestFault}
 
@@ -35,7 +35,7 @@ pub record IsFrontOfReply (service : Service) (front bytes : List ℕ) : Type 0 
 -- fewer than the bytes of a header, or of a query whose header suits
 abbrev pub IsShort : Service → ℕ → List ℕ → Type 0
 IsShort service n bytes = (n < FRAME_HEADER_LEN)
-    ⊎ (Suits service bytes × (n < query_len_for service))
+    ⊎ (Suits service bytes × (n < query_len_of service bytes))
 
 -- taking failed: not all that the reply takes was taken, and nothing was given
 pub record TakesShort (service : Service) (n : ℕ) (given bytes : List ℕ) : Type 0 where

@@ -5,11 +5,10 @@ use Rattle.pir_ports.specs.Number.{GUEST}
 use Rattle.pir_ports.specs.Moves.{Hands, gave}
 use Rattle.pir_ports.specs.Whole.{Ends, FailsShort, FailsWithin}
 use Rattle.wire_frames.specs.declared.header.QueryHeader.{QueryHeader}
-use Rattle.wire_frames.specs.Header.{answer_to}
+use Rattle.wire_frames.specs.Header.{answer_to, blocks_in}
 use Rattle.wire_frames.specs.Query.{IsQueryHeader}
-use Rattle.wire_frames.specs.Scheme.{scheme_of}
 use Rattle.serve_core.specs.Service.{Service, payload_len_for}
-use Rattle.serve_core.specs.Reply.{IsShaped, answer_frame, sets_unused}
+use Rattle.serve_core.specs.Reply.{IsShaped, answer_frame, some_sets_unused}
 use Rattle.serve_core.specs.declared.met.Met.{Met}
 use Rattle.serve_core.specs.declared.met.Met.TheVariants.{Served, Refused, Gone, GuestFault}
 use Rattle.serve_core.specs.declared.refusal.Refusal.{Refusal}
@@ -20,10 +19,16 @@ pub record IsOfScheme (service : Service) (header : List ℕ) (query : QueryHead
   pub is : IsQueryHeader header query
   pub scheme : query.scheme ≡ service.scheme
 
+-- the bytes are the header of a query for so many blocks that suits
+pub record IsGood (service : Service) (header : List ℕ) (count : ℕ) : Type 0 where
+  pub query : QueryHeader
+  pub is : IsOfScheme service header query
+  pub shape : IsShaped service query
+  pub count_is : count ≡ query.count
+
 -- what is judged of the bytes of a header
-abbrev pub Judges : Service → List ℕ → Result (Unit {0}) Refusal → Type 0
-Judges service header (Ok _) = (query : QueryHeader)
-    × IsOfScheme service header query × IsShaped service query
+abbrev pub Judges : Service → List ℕ → Result ℕ Refusal → Type 0
+Judges service header (Ok count) = IsGood service header count
 Judges service header (Err Malformed) = (query : QueryHeader) → IsQueryHeader header query → ⊥
 Judges service header (Err OtherScheme) = (query : QueryHeader)
     × IsQueryHeader header query × (query.scheme ≢ service.scheme)
@@ -36,21 +41,22 @@ abbrev pub Gives : Met → List ℕ → Met → World → World → Type 0
 Gives met frame result old new = ((result ≡ met) × (new.at GUEST ≡ gave frame (old.at GUEST)))
     ⊎ ((result ≡ GuestFault) × FailsWithin GUEST frame old new)
 
--- the payload of a query was taken whole, and it sets an unused bit or none, as this says
-pub record TakesPayload (unused : Bool) (service : Service) (query : List ℕ) (old new : World)
-    : Type 0 where
+-- the payload of a query for so many blocks was taken whole, and one of its vectors sets an unused bit
+-- or none does, as this says
+pub record TakesPayload (unused : Bool) (service : Service) (count : ℕ) (query : List ℕ)
+    (old new : World) : Type 0 where
   pub before : List ℕ
-  pub size : length query ≡ payload_len_for service
+  pub size : length query ≡ payload_len_for service count
   pub hands : Hands GUEST (length before) before query old new
   pub full : length before ≡ length query
-  pub unused_is : sets_unused (scheme_of service.scheme) service.database query ≡ unused
+  pub unused_is : some_sets_unused service count query ≡ unused
 
 -- the payload of a query was taken, and its answer given
 pub record Finishes (service : Service) (header : List ℕ) (met : Met) (old new : World)
     : Type 0 where
   pub query : List ℕ
   pub mid : World
-  pub takes : TakesPayload false service query old mid
+  pub takes : TakesPayload false service (blocks_in header) query old mid
   pub gives : Gives Served (answer_frame service header query) met mid new
 
 -- the payload of a query was taken, and refused
@@ -58,20 +64,20 @@ pub record Declines (service : Service) (header : List ℕ) (met : Met) (old new
     : Type 0 where
   pub query : List ℕ
   pub mid : World
-  pub takes : TakesPayload true service query old mid
+  pub takes : TakesPayload true service (blocks_in header) query old mid
   pub gives : Gives (Refused 1) (answer_to header 1) met mid new
 
 -- the guest ended before its payload was whole
-pub record Stops (service : Service) (old new : World) : Type 0 where
+pub record Stops (service : Service) (count : ℕ) (old new : World) : Type 0 where
   pub n : ℕ
   pub before : List ℕ
   pub after : List ℕ
-  pub size : length before ≡ payload_len_for service
+  pub size : length before ≡ payload_len_for service count
   pub ends : Ends GUEST n before after old new
 
 -- what is done with the payload, once the header suits
 abbrev pub HandlesPayload : Service → List ℕ → Met → World → World → Type 0
 HandlesPayload service header met old new = Finishes service header met old new
     ⊎ Declines service header met old new
-    ⊎ ((met ≡ Gone) × Stops service old new)
-    ⊎ ((met ≡ GuestFault) × FailsShort GUEST (payload_len_for service) old new)
+    ⊎ ((met ≡ Gone) × Stops service (blocks_in header) old new)
+    ⊎ ((met ≡ GuestFault) × FailsShort GUEST (payload_len_for service (blocks_in header)) old new)

@@ -4,7 +4,7 @@ ghost use Rattle.pir_ports.specs.Number.{GUEST};
 ghost use Rattle.pir_ports.specs.Moves.{Touches};
 ghost use Rattle.wire_frames.specs.declared.scheme.TheConstants.{SHAMIR, XOR};
 ghost use Rattle.wire_frames.specs.declared.TheConstants.{MOST_WORKERS};
-ghost use Rattle.serve_core.specs.Stages.{HandlesPayload, Judges};
+ghost use Rattle.serve_core.specs.Stages.{IsGood, HandlesPayload, Judges};
 
 use crate::answer::answer_query;
 use crate::header::judge_header;
@@ -51,9 +51,11 @@ impl Model for Desk {
 impl Desk {
     /// Opens a desk for a database and a scheme, 1 for Shamir's sharing and 2 for the XOR scheme,
     /// with from 1 to [`MOST_WORKERS`](wire_frames::MOST_WORKERS) workers to sum the rows. It takes all
-    /// the memory that serving takes: the payload of a query, which has a byte for each row or, in
-    /// the XOR scheme, for each eight rows; a row for each worker; and a whole answer. The database
-    /// is dropped where that isn't found.
+    /// the memory that serving takes, for the most blocks that a query asks for: at most
+    /// [`MOST_BLOCKS`](wire_frames::MOST_BLOCKS), whose rows have at most
+    /// [`MOST_WIDTH`](wire_frames::MOST_WIDTH) bytes together. That is the payload of the query, which
+    /// has for each block a byte for each row or, in the XOR scheme, for each eight rows; a row for
+    /// each block and worker; and a whole answer. The database is dropped where that isn't found.
     ///
     /// # Errors
     ///
@@ -70,31 +72,41 @@ impl Desk {
         Ok(Desk { service, room })
     }
 
-    /// Whether a query with this header suits.
+    /// For how many blocks the query with this header asks, where it suits.
     ///
     /// # Errors
     ///
     /// Why it is refused.
-    pub(crate) fn judge(&self, header: &[u8; FRAME_HEADER_LEN]) -> Result<(), Refusal>
+    pub(crate) fn judge(&self, header: &[u8; FRAME_HEADER_LEN]) -> Result<u8, Refusal>
         ensures { Judges self.now header.now result }
     {
         judge_header(&self.service, header)
     }
 
-    /// Takes the payload of a query with this header, which suits, and gives the guest the answer,
-    /// or refuses the payload.
+    /// Takes the payload of a query with this header, which suits and asks for so many blocks, and
+    /// gives the guest the answer, or refuses the payload.
     pub(crate) fn answer<R: Threads + Sync, G: Gate + Sync, P: Ports>(
         &mut self,
         rt: &R,
         header: &[u8; FRAME_HEADER_LEN],
+        count: u8,
         ports: &mut P,
         gate: &G,
     ) -> Met
+        requires { IsGood self.old header.now count }
         ensures handles { HandlesPayload self.old header.now result
             (P.world ports.old) (P.world ports.new) }
         ensures others { Touches GUEST (P.world ports.old) (P.world ports.new) }
         ensures kept { self.new ≡ self.old }
     {
-        answer_query(rt, &self.service, &mut self.room, header, ports, gate)
+        answer_query(
+            rt,
+            &self.service,
+            &mut self.room,
+            header,
+            count,
+            ports,
+            gate,
+        )
     }
 }

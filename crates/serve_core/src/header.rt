@@ -5,7 +5,7 @@ use crate::refusal::Refusal;
 use crate::service::Service;
 use wire_frames::{FRAME_HEADER_LEN, read_query_header};
 
-/// Whether a query with this header suits the service. That it is malformed goes before its scheme,
+/// For how many blocks the query with this header asks, where it suits the service. That it is malformed goes before its scheme,
 /// and its scheme before its shape.
 ///
 /// # Errors
@@ -14,7 +14,7 @@ use wire_frames::{FRAME_HEADER_LEN, read_query_header};
 pub(crate) fn judge_header(
     service: &Service,
     header: &[u8; FRAME_HEADER_LEN],
-) -> Result<(), Refusal>
+) -> Result<u8, Refusal>
     ensures { Judges service.now header.now result }
 {
     let Ok(query) = read_query_header(header) else {
@@ -27,5 +27,5 @@ pub(crate) fn judge_header(
     if query.r != matrix.rows() || query.s != matrix.width() {
         return Err(Refusal::OtherShape);
     }
-    Ok(())
+    Ok(query.count)
 }

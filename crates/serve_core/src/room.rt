@@ -6,7 +6,8 @@ use crate::service::Service;
 use std::alloc::{AllocError, Global};
 use wire_frames::answer_len;
 
-/// Room for the payload of a query, for the sums of each worker, and for the frame of an answer.
+/// Room for the payload of a query for the most blocks that one asks for, for the sums of each worker,
+/// and for the frame of its answer.
 #[derive(Drop)]
 pub(crate) struct Room {
     pub(crate) query: Vec<u8>,
@@ -23,12 +24,11 @@ impl Room {
     pub(crate) fn new(alloc: Global, service: &Service) -> Result<Room, AllocError>
         ensures { IfOk result (Fits service.now) }
     {
-        let width = service.matrix().width();
-        let sums = usize::from(service.workers()) * width as usize;
+        let most = service.most_blocks();
         Ok(Room {
-            query: vec![in alloc; 0; service.payload_len()]?,
-            scratch: vec![in alloc; 0; sums]?,
-            frame: vec![in alloc; 0; answer_len(width)]?,
+            query: vec![in alloc; 0; service.payload_len(most)]?,
+            scratch: vec![in alloc; 0; service.sums_len(most)]?,
+            frame: vec![in alloc; 0; answer_len(most, service.matrix().width())]?,
         })
     }
 }

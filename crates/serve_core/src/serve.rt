@@ -19,10 +19,12 @@ use wire_frames::FRAME_HEADER_LEN;
 /// taken then. Else the payload is taken, and the answer is given, in one piece as far as the guest
 /// takes it: the header of status 0, and the answer to the payload.
 ///
-/// In Shamir's scheme the payload has a byte for each row, and the answer is the product of the
-/// payload and the database, which the desk's workers sum. Each of them passes `gate` once. In the
-/// XOR scheme the payload is a bitmap of a bit for each row, and the answer the XOR of the rows
-/// whose bit is set. It is refused (1) where it sets a bit past those.
+/// The payload has a vector for each block that the query asks for, and the answer one row for each.
+/// In Shamir's scheme a vector has a byte for each row, and its answer is the product of the vector
+/// and the database. In the XOR scheme a vector is a bitmap of a bit for each row, and its answer
+/// the XOR of the rows whose bit is set; the payload is refused (1) where one sets a bit past those.
+/// The desk's workers share the rows. Each of them passes `gate` once, and reads its rows once for
+/// all vectors or for a group of them.
 ///
 /// A guest that ends before that is gone, and is given nothing. Where a call on the guest fails, it
 /// was given nothing unless all that the reply takes was taken, and then a proper front of the
@@ -44,7 +46,7 @@ pub fn serve_one<R: Threads + Sync, G: Gate + Sync, P: Ports>(
         Filled::Failed => return Met::GuestFault,
     }
     match desk.judge(&header) {
-        Ok(()) => desk.answer(rt, &header, ports, gate),
+        Ok(count) => desk.answer(rt, &header, count, ports, gate),
         Err(refusal) => refuse(ports, &header, refusal),
     }
 }

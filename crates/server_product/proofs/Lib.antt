@@ -1,5 +1,8 @@
 pub mod SixSums
 pub mod RunSums
+pub mod QuerySums
+pub mod BlockSums
+pub mod ProductTables
 pub mod TrioSums
 pub mod Gathering
 pub mod Workers

@@ -23,7 +23,7 @@ sixths f from sixth n =
     ⊕ run_sum f (from + 4 * sixth) (from + 4 * sixth + n) ⊕ run_sum f (from + 5 * sixth) (from + 5 * sixth + n)
 
 -- no terms of a run that begins anywhere
-none_yet : (f : ℕ → ℕ) (from : ℕ) → run_sum f from (from + 0) ≡ 0
+pub none_yet : (f : ℕ → ℕ) (from : ℕ) → run_sum f from (from + 0) ≡ 0
 none_yet f from = let e : from + 0 ≡ from = omega arith in ap (run_sum f from) e ∙ run-none f from
 
 -- no terms of each
@@ -35,7 +35,7 @@ sixths-none f from sixth =
     ∙ (let e : 0 ⊕ 0 ⊕ 0 ⊕ 0 ⊕ 0 ⊕ 0 ≡ 0 = simp add_zero in e)
 
 -- one more term of a run
-one_more : (f : ℕ → ℕ) (from n : ℕ) → run_sum f from (from + (n + 1)) ≡ run_sum f from (from + n) ⊕ f (from + n)
+pub one_more : (f : ℕ → ℕ) (from n : ℕ) → run_sum f from (from + (n + 1)) ≡ run_sum f from (from + n) ⊕ f (from + n)
 one_more f from n =
     let e : from + (n + 1) ≡ from + n + 1 = omega arith in
     ap (run_sum f from) e ∙ run-next f from (from + n) (omega arith)
@@ -60,7 +60,7 @@ sixths-next f from sixth n =
     ∙ in_pairs _ _ _ _ _ _ _ _ _ _ _ _
 
 -- a part that follows the terms before it
-part_follows : (f : ℕ → ℕ) (from m k n : ℕ) → m + n ≡ k
+pub part_follows : (f : ℕ → ℕ) (from m k n : ℕ) → m + n ≡ k
     → run_sum f from (from + m) ⊕ run_sum f (from + m) (from + m + n) ≡ run_sum f from (from + k)
 part_follows f from m k n e =
     let end : from + m + n ≡ from + k = omega arith in

@@ -4,7 +4,6 @@ use Rattle.std.proofs.lemmas.List.{get_or-take, get_or-drop, get_or_append_left,
 use Rattle.std.proofs.Math.Nat.{div-le_of_le-mul, mul-div_cancel, mul-le-mul_right, zero-div, zero-mul}
 use Rattle.gf256.specs.Field.{◌⊕◌}
 use Rattle.gf256.specs.Sums.{run_sum}
-use Rattle.server_product.specs.Runs.{term}
 use Rattle.server_product.specs.Parts.{first_row, part, HasParts}
 use Rattle.gf256.proofs.RunSums.{run-join}
 
@@ -27,25 +26,41 @@ first-within rows workers worker lt =
     div-le_of_le-mul workers le
 
 -- the rows of a worker follow those of the workers before it
-pub next-part : (q : List ℕ) (rows : List (List ℕ)) (workers worker c : ℕ)
-    → run_sum (term q rows c) 0 (first_row (length rows) workers worker) ⊕ part q rows workers worker c ≡ run_sum (term q rows c) 0 (first_row (length rows) workers (worker + 1))
-next-part q rows workers worker c =
-    let le = first-le_next (length rows) workers worker in
-    run-join (term q rows c) 0 (first_row (length rows) workers worker) (first_row (length rows) workers (worker + 1)) (omega arith) le
+pub next-part : (f : ℕ → ℕ → ℕ) (rows workers worker p : ℕ)
+    → run_sum (f p) 0 (first_row rows workers worker) ⊕ part f rows workers worker p ≡ run_sum (f p) 0 (first_row rows workers (worker + 1))
+next-part f rows workers worker p =
+    let le = first-le_next rows workers worker in
+    run-join (f p) 0 (first_row rows workers worker) (first_row rows workers (worker + 1)) (omega arith) le
 
 -- a place of a piece of a list
 pub at-range : (xs : List ℕ) (a n k : ℕ) → k < n → slice_index (take n (drop a xs)) k ≡ slice_index xs (a + k)
 at-range xs a n k lt = get_or-take n (drop a xs) k 0 lt ∙ get_or-drop a xs k 0
 
+-- the part of the last worker
+pub last : (own : List ℕ) (f : ℕ → ℕ → ℕ) (rows places workers first : ℕ) → first + 1 ≡ workers
+    → ((p : ℕ) → p < places → slice_index own p ≡ part f rows workers first p) → HasParts own places f rows workers first
+last own f rows places workers first end is i p lt ltp =
+    let none : i ≡ 0 = omega arith in
+    let here : i * places + p ≡ p = ap (λ n. n * places + p) none ∙ omega arith in
+    let same : first ≡ first + i = omega arith in
+    ap (slice_index own) here ∙ is p ltp ∙ ap (λ w. part f rows workers w p) same
+
+-- where the part of a worker ends
+pub end-within : (worker workers places : ℕ) → worker < workers → worker * places + places ≤ workers * places
+end-within worker workers places l =
+    let h = mul-le-mul_right places (let s : worker + 1 ≤ workers = omega arith in s) in
+    let next : (worker + 1) * places ≡ worker * places + places = grind arith in
+    omega (arith, h, next)
+
 -- the parts of a worker and of those after it
-pub joined : (own others q : List ℕ) (rows : List (List ℕ)) (width workers first : ℕ) → length own ≡ width
-    → ((c : ℕ) → slice_index own c ≡ part q rows workers first c) → HasParts others width q rows workers (first + 1)
-    → HasParts (own ++ others) width q rows workers first
-joined own others q rows width workers first size is next zero c lt ltc =
-    let here : 0 * width + c ≡ c = omega arith in
+pub joined : (own others : List ℕ) (f : ℕ → ℕ → ℕ) (rows places workers first : ℕ) → length own ≡ places
+    → ((p : ℕ) → p < places → slice_index own p ≡ part f rows workers first p) → HasParts others places f rows workers (first + 1)
+    → HasParts (own ++ others) places f rows workers first
+joined own others f rows places workers first size is next zero p lt ltp =
+    let here : 0 * places + p ≡ p = omega arith in
     let same : first ≡ first + 0 = omega arith in
-    ap (slice_index (own ++ others)) here ∙ get_or_append_left own others 0 c (omega (arith, size, ltc)) ∙ is c ∙ ap (λ w. part q rows workers w c) same
-joined own others q rows width workers first size is next (suc i) c lt ltc =
-    let there : suc i * width + c ≡ length own + (i * width + c) = grind (arith, size) in
+    ap (slice_index (own ++ others)) here ∙ get_or_append_left own others 0 p (omega (arith, size, ltp)) ∙ is p ltp ∙ ap (λ w. part f rows workers w p) same
+joined own others f rows places workers first size is next (suc i) p lt ltp =
+    let there : suc i * places + p ≡ length own + (i * places + p) = grind (arith, size) in
     let same : first + 1 + i ≡ first + suc i = omega arith in
-    ap (slice_index (own ++ others)) there ∙ get_or-append-add own others (i * width + c) 0 ∙ next i c (omega (arith, lt)) ltc ∙ ap (λ w. part q rows workers w c) same
+    ap (slice_index (own ++ others)) there ∙ get_or-append-add own others (i * places + p) 0 ∙ next i p (omega (arith, lt)) ltp ∙ ap (λ w. part f rows workers w p) same

@@ -1,5 +1,8 @@
 pub mod SixRows
 pub mod Runs
+pub mod Queries
+pub mod Blocks
+pub mod Tables
 pub mod Parts
 pub mod Trios
 pub mod Gathered

@@ -3,23 +3,32 @@
 //!
 //! Promised: [`product_into`] gives exactly this product, for each shape of a database and each
 //! number of workers from 1 to 16; it is the product that [`plain_into`] computes byte by byte.
-//! [`mul_add_row`] adds one row times one byte. No call takes memory, and none can fail.
+//! [`products_into`] gives this product for each of up to 16 queries, and reads the database once for
+//! a group of them. [`mul_add_row`] adds one row times one byte. No call takes memory, and none can
+//! fail. [`blocks`], [`share_of`] and [`lanes_of`] serve the XOR scheme's answers too.
 //!
 //! Not promised: that the workers run at the same time, or anything of time. Each query reads the
 //! whole database, but which entries of the field's tables it reads depends on its bytes.
 #![tactic(auto)]
 
+pub mod blocks;
+mod four_rows;
 mod gate;
 mod gather;
+mod group;
 mod plain;
+mod queries;
 mod rows;
 mod runs;
 mod six_rows;
 mod sixths;
+mod tables;
 mod trios;
 mod whole;
 
 pub use gate::{Gate, OpenGate};
 pub use plain::plain_into;
 pub use rows::mul_add_row;
-pub use whole::product_into;
+pub use sixths::share_of;
+pub use trios::lanes_of;
+pub use whole::{product_into, products_into};

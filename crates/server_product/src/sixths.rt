@@ -21,23 +21,31 @@ pub fn add_in_sixths(matrix: &Matrix, q: &[u8], from: u32, to: u32, sums: &mut [
     ensures { (k : ℕ) → slice_index sums.new k
         ≡ slice_index sums.old k ⊕ run_sum (term q.now matrix.now.rows k) from to }
 {
-    let sixth = sixth_of(to - from, matrix.width());
+    let sixth = share_of(to - from, matrix.width(), 6);
     add_sixths(matrix, q, from, sixth, sums);
     for j in from + 6 * sixth..to {
         add_term(matrix, q, j, sums);
     }
 }
 
-/// How many rows each of the six streams takes of so many rows of this width: a sixth, or up to a
-/// sixteenth fewer. Streams that stand at the same place of their pages come to new pages at the
-/// same time, which makes them slower; so it looks for a number of rows that keeps each stream an
-/// eighth of a page or more apart there from the three after it.
-fn sixth_of(rows: u32, width: u32) -> u32
-    ensures { 6 * result ≤ rows }
+/// How many rows each of so many streams takes of so many rows of this width: an equal share, or up
+/// to a sixteenth fewer.
+pub fn share_of(rows: u32, width: u32, streams: u32) -> u32
+    requires { 1 ≤ streams }
+    ensures { streams * result ≤ rows }
 {
-    let most = rows / 6;
+    apart(rows / streams, width)
+}
+
+/// How many rows a stream takes of at most so many rows of this width. Streams that stand at the
+/// same place of their pages come to new pages at the same time, which makes them slower; so it
+/// looks for a number of rows that keeps each stream an eighth of a page or more apart there from
+/// the three after it.
+fn apart(most: u32, width: u32) -> u32
+    ensures { result ≤ most }
+{
     for less in 0..(most / 16).min(64) {
-        let distance = u64::from(most - less) * u64::from(width);
+        let distance = u64::from(most - less) * u64::from(width) % PAGE;
         if is_apart(distance) && is_apart(2 * distance) && is_apart(3 * distance) {
             return most - less;
         }

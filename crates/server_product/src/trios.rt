@@ -25,7 +25,7 @@ pub struct Trio<'a> {
 
 /// The 16 bytes of the row from place `at` on.
 #[inline(always)]
-fn lanes_of(row: &[u8], at: usize) -> u8x16
+pub fn lanes_of(row: &[u8], at: usize) -> u8x16
     requires { at + 16 ≤ length row.now }
     ensures { result ≡ chunk at 16 row.now }
 {

@@ -1,3 +1,4 @@
 mod Horner
+mod HornerLanes
 pub mod Rows
 pub mod Queries

@@ -27,7 +27,7 @@ pub rows_fit : (k n t : ℕ) → k < n → k * t + t ≤ n * t
 rows_fit k n t lt = let h = mul-le-mul_right t (let l : k + 1 ≤ n = omega arith in l) in omega (arith, h, add-mul k 1 t)
 
 -- row j of a slice of n rows is row m + j
-row_of_slice : (coins : List ℕ) (t m n j : ℕ) → j < n → row_coins (slice_range coins (m * t) ((m + n) * t)) t j ≡ row_coins coins t (m + j)
+pub row_of_slice : (coins : List ℕ) (t m n j : ℕ) → j < n → row_coins (slice_range coins (m * t) ((m + n) * t)) t j ≡ row_coins coins t (m + j)
 unfolding row_coins
 row_of_slice coins t m n j lt =
     let fit = rows_fit j n t lt in

@@ -6,20 +6,24 @@
 //! A server's query is the value of each at the server's index.
 //!
 //! Promised, for all coins: [`query_into`] writes exactly these values, and takes no memory.
+//! [`masks_into`] writes the values of the polynomials without their constants, for any number of
+//! coins a row.
 //!
 //! Not promised: that up to `t` servers together learn nothing. That holds where the coins are
 //! uniform, secret and used once, which the caller sees to. Nor is anything said of time: the
 //! places that are read of a table depend on the coins.
 #![tactic(auto)]
 
+mod lanes;
 mod masks;
 mod products;
 
 ghost use Rattle.std.specs.Prelude.{◌≡◌, ◌≢◌, ◌*◌, ◌<◌, ◌≤◌, length};
 ghost use Rattle.shamir_share.specs.Query.{query};
 
-use crate::masks::masks_into;
-use crate::products::ProductTable;
+pub use lanes::sixteen_masks;
+pub use masks::masks_into;
+pub use products::ProductTable;
 
 /// Writes the query of one server: at `j` the value at `index` of the polynomial of row `j`, with
 /// the constant 1 where `j` is `block` and 0 elsewhere, and then the `t` coins of the row, at

@@ -1,29 +1,35 @@
 //! The values of polynomials whose constant is 0.
-ghost use Rattle.std.specs.Prelude.{ℕ, ◌≡◌, ◌*◌, length, map};
+ghost use Rattle.std.specs.Prelude.{ℕ, ◌≡◌, ◌*◌, ◌≤◌, length, map, take};
 ghost use Rattle.gf256.specs.Field.{◌⊗◌};
 ghost use Rattle.gf256.specs.Polynomial.{val};
 ghost use Rattle.shamir_share.specs.Query.{masks};
 
+use crate::lanes::lanes_into;
 use crate::products::ProductTable;
 
-/// Writes the value of each row's polynomial, of degree `t`, at the factor.
-pub(crate) fn masks_into(products: &ProductTable, coins: &[u8], t: usize, out: &mut [u8])
+/// Writes at `j` the value, at the factor of the products, of the polynomial whose constant is 0 and
+/// whose other coefficients are the `t` coins at `j * t` and on. There are `t` coins for each place
+/// of `out`. It takes no memory.
+pub fn masks_into(products: &ProductTable, coins: &[u8], t: usize, out: &mut [u8])
     requires { length coins.now ≡ length out.old * t }
     ensures { out.new ≡ masks coins.now t (length out.old) products.now }
 {
     if t == 1 {
         products.times_each(coins, out);
-    } else {
-        rows_into(products, coins, t, out);
+        return;
     }
+    let done = lanes_into(products, coins, t, out);
+    rows_into(products, coins, t, done, out);
 }
 
-/// The same row by row, four of them at once.
-fn rows_into(products: &ProductTable, coins: &[u8], t: usize, out: &mut [u8])
-    requires { length coins.now ≡ length out.old * t }
+/// The same from row `from` on, where those before are done: row by row, four of them at once.
+fn rows_into(products: &ProductTable, coins: &[u8], t: usize, from: usize, out: &mut [u8])
+    requires coins { length coins.now ≡ length out.old * t }
+    requires within { from ≤ length out.old }
+    requires done { take from out.old ≡ masks coins.now t from products.now }
     ensures { out.new ≡ masks coins.now t (length out.old) products.now }
 {
-    let mut row = 0;
+    let mut row = from;
     'fours: while out.len() - row >= 4 {
         let values = four_masks(products, &coins[row * t..(row + 4) * t], t);
         out[row..row + 4].copy_from_slice(&values);

@@ -9,7 +9,7 @@ use std::simd::prelude::*;
 /// The products of one byte, the factor, and every byte: looked up for one, and by
 /// [`rows::Products`] for 16 at once. Contracts see the factor.
 #[derive(Drop)]
-pub(crate) struct ProductTable {
+pub struct ProductTable {
     // The product with each byte.
     table: [u8; 256],
     lanes: rows::Products,
@@ -28,7 +28,7 @@ impl Model for ProductTable {
 
 impl ProductTable {
     /// The products of this byte.
-    pub(crate) fn of(factor: u8) -> ProductTable
+    pub fn of(factor: u8) -> ProductTable
         ensures { result ≡ factor }
     {
         let mut table = [0; 256];
@@ -46,6 +46,14 @@ impl ProductTable {
         ensures { result ≡ self.now ⊗ x }
     {
         self.table[x as usize]
+    }
+
+    /// The product of the factor and each of 16 bytes.
+    #[inline(always)]
+    pub(crate) fn times_lanes(&self, bytes: u8x16) -> u8x16
+        ensures { result ≡ map (λ b. self.now ⊗ b) bytes }
+    {
+        self.lanes.times(bytes)
     }
 
     /// Writes the product of the factor and each byte.

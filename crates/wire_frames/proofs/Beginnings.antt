@@ -23,7 +23,7 @@ so_far p done = record { params = p; records = done }
 
 -- records that fit into a session with these numbers
 abbrev pub AllFit : SessionParams → List (Option (List ℕ)) → Type 0
-AllFit p xs = All (Fits (answer_len p.s)) xs
+AllFit p xs = All (Fits (answer_len p.count p.s)) xs
 
 -- a session that begins with these records, and what stands behind them
 pub record GoesOn (p : SessionParams) (done : List (Option (List ℕ))) (tail : List ℕ) (t : Transcript) : Type 0 where
@@ -33,8 +33,8 @@ pub record GoesOn (p : SessionParams) (done : List (Option (List ℕ))) (tail : 
   pub all : length done + length rest ≡ p.n
 
 -- the width of a session is below 2 ^ 32, with the header of an answer too
-most_below : (p : SessionParams) → IsInRange p → answer_len p.s < 256 ^ 4
-most_below p range = omega (arith, range.shape.few_bytes)
+most_below : (p : SessionParams) → IsInRange p → answer_len p.count p.s < 256 ^ 4
+most_below p range = omega (arith, range.blocks.few_bytes)
 
 pub goes_on : (p : SessionParams) (done : List (Option (List ℕ))) (tail : List ℕ) (t : Transcript) → IsInRange p → AllFit p done → IsSession (session_bytes (so_far p done) ++ tail) t
     → GoesOn p done tail t
@@ -43,11 +43,11 @@ goes_on p done tail t range fits h =
     (sym (append_assoc (header_bytes p) (records_bytes 1 done) tail) ∙ h.spelled) in
     let same : t.params ≡ p = sym (same_params p t.params range h.range parts.0) in
     let all_fit = subst (λ (q : SessionParams). AllFit q t.records) same h.fits in
-    let rest = rest_of (answer_len p.s) 1 done t.records tail (most_below p range) fits all_fit parts.1 in
+    let rest = rest_of (answer_len p.count p.s) 1 done t.records tail (most_below p range) fits all_fit parts.1 in
     record {
       rest = rest.rest;
       spelled = rest.spelled;
-      fits = All-behind (Fits (answer_len p.s)) done rest.rest (subst (AllFit p) rest.parts all_fit);
+      fits = All-behind (Fits (answer_len p.count p.s)) done rest.rest (subst (AllFit p) rest.parts all_fit);
       all = omega (arith, length-append done rest.rest, ap length rest.parts, h.all, ap (λ (q : SessionParams). q.n) same);
     }
 
@@ -57,7 +57,7 @@ pub session_of : (p : SessionParams) (done rest : List (Option (List ℕ))) → 
 session_of p done rest range fits fits' all = record {
   range = range;
   all = length-append done rest ∙ all;
-  fits = All-append (Fits (answer_len p.s)) done rest fits fits';
+  fits = All-append (Fits (answer_len p.count p.s)) done rest fits fits';
   spelled = append_assoc (header_bytes p) (records_bytes 1 done) (records_bytes (1 + length done) rest) ∙ ap (λ (l : List ℕ). header_bytes p ++ l) (sym (records_bytes-append 1 done rest));
 }
 
@@ -75,7 +75,7 @@ records_begin p done range fits few =
     record {
       rest = records_bytes (1 + length done) absent;
       value = so_far p (done ++ absent);
-      whole = session_of p done absent range fits (All-replicate (Fits (answer_len p.s)) (p.n - length done) None tt) (omega (arith, length-replicate {A = Option (List ℕ)} (p.n - length done) None));
+      whole = session_of p done absent range fits (All-replicate (Fits (answer_len p.count p.s)) (p.n - length done) None tt) (omega (arith, length-replicate {A = Option (List ℕ)} (p.n - length done) None));
     }
 
 -- a front of bytes that begin with others, and are no more, is a front of these
@@ -88,7 +88,7 @@ front_of front rest whole more short e =
 pub header_begins : (head : List ℕ) → Starts IsHeader head → Starts IsSession head
 header_begins head s =
     let range = s.whole.range in
-    let whole = records_begin s.value [] range (All-nil (Fits (answer_len s.value.s))) (omega arith) in
+    let whole = records_begin s.value [] range (All-nil (Fits (answer_len s.value.count s.value.s))) (omega arith) in
     let split : session_bytes (so_far s.value []) ≡ head ++ s.rest = append-nil (header_bytes s.value) ∙ sym s.whole.spelled in
     starts-front IsSession head s.rest (subst (Starts IsSession) split whole)
 
@@ -113,18 +113,18 @@ len_of-filled None = refl
 len_of-filled (Some n) = ap (λ (k : ℕ). Some k) (length-replicate n 0)
 
 -- a record more, whole, begins a session
-push_begins : (p : SessionParams) (done : List (Option (List ℕ))) (x : Option (List ℕ)) → IsInRange p → AllFit p done → length done < p.n → Fits (answer_len p.s) x
+push_begins : (p : SessionParams) (done : List (Option (List ℕ))) (x : Option (List ℕ)) → IsInRange p → AllFit p done → length done < p.n → Fits (answer_len p.count p.s) x
     → Starts IsSession (session_bytes (so_far p done) ++ record_bytes (1 + length done) x)
 push_begins p done x range fits few fits_x =
     subst (Starts IsSession) (session_bytes-push p done x)
-    (records_begin p (done ++ x ∷ []) range (All-push (Fits (answer_len p.s)) done x fits fits_x) (omega (arith, length-append done (x ∷ []))))
+    (records_begin p (done ++ x ∷ []) range (All-push (Fits (answer_len p.count p.s)) done x fits fits_x) (omega (arith, length-append done (x ∷ []))))
 
 -- THE HEADER OF A RECORD. What begins one begins a session behind the records before it, and nothing else does.
 pub record_begins : (p : SessionParams) (done : List (Option (List ℕ))) (head : List ℕ) → IsInRange p → AllFit p done → length done < p.n
-    → Starts (IsRecordHeader (1 + length done) (answer_len p.s)) head → Starts IsSession (session_bytes (so_far p done) ++ head)
+    → Starts (IsRecordHeader (1 + length done) (answer_len p.count p.s)) head → Starts IsSession (session_bytes (so_far p done) ++ head)
 record_begins p done head range fits few s =
     let x = filled s.value in
-    let whole = push_begins p done x range fits few (fits_filled (answer_len p.s) s.value s.whole.short) in
+    let whole = push_begins p done x range fits few (fits_filled (answer_len p.count p.s) s.value s.whole.short) in
     let header : record_header (1 + length done) (len_of x) ≡ head ++ s.rest = ap (record_header (1 + length done)) (len_of-filled s.value) ∙ sym s.whole.spelled in
     let bytes : record_bytes (1 + length done) x ≡ head ++ (s.rest ++ bytes_of x) =
     record-parts (1 + length done) x ∙ ap (λ (l : List ℕ). l ++ bytes_of x) header ∙ append_assoc head s.rest (bytes_of x) in
@@ -136,7 +136,7 @@ record_begins p done head range fits few s =
 pub record NextIs (p : SessionParams) (done : List (Option (List ℕ))) (tail : List ℕ) : Type 0 where
   pub next : Option (List ℕ)
   pub more : List ℕ
-  pub fits : Fits (answer_len p.s) next
+  pub fits : Fits (answer_len p.count p.s) next
   pub spelled : tail ≡ record_header (1 + length done) (len_of next) ++ (bytes_of next ++ more)
 
 next_of : (p : SessionParams) (done : List (Option (List ℕ))) (tail : List ℕ) (t : Transcript) → length done < p.n → GoesOn p done tail t → NextIs p done tail
@@ -149,7 +149,7 @@ next_of p done tail t few g = from_list g.rest g.spelled g.fits g.all
         record {
           next = x;
           more = records_bytes (i + 1) xs;
-          fits = All-head (Fits (answer_len p.s)) x xs fits;
+          fits = All-head (Fits (answer_len p.count p.s)) x xs fits;
           spelled = spelled ∙ ap (λ (l : List ℕ). l ++ records_bytes (i + 1) xs) (record-parts i x) ∙ append_assoc (record_header i (len_of x)) (bytes_of x) (records_bytes (i + 1) xs);
         }
 
@@ -164,7 +164,7 @@ next_in p done tail range fits few rest t h =
     next_of p done (tail ++ rest) t few (goes_on p done (tail ++ rest) t range fits (subst (λ (l : List ℕ). IsSession l t) (append_assoc (session_bytes (so_far p done)) tail rest) h))
 
 pub record_part : (p : SessionParams) (done : List (Option (List ℕ))) (head : List ℕ) → IsInRange p → AllFit p done → length done < p.n → length head ≤ 6
-    → Starts IsSession (session_bytes (so_far p done) ++ head) → Starts (IsRecordHeader (1 + length done) (answer_len p.s)) head
+    → Starts IsSession (session_bytes (so_far p done) ++ head) → Starts (IsRecordHeader (1 + length done) (answer_len p.count p.s)) head
 record_part p done head range fits few short s =
     let next = next_in p done head range fits few s.rest s.value s.whole in
     let i = 1 + length done in
@@ -173,14 +173,14 @@ record_part p done head range fits few short s =
       rest = drop (length head) header;
       value = len_of next.next;
       whole = record {
-        short = short_of (answer_len p.s) next.next next.fits;
+        short = short_of (answer_len p.count p.s) next.next next.fits;
         spelled = front_of head s.rest header (bytes_of next.next ++ next.more) (omega (arith, length-record_header i (len_of next.next))) next.spelled;
       };
     }
 
 -- THE BYTES OF A RECORD. As many as its header says, and any.
 pub bytes_begin : (p : SessionParams) (done : List (Option (List ℕ))) (bytes : List ℕ) (left : ℕ) → IsInRange p → AllFit p done → length done < p.n → All IsByte bytes
-    → length bytes + left ≤ answer_len p.s
+    → length bytes + left ≤ answer_len p.count p.s
     → Starts IsSession (session_bytes (so_far p done) ++ (record_header (1 + length done) (Some (length bytes + left)) ++ bytes))
 bytes_begin p done bytes left range fits few all short =
     let zeros : List ℕ = replicate left 0 in
@@ -223,14 +223,14 @@ record_short p done head t range fits few short h =
 
 -- nor with less than its bytes
 pub bytes_short : (p : SessionParams) (done : List (Option (List ℕ))) (bytes : List ℕ) (left : ℕ) (t : Transcript) → IsInRange p → AllFit p done → length done < p.n
-    → length bytes + left ≤ answer_len p.s → 0 < left → IsSession (session_bytes (so_far p done) ++ (record_header (1 + length done) (Some (length bytes + left)) ++ bytes)) t → ⊥
+    → length bytes + left ≤ answer_len p.count p.s → 0 < left → IsSession (session_bytes (so_far p done) ++ (record_header (1 + length done) (Some (length bytes + left)) ++ bytes)) t → ⊥
 bytes_short p done bytes left t range fits few short some h =
     let i = 1 + length done in
     let header = record_header i (Some (length bytes + left)) in
     let next = next_of p done (header ++ bytes) t few (goes_on p done (header ++ bytes) t range fits h) in
     by_next next.next next.more next.fits next.spelled
   where
-    by_next : (x : Option (List ℕ)) (more : List ℕ) → Fits (answer_len p.s) x
+    by_next : (x : Option (List ℕ)) (more : List ℕ) → Fits (answer_len p.count p.s) x
         → record_header (1 + length done) (Some (length bytes + left)) ++ bytes ≡ record_header (1 + length done) (len_of x) ++ (bytes_of x ++ more) → ⊥
     by_next None more fits_x spelled = differ 0 1 (sym (ap (λ (l : List ℕ). get_or l 1 0) spelled)) (omega arith)
     by_next (Some b) more fits_x spelled =
@@ -256,6 +256,6 @@ begins_short bytes s =
     let h = s.whole in
     let p = s.value.params in
     let long = length-append (header_bytes p) (records_bytes 1 s.value.records) in
-    let records = length-records (answer_len p.s) 1 s.value.records h.fits in
-    let few : length s.value.records * (6 + (answer_len p.s)) ≤ MOST_SERVERS * (6 + (answer_len p.s)) = mul-le-mul_right (6 + (answer_len p.s)) (omega (arith, h.all, h.range.few_servers)) in
-    omega (arith, long, records, few, h.range.shape.few_bytes, length-header p, ap length h.spelled, length-append bytes s.rest)
+    let records = length-records (answer_len p.count p.s) 1 s.value.records h.fits in
+    let few : length s.value.records * (6 + (answer_len p.count p.s)) ≤ MOST_SERVERS * (6 + (answer_len p.count p.s)) = mul-le-mul_right (6 + (answer_len p.count p.s)) (omega (arith, h.all, h.range.few_servers)) in
+    omega (arith, long, records, few, h.range.blocks.few_bytes, length-header p, ap length h.spelled, length-append bytes s.rest)

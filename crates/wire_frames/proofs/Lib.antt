@@ -1,6 +1,8 @@
 pub mod Answering
 pub mod Beginnings
+mod Causes
 mod Chains
+pub mod Counts
 mod Digits
 mod NumberPrefixes
 mod Filing
@@ -16,6 +18,7 @@ pub mod Schemes
 pub mod Servers
 mod ShapeFields
 mod Spellings
+pub mod Turns
 mod SessionStates
 pub mod Spans
 pub mod UnderWay

@@ -23,6 +23,6 @@ one_session bytes t u ht hu =
     let parts = same_parts (header_bytes t.params) (header_bytes u.params) (records_bytes 1 t.records) (records_bytes 1 u.records) (length-header t.params ∙ sym (length-header u.params)) same in
     let params = same_params t.params u.params ht.range hu.range parts.0 in
     let size : length t.records ≡ length u.records = ht.all ∙ ap (λ (p : SessionParams). p.n) params ∙ sym hu.all in
-    let fits = subst (λ (n : ℕ). All (Fits (answer_len n)) u.records) (ap (λ (p : SessionParams). p.s) (sym params)) hu.fits in
-    let records = same_records (answer_len t.params.s) 1 t.records u.records (omega (arith, ht.range.shape.few_bytes)) ht.fits fits size parts.1 in
+    let fits = subst (λ (p : SessionParams). All (Fits (answer_len p.count p.s)) u.records) (sym params) hu.fits in
+    let records = same_records (answer_len t.params.count t.params.s) 1 t.records u.records (omega (arith, ht.range.blocks.few_bytes)) ht.fits fits size parts.1 in
     λ i. record { params = params i; records = records i }

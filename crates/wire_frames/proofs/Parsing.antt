@@ -1,5 +1,5 @@
 -- A session is told by its bytes: what stands behind some of its records is the rest of them.
-use Rattle.std.proofs.Common.{◌≡◌, ℕ, suc, ◌+◌, ◌^◌, ◌<◌, List, [], ◌∷◌, ◌++◌, length, take, drop, get_or, All, refl, sym, ap, ap₂, ◌∙◌, arith, append_assoc}
+use Rattle.std.proofs.Common.{◌≡◌, ℕ, suc, ◌+◌, ◌^◌, ◌<◌, List, [], ◌∷◌, ◌++◌, length, take, drop, get_or, All, refl, sym, subst, ap, ap₂, ◌∙◌, arith, append_assoc}
 use Rattle.std.specs.Prelude.{Option, Some, None}
 use Rattle.std.specs.Int.{bytes_high_first}
 use Rattle.std.proofs.Math.Seq.{take-append_seam, drop-append_seam}
@@ -7,8 +7,10 @@ use Rattle.std.proofs.lemmas.List.Elements.{All-head, All-tail}
 use Rattle.wire_frames.specs.declared.sizes.TheConstants.{SESSION_HEADER_LEN}
 use Rattle.wire_frames.specs.declared.session.SessionParams.{SessionParams}
 use Rattle.wire_frames.specs.Layout.{record_header}
-use Rattle.wire_frames.specs.Limits.{IsInRange}
+use Rattle.wire_frames.specs.Limits.{IsCount, IsInRange}
+use Rattle.wire_frames.specs.Version.{count_byte}
 use Rattle.wire_frames.specs.Session.{Fits, header_bytes, record_bytes, records_bytes}
+use Rattle.wire_frames.proofs.Counts.{same_count}
 use Rattle.wire_frames.proofs.Digits.{number, number-digits}
 
 -- two lists with fronts of one length: the fronts are equal, and the rests
@@ -21,13 +23,23 @@ pub same_digits : (width v v' : ℕ) → v < 256 ^ width → v' < 256 ^ width �
 same_digits width v v' h h' e = sym (number-digits width v h) ∙ ap number e ∙ number-digits width v' h'
 
 -- numbers of a session, one by one
-numbers : ℕ → ℕ → ℕ → ℕ → ℕ → ℕ → ℕ → SessionParams
-numbers scheme t h n session r s = record { scheme = scheme; t = t; h = h; n = n; session = session; r = r; s = s }
+numbers : ℕ → ℕ → ℕ → ℕ → ℕ → ℕ → ℕ → ℕ → ℕ → SessionParams
+numbers version scheme t h n count session r s = record {
+  version = version;
+  scheme = scheme;
+  t = t;
+  h = h;
+  n = n;
+  count = count;
+  session = session;
+  r = r;
+  s = s;
+}
 
 -- which are equal where each is
-same_numbers : (p q : SessionParams) → p.scheme ≡ q.scheme → p.t ≡ q.t → p.h ≡ q.h → p.n ≡ q.n → p.session ≡ q.session → p.r ≡ q.r → p.s ≡ q.s
-    → numbers p.scheme p.t p.h p.n p.session p.r p.s ≡ numbers q.scheme q.t q.h q.n q.session q.r q.s
-same_numbers p q scheme t h n session r s = cc
+same_numbers : (p q : SessionParams) → p.version ≡ q.version → p.scheme ≡ q.scheme → p.t ≡ q.t → p.h ≡ q.h → p.n ≡ q.n → p.count ≡ q.count → p.session ≡ q.session → p.r ≡ q.r → p.s ≡ q.s
+    → numbers p.version p.scheme p.t p.h p.n p.count p.session p.r p.s ≡ numbers q.version q.scheme q.t q.h q.n q.count q.session q.r q.s
+same_numbers p q version scheme t h n count session r s = cc
 
 -- a header has 28 bytes
 pub length-header : (p : SessionParams) → length (header_bytes p) ≡ SESSION_HEADER_LEN
@@ -37,14 +49,17 @@ length-header p = refl
 pub same_params : (p q : SessionParams) → IsInRange p → IsInRange q → header_bytes p ≡ header_bytes q → p ≡ q
 unfolding numbers
 same_params p q hp hq e =
+    let version : p.version ≡ q.version = ap (λ (l : List ℕ). get_or l 4 0) e in
     let scheme = ap (λ (l : List ℕ). get_or l 5 0) e in
     let t = ap (λ (l : List ℕ). get_or l 6 0) e in
     let h = ap (λ (l : List ℕ). get_or l 7 0) e in
     let n = ap (λ (l : List ℕ). get_or l 8 0) e in
+    let byte : count_byte p.version p.count ≡ count_byte q.version q.count = ap (λ (l : List ℕ). get_or l 9 0) e in
+    let count = same_count p.version p.count q.count p.s q.s hp.blocks (subst (λ (v : ℕ). IsCount v q.count q.s) (sym version) hq.blocks) (subst (λ (v : ℕ). count_byte p.version p.count ≡ count_byte v q.count) (sym version) byte) in
     let session = same_digits 8 p.session q.session (omega (arith, hp.session)) (omega (arith, hq.session)) (ap (λ (l : List ℕ). take 8 (drop 12 l)) e) in
     let r = same_digits 4 p.r q.r (omega (arith, hp.shape.few_rows)) (omega (arith, hq.shape.few_rows)) (ap (λ (l : List ℕ). take 4 (drop 20 l)) e) in
     let s = same_digits 4 p.s q.s (omega (arith, hp.shape.few_bytes)) (omega (arith, hq.shape.few_bytes)) (ap (λ (l : List ℕ). take 4 (drop 24 l)) e) in
-    same_numbers p q scheme t h n session r s
+    same_numbers p q version scheme t h n count session r s
 
 -- what stands before the bytes of a record
 abbrev pub len_of : Option (List ℕ) → Option ℕ

@@ -7,36 +7,55 @@ use Rattle.std.proofs.lemmas.List.Elements.{All-drop, All-take}
 use Rattle.std.proofs.lemmas.Result.{err_from_is_err_and}
 use Rattle.wire_frames.specs.declared.field.Number.{Number}
 use Rattle.wire_frames.specs.declared.header.QueryHeader.{QueryHeader}
-use Rattle.wire_frames.specs.declared.header.TheConstants.{VERSION, QUERY_MAGIC}
+use Rattle.wire_frames.specs.declared.header.TheConstants.{QUERY_MAGIC}
 use Rattle.wire_frames.specs.declared.places.TheConstants.{FRAME_MAGIC_PLACE, FRAME_VERSION_PLACE, FRAME_SCHEME_PLACE, FRAME_INDEX_PLACE, FRAME_STATUS_PLACE, FRAME_SESSION_PLACE}
 use Rattle.wire_frames.specs.declared.query.Field.{Field}
 use Rattle.wire_frames.specs.declared.query.FrameFault.{FrameFault}
 use Rattle.wire_frames.specs.declared.scheme.TheConstants.{SHAMIR, XOR}
-use Rattle.wire_frames.specs.Field.{IsNumber, session_field}
+use Rattle.wire_frames.specs.declared.version.TheConstants.{SINGLE, SEVERAL}
+use Rattle.wire_frames.specs.declared.TheConstants.{MOST_BLOCKS}
+use Rattle.wire_frames.specs.Field.{IsNumber, count_field, session_field}
 use Rattle.wire_frames.specs.Form.{Starts, StopsWithin}
-use Rattle.wire_frames.specs.Query.{IsQueryHeader, ReadsField, ReadsQuery, first_place, end_place}
+use Rattle.wire_frames.specs.Query.{IsQueryHeader, ReadsField, ReadsQuery, first_place, end_place, count_name}
+use Rattle.wire_frames.specs.Version.{count_byte, count_of}
+use Rattle.wire_frames.proofs.Counts.{byte_most, byte-mono, byte_told, count_in, count_is_field, count_told, name_place, name_end}
 use Rattle.wire_frames.proofs.Chains.{Then, Leads, field_then, leads-start, leads-on, leads-stop, some_spelling}
 use Rattle.wire_frames.proofs.Digits.{IsByte, number, number_below, digits-number}
 use Rattle.wire_frames.proofs.Prefixes.{starts-whole}
-use Rattle.wire_frames.proofs.ShapeFields.{at_session, shape_into, shape_back, some_session}
+use Rattle.wire_frames.proofs.ShapeFields.{at_session, shape_bytes, shape_into, shape_back, some_session}
 use Rattle.wire_frames.proofs.Spellings.{only, byte_is, number_is, byte_front, only_front, joined, is_field}
 
 -- a query, from its header
-abbrev pub query_of : ℕ → ℕ → ℕ → ℕ → ℕ → QueryHeader
-query_of scheme index session r s = record { scheme = scheme; index = index; session = session; r = r; s = s }
+abbrev pub query_of : ℕ → ℕ → ℕ → ℕ → ℕ → ℕ → ℕ → QueryHeader
+query_of version scheme index count session r s = record {
+  version = version;
+  scheme = scheme;
+  index = index;
+  count = count;
+  session = session;
+  r = r;
+  s = s;
+}
 
 -- what is left of a header where the numbers before are known
-abbrev pub at_zero : ℕ → ℕ → List ℕ → QueryHeader → Type 0
-at_zero scheme index = Then (only 1 0) (λ _. at_session (query_of scheme index))
+abbrev pub at_shape : ℕ → ℕ → ℕ → ℕ → List ℕ → QueryHeader → Type 0
+at_shape version scheme index count = at_session (query_of version scheme index count) count
 
-abbrev pub at_index : ℕ → List ℕ → QueryHeader → Type 0
-at_index scheme = Then (record { width = 1; least = 1; most = 255 }) (λ index. at_zero scheme index)
+abbrev pub at_count : ℕ → ℕ → ℕ → List ℕ → QueryHeader → Type 0
+at_count version scheme index = Then (count_field version) (λ byte. at_shape version scheme index (count_of byte))
 
-abbrev pub at_scheme : List ℕ → QueryHeader → Type 0
-at_scheme = Then (record { width = 1; least = SHAMIR; most = XOR }) (λ scheme. at_index scheme)
+abbrev pub at_index : ℕ → ℕ → List ℕ → QueryHeader → Type 0
+at_index version scheme = Then (record { width = 1; least = 1; most = 255 }) (λ index. at_count version scheme index)
+
+abbrev pub at_scheme : ℕ → List ℕ → QueryHeader → Type 0
+at_scheme version = Then (record { width = 1; least = SHAMIR; most = XOR }) (λ scheme. at_index version scheme)
+
+-- either version
+abbrev pub version_field : Number
+version_field = record { width = 1; least = SINGLE; most = SEVERAL }
 
 abbrev pub at_version : List ℕ → QueryHeader → Type 0
-at_version = Then (only 1 VERSION) (λ _. at_scheme)
+at_version = Then version_field (λ version. at_scheme version)
 
 abbrev pub at_magic : List ℕ → QueryHeader → Type 0
 at_magic = Then (only 4 QUERY_MAGIC) (λ _. at_version)
@@ -45,11 +64,15 @@ at_magic = Then (only 4 QUERY_MAGIC) (λ _. at_version)
 query_into : (bytes : List ℕ) (q : QueryHeader) → IsQueryHeader bytes q → at_magic bytes q
 query_into bytes q h =
     let range = h.range in
-    let session_on = shape_into (query_of q.scheme q.index) q.session q.r q.s range.session range.shape in
-    let zero_on = field_then {next = λ _. at_session (query_of q.scheme q.index)} _ q (number_is 1 0 0 0 (omega arith) (omega arith)) session_on in
-    let index_on = field_then {next = λ index. at_zero q.scheme index} _ q (byte_is 1 q.index 255 range.some_index range.few_indices (lit< tt)) zero_on in
-    let scheme_on = field_then {next = λ scheme. at_index scheme} _ q (byte_is SHAMIR q.scheme XOR range.some_scheme range.two_schemes (lit< tt)) index_on in
-    let version_on = field_then {next = λ _. at_scheme} _ q (number_is 1 VERSION VERSION VERSION (omega arith) (omega arith)) scheme_on in
+    let blocks = range.blocks in
+    let session_on = shape_into (query_of q.version q.scheme q.index q.count) q.count q.session q.r q.s range.session range.shape blocks.some_blocks blocks.few_bytes in
+    let told = count_told q.version q.count q.s blocks in
+    let count_on = field_then {next = λ byte. at_shape q.version q.scheme q.index (count_of byte)} _ q
+    (byte_is (count_byte q.version 1) (count_byte q.version q.count) (count_byte q.version MOST_BLOCKS) (byte-mono q.version 1 q.count blocks.some_blocks) (byte-mono q.version q.count MOST_BLOCKS blocks.few_blocks) (omega (arith, byte_most q.version MOST_BLOCKS)))
+    (subst (λ (c : ℕ). at_shape q.version q.scheme q.index c (shape_bytes q.session q.r q.s) q) (sym told) session_on) in
+    let index_on = field_then {next = λ index. at_count q.version q.scheme index} _ q (byte_is 1 q.index 255 range.some_index range.few_indices (lit< tt)) count_on in
+    let scheme_on = field_then {next = λ scheme. at_index q.version scheme} _ q (byte_is SHAMIR q.scheme XOR range.some_scheme range.two_schemes (lit< tt)) index_on in
+    let version_on = field_then {next = λ version. at_scheme version} _ q (byte_is SINGLE q.version SEVERAL blocks.some_version blocks.two_versions (lit< tt)) scheme_on in
     let whole = field_then {next = λ _. at_version} _ q (number_is 4 QUERY_MAGIC QUERY_MAGIC QUERY_MAGIC (lit≤ tt) (lit≤ tt)) version_on in
     subst (λ (l : List ℕ). at_magic l q) (sym h.spelled) whole
 
@@ -59,12 +82,15 @@ query_back bytes q magic =
     let version = magic.goes_on in
     let scheme = version.goes_on in
     let index = scheme.goes_on in
-    let zero = index.goes_on in
-    let shaped = shape_back (query_of scheme.number index.number) zero.rest q zero.goes_on in
-    let zero_is = joined index.rest zero.front zero.rest (bytes_high_first 1 0) _ zero.split (only_front 1 0 zero.number zero.front zero.field) shaped.spelled in
-    let index_is = joined scheme.rest index.front index.rest (index.number ∷ []) _ index.split (byte_front 1 255 index.number index.front (lit< tt) index.field) zero_is in
+    let count = index.goes_on in
+    let v = version.number in
+    let shaped = shape_back (query_of v scheme.number index.number (count_of count.number)) (count_of count.number) count.rest q (omega arith) count.goes_on in
+    let byte_is = byte_told v count.number version.field.least version.field.most count.field.least count.field.most in
+    let count_front = byte_front (count_byte v 1) (count_byte v MOST_BLOCKS) count.number count.front (omega (arith, byte_most v MOST_BLOCKS)) count.field in
+    let count_is = joined index.rest count.front count.rest (count_byte v (count_of count.number) ∷ []) _ count.split (count_front ∙ ap (λ (b : ℕ). b ∷ []) byte_is) shaped.spelled in
+    let index_is = joined scheme.rest index.front index.rest (index.number ∷ []) _ index.split (byte_front 1 255 index.number index.front (lit< tt) index.field) count_is in
     let scheme_is = joined version.rest scheme.front scheme.rest (scheme.number ∷ []) _ scheme.split (byte_front SHAMIR XOR scheme.number scheme.front (lit< tt) scheme.field) index_is in
-    let version_is = joined magic.rest version.front version.rest (bytes_high_first 1 VERSION) _ version.split (only_front 1 VERSION version.number version.front version.field) scheme_is in
+    let version_is = joined magic.rest version.front version.rest (v ∷ []) _ version.split (byte_front SINGLE SEVERAL v version.front (lit< tt) version.field) scheme_is in
     let whole = joined bytes magic.front magic.rest (bytes_high_first 4 QUERY_MAGIC) _ magic.split (only_front 4 QUERY_MAGIC magic.number magic.front magic.field) version_is in
     subst (IsQueryHeader bytes) shaped.same (record {
       range = record {
@@ -74,22 +100,29 @@ query_back bytes q magic =
         few_indices = index.field.most;
         session = shaped.below;
         shape = shaped.shape;
+        blocks = count_in v count.number shaped.s version.field.least version.field.most count.field.least count.field.most shaped.blocks;
       };
       spelled = whole;
     })
 
 -- whatever came before, a header can be completed
-pub some_zero : (scheme index : ℕ) → Starts (at_zero scheme index) []
-some_zero scheme index = some_spelling _ _ 0 (omega arith) (omega arith) (some_session (query_of scheme index))
+pub some_shape : (version scheme index byte : ℕ) → byte ≤ count_byte version MOST_BLOCKS → Starts (at_shape version scheme index (count_of byte)) []
+some_shape version scheme index byte few =
+    some_session (query_of version scheme index (count_of byte)) (count_of byte) (omega arith) (omega (arith, few, byte_most version MOST_BLOCKS))
 
-pub some_index : (scheme : ℕ) → Starts (at_index scheme) []
-some_index scheme = some_spelling _ _ 1 (omega arith) (lit≤ tt) (some_zero scheme 1)
+pub some_count : (version scheme index : ℕ) → Starts (at_count version scheme index) []
+some_count version scheme index =
+    let some = (count_is_field version).some in
+    some_spelling _ _ (count_byte version 1) (omega arith) some (some_shape version scheme index (count_byte version 1) some)
 
-pub some_scheme : Starts at_scheme []
-some_scheme = some_spelling _ _ SHAMIR (omega arith) (lit≤ tt) (some_index SHAMIR)
+pub some_index : (version scheme : ℕ) → Starts (at_index version scheme) []
+some_index version scheme = some_spelling _ _ 1 (omega arith) (lit≤ tt) (some_count version scheme 1)
+
+pub some_scheme : (version : ℕ) → Starts (at_scheme version) []
+some_scheme version = some_spelling _ _ SHAMIR (omega arith) (lit≤ tt) (some_index version SHAMIR)
 
 pub some_version : Starts at_version []
-some_version = some_spelling _ _ 1 (omega arith) (omega arith) some_scheme
+some_version = some_spelling _ _ SINGLE (omega arith) (lit≤ tt) (some_scheme SINGLE)
 
 -- THE STEPS of a reading of a header: each field that is read leads on to the next
 pub to_magic : (bytes : List ℕ) → Leads IsQueryHeader at_magic FRAME_MAGIC_PLACE bytes
@@ -98,20 +131,22 @@ to_magic bytes = leads-start bytes query_into query_back
 pub to_version : {bytes : List ℕ} {v : ℕ} → Leads IsQueryHeader at_magic FRAME_MAGIC_PLACE bytes → IsNumber (only 4 QUERY_MAGIC) (take 4 (drop FRAME_MAGIC_PLACE bytes)) v → Leads IsQueryHeader at_version FRAME_VERSION_PLACE bytes
 to_version leads h = leads-on (is_field 4 QUERY_MAGIC QUERY_MAGIC (lit≤ tt) (lit≤ tt) (lit< tt)) leads h
 
-pub to_scheme : {bytes : List ℕ} {v : ℕ} → Leads IsQueryHeader at_version FRAME_VERSION_PLACE bytes → IsNumber (only 1 VERSION) (take 1 (drop FRAME_VERSION_PLACE bytes)) v → Leads IsQueryHeader at_scheme FRAME_SCHEME_PLACE bytes
-to_scheme leads h = leads-on (is_field 1 VERSION VERSION (lit≤ tt) (lit≤ tt) (lit< tt)) leads h
+pub to_scheme : {bytes : List ℕ} {v : ℕ} → Leads IsQueryHeader at_version FRAME_VERSION_PLACE bytes → IsNumber version_field (take 1 (drop FRAME_VERSION_PLACE bytes)) v
+    → Leads IsQueryHeader (at_scheme v) FRAME_SCHEME_PLACE bytes
+to_scheme leads h = leads-on (is_field 1 SINGLE SEVERAL (lit≤ tt) (lit≤ tt) (lit< tt)) leads h
 
-pub to_index : {bytes : List ℕ} {v : ℕ} → Leads IsQueryHeader at_scheme FRAME_SCHEME_PLACE bytes → IsNumber (record { width = 1; least = SHAMIR; most = XOR }) (take 1 (drop FRAME_SCHEME_PLACE bytes)) v
-    → Leads IsQueryHeader (at_index v) FRAME_INDEX_PLACE bytes
+pub to_index : {bytes : List ℕ} {version v : ℕ} → Leads IsQueryHeader (at_scheme version) FRAME_SCHEME_PLACE bytes → IsNumber (record { width = 1; least = SHAMIR; most = XOR }) (take 1 (drop FRAME_SCHEME_PLACE bytes)) v
+    → Leads IsQueryHeader (at_index version v) FRAME_INDEX_PLACE bytes
 to_index leads h = leads-on (is_field 1 SHAMIR XOR (lit≤ tt) (lit≤ tt) (lit< tt)) leads h
 
-pub to_zero : {bytes : List ℕ} {scheme v : ℕ} → Leads IsQueryHeader (at_index scheme) FRAME_INDEX_PLACE bytes → IsNumber (record { width = 1; least = 1; most = 255 }) (take 1 (drop FRAME_INDEX_PLACE bytes)) v
-    → Leads IsQueryHeader (at_zero scheme v) FRAME_STATUS_PLACE bytes
-to_zero leads h = leads-on (is_field 1 1 255 (lit≤ tt) (lit≤ tt) (lit< tt)) leads h
+pub to_count : {bytes : List ℕ} {version scheme v : ℕ} → Leads IsQueryHeader (at_index version scheme) FRAME_INDEX_PLACE bytes → IsNumber (record { width = 1; least = 1; most = 255 }) (take 1 (drop FRAME_INDEX_PLACE bytes)) v
+    → Leads IsQueryHeader (at_count version scheme v) FRAME_STATUS_PLACE bytes
+to_count leads h = leads-on (is_field 1 1 255 (lit≤ tt) (lit≤ tt) (lit< tt)) leads h
 
-pub to_session : {bytes : List ℕ} {scheme index v : ℕ} → Leads IsQueryHeader (at_zero scheme index) FRAME_STATUS_PLACE bytes → IsNumber (only 1 0) (take 1 (drop FRAME_STATUS_PLACE bytes)) v
-    → Leads IsQueryHeader (at_session (query_of scheme index)) FRAME_SESSION_PLACE bytes
-to_session leads h = leads-on (is_field 1 0 0 (lit≤ tt) (lit≤ tt) (lit< tt)) leads h
+pub to_session : {bytes : List ℕ} {version scheme index v : ℕ} → Leads IsQueryHeader (at_count version scheme index) FRAME_STATUS_PLACE bytes
+    → IsNumber (count_field version) (take 1 (drop (first_place (count_name version)) bytes)) v → Leads IsQueryHeader (at_shape version scheme index (count_of v)) FRAME_SESSION_PLACE bytes
+to_session {bytes} {version} {scheme} {index} {v} leads h =
+    leads-on (count_is_field version) leads (subst (λ (at : ℕ). IsNumber (count_field version) (take 1 (drop at bytes)) v) (name_place version) h)
 
 -- any eight bytes are a session
 any_session : (bytes : List ℕ) (at : ℕ) → All IsByte bytes → at + 8 ≤ length bytes
@@ -147,6 +182,13 @@ stops_in {f} {next} {bytes} {fault} field size leads some h =
     let after : first_place fault.field ≤ fault.place = omega (arith, h.0.after, ap first_place h.1) in
     let before : fault.place < end_place fault.field = omega (arith, h.0.before, size, ap end_place h.1) in
     (record { stops = stops.0; after = after; before = before }, stops.1)
+
+-- so does the byte that says for how many blocks a query asks
+pub stops_in_count : {bytes : List ℕ} {version scheme index : ℕ} {fault : FrameFault} → Leads IsQueryHeader (at_count version scheme index) FRAME_STATUS_PLACE bytes
+    → ReadsField (count_field version) (count_name version) bytes (Err fault) → ReadsQuery bytes (Err fault)
+stops_in_count {bytes} {version} {scheme} {index} {fault} leads h =
+    let here = subst (λ (at : ℕ). Leads IsQueryHeader (at_count version scheme index) at bytes) (sym (name_place version)) leads in
+    stops_in (count_name version) (omega (arith, name_place version, name_end version)) here (λ v _ most. some_shape version scheme index v most) h
 
 -- what a `?` hands on of a reading
 pub query_exit : {bytes : List ℕ} (r : Result QueryHeader FrameFault) (fault : FrameFault) → IsErrAnd r (λ e. e ≡ fault) → ReadsQuery bytes (Err fault) → ReadsQuery bytes r

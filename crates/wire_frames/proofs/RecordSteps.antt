@@ -25,7 +25,7 @@ no_header i most = record { rest = record_header i None; value = None; whole = r
 
 -- what stands behind records is a record's header first
 pub record_behind : (p : SessionParams) (done : List (Option (List ℕ))) → IsInRange p → AllFit p done → length done < p.n
-    → IsBehind (IsRecordHeader (1 + length done) (answer_len p.s)) 6 (session_bytes (so_far p done))
+    → IsBehind (IsRecordHeader (1 + length done) (answer_len p.count p.s)) 6 (session_bytes (so_far p done))
 record_behind p done range fits few = record {
   sized = λ bytes len h. ap length h.spelled ∙ length-record_header (1 + length done) len;
   begins = λ head s. record_begins p done head range fits few s;
@@ -70,23 +70,23 @@ open_short r is_open few t h = elim is_open.part [
 ]
 
 -- THE NEXT RECORD IS WHOLE: with it the reader is before the header of another
-closed_steady : (r : RecordsReader) (x : Option (List ℕ)) → IsSteady r → length r.records.closed < r.params.n → Fits (answer_len r.params.s) x → length r.records.current ≤ answer_len r.params.s
+closed_steady : (r : RecordsReader) (x : Option (List ℕ)) → IsSteady r → length r.records.closed < r.params.n → Fits (answer_len r.params.count r.params.s) x → length r.records.current ≤ answer_len r.params.count r.params.s
     → IsSteady (record r { records = closed_by x r.records; head = [] })
 closed_steady r x steady few fits most =
     let more = length-append r.records.closed (x ∷ []) in
-    let width : length (r.records.closed ++ x ∷ []) * (answer_len r.params.s) ≡ length r.records.closed * (answer_len r.params.s) + (answer_len r.params.s) =
-    ap (λ (n : ℕ). n * (answer_len r.params.s)) (omega (arith, more)) ∙ suc-mul (length r.records.closed) (answer_len r.params.s) in
+    let width : length (r.records.closed ++ x ∷ []) * (answer_len r.params.count r.params.s) ≡ length r.records.closed * (answer_len r.params.count r.params.s) + (answer_len r.params.count r.params.s) =
+    ap (λ (n : ℕ). n * (answer_len r.params.count r.params.s)) (omega (arith, more)) ∙ suc-mul (length r.records.closed) (answer_len r.params.count r.params.s) in
     record {
       range = steady.range;
       few = omega (arith, more);
-      fits = All-push (Fits (answer_len r.params.s)) r.records.closed x steady.fits fits;
+      fits = All-push (Fits (answer_len r.params.count r.params.s)) r.records.closed x steady.fits fits;
       below = All-nil (λ (b : ℕ). b < 256);
       record_room = omega (arith, more, steady.record_room);
       byte_room = omega (arith, width, steady.byte_room);
     }
 
-pub closed_open : (r : RecordsReader) (x : Option (List ℕ)) (kept : Kept) (head : List ℕ) → IsSteady r → length r.records.closed < r.params.n → r.left ≡ 0 → Fits (answer_len r.params.s) x
-    → length r.records.current ≤ answer_len r.params.s → kept ≡ closed_by x r.records → head ≡ [] → IsOpen (record r { records = kept; head = head })
+pub closed_open : (r : RecordsReader) (x : Option (List ℕ)) (kept : Kept) (head : List ℕ) → IsSteady r → length r.records.closed < r.params.n → r.left ≡ 0 → Fits (answer_len r.params.count r.params.s) x
+    → length r.records.current ≤ answer_len r.params.count r.params.s → kept ≡ closed_by x r.records → head ≡ [] → IsOpen (record r { records = kept; head = head })
 closed_open r x kept head steady few none_left fits most is_kept is_head =
     let p = r.params in
     let canonical : IsOpen (record r { records = closed_by x r.records; head = [] }) = record {
@@ -121,14 +121,14 @@ pub absent_spelled : (r : RecordsReader) → r.head ≡ record_header (1 + lengt
 absent_spelled r header none_begun = sym (ap₂ (λ (x y : List ℕ). x ++ y) header none_begun)
 
 -- a reader with no record yet
-pub new_open : (p : SessionParams) (kept : Kept) (head : List ℕ) (servers : ℕ) → IsInRange p → servers ≡ p.n → kept ≡ nothing_kept servers (servers * (answer_len p.s)) → head ≡ []
+pub new_open : (p : SessionParams) (kept : Kept) (head : List ℕ) (servers : ℕ) → IsInRange p → servers ≡ p.n → kept ≡ nothing_kept servers (servers * (answer_len p.count p.s)) → head ≡ []
     → IsOpen (record { params = p; records = kept; head = head; left = 0 })
 new_open p kept head servers range is_servers is_kept is_head =
-    let canonical : IsOpen (record { params = p; records = nothing_kept p.n (p.n * (answer_len p.s)); head = []; left = 0 }) = record {
+    let canonical : IsOpen (record { params = p; records = nothing_kept p.n (p.n * (answer_len p.count p.s)); head = []; left = 0 }) = record {
       steady = record {
         range = range;
         few = omega arith;
-        fits = All-nil (Fits (answer_len p.s));
+        fits = All-nil (Fits (answer_len p.count p.s));
         below = All-nil (λ (b : ℕ). b < 256);
         record_room = omega arith;
         byte_room = omega arith;
@@ -141,9 +141,9 @@ new_open p kept head servers range is_servers is_kept is_head =
         nothing = λ _. refl;
       };
     } in
-    let room : kept ≡ nothing_kept p.n (p.n * (answer_len p.s)) = is_kept ∙ ap (λ (n : ℕ). nothing_kept n (n * (answer_len p.s))) is_servers in
+    let room : kept ≡ nothing_kept p.n (p.n * (answer_len p.count p.s)) = is_kept ∙ ap (λ (n : ℕ). nothing_kept n (n * (answer_len p.count p.s))) is_servers in
     subst (λ (k : Kept). IsOpen (record { params = p; records = k; head = head; left = 0 })) (sym room)
-    (subst (λ (l : List ℕ). IsOpen (record { params = p; records = nothing_kept p.n (p.n * (answer_len p.s)); head = l; left = 0 })) (sym is_head) canonical)
+    (subst (λ (l : List ℕ). IsOpen (record { params = p; records = nothing_kept p.n (p.n * (answer_len p.count p.s)); head = l; left = 0 })) (sym is_head) canonical)
 
 -- after the last record nothing is right
 pub last_refuses : (r : RecordsReader) (piece : List ℕ) → IsOpen r → r.left ≡ 0 → length r.records.closed ≡ r.params.n → 0 < length piece → Refuses (bytes_so_far r) piece 0
@@ -170,20 +170,20 @@ pub record IsPiece (r : RecordsReader) (piece : List ℕ) (count : ℕ) (head : 
 
 -- it is read under the index of the next record
 header_reads : (r : RecordsReader) (i : ℕ) (read head : List ℕ) (result : Result (Option ℕ) ℕ) → i ≡ length r.records.closed → read ≡ head
-    → Reads (IsRecordHeader (i + 1) (answer_len r.params.s)) read result → Reads (IsRecordHeader (1 + length r.records.closed) (answer_len r.params.s)) head result
+    → Reads (IsRecordHeader (i + 1) (answer_len r.params.count r.params.s)) read result → Reads (IsRecordHeader (1 + length r.records.closed) (answer_len r.params.count r.params.s)) head result
 header_reads r i read head result is_index is_head h =
     let index : i + 1 ≡ 1 + length r.records.closed = omega arith in
-    subst (λ (n : ℕ). Reads (IsRecordHeader n (answer_len r.params.s)) head result) index (subst (λ (l : List ℕ). Reads (IsRecordHeader (i + 1) (answer_len r.params.s)) l result) is_head h)
+    subst (λ (n : ℕ). Reads (IsRecordHeader n (answer_len r.params.count r.params.s)) head result) index (subst (λ (l : List ℕ). Reads (IsRecordHeader (i + 1) (answer_len r.params.count r.params.s)) l result) is_head h)
 
 -- the bytes before the piece were right
 pub header_after : (r : RecordsReader) (piece : List ℕ) (count i : ℕ) (head read : List ℕ) (place : ℕ) → IsPiece r piece count head → i ≡ length r.records.closed → read ≡ head
-    → Reads (IsRecordHeader (i + 1) (answer_len r.params.s)) read (Err place) → length r.head ≤ place
+    → Reads (IsRecordHeader (i + 1) (answer_len r.params.count r.params.s)) read (Err place) → length r.head ≤ place
 header_after r piece count i head read place t is_index is_head h =
     place_behind r.head (take count piece) place (t.part.right t.few) (header_reads r i read (r.head ++ take count piece) (Err place) is_index (is_head ∙ t.head_is) h).0
 
 -- it stops being right
 pub header_refuses : (r : RecordsReader) (piece : List ℕ) (count i before : ℕ) (head read : List ℕ) (place : ℕ) → IsPiece r piece count head → i ≡ length r.records.closed → read ≡ head
-    → before ≡ length r.head → Reads (IsRecordHeader (i + 1) (answer_len r.params.s)) read (Err place) → place < length head → Refuses (bytes_so_far r) piece (place - before)
+    → before ≡ length r.head → Reads (IsRecordHeader (i + 1) (answer_len r.params.count r.params.s)) read (Err place) → place < length head → Refuses (bytes_so_far r) piece (place - before)
 header_refuses r piece count i before head read place t is_index is_head is_before h within =
     let stops = header_reads r i read (r.head ++ take count piece) (Err place) is_index (is_head ∙ t.head_is) h in
     let front = session_bytes (so_far r.params r.records.closed) in
@@ -195,7 +195,7 @@ header_refuses r piece count i before head read place t is_index is_head is_befo
 
 -- it is right, and not yet whole
 pub header_goes_on : (r : RecordsReader) (piece : List ℕ) (count i : ℕ) (head read : List ℕ) (place : ℕ) → IsPiece r piece count head → i ≡ length r.records.closed → read ≡ head
-    → Reads (IsRecordHeader (i + 1) (answer_len r.params.s)) read (Err place) → length head ≤ place → IsOpen (record r { head = head })
+    → Reads (IsRecordHeader (i + 1) (answer_len r.params.count r.params.s)) read (Err place) → length head ≤ place → IsOpen (record r { head = head })
 header_goes_on r piece count i head read place t is_index is_head h all =
     let reads = header_reads r i read head (Err place) is_index is_head h in
     let behind = record_behind r.params r.records.closed t.steady.range t.steady.fits t.few in
@@ -236,6 +236,6 @@ extended_steady r kept bytes left steady below room is_kept =
 -- there is room for what is left of the next record
 pub room_left : (r : RecordsReader) → IsSteady r → IsInBytes r → r.left ≤ r.records.byte_room
 room_left r steady part =
-    let width = answer_len r.params.s in
+    let width = answer_len r.params.count r.params.s in
     let more : suc (length r.records.closed) * width ≤ r.params.n * width = mul-le-mul_right width (omega (arith, part.few)) in
     omega (arith, more, suc-mul (length r.records.closed) width, steady.byte_room, part.most)

@@ -9,28 +9,28 @@ use Rattle.wire_frames.specs.Limits.{IsInRange}
 use Rattle.wire_frames.specs.Session.{Fits, IsUnderWay}
 
 -- with one more record that is present, the session is still under way
-pub under_way_present : (p : SessionParams) (k : Kept) (bytes : List ℕ) → length k.closed < p.n → length bytes ≤ answer_len p.s → All (λ b. b < 256) bytes → IsUnderWay p k
+pub under_way_present : (p : SessionParams) (k : Kept) (bytes : List ℕ) → length k.closed < p.n → length bytes ≤ answer_len p.count p.s → All (λ b. b < 256) bytes → IsUnderWay p k
     → IsUnderWay p (closed_by (Some (extended bytes k).current) (extended bytes k))
 under_way_present p k bytes few short below under_way =
     let is : k.current ++ bytes ≡ bytes = ap (λ (l : List ℕ). l ++ bytes) under_way.none_begun in
     let more : length (k.closed ++ Some (k.current ++ bytes) ∷ []) ≡ length k.closed + 1 = length-append k.closed (Some (k.current ++ bytes) ∷ []) in
-    let room : (length k.closed + 1) * (answer_len p.s) ≤ p.n * (answer_len p.s) = grind arith in
+    let room : (length k.closed + 1) * (answer_len p.count p.s) ≤ p.n * (answer_len p.count p.s) = grind arith in
     record {
       range = under_way.range;
       few = omega arith;
-      fits = All-push (Fits (answer_len p.s)) k.closed (Some (k.current ++ bytes)) under_way.fits (subst (λ (l : List ℕ). Fits (answer_len p.s) (Some l)) (sym is) (short, below));
+      fits = All-push (Fits (answer_len p.count p.s)) k.closed (Some (k.current ++ bytes)) under_way.fits (subst (λ (l : List ℕ). Fits (answer_len p.count p.s) (Some l)) (sym is) (short, below));
       none_begun = refl;
       record_room = omega (arith, under_way.record_room);
       byte_room = grind (arith, under_way.byte_room);
     }
 
 -- records that are all there and fit make a session
-pub under_way_whole : (p : SessionParams) (k : Kept) → IsInRange p → length k.closed ≡ p.n → All (Fits (answer_len p.s)) k.closed → k.current ≡ [] → IsUnderWay p k
+pub under_way_whole : (p : SessionParams) (k : Kept) → IsInRange p → length k.closed ≡ p.n → All (Fits (answer_len p.count p.s)) k.closed → k.current ≡ [] → IsUnderWay p k
 under_way_whole p k range all fits none_begun = record {
   range = range;
   few = omega arith;
   fits = fits;
   none_begun = none_begun;
   record_room = omega arith;
-  byte_room = subst (λ (m : ℕ). p.n * (answer_len p.s) ≤ m * (answer_len p.s) + k.byte_room) (sym all) (omega arith);
+  byte_room = subst (λ (m : ℕ). p.n * (answer_len p.count p.s) ≤ m * (answer_len p.count p.s) + k.byte_room) (sym all) (omega arith);
 }

@@ -1,12 +1,15 @@
 pub mod Limits
 pub mod Sizes
+pub mod Turns
 pub mod Scheme
+pub mod Version
 pub mod Header
 pub mod Records
 pub mod Session
 pub mod Beginning
 pub mod Reading
 pub mod Answer
+pub mod Cause
 pub mod Form
 pub mod Field
 pub mod Layout

@@ -1,8 +1,9 @@
 -- The ranges of the numbers in frames and session files. Each limit is a constant of the crate's
 -- root.
 use Rattle.std.specs.Prelude.{ℕ, ◌+◌, ◌*◌, ◌^◌, ◌<◌, ◌≤◌, ◌≡◌, ◌⊎◌}
-use Rattle.wire_frames.specs.declared.TheConstants.{MOST_DEGREE, MOST_SERVERS, MOST_ROWS, MOST_WIDTH, MOST_CELLS}
+use Rattle.wire_frames.specs.declared.TheConstants.{MOST_DEGREE, MOST_SERVERS, MOST_BLOCKS, MOST_ROWS, MOST_WIDTH, MOST_CELLS}
 use Rattle.wire_frames.specs.declared.scheme.TheConstants.{SHAMIR, XOR}
+use Rattle.wire_frames.specs.declared.version.TheConstants.{SINGLE, SEVERAL}
 use Rattle.wire_frames.specs.declared.header.QueryHeader.{QueryHeader}
 use Rattle.wire_frames.specs.declared.session.SessionParams.{SessionParams}
 
@@ -13,6 +14,15 @@ pub record IsShape (r s : ℕ) : Type 0 where
   pub some_bytes : 1 ≤ s
   pub few_bytes : s ≤ MOST_WIDTH
   pub few_cells : r * s ≤ MOST_CELLS
+
+-- a version, and for how many rows of so many bytes a query asks: in version 1 for one
+pub record IsCount (version count s : ℕ) : Type 0 where
+  pub some_version : SINGLE ≤ version
+  pub two_versions : version ≤ SEVERAL
+  pub some_blocks : 1 ≤ count
+  pub few_blocks : count ≤ MOST_BLOCKS
+  pub one_block : version ≡ SINGLE → count ≡ 1
+  pub few_bytes : count * s ≤ MOST_WIDTH
 
 -- the numbers that a session may have: a scheme, with 1 <= t < h <= n; in the XOR scheme all
 -- servers have to answer, and all of them but one learn nothing
@@ -28,6 +38,7 @@ pub record IsInRange (p : SessionParams) : Type 0 where
   pub all_answer : p.scheme ≡ XOR → p.n ≡ p.h
   pub session : p.session < 2 ^ 64
   pub shape : IsShape p.r p.s
+  pub blocks : IsCount p.version p.count p.s
 
 -- the numbers that a query may have: a scheme, and an index that is not 0
 pub record IsQuery (q : QueryHeader) : Type 0 where
@@ -37,3 +48,4 @@ pub record IsQuery (q : QueryHeader) : Type 0 where
   pub few_indices : q.index ≤ 255
   pub session : q.session < 2 ^ 64
   pub shape : IsShape q.r q.s
+  pub blocks : IsCount q.version q.count q.s

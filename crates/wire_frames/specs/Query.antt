@@ -1,12 +1,13 @@
 -- The header of a query, and what a reading of one answers.
-use Rattle.std.specs.Prelude.{◌≡◌, ℕ, ◌<◌, ◌≤◌, List, take, drop, Result, Ok, Err}
+use Rattle.std.specs.Prelude.{◌≡◌, ℕ, ◌<◌, ◌≤◌, List, take, drop, Result, Ok, Err, ◌==◌, if◌then◌else◌}
 use Rattle.wire_frames.specs.declared.field.Number.{Number}
 use Rattle.wire_frames.specs.declared.header.QueryHeader.{QueryHeader}
 use Rattle.wire_frames.specs.declared.query.Field.{Field}
-use Rattle.wire_frames.specs.declared.query.Field.TheVariants.{Magic, Version, Scheme, Index, Zero, Rows, Width}
+use Rattle.wire_frames.specs.declared.query.Field.TheVariants.{Magic, Version, Scheme, Index, Zero, Count, Rows, Width}
 use Rattle.wire_frames.specs.declared.query.FrameFault.{FrameFault}
 use Rattle.wire_frames.specs.declared.places.TheConstants.{FRAME_MAGIC_PLACE, FRAME_VERSION_PLACE, FRAME_SCHEME_PLACE, FRAME_INDEX_PLACE, FRAME_STATUS_PLACE, FRAME_SESSION_PLACE, FRAME_ROWS_PLACE, FRAME_WIDTH_PLACE}
 use Rattle.wire_frames.specs.declared.sizes.TheConstants.{FRAME_HEADER_LEN}
+use Rattle.wire_frames.specs.declared.version.TheConstants.{SEVERAL}
 use Rattle.wire_frames.specs.Field.{IsNumber}
 use Rattle.wire_frames.specs.Form.{StopsAt, StopsWithin}
 use Rattle.wire_frames.specs.Header.{query_header}
@@ -24,6 +25,7 @@ first_place Version = FRAME_VERSION_PLACE
 first_place Scheme = FRAME_SCHEME_PLACE
 first_place Index = FRAME_INDEX_PLACE
 first_place Zero = FRAME_STATUS_PLACE
+first_place Count = FRAME_STATUS_PLACE
 first_place Rows = FRAME_ROWS_PLACE
 first_place Width = FRAME_WIDTH_PLACE
 
@@ -34,8 +36,13 @@ end_place Version = FRAME_SCHEME_PLACE
 end_place Scheme = FRAME_INDEX_PLACE
 end_place Index = FRAME_STATUS_PLACE
 end_place Zero = FRAME_SESSION_PLACE
+end_place Count = FRAME_SESSION_PLACE
 end_place Rows = FRAME_WIDTH_PLACE
 end_place Width = FRAME_HEADER_LEN
+
+-- the name of the field that says for how many blocks a query asks
+unfoldable pub count_name : ℕ → Field
+count_name version = if version == SEVERAL then Count else Zero
 
 -- the bytes begin a query's header up to the fault's place and not further, and that place is in
 -- the fault's field

@@ -17,7 +17,7 @@ bytes_so_far r =
 
 -- the most bytes that a record has
 abbrev pub record_len : RecordsReader → ℕ
-record_len r = answer_len r.params.s
+record_len r = answer_len r.params.count r.params.s
 
 -- there is room for what is to come, and what has come is in range
 pub record IsSteady (r : RecordsReader) : Type 0 where

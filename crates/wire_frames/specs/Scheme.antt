@@ -14,7 +14,7 @@ abbrev pub number_of : Scheme → ℕ
 number_of Shamir = SHAMIR
 number_of Xor = XOR
 
--- how many bytes the payload of a query has: one for each row, and in the XOR scheme a bit for each
+-- how many bytes a query has for each block: one for each row, and in the XOR scheme a bit for each
 -- row
 abbrev pub payload_len : Scheme → ℕ → ℕ
 payload_len Shamir rows = rows

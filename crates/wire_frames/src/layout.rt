@@ -5,15 +5,16 @@
 //! | Field of the header | Range |
 //! |---|---|
 //! | letters | `PIRS` |
-//! | version | 1 |
+//! | version | 1 or 2 |
 //! | scheme | 1 or 2 |
 //! | degree t | from 1 to `MOST_DEGREE` |
 //! | agreement h | from t + 1 to `MOST_SERVERS`; in the XOR scheme t + 1 |
 //! | servers n | from h to `MOST_SERVERS`; in the XOR scheme h |
+//! | zero, in version 2 blocks | 0, in version 2 from 1 to `MOST_BLOCKS` |
 //! | zero | 0 |
 //! | session | any |
 //! | rows | from 1 to `MOST_ROWS` |
-//! | width | from 1 to `MOST_WIDTH`, with rows times width at most `MOST_CELLS` |
+//! | width | from 1 to `MOST_WIDTH`, with rows times width at most `MOST_CELLS`, and blocks times width at most `MOST_WIDTH` |
 //!
 //! | Field before a record's bytes | Range |
 //! |---|---|
@@ -21,23 +22,24 @@
 //! | present | 0 or 1 |
 //! | length | at most that of an answer, and 0 where present is 0 |
 ghost use Rattle.std.specs.Prelude.{◌≡◌, ◌≤◌, ◌<◌, ◌^◌, length};
+ghost use Rattle.wire_frames.specs.declared.TheConstants.{MOST_BLOCKS, MOST_ROWS};
 ghost use Rattle.wire_frames.specs.declared.sizes.TheConstants.{SESSION_HEADER_LEN, RECORD_HEADER_LEN};
-ghost use Rattle.wire_frames.specs.Field.{servers_field, width_field};
+ghost use Rattle.wire_frames.specs.Field.{IsField, count_field, servers_field, width_field};
 ghost use Rattle.wire_frames.specs.Form.{Reads};
 ghost use Rattle.wire_frames.specs.Layout.{IsHeader, IsRecordHeader};
 ghost use Rattle.wire_frames.specs.Scheme.{scheme_of};
 
 use crate::field::{Number, number_at};
-use crate::header::VERSION;
 use crate::places::{
     RECORD_INDEX_PLACE, RECORD_LENGTH_PLACE, RECORD_PRESENT_PLACE, SESSION_AGREEMENT_PLACE,
-    SESSION_DEGREE_PLACE, SESSION_MAGIC_PLACE, SESSION_NUMBER_PLACE, SESSION_ROWS_PLACE,
-    SESSION_SCHEME_PLACE, SESSION_SERVERS_PLACE, SESSION_VERSION_PLACE, SESSION_WIDTH_PLACE,
-    SESSION_ZERO_PLACE,
+    SESSION_COUNT_PLACE, SESSION_DEGREE_PLACE, SESSION_MAGIC_PLACE, SESSION_NUMBER_PLACE,
+    SESSION_ROWS_PLACE, SESSION_SCHEME_PLACE, SESSION_SERVERS_PLACE, SESSION_VERSION_PLACE,
+    SESSION_WIDTH_PLACE, SESSION_ZERO_PLACE,
 };
 use crate::scheme::{SHAMIR, Scheme, XOR};
 use crate::session::SessionParams;
-use crate::{MOST_CELLS, MOST_DEGREE, MOST_ROWS, MOST_SERVERS, MOST_WIDTH};
+use crate::version::{SEVERAL, SINGLE, count_byte};
+use crate::{MOST_BLOCKS, MOST_CELLS, MOST_DEGREE, MOST_ROWS, MOST_SERVERS, MOST_WIDTH};
 
 /// `PIRS`
 pub(crate) const SESSION_MAGIC: u32 = 0x5049_5253;
@@ -48,10 +50,11 @@ const MAGIC: Number = Number {
     most: SESSION_MAGIC as u64,
 };
 
-pub(crate) const VERSION_FIELD: Number = Number {
+/// The version.
+pub(crate) const VERSION: Number = Number {
     width: 1,
-    least: VERSION as u64,
-    most: VERSION as u64,
+    least: SINGLE as u64,
+    most: SEVERAL as u64,
 };
 
 /// The number of a scheme.
@@ -74,7 +77,7 @@ const SERVERS: Number = Number {
 };
 
 const ZERO: Number = Number {
-    width: 3,
+    width: 2,
     least: 0,
     most: 0,
 };
@@ -117,12 +120,29 @@ const LEN: Number = Number {
     most: u32::MAX as u64,
 };
 
-/// The width of so many rows.
-pub(crate) fn width_field(rows: u64) -> Number
-    requires { 0 < rows }
-    ensures { result ≡ width_field rows }
+/// The byte that says for how many blocks a query of a version asks.
+pub(crate) fn count_field(version: u8) -> Number
+    ensures is { result ≡ count_field version }
+    ensures field { IsField result }
+    ensures few { result.most ≤ MOST_BLOCKS }
 {
-    let most = WIDTH.most.min(MOST_CELLS / rows);
+    Number {
+        width: 1,
+        least: u64::from(count_byte(version, 1)),
+        most: u64::from(count_byte(version, MOST_BLOCKS)),
+    }
+}
+
+/// The width of so many rows, of which so many are asked for.
+pub(crate) fn width_field(count: u64, rows: u64) -> Number
+    requires asked { 0 < count }
+    requires blocks { count ≤ MOST_BLOCKS }
+    requires some { 0 < rows }
+    requires rows { rows ≤ MOST_ROWS }
+    ensures is { result ≡ width_field count rows }
+    ensures field { IsField result }
+{
+    let most = (WIDTH.most / count).min(MOST_CELLS / rows);
     Number { most, ..WIDTH }
 }
 
@@ -148,7 +168,7 @@ pub(crate) fn read_header(bytes: &[u8]) -> Result<SessionParams, usize>
     ensures { Reads IsHeader bytes.now result }
 {
     number_at(bytes, SESSION_MAGIC_PLACE, MAGIC)?;
-    number_at(bytes, SESSION_VERSION_PLACE, VERSION_FIELD)?;
+    let version = number_at(bytes, SESSION_VERSION_PLACE, VERSION)?;
     let scheme = number_at(bytes, SESSION_SCHEME_PLACE, SCHEME)?;
     let t = number_at(bytes, SESSION_DEGREE_PLACE, DEGREE)?;
     let h = number_at(
@@ -157,15 +177,19 @@ pub(crate) fn read_header(bytes: &[u8]) -> Result<SessionParams, usize>
         servers_field(scheme as u8, t + 1),
     )?;
     let n = number_at(bytes, SESSION_SERVERS_PLACE, servers_field(scheme as u8, h))?;
+    let byte = number_at(bytes, SESSION_COUNT_PLACE, count_field(version as u8))?;
+    let count = byte.max(1);
     number_at(bytes, SESSION_ZERO_PLACE, ZERO)?;
     let session = number_at(bytes, SESSION_NUMBER_PLACE, SESSION)?;
     let r = number_at(bytes, SESSION_ROWS_PLACE, ROWS)?;
-    let s = number_at(bytes, SESSION_WIDTH_PLACE, width_field(r))?;
+    let s = number_at(bytes, SESSION_WIDTH_PLACE, width_field(count, r))?;
     Ok(SessionParams {
+        version: version as u8,
         scheme: scheme as u8,
         t: t as u8,
         h: h as u8,
         n: n as u8,
+        count: count as u8,
         session,
         r: r as u32,
         s: s as u32,

@@ -16,6 +16,7 @@
 #![tactic(auto)]
 
 mod answer;
+mod cause;
 mod field;
 mod head;
 mod header;
@@ -29,15 +30,18 @@ mod records_reader;
 mod scheme;
 mod session;
 mod sizes;
+mod version;
 mod write;
 
 pub use answer::usable_answer;
+pub use cause::{AnswerField, Cause, why};
 pub use header::{QueryHeader, write_answer_header, write_query_header};
 pub use query::{Field, FrameFault, read_query_header};
 pub use reader::{BadSession, FeedFault, SessionReader};
 pub use scheme::{SHAMIR, Scheme, XOR};
 pub use session::{Session, SessionParams};
 pub use sizes::{FRAME_HEADER_LEN, RECORD_HEADER_LEN, SESSION_HEADER_LEN, answer_len, query_len};
+pub use version::{SEVERAL, SINGLE};
 pub use write::write_session;
 
 /// The least number of servers: one alone would learn the block.
@@ -51,12 +55,15 @@ pub const MOST_SERVERS: u8 = 32;
 /// goes with [`MOST_SERVERS`]: one server more has to agree.
 pub const MOST_DEGREE: u8 = MOST_SERVERS - 1;
 
+/// The greatest number of blocks that one query asks for.
+pub const MOST_BLOCKS: u8 = 16;
+
 /// The greatest number of rows of a database. Its field has four bytes; [`MOST_CELLS`] has to allow
 /// one byte a row.
 pub const MOST_ROWS: u32 = 1 << 20;
 
-/// The greatest width of a row, in bytes. The length of an answer, [`answer_len`], has to fit four
-/// bytes.
+/// The greatest width of a row, in bytes, and of all rows together that one query asks for. The
+/// length of an answer, [`answer_len`], has to fit four bytes.
 pub const MOST_WIDTH: u32 = 1 << 16;
 
 /// The greatest size of a database, in bytes. A server holds so much memory, and a number of rows

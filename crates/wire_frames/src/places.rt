@@ -9,7 +9,7 @@
 //! | 4 | version |
 //! | 5 | scheme |
 //! | 6 | index |
-//! | 7 | zero, or of an answer its status |
+//! | 7 | zero, or in version 2 the number of blocks; of an answer its status |
 //! | 8..15 | session |
 //! | 16..19 | rows |
 //! | 20..23 | width |
@@ -24,7 +24,8 @@
 //! | 6 | degree |
 //! | 7 | agreement |
 //! | 8 | servers |
-//! | 9..11 | zero |
+//! | 9 | zero, or in version 2 the number of blocks |
+//! | 10..11 | zero |
 //! | 12..19 | session |
 //! | 20..23 | rows |
 //! | 24..27 | width |
@@ -65,7 +66,9 @@ pub(crate) const SESSION_AGREEMENT_PLACE: usize = 7;
 
 pub(crate) const SESSION_SERVERS_PLACE: usize = 8;
 
-pub(crate) const SESSION_ZERO_PLACE: usize = 9;
+pub(crate) const SESSION_COUNT_PLACE: usize = 9;
+
+pub(crate) const SESSION_ZERO_PLACE: usize = 10;
 
 pub(crate) const SESSION_NUMBER_PLACE: usize = 12;
 

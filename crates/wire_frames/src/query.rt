@@ -3,26 +3,28 @@
 //! | Field | Range |
 //! |---|---|
 //! | letters | `PIRQ` |
-//! | version | 1 |
+//! | version | 1 or 2 |
 //! | scheme | 1 or 2 |
 //! | index | not 0 |
-//! | zero | 0 |
+//! | zero, in version 2 blocks | 0, in version 2 from 1 to `MOST_BLOCKS` |
 //! | session | any |
 //! | rows | from 1 to `MOST_ROWS` |
-//! | width | from 1 to `MOST_WIDTH`, with rows times width at most `MOST_CELLS` |
-ghost use Rattle.std.specs.Prelude.{◌≡◌, take, drop};
+//! | width | from 1 to `MOST_WIDTH`, with rows times width at most `MOST_CELLS`, and blocks times width at most `MOST_WIDTH` |
+ghost use Rattle.std.specs.Prelude.{◌≡◌, ◌≤◌, take, drop, IfOk};
+ghost use Rattle.wire_frames.specs.declared.TheConstants.{MOST_BLOCKS};
 ghost use Rattle.wire_frames.specs.declared.places.TheConstants.{FRAME_SESSION_PLACE};
-ghost use Rattle.wire_frames.specs.Field.{IsField, IsNumber, session_field};
-ghost use Rattle.wire_frames.specs.Query.{first_place, ReadsField, ReadsQuery};
+ghost use Rattle.wire_frames.specs.Field.{IsField, IsNumber, count_field, session_field};
+ghost use Rattle.wire_frames.specs.Query.{first_place, count_name, ReadsField, ReadsQuery};
 
 use crate::field::{Number, number_at};
 use crate::header::{QUERY_MAGIC, QueryHeader};
-use crate::layout::{ROWS, SCHEME, SESSION, VERSION_FIELD, width_field};
+use crate::layout::{ROWS, SCHEME, SESSION, VERSION, count_field, width_field};
 use crate::places::{
     FRAME_INDEX_PLACE, FRAME_MAGIC_PLACE, FRAME_ROWS_PLACE, FRAME_SCHEME_PLACE,
     FRAME_SESSION_PLACE, FRAME_STATUS_PLACE, FRAME_VERSION_PLACE, FRAME_WIDTH_PLACE,
 };
 use crate::sizes::FRAME_HEADER_LEN;
+use crate::version::SEVERAL;
 use thiserror::Error;
 
 /// A field of a query's header that can be wrong.
@@ -36,11 +38,14 @@ pub enum Field {
     Scheme,
     /// The index of the server.
     Index,
-    /// The byte that is 0, where an answer has its status.
+    /// The byte that is 0 in version 1, where an answer has its status.
     Zero,
+    /// The number of blocks, which stands there in version 2.
+    Count,
     /// The number of rows.
     Rows,
-    /// The width of a row. That the rows have too many bytes together counts to it.
+    /// The width of a row. That the rows have too many bytes together counts to it, and that the
+    /// blocks have.
     Width,
 }
 
@@ -54,7 +59,7 @@ impl Field {
             Field::Version => FRAME_VERSION_PLACE,
             Field::Scheme => FRAME_SCHEME_PLACE,
             Field::Index => FRAME_INDEX_PLACE,
-            Field::Zero => FRAME_STATUS_PLACE,
+            Field::Zero | Field::Count => FRAME_STATUS_PLACE,
             Field::Rows => FRAME_ROWS_PLACE,
             Field::Width => FRAME_WIDTH_PLACE,
         }
@@ -83,12 +88,6 @@ const INDEX: Number = Number {
     most: 255,
 };
 
-const ZERO: Number = Number {
-    width: 1,
-    least: 0,
-    most: 0,
-};
-
 /// The number of a field.
 fn read_field(bytes: &[u8], field: Field, number: Number) -> Result<u64, FrameFault>
     requires { IsField number }
@@ -101,6 +100,26 @@ fn read_field(bytes: &[u8], field: Field, number: Number) -> Result<u64, FrameFa
             Err(FrameFault { place, field })
         }
     }
+}
+
+/// The name of the field that says for how many blocks a query asks.
+#[tactic(auto, unfolding(crate::specs::Query::count_name))]
+fn count_name(version: u8) -> Field
+    ensures { result ≡ count_name version }
+{
+    if version == SEVERAL {
+        Field::Count
+    } else {
+        Field::Zero
+    }
+}
+
+/// The byte that says for how many blocks a query asks.
+fn read_count(bytes: &[u8], version: u8) -> Result<u64, FrameFault>
+    ensures reads { ReadsField (count_field version) (count_name version) bytes.now result }
+    ensures few { IfOk result (λ byte. byte ≤ MOST_BLOCKS) }
+{
+    read_field(bytes, count_name(version), count_field(version))
 }
 
 /// The number of the session, which any bytes are.
@@ -126,16 +145,19 @@ pub fn read_query_header(bytes: &[u8; FRAME_HEADER_LEN]) -> Result<QueryHeader, 
     ensures { ReadsQuery bytes.now result }
 {
     read_field(bytes, Field::Magic, MAGIC)?;
-    read_field(bytes, Field::Version, VERSION_FIELD)?;
+    let version = read_field(bytes, Field::Version, VERSION)?;
     let scheme = read_field(bytes, Field::Scheme, SCHEME)?;
     let index = read_field(bytes, Field::Index, INDEX)?;
-    read_field(bytes, Field::Zero, ZERO)?;
+    let byte = read_count(bytes, version as u8)?;
+    let count = byte.max(1);
     let session = read_session(bytes);
     let r = read_field(bytes, Field::Rows, ROWS)?;
-    let s = read_field(bytes, Field::Width, width_field(r))?;
+    let s = read_field(bytes, Field::Width, width_field(count, r))?;
     Ok(QueryHeader {
+        version: version as u8,
         scheme: scheme as u8,
         index: index as u8,
+        count: count as u8,
         session,
         r: r as u32,
         s: s as u32,

@@ -32,7 +32,11 @@ impl RecordsReader {
         ensures bytes { IfOk result (λ r. bytes_so_far r ≡ header_bytes params) }
     {
         let servers = usize::from(params.n);
-        let records = Records::with_room(alloc, servers, servers * answer_len(params.s))?;
+        let records = Records::with_room(
+            alloc,
+            servers,
+            servers * answer_len(params.count, params.s),
+        )?;
         Ok(RecordsReader {
             params,
             records,
@@ -97,11 +101,8 @@ impl RecordsReader {
         let before = self.head.len();
         let count = self.head.fill(piece, RECORD_HEADER_LEN);
         let index = self.records.len() as u8 + 1;
-        match read_record_header(
-            self.head.as_slice(),
-            index,
-            answer_len(self.params.s) as u32,
-        ) {
+        let most = answer_len(self.params.count, self.params.s) as u32;
+        match read_record_header(self.head.as_slice(), index, most) {
             Ok(len) => self.begin(len),
             Err(place) => {
                 if place < self.head.len() {

@@ -43,7 +43,7 @@ impl Scheme {
         }
     }
 
-    /// How many bytes the payload of a query has, for a database of so many rows: one for each row
+    /// How many bytes a query has for each block, for a database of so many rows: one for each row
     /// or, in the XOR scheme, a bit for each row.
     pub fn payload_len(self, rows: u32) -> usize
         ensures is { result ≡ payload_len self rows }

@@ -13,6 +13,8 @@ use std::marker::Model;
 /// The numbers of a session.
 #[derive(Clone, Copy, Debug, PartialEq, Eq)]
 pub struct SessionParams {
+    /// 1 where one block was asked for, 2 where it is said for how many.
+    pub version: u8,
     /// 1 for Shamir's sharing, 2 for the XOR scheme.
     pub scheme: u8,
     /// How many servers together learn nothing: the degree of the queries' polynomials, and in the
@@ -22,6 +24,8 @@ pub struct SessionParams {
     pub h: u8,
     /// The number of servers.
     pub n: u8,
+    /// How many blocks were asked for: 1 in version 1.
+    pub count: u8,
     /// The number of the session.
     pub session: u64,
     /// The number of rows of the database.
@@ -54,7 +58,7 @@ impl Session {
         requires { IsInRange params }
         ensures { IfOk result (λ t. t ≡ record { params = params; records = [] }) }
     {
-        let most = usize::from(params.n) * answer_len(params.s);
+        let most = usize::from(params.n) * answer_len(params.count, params.s);
         let records = Records::with_room(alloc, usize::from(params.n), most)?;
         Ok(Session { params, records })
     }
@@ -81,7 +85,7 @@ impl Session {
     /// memory.
     pub fn push_record(&mut self, bytes: Option<&[u8]>)
         requires few { length self.old.records < self.old.params.n }
-        requires fits { IfSome (option_copied bytes) (λ b. length b ≤ answer_len self.old.params.s) }
+        requires fits { IfSome (option_copied bytes) (λ b. length b ≤ answer_len self.old.params.count self.old.params.s) }
         ensures { self.new
             ≡ record self.old { records = self.old.records ++ option_copied bytes.entry ∷ [] } }
     {
@@ -94,7 +98,7 @@ impl Session {
     /// Adds a record that is present.
     fn push_present(&mut self, bytes: &[u8])
         requires few { length self.old.records < self.old.params.n }
-        requires fits { length bytes.now ≤ answer_len self.old.params.s }
+        requires fits { length bytes.now ≤ answer_len self.old.params.count self.old.params.s }
         ensures { self.new ≡ record self.old { records = self.old.records ++ Some bytes.now ∷ [] } }
     {
         self.records.extend(bytes);
@@ -114,7 +118,7 @@ impl Session {
     pub fn record_count(&self) -> u32
         ensures count { result ≡ length self.now.records }
         ensures few { length self.now.records ≤ self.now.params.n }
-        ensures fits { All (Fits (answer_len self.now.params.s)) self.now.records }
+        ensures fits { All (Fits (answer_len self.now.params.count self.now.params.s)) self.now.records }
     {
         self.records.len() as u32
     }
@@ -125,6 +129,13 @@ impl Session {
         ensures range { IsInRange self.now.params }
     {
         self.params
+    }
+
+    /// 1 where one block was asked for, 2 where it is said for how many.
+    pub fn version(&self) -> u8
+        ensures { result ≡ self.now.params.version }
+    {
+        self.params.version
     }
 
     /// 1 for Shamir's sharing, 2 for the XOR scheme.
@@ -154,6 +165,13 @@ impl Session {
         ensures { result ≡ self.now.params.n }
     {
         self.params.n
+    }
+
+    /// How many blocks were asked for: 1 in version 1.
+    pub fn count(&self) -> u8
+        ensures { result ≡ self.now.params.count }
+    {
+        self.params.count
     }
 
     /// The number of the session.

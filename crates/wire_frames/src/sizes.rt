@@ -13,17 +13,18 @@ pub const SESSION_HEADER_LEN: usize = 28;
 /// How many bytes stand before those of a record in a session.
 pub const RECORD_HEADER_LEN: usize = 6;
 
-/// How many bytes a query has, in a scheme and for a database of so many rows: the header, and the
-/// payload.
-pub fn query_len(scheme: Scheme, rows: u32) -> usize
-    ensures { result ≡ query_len scheme rows }
+/// How many bytes a query has, in a scheme, for so many blocks of a database of so many rows: the
+/// header, and a vector for each block.
+pub fn query_len(scheme: Scheme, count: u8, rows: u32) -> usize
+    ensures { result ≡ query_len scheme count rows }
 {
-    FRAME_HEADER_LEN + scheme.payload_len(rows)
+    FRAME_HEADER_LEN + usize::from(count) * scheme.payload_len(rows)
 }
 
-/// How many bytes the answer of status 0 has that holds a row of so many: the header, and the row.
-pub fn answer_len(width: u32) -> usize
-    ensures { result ≡ answer_len width }
+/// How many bytes the answer of status 0 has that holds so many rows of so many bytes: the header,
+/// and the rows.
+pub fn answer_len(count: u8, width: u32) -> usize
+    ensures { result ≡ answer_len count width }
 {
-    FRAME_HEADER_LEN + width as usize
+    FRAME_HEADER_LEN + usize::from(count) * width as usize
 }

@@ -8,15 +8,16 @@ ghost use Rattle.wire_frames.specs.Layout.{record_header};
 ghost use Rattle.wire_frames.specs.Limits.{IsInRange};
 ghost use Rattle.wire_frames.specs.Session.{IsSession, header_bytes, record_bytes, records_bytes, session_bytes};
 
-use crate::header::VERSION;
 use crate::layout::SESSION_MAGIC;
 use crate::places::{
     RECORD_INDEX_PLACE, RECORD_LENGTH_PLACE, RECORD_PRESENT_PLACE, SESSION_AGREEMENT_PLACE,
-    SESSION_DEGREE_PLACE, SESSION_MAGIC_PLACE, SESSION_NUMBER_PLACE, SESSION_ROWS_PLACE,
-    SESSION_SCHEME_PLACE, SESSION_SERVERS_PLACE, SESSION_VERSION_PLACE, SESSION_WIDTH_PLACE,
+    SESSION_COUNT_PLACE, SESSION_DEGREE_PLACE, SESSION_MAGIC_PLACE, SESSION_NUMBER_PLACE,
+    SESSION_ROWS_PLACE, SESSION_SCHEME_PLACE, SESSION_SERVERS_PLACE, SESSION_VERSION_PLACE,
+    SESSION_WIDTH_PLACE,
 };
 use crate::session::{Session, SessionParams};
 use crate::sizes::{RECORD_HEADER_LEN, SESSION_HEADER_LEN};
+use crate::version::count_byte;
 use byteorder::{BigEndian, ByteOrder};
 use pir_ports::{Failed, Port, Ports, write_all};
 
@@ -28,11 +29,12 @@ fn header_of(params: &SessionParams) -> [u8; SESSION_HEADER_LEN]
     header[SESSION_MAGIC_PLACE..SESSION_VERSION_PLACE].copy_from_slice(
         &SESSION_MAGIC.to_be_bytes(),
     );
-    header[SESSION_VERSION_PLACE] = VERSION;
+    header[SESSION_VERSION_PLACE] = params.version;
     header[SESSION_SCHEME_PLACE] = params.scheme;
     header[SESSION_DEGREE_PLACE] = params.t;
     header[SESSION_AGREEMENT_PLACE] = params.h;
     header[SESSION_SERVERS_PLACE] = params.n;
+    header[SESSION_COUNT_PLACE] = count_byte(params.version, params.count);
     BigEndian::write_u64(&mut header[SESSION_NUMBER_PLACE..], params.session);
     BigEndian::write_u32(&mut header[SESSION_ROWS_PLACE..], params.r);
     BigEndian::write_u32(&mut header[SESSION_WIDTH_PLACE..], params.s);

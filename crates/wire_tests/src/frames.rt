@@ -7,8 +7,10 @@ use wire_frames::{
 };
 
 const ASKED: QueryHeader = QueryHeader {
+    version: 1,
     scheme: 1,
     index: 1,
+    count: 1,
     session: 7,
     r: 2,
     s: 2,
@@ -51,7 +53,8 @@ fn wrong_bytes_of_a_query_are_found(rt: HostRuntime) {
     for (at, byte, place, field) in [
         (0, 0x51, 0, Field::Magic),
         (3, 0x41, 3, Field::Magic),
-        (4, 0x02, 4, Field::Version),
+        (4, 0x02, 7, Field::Count),
+        (4, 0x03, 4, Field::Version),
         (5, 0x00, 5, Field::Scheme),
         (5, 0x03, 5, Field::Scheme),
         (6, 0x00, 6, Field::Index),
@@ -66,6 +69,58 @@ fn wrong_bytes_of_a_query_are_found(rt: HostRuntime) {
     ] {
         assert!(rt; is_refused(at, byte, place, field), "byte {at} is {byte}");
     }
+}
+
+const QUERY_FOR_TWO: [u8; 24] = *b"PIRQ\x02\x01\x01\x02\0\0\0\0\0\0\0\x07\0\0\0\x02\0\0\0\x02";
+
+#[test]
+fn a_query_says_for_how_many_blocks_it_asks(rt: HostRuntime) {
+    let two = QueryHeader {
+        version: 2,
+        count: 2,
+        ..ASKED
+    };
+    let mut out = [0xff; 24];
+    write_query_header(&two, &mut out);
+    assert!(rt; out == QUERY_FOR_TWO);
+    assert!(rt; read_query_header(&QUERY_FOR_TWO) == Ok(two));
+    // Two answers, one behind the other.
+    let both = b"PIRA\x02\x01\x01\0\0\0\0\0\0\0\0\x07\0\0\0\x02\0\0\0\x02\xcf\xd2\x86\x88";
+    assert!(rt; usable_answer(both, &two) == Some(b"\xcf\xd2\x86\x88".as_slice()));
+    assert!(rt; usable_answer(&both[..26], &two) == None);
+    assert!(rt; usable_answer(&FRAME, &two) == None);
+    assert!(rt; usable_answer(both, &ASKED) == None);
+}
+
+/// What a query for so many blocks, of 2^10 rows of so many bytes, is read as.
+fn read_for_blocks(count: u8, width: u32) -> Result<QueryHeader, FrameFault> {
+    let mut bytes = QUERY_FOR_TWO;
+    bytes[7] = count;
+    bytes[16..20].copy_from_slice(b"\0\0\x04\0");
+    bytes[20..].copy_from_slice(&width.to_be_bytes());
+    read_query_header(&bytes)
+}
+
+#[test]
+fn blocks_may_not_have_too_many_bytes_together(rt: HostRuntime) {
+    let widest = QueryHeader {
+        version: 2,
+        count: 16,
+        r: 1 << 10,
+        s: 1 << 12,
+        ..ASKED
+    };
+    assert!(rt; read_for_blocks(16, 1 << 12) == Ok(widest));
+    let fault = FrameFault {
+        place: 23,
+        field: Field::Width,
+    };
+    assert!(rt; read_for_blocks(16, (1 << 12) + 1) == Err(fault));
+    let too_many = FrameFault {
+        place: 7,
+        field: Field::Count,
+    };
+    assert!(rt; read_for_blocks(17, 1) == Err(too_many));
 }
 
 /// What a query for 2^20 rows of so many bytes is read as.
@@ -112,6 +167,14 @@ fn headers_of_answers(rt: HostRuntime) {
     assert!(rt; is_answered(other_shape, 2, to_other_shape));
     assert!(rt; is_answered(wrong_letter, 1, to_wrong_letter));
     assert!(rt; is_answered(other_scheme, 3, to_other_scheme));
+    // The version is the query's where that is 2, also where the header is wrong elsewhere.
+    let two = b"PIRA\x02\x01\x01\0\0\0\0\0\0\0\0\x07\0\0\0\x02\0\0\0\x02";
+    let of_no_block = b"QIRQ\x02\x01\x01\0\0\0\0\0\0\0\0\x07\0\0\0\x02\0\0\0\x02";
+    let to_no_block = b"PIRA\x02\x01\x01\x01\0\0\0\0\0\0\0\x07\0\0\0\x02\0\0\0\x02";
+    let of_no_version = b"PIRQ\x03\x01\x01\0\0\0\0\0\0\0\0\x07\0\0\0\x02\0\0\0\x02";
+    assert!(rt; is_answered(&QUERY_FOR_TWO, 0, two));
+    assert!(rt; is_answered(of_no_block, 1, to_no_block));
+    assert!(rt; is_answered(of_no_version, 1, to_wrong_letter));
 }
 
 /// What a client that asked this server can use of these bytes.

@@ -32,20 +32,24 @@ const SECOND_ABSENT: [u8; 66] =
     \x02\0\0\0\0\0";
 
 const OF_THREE: SessionParams = SessionParams {
+    version: 1,
     scheme: 1,
     t: 1,
     h: 2,
     n: 3,
+    count: 1,
     session: 7,
     r: 2,
     s: 2,
 };
 
 const OF_BOTH: SessionParams = SessionParams {
+    version: 1,
     scheme: 2,
     t: 1,
     h: 2,
     n: 2,
+    count: 1,
     session: 7,
     r: 2,
     s: 2,
@@ -133,6 +137,17 @@ fn a_session_is_read_in_any_cut(rt: HostRuntime) {
     for piece in [1, 5, 64, 200] {
         assert!(rt; is_read(rt.alloc(), piece), "pieces of {piece}");
     }
+}
+
+// The memory for the records is taken with the last byte of the header. It is refused only where somebody has it refused.
+#[test]
+fn a_piece_that_was_refused_memory_can_be_fed_again(rt: HostRuntime) {
+    let mut reader = SessionReader::new();
+    if reader.feed(rt.alloc(), &THREE[..28]) == Err(FeedFault::Memory) {
+        assert!(rt; reader.feed(rt.alloc(), &THREE[..28]) == Ok(()));
+    }
+    assert!(rt; reader.feed(rt.alloc(), &THREE[28..]) == Ok(()));
+    assert!(rt; matches!(reader.end(), Ok(session) if session.record_count() == 3));
 }
 
 #[test]

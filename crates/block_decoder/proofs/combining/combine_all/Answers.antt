@@ -2,7 +2,7 @@ use Rattle.std.proofs.Common.{◌≡◌, ◌+◌, ◌-◌, ℕ, None, get_or, re
 use Rattle.std.proofs.lemmas.List.{with_items_is}
 use Rattle.gf256.specs.Field.{◌⊕◌}
 use Rattle.wire_frames.specs.declared.session.SessionParams.{SessionParams}
-use Rattle.wire_frames.specs.Answer.{asked}
+use Rattle.wire_frames.specs.Answer.{asked, block_len}
 use Rattle.block_decoder.proofs.Collected.{size_if_some}
 use Rattle.block_decoder.proofs.Combined.{HasCombined, combined_none, combined_absent, combined_present, combined_all}
 use Rattle.block_decoder.proofs.combining.combine_all.Goals as goal
@@ -10,7 +10,7 @@ use Rattle.block_decoder.proofs.combining.combine_all.Goals.{in-Some, in_default
 
 pub loop-index-init : goal.loop-index-init
 loop-index-init c =
-    let s = ap (λ (p : SessionParams). p.s) c.params-params.ensures.value in
+    let s = c.block_len.ensures.is ∙ ap block_len c.params-params.ensures.value in
     combined_none c.args.session.now c.in_ok-sum.sum.items (c.in_ok-sum.ensures.items_if_clones_equal (λ y e. e) ∙ ap (λ n. replicate n 0) s)
 
 pub combine_into-requires : goal.combine_into-requires

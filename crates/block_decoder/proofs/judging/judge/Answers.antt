@@ -1,13 +1,12 @@
-use Rattle.std.proofs.Common.{◌≡◌, ℕ, List, length, IfOk, refl, sym, ap, ap₂, subst, ◌∙◌, arith}
+use Rattle.std.proofs.Common.{◌≡◌, ℕ, List, length, IfOk, refl, sym, ap, subst, ◌∙◌, arith}
 use Rattle.std.proofs.lemmas.Result.{IfOk-weaker}
 use Rattle.wire_frames.specs.declared.session.SessionParams.{SessionParams}
-use Rattle.wire_frames.specs.Answer.{Answer, answers}
+use Rattle.wire_frames.specs.Answer.{Answer, answers, block_len}
 use Rattle.wire_frames.proofs.Schemes.{number_of_xor, number_of_shamir}
-use Rattle.block_decoder.specs.Agreed.{answers_of}
+use Rattle.block_decoder.specs.Agreed.{HasColumns}
 use Rattle.block_decoder.specs.Numbers.{bound_of, most_columns, most_nodes}
 use Rattle.block_decoder.specs.Verdict.{IsCombined, IsDecided, IsUnlisted, IsVerdict, ListsNoMoreThan}
 use Rattle.block_decoder.specs.declared.verdict.Verdict.{Verdict}
-use Rattle.block_decoder.proofs.Agreement.{length-answers_of}
 use Rattle.block_decoder.proofs.judging.judge.Goals as goal
 
 -- ---- the numbers of the session are those that are handed on
@@ -22,25 +21,25 @@ same_number : (f : ℕ → ℕ → ℕ → ℕ → ℕ) (k j t u h i s w : ℕ) 
 same_number f k j t u h i s w a b c d =
     ap (λ x. f x t h s) a ∙ ap (λ x. f j x h s) b ∙ ap (λ x. f j u x s) c ∙ ap (λ x. f j u i x) d
 
+pub decide_among-requires-clause-columns : goal.decide_among-requires-clause-columns
+decide_among-requires-clause-columns g c =
+    subst (λ (s : ℕ). HasColumns s c.in_ok-usable-in-Shamir.usable) (sym (c.block_len.ensures.is ∙ ap block_len c.params-params.ensures.value)) c.in_ok-usable-in-Shamir.ensures.columns
+
 pub returns-in_ok-usable-in-Shamir-clause-verdict : goal.returns-in_ok-usable-in-Shamir-clause-verdict
 returns-in_ok-usable-in-Shamir-clause-verdict g c =
     let session = c.args.session.now in
     let p = session.params in
     let given = c.params-params.result in
+    let usable = c.in_ok-usable-in-Shamir.usable in
     let params = c.params-params.ensures.value in
-    let indices = c.deref.result.now in
-    let payloads = c.deref-in-Shamir.result.now in
-    let s = ap (λ (p : SessionParams). p.s) params in
+    let s = c.block_len.ensures.is ∙ ap block_len params in
     let t = c.from.ensures ∙ ap (λ (p : SessionParams). p.t) params in
     let h = c.from-in-Shamir.ensures ∙ ap (λ (p : SessionParams). p.h) params in
-    let all : answers_of given.s indices payloads ≡ answers session =
-    ap₂ (λ (xs ys : List ℕ). answers_of given.s xs ys) c.deref.ensures.value c.deref-in-Shamir.ensures.value
-    ∙ ap (λ (w : ℕ). answers_of w c.in_ok-usable-in-Shamir.usable.indices.items c.in_ok-usable-in-Shamir.usable.payloads.items) s ∙ c.in_ok-usable-in-Shamir.ensures.answers_are in
-    IfOk-weaker c.decide.result (IsDecided (answers_of given.s indices payloads) given.s c.from.result c.from-in-Shamir.result) (IsVerdict session)
+    IfOk-weaker c.decide_among.result (IsDecided usable c.block_len.result c.from.result c.from-in-Shamir.result) (IsVerdict session)
     (λ v is. record {
-      shamir = λ e. same_decided (answers_of given.s indices payloads) (answers session) given.s p.s c.from.result p.t c.from-in-Shamir.result p.h all s t h v is;
+      shamir = λ e. same_decided usable (answers session) c.block_len.result (block_len p) c.from.result p.t c.from-in-Shamir.result p.h c.in_ok-usable-in-Shamir.ensures.answers s t h v is;
       xor = λ e. absurd (number_of_shamir given.scheme (sym c.of.ensures ∙ c.in-Shamir.is) (ap (λ (p : SessionParams). p.scheme) params ∙ e));
-    }) c.decide.ensures.verdict
+    }) c.decide_among.ensures.verdict
 
 pub returns-in_ok-usable-in-Shamir-clause-cols : goal.returns-in_ok-usable-in-Shamir-clause-cols
 returns-in_ok-usable-in-Shamir-clause-cols g c =
@@ -48,13 +47,12 @@ returns-in_ok-usable-in-Shamir-clause-cols g c =
     let usable = c.in_ok-usable-in-Shamir.usable in
     let collected = c.in_ok-usable-in-Shamir.ensures in
     let params = c.params-params.ensures.value in
-    let count : length c.deref.result.now ≡ length (answers session) =
-    ap length c.deref.ensures.value ∙ sym (length-answers_of session.params.s usable.indices.items usable.payloads.items) ∙ ap length collected.answers_are in
+    let count = ap length collected.answers in
     let t = c.from.ensures ∙ ap (λ (p : SessionParams). p.t) params in
     let h = c.from-in-Shamir.ensures ∙ ap (λ (p : SessionParams). p.h) params in
-    let s = ap (λ (p : SessionParams). p.s) params in
-    let most = same_number most_columns (length c.deref.result.now) (length (answers session)) c.from.result session.params.t c.from-in-Shamir.result session.params.h c.params-params.result.s session.params.s count t h s in
-    omega (arith, most, c.decide.ensures.cols)
+    let s = c.block_len.ensures.is ∙ ap block_len params in
+    let most = same_number most_columns (length usable) (length (answers session)) c.from.result session.params.t c.from-in-Shamir.result session.params.h c.block_len.result (block_len session.params) count t h s in
+    omega (arith, most, c.decide_among.ensures.cols)
 
 pub returns-in_ok-usable-in-Shamir-clause-nodes : goal.returns-in_ok-usable-in-Shamir-clause-nodes
 returns-in_ok-usable-in-Shamir-clause-nodes g c =
@@ -62,25 +60,21 @@ returns-in_ok-usable-in-Shamir-clause-nodes g c =
     let usable = c.in_ok-usable-in-Shamir.usable in
     let collected = c.in_ok-usable-in-Shamir.ensures in
     let params = c.params-params.ensures.value in
-    let count : length c.deref.result.now ≡ length (answers session) =
-    ap length c.deref.ensures.value ∙ sym (length-answers_of session.params.s usable.indices.items usable.payloads.items) ∙ ap length collected.answers_are in
+    let count = ap length collected.answers in
     let t = c.from.ensures ∙ ap (λ (p : SessionParams). p.t) params in
     let h = c.from-in-Shamir.ensures ∙ ap (λ (p : SessionParams). p.h) params in
-    let s = ap (λ (p : SessionParams). p.s) params in
-    let most = same_number most_nodes (length c.deref.result.now) (length (answers session)) c.from.result session.params.t c.from-in-Shamir.result session.params.h c.params-params.result.s session.params.s count t h s in
-    omega (arith, most, c.decide.ensures.nodes)
+    let s = c.block_len.ensures.is ∙ ap block_len params in
+    let most = same_number most_nodes (length usable) (length (answers session)) c.from.result session.params.t c.from-in-Shamir.result session.params.h c.block_len.result (block_len session.params) count t h s in
+    omega (arith, most, c.decide_among.ensures.nodes)
 
 pub returns-in_ok-usable-in-Shamir-clause-unlisted : goal.returns-in_ok-usable-in-Shamir-clause-unlisted
 returns-in_ok-usable-in-Shamir-clause-unlisted g c = λ unlisted.
     let session = c.args.session.now in
-    let usable = c.in_ok-usable-in-Shamir.usable in
-    let collected = c.in_ok-usable-in-Shamir.ensures in
     let params = c.params-params.ensures.value in
-    let count : length (answers session) ≡ length c.deref.result.now =
-    sym (ap length c.deref.ensures.value ∙ sym (length-answers_of session.params.s usable.indices.items usable.payloads.items) ∙ ap length collected.answers_are) in
+    let count = sym (ap length c.in_ok-usable-in-Shamir.ensures.answers) in
     let t : session.params.t ≡ c.from.result = sym (c.from.ensures ∙ ap (λ (p : SessionParams). p.t) params) in
     let h : session.params.h ≡ c.from-in-Shamir.result = sym (c.from-in-Shamir.ensures ∙ ap (λ (p : SessionParams). p.h) params) in
-    c.decide.ensures.unlisted (subst (λ (n : ℕ). IsUnlisted n c.from.result c.from-in-Shamir.result) count
+    c.decide_among.ensures.unlisted (subst (λ (n : ℕ). IsUnlisted n c.from.result c.from-in-Shamir.result) count
     (subst (λ (n : ℕ). IsUnlisted (length (answers session)) n c.from-in-Shamir.result) t
     (subst (λ (n : ℕ). IsUnlisted (length (answers session)) session.params.t n) h unlisted)))
 
@@ -92,14 +86,12 @@ pub returns-in_ok-usable-in-Shamir-clause-few : goal.returns-in_ok-usable-in-Sha
 returns-in_ok-usable-in-Shamir-clause-few g c = λ shamir.
     let session = c.args.session.now in
     let usable = c.in_ok-usable-in-Shamir.usable in
-    let collected = c.in_ok-usable-in-Shamir.ensures in
     let params = c.params-params.ensures.value in
-    let count : length c.deref.result.now ≡ length (answers session) =
-    ap length c.deref.ensures.value ∙ sym (length-answers_of session.params.s usable.indices.items usable.payloads.items) ∙ ap length collected.answers_are in
+    let count = ap length c.in_ok-usable-in-Shamir.ensures.answers in
     let t = c.from.ensures ∙ ap (λ (p : SessionParams). p.t) params in
     let h = c.from-in-Shamir.ensures ∙ ap (λ (p : SessionParams). p.h) params in
-    let most = same_number (λ k t h s. bound_of k t h) (length c.deref.result.now) (length (answers session)) c.from.result session.params.t c.from-in-Shamir.result session.params.h 0 0 count t h refl in
-    subst (λ (most : ℕ). IfOk c.decide.result (ListsNoMoreThan most)) most c.decide.ensures.few
+    let most = same_number (λ k t h s. bound_of k t h) (length usable) (length (answers session)) c.from.result session.params.t c.from-in-Shamir.result session.params.h 0 0 count t h refl in
+    subst (λ (most : ℕ). IfOk c.decide_among.result (ListsNoMoreThan most)) most c.decide_among.ensures.few
 
 pub returns-in-Xor-clause-few : goal.returns-in-Xor-clause-few
 returns-in-Xor-clause-few g c = λ shamir.
@@ -111,7 +103,7 @@ returns-in-Xor-clause-verdict g c =
     let session = c.args.session.now in
     let p = session.params in
     let xor = sym (ap (λ (p : SessionParams). p.scheme) c.params-params.ensures.value) ∙ number_of_xor c.params-params.result.scheme (sym c.of.ensures ∙ c.in-Xor.is) in
-    IfOk-weaker c.combine_all.result (IsCombined (answers session) p.s p.n p.h) (IsVerdict session)
+    IfOk-weaker c.combine_all.result (IsCombined (answers session) (block_len p) p.n p.h) (IsVerdict session)
     (λ v is. record { shamir = λ e. absurd (omega (arith, e, xor)); xor = λ e. is }) c.combine_all.ensures
 
 pub returns-in-Xor-clause-listed : goal.returns-in-Xor-clause-listed

@@ -1,4 +1,4 @@
-use Rattle.std.proofs.Common.{ℕ, List, [], subst, ◌∙◌}
+use Rattle.std.proofs.Common.{ℕ, List, [], refl, subst}
 use Rattle.block_decoder.specs.Agreed.{Heavy}
 use Rattle.block_decoder.specs.Gains.{Gains}
 use Rattle.block_decoder.specs.Narrowing.{ContinuesFrom}
@@ -10,24 +10,24 @@ use Rattle.block_decoder.proofs.narrowing.list_agreed.Goals as goal
 
 pub extend-requires-clause-candidate : goal.extend-requires-clause-candidate
 extend-requires-clause-candidate g c =
-    first-candidate c.args.answers c.deref.result.now c.args.t c.args.h c.deref_mut.result.now (c.deref.ensures.value ∙ c.in_ok-all.ensures) c.requires.agreement
+    first-candidate c.args.answers c.args.answers c.args.t c.args.h c.deref_mut.result.now refl c.requires.agreement
 
 pub returns-in_err-extend-clause-cols : goal.returns-in_err-extend-clause-cols
 returns-in_err-extend-clause-cols g c =
     let few = counts-few c.args.answers c.args.width c.args.t c.args.h c.args.cols.now c.extend.new.cols c.args.nodes.now c.extend.new.nodes c.requires.columns c.requires.redundant.1 c.requires.strong
-    (c.in_err-extend.ensures.counts (first-candidate c.args.answers c.deref.result.now c.args.t c.args.h c.deref_mut.result.now (c.deref.ensures.value ∙ c.in_ok-all.ensures) c.requires.agreement)) in
+    (c.in_err-extend.ensures.counts (first-candidate c.args.answers c.args.answers c.args.t c.args.h c.deref_mut.result.now refl c.requires.agreement)) in
     few.0
 
 pub returns-in_err-extend-clause-nodes : goal.returns-in_err-extend-clause-nodes
 returns-in_err-extend-clause-nodes g c =
     let few = counts-few c.args.answers c.args.width c.args.t c.args.h c.args.cols.now c.extend.new.cols c.args.nodes.now c.extend.new.nodes c.requires.columns c.requires.redundant.1 c.requires.strong
-    (c.in_err-extend.ensures.counts (first-candidate c.args.answers c.deref.result.now c.args.t c.args.h c.deref_mut.result.now (c.deref.ensures.value ∙ c.in_ok-all.ensures) c.requires.agreement)) in
+    (c.in_err-extend.ensures.counts (first-candidate c.args.answers c.args.answers c.args.t c.args.h c.deref_mut.result.now refl c.requires.agreement)) in
     few.1
 
 pub returns-clause-blocks : goal.returns-clause-blocks
 returns-clause-blocks g c =
     let answers = c.args.answers in
-    let first = first-candidate answers c.deref.result.now c.args.t c.args.h c.deref_mut.result.now (c.deref.ensures.value ∙ c.in_ok-all.ensures) c.requires.agreement in
+    let first = first-candidate answers c.args.answers c.args.t c.args.h c.deref_mut.result.now refl c.requires.agreement in
     Lists-Gains answers c.args.width c.args.t c.args.h c.extend.new.listing c.requires.columns.filled c.in_ok-extend.ensures.ascending
     (Gains-same (ContinuesFrom answers c.args.width c.args.t c.args.h []) (Heavy answers c.args.width c.args.t c.args.h) [] c.extend.new.listing (continues-Heavy answers c.args.width c.args.t c.args.h)
     (subst (λ (old : List (List ℕ)). Gains (ContinuesFrom answers c.args.width c.args.t c.args.h []) old c.extend.new.listing) c.new-listing.ensures (c.in_ok-extend.ensures.exact first)))
@@ -35,11 +35,11 @@ returns-clause-blocks g c =
 pub returns-clause-cols : goal.returns-clause-cols
 returns-clause-cols g c =
     let few = counts-few c.args.answers c.args.width c.args.t c.args.h c.args.cols.now c.extend.new.cols c.args.nodes.now c.extend.new.nodes c.requires.columns c.requires.redundant.1 c.requires.strong
-    (c.in_ok-extend.ensures.counts (first-candidate c.args.answers c.deref.result.now c.args.t c.args.h c.deref_mut.result.now (c.deref.ensures.value ∙ c.in_ok-all.ensures) c.requires.agreement)) in
+    (c.in_ok-extend.ensures.counts (first-candidate c.args.answers c.args.answers c.args.t c.args.h c.deref_mut.result.now refl c.requires.agreement)) in
     few.0
 
 pub returns-clause-nodes : goal.returns-clause-nodes
 returns-clause-nodes g c =
     let few = counts-few c.args.answers c.args.width c.args.t c.args.h c.args.cols.now c.extend.new.cols c.args.nodes.now c.extend.new.nodes c.requires.columns c.requires.redundant.1 c.requires.strong
-    (c.in_ok-extend.ensures.counts (first-candidate c.args.answers c.deref.result.now c.args.t c.args.h c.deref_mut.result.now (c.deref.ensures.value ∙ c.in_ok-all.ensures) c.requires.agreement)) in
+    (c.in_ok-extend.ensures.counts (first-candidate c.args.answers c.args.answers c.args.t c.args.h c.deref_mut.result.now refl c.requires.agreement)) in
     few.1

@@ -8,9 +8,9 @@ use Rattle.fetch_client.proofs.fetch_once.ask_servers.Given as goal
 
 abbrev pub invariant-links : goal.invariant-links
 invariant-links g l = record {
-  params : l.session.params ≡ params_of l.queries.plan (session_number l.queries.coins);
+  params : l.session.params ≡ params_of l.queries.plan (length l.queries.blocks) (session_number l.queries.coins);
   count : length l.session.records + 1 ≡ l.index;
-  links : AskedEach l.queries.plan (map string_bytes l.addresses) l.queries.coins (length l.session.records) l.session
+  links : AskedEach l.queries.plan l.queries.blocks (map string_bytes l.addresses) l.queries.coins (length l.session.records) l.session
       (g.P.Ports.world l.initial.ports) (g.P.Ports.world l.ports);
   others : TouchesRange (link 1) (length l.session.records) (g.P.Ports.world l.initial.ports) (g.P.Ports.world l.ports);
 }

@@ -9,8 +9,8 @@ returns c =
     let session = c.args.session.now in
     let range = c.params.ensures.range in
     let few = c.record_count.ensures.few in
-    let bytes = bytes_from_fits (answer_len session.params.s) session.records c.record_count.ensures.fits in
+    let bytes = bytes_from_fits (answer_len session.params.count session.params.s) session.records c.record_count.ensures.fits in
     elim range.scheme [
-      | inl one ↦ finds_in_shamir session c.args.coins.now c.args.block c.args.verdict.now range few bytes c.requires.coins c.requires.block c.requires.verdict one
-      | inr two ↦ finds_in_xor session c.args.coins.now c.args.block c.args.verdict.now range few bytes c.requires.coins c.requires.block c.requires.verdict two
+      | inl one ↦ finds_in_shamir session c.args.coins.now c.args.blocks.now c.args.verdict.now c.requires.count range few bytes c.requires.coins c.requires.blocks c.requires.verdict one
+      | inr two ↦ finds_in_xor session c.args.coins.now c.args.blocks.now c.args.verdict.now c.requires.count range few bytes c.requires.coins c.requires.blocks c.requires.verdict two
     ]

@@ -50,4 +50,4 @@ returns-in-Ok-clause-demo g c = λ order command.
     let new = g.P.Ports.world c.obey.new.ports in
     let same = one_command _ _ _ c.in-Ok.ensures.form command in
     let ranges = subst InRange same c.in-Ok.ensures.ranges in
-    demo_promised order c.obey.result old new (omega (arith, ranges.fetch.numbers.few_servers)) (subst (λ a. Outcome a c.obey.result old new) same c.obey.ensures)
+    demo_promised order c.obey.result old new (omega (arith, ranges.numbers.few_servers)) (subst (λ a. Outcome a c.obey.result old new) same c.obey.ensures)

@@ -1,24 +1,20 @@
-use Rattle.std.proofs.Common.{◌≡◌, ◌<◌, ◌-◌, ℕ, List, [], ◌∷◌, ◌++◌, length, map, take, vec_len, inl, inr, refl, sym, ap, subst, ◌∙◌, arith}
+use Rattle.std.proofs.Common.{◌≡◌, ◌<◌, ◌-◌, ℕ, List, [], ◌∷◌, ◌++◌, length, map, take, drop, vec_len, inl, inr, refl, sym, ap, subst, ◌∙◌, arith}
 use Rattle.std.proofs.Math.Seq.{take-append_seam}
 use Rattle.std.proofs.lemmas.Bool.{cases_lt}
-use Rattle.std.proofs.lemmas.List.{length-append}
-use Rattle.gf256.specs.Polynomial.{val}
+use Rattle.std.proofs.lemmas.List.{length-append, length-map, get_or_default}
 use Rattle.bi_poly.specs.Rows.{AreBytes}
 use Rattle.bi_poly.specs.Degree.{IsOrderInX, without_first}
 use Rattle.rr_roots.specs.Descent.{Appends, IsRootOfSize}
 use Rattle.rr_roots.proofs.Children.{IsStripped, first_byte, child-nonzero, child-roots}
 use Rattle.rr_roots.proofs.Levels.{HoldsBelow, appends-nothing, appends-skip, appends-more, appends-same}
 use Rattle.rr_roots.proofs.Multiplicities.{multiplicity}
+use Rattle.rr_roots.proofs.ByteValues.{value-tested}
 use Rattle.rr_roots.proofs.Nodes.{none_begins, child-share, nodes-skip, nodes-more, nodes-most, nodes-spent}
 use Rattle.rr_roots.proofs.descent.+descend.Goals as goal
 
 -- what is left after the strip
 stripped : {whole q : List (List ℕ)} {r : ℕ} → IsOrderInX whole r → q ≡ without_first r whole → AreBytes q → IsStripped whole q r
 stripped order quotient bytes = record { order = order; quotient = quotient; bytes = bytes }
-
--- the value that was tested
-value : {made p : List ℕ} (g : ℕ) {v : ℕ} → made ≡ p → v ≡ val made g → val p g ≡ v
-value g same v = ap (λ p. val p g) (sym same) ∙ sym v
 
 pub returns-then-left-eq0-clause-exact : goal.returns-then-left-eq0-clause-exact
 returns-then-left-eq0-clause-exact g t c =
@@ -49,16 +45,27 @@ returns-in_err-push-clause-most g t c = λ d h.
 pub descend-requires : goal.descend-requires
 descend-requires g t c κs within =
     let s = stripped c.strip_x.ensures.order c.strip_x.ensures.quotient c.coefficients_are_bytes.ensures in
-    (omega (arith, c.decreases, c.if-left-eq0.false), (within, child-nonzero s (omega (arith, c.loop-byte-test.true)) c.in_ok-child.ensures))
+    let child = c.in_ok-child.ensures in (
+      omega (arith, c.decreases, c.if-left-eq0.false),
+      (
+        within,
+        record {
+          nonzero = child-nonzero s (omega (arith, c.loop-byte-test.true)) child;
+          enough = let same = child.rows in let stripped = ap length c.strip_x.ensures.quotient ∙ length-map c.args.q (drop _) in omega (arith, same, stripped, c.requires.enough);
+          powers_are = c.requires.powers_are;
+        },
+      ),
+    )
 
 pub returns-in_err-descend-clause-most : goal.returns-in_err-descend-clause-most
 returns-in_err-descend-clause-most g t c = λ d h.
     let s = stripped c.strip_x.ensures.order c.strip_x.ensures.quotient c.coefficients_are_bytes.ensures in
     let p = c.in_ok-constants.constants.items in
     let less : c.loop-byte.byte < 256 = omega (arith, c.loop-byte-test.true) in
+    let tested = c.index.ensures ∙ get_or_default c.in_ok-values.values.items c.loop-byte.byte c.index.result.now 0 (let size = c.in_ok-values.ensures.size in omega (arith, size, less)) in
     let share = c.descend.ensures.most (multiplicity p c.loop-byte.byte) (child-share s p c.in_ok-constants.ensures c.loop-byte.byte less c.in_ok-child.ensures) in
     nodes-spent s p c.in_ok-constants.ensures c.args.left c.args.nodes.now c.loop-byte.nodes c.descend.new.nodes c.loop-byte.byte d
-    (omega (arith, c.if-left-eq0.false)) less (value c.loop-byte.byte c.deref-in-loop-byte.ensures.value c.eval.ensures ∙ c.if-eval-ne0.false) h
+    (omega (arith, c.if-left-eq0.false)) less (value-tested c.loop-byte.byte c.deref-2.ensures.value c.in_ok-values.ensures less tested ∙ c.if-index-ne0.false) h
     c.loop-byte.invariant.most (omega (arith, c.tick.ensures, share))
 
 -- what is left after the last coefficient is taken away
@@ -67,17 +74,19 @@ without_last xs n m e =
     let k : m - 1 ≡ length xs = omega (arith, length-append xs (n ∷ []), e) in
     ap (λ k. take k (xs ++ n ∷ [])) k ∙ take-append_seam xs (n ∷ [])
 
-pub loop-byte-preserved-then-eval-ne0 : goal.loop-byte-preserved-then-eval-ne0
-loop-byte-preserved-then-eval-ne0 g t c =
+pub loop-byte-preserved-then-index-ne0 : goal.loop-byte-preserved-then-index-ne0
+loop-byte-preserved-then-index-ne0 g t c =
     let s = stripped c.strip_x.ensures.order c.strip_x.ensures.quotient c.coefficients_are_bytes.ensures in
     let p = c.in_ok-constants.constants.items in
+    let less : c.loop-byte.byte < 256 = omega (arith, c.loop-byte-test.true) in
+    let tested = c.index.ensures ∙ get_or_default c.in_ok-values.values.items c.loop-byte.byte c.index.result.now 0 (let size = c.in_ok-values.ensures.size in omega (arith, size, less)) in
     let some : 0 < c.args.left = omega (arith, c.if-left-eq0.false) in
     record {
       kept = c.loop-byte.invariant.kept;
       appends = appends-skip (IsRootOfSize c.args.q c.args.left) c.loop-byte.byte c.args.prefix.now.items (map (λ r. r.items) c.args.roots.now.items) (map (λ r. r.items) c.loop-byte.roots.items)
           c.loop-byte.invariant.appends
           (none_begins s p c.in_ok-constants.ensures c.args.left c.loop-byte.byte some
-          (λ z. c.if-eval-ne0.true (sym (value c.loop-byte.byte c.deref-in-loop-byte.ensures.value c.eval.ensures) ∙ z)));
+          (λ z. c.if-index-ne0.true (sym (value-tested c.loop-byte.byte c.deref-2.ensures.value c.in_ok-values.ensures less tested) ∙ z)));
       most = nodes-skip s p c.in_ok-constants.ensures c.args.left c.args.nodes.now c.loop-byte.nodes c.loop-byte.byte c.loop-byte.invariant.most;
       least = c.loop-byte.invariant.least;
       rises = c.loop-byte.invariant.rises;
@@ -88,6 +97,7 @@ loop-byte-preserved g t c =
     let s = stripped c.strip_x.ensures.order c.strip_x.ensures.quotient c.coefficients_are_bytes.ensures in
     let p = c.in_ok-constants.constants.items in
     let less : c.loop-byte.byte < 256 = omega (arith, c.loop-byte-test.true) in
+    let tested = c.index.ensures ∙ get_or_default c.in_ok-values.values.items c.loop-byte.byte c.index.result.now 0 (let size = c.in_ok-values.ensures.size in omega (arith, size, less)) in
     let some : 0 < c.args.left = omega (arith, c.if-left-eq0.false) in
     let prefix = c.args.prefix.now.items in
     let share = c.in_ok-descend.ensures.most (multiplicity p c.loop-byte.byte) (child-share s p c.in_ok-constants.ensures c.loop-byte.byte less c.in_ok-child.ensures) in
@@ -95,7 +105,7 @@ loop-byte-preserved g t c =
     let descended = rw pushed at c.in_ok-descend.ensures.kept in
     let rest = rw descended at c.pop.ensures.rest in
     let more = nodes-more s p c.in_ok-constants.ensures c.args.left c.args.nodes.now c.loop-byte.nodes c.descend.new.nodes c.loop-byte.byte some less
-    (value c.loop-byte.byte c.deref-in-loop-byte.ensures.value c.eval.ensures ∙ c.if-eval-ne0.false) c.loop-byte.invariant.most (omega (arith, c.tick.ensures, share)) in
+    (value-tested c.loop-byte.byte c.deref-2.ensures.value c.in_ok-values.ensures less tested ∙ c.if-index-ne0.false) c.loop-byte.invariant.most (omega (arith, c.tick.ensures, share)) in
     let P = IsRootOfSize c.args.q c.args.left in
     let Sub = IsRootOfSize c.in_ok-child.child (c.args.left - 1) in
     let old = map (λ r. r.items) c.args.roots.now.items in

@@ -2,11 +2,8 @@ use Rattle.std.proofs.Common.{◌≡◌, ◌∙◌, ◌+◌, ◌-◌, ◌*◌, �
 use Rattle.std.proofs.Math.Nat.{mul-le-mul_right}
 use Rattle.std.proofs.lemmas.List.{take_more_set, length-take}
 use Rattle.std.proofs.lemmas.Slice.{take-put_mid}
-use Rattle.shamir_share.proofs.Rows.{masks_none, masks_more, masks_next, length-masks}
+use Rattle.shamir_share.proofs.Rows.{masks_more, masks_next, length-masks}
 use Rattle.shamir_share.proofs.masks.rows_into.Goals as goal
-
-pub fours-init : goal.fours-init
-fours-init c = record { within = omega arith; done = masks_none c.args.coins.now c.args.t c.args.products.now }
 
 pub fours-preserved : goal.fours-preserved
 fours-preserved c =
@@ -25,6 +22,6 @@ pub loop-j-preserved : goal.loop-j-preserved
 loop-j-preserved c =
     let j = c.loop-j.j in
     let coins = c.args.coins.now in
-    let enough : (j + 1) * c.args.t ≤ length coins = let h = mul-le-mul_right c.args.t (let l : j + 1 ≤ length c.args.out.now = omega arith in l) in omega (arith, h, c.requires) in
+    let enough : (j + 1) * c.args.t ≤ length coins = let h = mul-le-mul_right c.args.t (let l : j + 1 ≤ length c.args.out.now = omega arith in l) in omega (arith, h, c.requires.coins) in
     take_more_set c.loop-j.out j c.mask.result (omega arith)
     ∙ ap₂ (λ l v. l ++ v ∷ []) c.loop-j.invariant c.mask.ensures ∙ masks_next coins c.args.t j c.args.products.now enough

@@ -23,7 +23,7 @@ fits_below most (Some b) h lt = omega (arith, h.0)
 
 pub write_record-requires : goal.write_record-requires
 write_record-requires g c =
-    let most = answer_len c.args.session.now.params.s in
+    let most = answer_len c.args.session.now.params.count c.args.session.now.params.s in
     let fits = All-get_or (Fits most) c.args.session.now.records (c.loop-i.i + 1 - 1) None (omega arith) c.record_count-i-end.ensures.fits in
     fits_below most _ (subst (Fits most) (sym c.record_at.ensures) fits) (omega arith)
 

@@ -16,15 +16,15 @@ overflow_mul-from c =
     let w = row_within c.args.place (length inside.indices.now) inside.width (omega (arith, n, ap length c.self.view_is)) in
     omega (arith, w, c.self.invariant, c.self.told)
 
-pub overflow_add-result : goal.overflow_add-result
-overflow_add-result c =
+pub overflow_add-from : goal.overflow_add-from
+overflow_add-from c =
     let inside = c.self.inside in
     let n = length-answers_of inside.width inside.indices.now inside.bytes.now in
     let w = row_within c.args.place (length inside.indices.now) inside.width (omega (arith, n, ap length c.self.view_is)) in
     omega (arith, w, c.self.invariant, c.self.told)
 
-pub slice_bounds-result-end : goal.slice_bounds-result-end
-slice_bounds-result-end c =
+pub slice_bounds-new-end : goal.slice_bounds-new-end
+slice_bounds-new-end c =
     let inside = c.self.inside in
     let n = length-answers_of inside.width inside.indices.now inside.bytes.now in
     let w = row_within c.args.place (length inside.indices.now) inside.width (omega (arith, n, ap length c.self.view_is)) in
@@ -36,6 +36,7 @@ returns c =
     let n = length-answers_of inside.width inside.indices.now inside.bytes.now in
     let from = c.args.place * inside.width in
     let size : from + inside.width - from ≡ inside.width = omega arith in
-    ap (λ (k : ℕ). record { index = get_or inside.indices.now c.args.place 0; payload = take k (drop from inside.bytes.now) }) size
+    c.new.ensures
+    ∙ ap (λ (k : ℕ). record { index = get_or inside.indices.now c.args.place 0; payload = take k (drop from inside.bytes.now) }) size
     ∙ sym (answer_at-answers_of inside.width inside.indices.now inside.bytes.now c.args.place (omega (arith, n, ap length c.self.view_is)))
     ∙ ap (λ answers. answer_at answers c.args.place) c.self.view_is

@@ -7,7 +7,7 @@ use Rattle.std.proofs.lemmas.Result.{on_ok_weaker}
 use Rattle.column_lists.specs.Agreement.{ListsAgreeing}
 use Rattle.block_decoder.specs.Agreed.{holds_first}
 use Rattle.block_decoder.specs.Gains.{Gains}
-use Rattle.block_decoder.specs.Narrowing.{meets, points_of, IsPart, ContinuesFrom, ContinuesBy}
+use Rattle.block_decoder.specs.Narrowing.{meets, points_of, IsCandidate, IsPart, ContinuesFrom, ContinuesBy}
 use Rattle.block_decoder.specs.Numbers.{column_nodes}
 use Rattle.block_decoder.proofs.Candidates.{apart_after, counts-next, item_is, not_before, run-fits, after, exact-end, counts-end, exact-below, counts-below, with_next, fewer}
 use Rattle.block_decoder.proofs.Continued.{continues-by_none, continues-by_more}
@@ -29,7 +29,8 @@ returns-then-next-self-clause-exact g t c =
     let new = c.decode.new.block in
     let size = c.in_ok-next.ensures.size ∙ c.requires.width in
     let end : c.args.column + c.in_ok-next.field-0 ≡ s.width = omega (arith, c.if-next-self.true) in
-    on_ok_weaker c.insert.result
+    on_ok_weaker {Q = (d : IsCandidate s.answers s.degree s.agreement c.args.kept.now c.args.column c.args.block.now)
+    → Gains (ContinuesFrom s.answers s.width s.degree s.agreement d.polynomials) c.args.listing.now c.insert.new.self} c.insert.result
     (λ (gains : Gains (λ b. b ≡ new) c.args.listing.now c.insert.new.self) d. Gains-same (λ b. b ≡ new) (ContinuesFrom s.answers s.width s.degree s.agreement d.polynomials) c.args.listing.now c.insert.new.self
     (exact-end s.answers s.width s.degree s.agreement s.columns s.redundant.1 c.args.kept.now c.args.column c.in_ok-next.field-0 c.args.block.now new c.requires.column size c.in_ok-next.ensures.kept c.in_ok-next.ensures.run end d) gains)
     c.insert.ensures.ok
@@ -141,9 +142,9 @@ extend-requires g t c κs within =
     let poly = ((lists.exact p).0 listed).0 in
     let some : 0 < length p = let e = poly.size in omega (arith, e) in
     let x_is : c.index.result.now ≡ get_or p 0 0 = c.index.ensures ∙ get_or_default p 0 c.index.result.now 0 some in
-    let part = c.deref-in-loop-polynomial.result.now in
+    let part = c.in_ok-fewer.fewer in
     let part_is : part ≡ filter (meets p next) c.args.kept.now =
-    c.deref-in-loop-polynomial.ensures.value ∙ c.in_ok-fewer.ensures ∙ ap (λ (q : List ℕ). filter (meets q next) c.args.kept.now) c.deref.ensures.value in
+    c.in_ok-fewer.ensures ∙ ap (λ (q : List ℕ). filter (meets q next) c.args.kept.now) c.deref.ensures.value in
     let same = c.loop-polynomial.invariant.kept in
     let room : next < length c.loop-polynomial.block = let e = c.loop-polynomial.invariant.size in omega (arith, e, size, short) in
     let d = after s.answers s.width s.degree s.agreement s.columns s.redundant.1 c.args.kept.now c.args.column n c.args.block.now c.decode.new.block c.requires.column size c.in_ok-next.ensures.kept c.in_ok-next.ensures.run c.requires.candidate in
@@ -193,9 +194,9 @@ returns-in_err-extend-clause-counts g t c d =
     let poly = ((lists.exact p).0 listed).0 in
     let some : 0 < length p = let e = poly.size in omega (arith, e) in
     let x_is : c.index.result.now ≡ get_or p 0 0 = c.index.ensures ∙ get_or_default p 0 c.index.result.now 0 some in
-    let part = c.deref-in-loop-polynomial.result.now in
+    let part = c.in_ok-fewer.fewer in
     let part_is : part ≡ filter (meets p next) c.args.kept.now =
-    c.deref-in-loop-polynomial.ensures.value ∙ c.in_ok-fewer.ensures ∙ ap (λ (q : List ℕ). filter (meets q next) c.args.kept.now) c.deref.ensures.value in
+    c.in_ok-fewer.ensures ∙ ap (λ (q : List ℕ). filter (meets q next) c.args.kept.now) c.deref.ensures.value in
     let same = c.loop-polynomial.invariant.kept in
     let room : next < length c.loop-polynomial.block = let e = c.loop-polynomial.invariant.size in omega (arith, e, size, short) in
     let grown : take (i + 1) list ≡ take i list ++ p ∷ [] = take_more list i [] inside ∙ ap (λ (q : List ℕ). take i list ++ q ∷ []) item in
@@ -231,9 +232,9 @@ loop-polynomial-preserved g t c =
     let poly = ((lists.exact p).0 listed).0 in
     let some : 0 < length p = let e = poly.size in omega (arith, e) in
     let x_is : c.index.result.now ≡ get_or p 0 0 = c.index.ensures ∙ get_or_default p 0 c.index.result.now 0 some in
-    let part = c.deref-in-loop-polynomial.result.now in
+    let part = c.in_ok-fewer.fewer in
     let part_is : part ≡ filter (meets p next) c.args.kept.now =
-    c.deref-in-loop-polynomial.ensures.value ∙ c.in_ok-fewer.ensures ∙ ap (λ (q : List ℕ). filter (meets q next) c.args.kept.now) c.deref.ensures.value in
+    c.in_ok-fewer.ensures ∙ ap (λ (q : List ℕ). filter (meets q next) c.args.kept.now) c.deref.ensures.value in
     let same = c.loop-polynomial.invariant.kept in
     let room : next < length c.loop-polynomial.block = let e = c.loop-polynomial.invariant.size in omega (arith, e, size, short) in
     let grown : take (i + 1) list ≡ take i list ++ p ∷ [] = take_more list i [] inside ∙ ap (λ (q : List ℕ). take i list ++ q ∷ []) item in

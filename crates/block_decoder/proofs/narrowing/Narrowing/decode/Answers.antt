@@ -22,3 +22,6 @@ decode_run-requires-clause-distinct g c =
     let kept = c.args.kept.now in
     subst (AllPairs (λ (x y : ℕ). x ≢ y)) (sym (c.deref.ensures.value ∙ c.in_ok-indices.ensures))
     (AllPairs-map (λ (x y : ℕ). x ≢ y) (λ a. a.index) kept (part-different c.args.self.now.answers kept c.requires.part c.args.self.now.columns.different))
+
+pub returns-clause-cols : goal.returns-clause-cols
+returns-clause-cols g c = c.decode_run.ensures.cols

@@ -4,8 +4,8 @@ use Rattle.block_decoder.proofs.Costs.{nodes-le, cost-le}
 use Rattle.block_decoder.proofs.Kept.{part-few, part-All, part-different, length-points, points-All, points-different}
 use Rattle.block_decoder.proofs.narrowing.Narrowing.list.Goals as goal
 
-pub points_of-requires : goal.points_of-requires
-points_of-requires g c = λ k d l.
+pub points-requires : goal.points-requires
+points-requires g c = λ k d l.
     let s = c.args.self.now in
     let wide = part-All s.answers c.args.kept.now c.requires.part (λ a. length a.payload ≡ s.width) s.columns.filled k d l in
     omega (arith, wide, c.requires.column)

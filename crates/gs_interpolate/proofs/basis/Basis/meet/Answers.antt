@@ -20,10 +20,9 @@ returns-in_default-clause-met c = λ b window.
     let rows = map f c.args.self.now.rows.items in
     let es = c.args.self.now.exponents.items in
     let cells = c.args.window.now.cells.items in
-    let copied = c.copy_from_slice.new.self in
-    let read = subst (λ k. (g : ℕ) → g < k → get_or c.values.result.now g 0 ≡ get_or (window_row k m cells v) (u * k + g) 0) c.requires.window.0 c.values.ensures.values in
-    let same = λ (g : ℕ) (l : g < n). ap (λ xs. get_or xs g 0) c.copy_from_slice.ensures.after ∙ read g l in
-    let size : length copied ≡ n = c.copy_from_slice.auto.self ∙ c.requires.factors in
+    let copied = c.values-values.result.now in
+    let same = subst (λ k. (g : ℕ) → g < k → get_or copied g 0 ≡ get_or (window_row k m cells v) (u * k + g) 0) c.requires.window.0 c.values-values.ensures.values in
+    let size : length copied ≡ n = c.values-values.ensures.length ∙ c.requires.window.0 in
     let count : c.len.result ≡ length rows = omega (arith, c.len.ensures, c.requires.basis.size) in
     let is : take c.len.result copied ≡ values n rows u v a b =
     ap (λ k. take k copied) count ∙ values-of_window n m u v a b cells rows copied c.requires.basis.wide size c.requires.window.1 same window in
@@ -40,27 +39,26 @@ returns-clause-met c = λ b window.
     let rows = map f c.args.self.now.rows.items in
     let es = c.args.self.now.exponents.items in
     let cells = c.args.window.now.cells.items in
-    let copied = c.copy_from_slice.new.self in
-    let read = subst (λ k. (g : ℕ) → g < k → get_or c.values.result.now g 0 ≡ get_or (window_row k m cells v) (u * k + g) 0) c.requires.window.0 c.values.ensures.values in
-    let same = λ (g : ℕ) (l : g < n). ap (λ xs. get_or xs g 0) c.copy_from_slice.ensures.after ∙ read g l in
-    let size : length copied ≡ n = c.copy_from_slice.auto.self ∙ c.requires.factors in
+    let copied = c.values-values.result.now in
+    let same = subst (λ k. (g : ℕ) → g < k → get_or copied g 0 ≡ get_or (window_row k m cells v) (u * k + g) 0) c.requires.window.0 c.values-values.ensures.values in
+    let size : length copied ≡ n = c.values-values.ensures.length ∙ c.requires.window.0 in
     let count : c.len.result ≡ length rows = omega (arith, c.len.ensures, c.requires.basis.size) in
     let is : take c.len.result copied ≡ values n rows u v a b =
     ap (λ k. take k copied) count ∙ values-of_window n m u v a b cells rows copied c.requires.basis.wide size c.requires.window.1 same window in
     let p = c.in-Some.p in
-    let values-2 = c.into_factors.new.values in
+    let values-2 = c.set_factors.new.factors in
     let shifting = set values-2 p 1 in
     let factors = set shifting p c.add.result in
     let pivot : IsPivot c.args.t es (values n rows u v a b) p = subst (λ xs. IsPivot c.args.t es xs p) is c.in-Some.ensures in
     let inside : p < length rows = omega (arith, pivot.inside, length-values n rows u v a b) in
-    let room : p < length values-2 = omega (arith, inside, c.requires.basis.wide, size, c.into_factors.auto.values) in
+    let room : p < length values-2 = omega (arith, inside, c.requires.basis.wide, c.requires.factors, c.set_factors.auto.factors) in
     let room-2 : p < length shifting = omega (arith, room, length-set values-2 p 1) in
     let raised : multiplier factors p ≡ a =
     ap (λ x. x ⊕ 1) (get_or-set_same shifting p c.add.result 0 room-2 ∙ c.add.ensures) ∙ add_assoc a 1 1 ∙ ap (◌⊕◌ a) (add_self 1) ∙ add_zero a in
     let rows-step = subst (λ x. IsFamilyStep n (map f c.step-2.new.self.rows.items) rows factors p x c.args.t (get_or es p 0 + c.args.t * p + 2)) raised c.in_ok-step.ensures.rows in
     let here = λ (j : ℕ) (l : j < length rows). ap (λ k. get_or (take k copied) j 0) (sym count) ∙ ap (λ xs. get_or xs j 0) is in
     let factor-is = λ (j : ℕ) (l : j < length rows) (o : j ≢ p).
-    get_or-set_other shifting p j c.add.result 0 o ∙ get_or-set_other values-2 p j 1 0 o ∙ c.into_factors.ensures j
+    get_or-set_other shifting p j c.add.result 0 o ∙ get_or-set_other values-2 p j 1 0 o ∙ c.set_factors.ensures j
     ∙ ap₂ (λ x y. x ⊗ inverse y) (sym (get_or-take (length rows) copied j 0 l) ∙ here j l) (sym (get_or-take (length rows) copied p 0 inside) ∙ here p inside) in
     inr (
       p,
@@ -80,20 +78,19 @@ returns-clause-window c = λ b window.
     let rows = map f c.args.self.now.rows.items in
     let es = c.args.self.now.exponents.items in
     let cells = c.args.window.now.cells.items in
-    let copied = c.copy_from_slice.new.self in
-    let read = subst (λ k. (g : ℕ) → g < k → get_or c.values.result.now g 0 ≡ get_or (window_row k m cells v) (u * k + g) 0) c.requires.window.0 c.values.ensures.values in
-    let same = λ (g : ℕ) (l : g < n). ap (λ xs. get_or xs g 0) c.copy_from_slice.ensures.after ∙ read g l in
-    let size : length copied ≡ n = c.copy_from_slice.auto.self ∙ c.requires.factors in
+    let copied = c.values-values.result.now in
+    let same = subst (λ k. (g : ℕ) → g < k → get_or copied g 0 ≡ get_or (window_row k m cells v) (u * k + g) 0) c.requires.window.0 c.values-values.ensures.values in
+    let size : length copied ≡ n = c.values-values.ensures.length ∙ c.requires.window.0 in
     let count : c.len.result ≡ length rows = omega (arith, c.len.ensures, c.requires.basis.size) in
     let is : take c.len.result copied ≡ values n rows u v a b =
     ap (λ k. take k copied) count ∙ values-of_window n m u v a b cells rows copied c.requires.basis.wide size c.requires.window.1 same window in
     let p = c.in-Some.p in
-    let values-2 = c.into_factors.new.values in
+    let values-2 = c.set_factors.new.factors in
     let shifting = set values-2 p 1 in
     let factors = set shifting p c.add.result in
     let pivot : IsPivot c.args.t es (values n rows u v a b) p = subst (λ xs. IsPivot c.args.t es xs p) is c.in-Some.ensures in
     let inside : p < length rows = omega (arith, pivot.inside, length-values n rows u v a b) in
-    let room : p < length values-2 = omega (arith, inside, c.requires.basis.wide, size, c.into_factors.auto.values) in
+    let room : p < length values-2 = omega (arith, inside, c.requires.basis.wide, c.requires.factors, c.set_factors.auto.factors) in
     let room-2 : p < length shifting = omega (arith, room, length-set values-2 p 1) in
     let raised : multiplier factors p ≡ a =
     ap (λ x. x ⊕ 1) (get_or-set_same shifting p c.add.result 0 room-2 ∙ c.add.ensures) ∙ add_assoc a 1 1 ∙ ap (◌⊕◌ a) (add_self 1) ∙ add_zero a in

@@ -1,5 +1,5 @@
 use Rattle.std.proofs.Common.{◌≡◌, ◌+◌, ◌-◌, ◌*◌, ◌/◌, ◌%◌, ◌<◌, ◌++◌, List, ℕ, [], length, map, get_or, drop, sym, ap, subst, ◌∙◌, arith, take_at, Vec, Global}
-use Rattle.std.proofs.lemmas.List.{length-replicate, length-map, get_or-map}
+use Rattle.std.proofs.lemmas.List.{length-replicate, get_or-replicate, length-map, get_or-map}
 use Rattle.gf256.specs.Field.{◌⊕◌, ◌⊗◌}
 use Rattle.gf256.specs.Polynomial.{coef}
 use Rattle.uni_poly.specs.Taylor.{taylor}
@@ -21,12 +21,15 @@ loop-j-init c =
     record {
       size = ap length zeros ∙ length-replicate (m * s) 0;
       room = ap length zeros-2 ∙ length-replicate (m * s) 0;
-      sums = expanded-none s m c.args.b c.in_ok-cells.cells.items (λ k. row_values c.args.lanes c.args.a k (drop (length c.args.rows.now) rows)) zeros
+      first = ap length (c.in_ok-first.ensures.items_if_clones_equal (λ y e. e)) ∙ length-replicate s 0;
+      spare = ap length (c.in_ok-spare.ensures.items_if_clones_equal (λ y e. e)) ∙ length-replicate s 0;
+      sums = expanded-none s m c.args.b c.in_ok-cells.cells.items (λ k. row_values c.args.lanes c.args.a k (drop (length c.args.rows.now) rows))
+          (λ k l. ap (λ xs. get_or xs k 0) zeros ∙ get_or-replicate (m * s) k 0 0 l)
           (λ g e. subst (λ i. coef (row_values c.args.lanes c.args.a g (drop i rows)) e ≡ 0) count (values-none c.args.lanes c.args.a g e rows));
     }
 
-pub expanded-requires-clause-whole : goal.expanded-requires-clause-whole
-expanded-requires-clause-whole c =
+pub expand-requires-clause-whole : goal.expand-requires-clause-whole
+expand-requires-clause-whole c =
     let f : Vec ℕ Global → List ℕ = λ r. r.items in
     let j = c.loop-j.j - 1 in
     let inside : j < length c.args.rows.now = omega arith in
@@ -45,13 +48,13 @@ loop-j-preserved c =
     let j = c.loop-j.j - 1 in
     let made = c.loop-j.cells.items in
     let next = c.horner.new.next in
-    let first = c.in_ok-first.first.items in
+    let first = c.expand.new.made.items in
     let inside : j < length rows = omega (arith, length-map c.args.rows.now f) in
     let one : c.loop-j.j ≡ j + 1 = omega arith in
     let held : c.deref.result.now ≡ row rows j = c.deref.ensures.value ∙ ap f c.index-rows-j.is ∙ sym (get_or-map f c.args.rows.now j _ [] (omega arith)) in
     let done = subst (λ i. AreExpanded s m b made (λ k. row_values n a k (drop i rows))) one c.loop-j.invariant.sums in
-    let small : length first ≡ s = c.in_ok-first.ensures.size in
-    let each = subst (λ r. (u g : ℕ) → u < m → g < n → get_or first (u * n + g) 0 ≡ taylor (lane n g r) a u) held c.in_ok-first.ensures.expanded in
+    let small : length first ≡ s = c.expand.ensures.size in
+    let each = subst (λ r. (u g : ℕ) → u < m → g < n → get_or first (u * n + g) 0 ≡ taylor (lane n g r) a u) held c.expand.ensures.expanded in
     let is = λ (k : ℕ) (l : k < s). expanded-at n m a first (row rows j) k c.requires.some l each in
     let sums : (k : ℕ) → k < length made → get_or next k 0 ≡ get_or (first ++ made) k 0 ⊕ b ⊗ get_or made k 0 =
     subst (λ (ys : List ℕ). (k : ℕ) → k < length made → get_or next k 0 ≡ get_or (ys ++ made) k 0 ⊕ b ⊗ get_or made k 0) c.deref-in-loop-j-2.ensures.value
@@ -64,6 +67,8 @@ loop-j-preserved c =
     record {
       size = ap length items ∙ long ∙ c.loop-j.invariant.room;
       room = ap (λ v. length v.items) c.swap.ensures.y_after ∙ c.loop-j.invariant.size;
+      first = c.expand.ensures.size;
+      spare = c.expand.ensures.room;
       sums = λ u g l h. ap (λ xs. get_or xs (u * s + g) 0) items ∙ all u g l h;
     }
 

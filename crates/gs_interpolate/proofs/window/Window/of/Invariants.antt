@@ -6,5 +6,7 @@ abbrev pub invariant-loop-j : goal.invariant-loop-j
 invariant-loop-j l = record {
   size : length l.cells.items ≡ l.m * (l.m * l.lanes);
   room : length l.next.items ≡ l.m * (l.m * l.lanes);
+  first : length l.first.items ≡ l.m * l.lanes;
+  spare : length l.spare.items ≡ l.m * l.lanes;
   sums : AreExpanded (l.m * l.lanes) l.m l.b l.cells.items (λ k. row_values l.lanes l.a k (drop l.j (map (λ r. r.items) l.rows)));
 }

@@ -6,15 +6,15 @@ use Rattle.wire_frames.proofs.records_reader.RecordsReader.take_header.Goals as 
 
 pub overflow_sub-result : goal.overflow_sub-result
 overflow_sub-result c =
-    let after = header_after c.args.self.now c.args.piece.now c.fill-count.result c.len.result c.fill-count.new.self c.as_slice.result.now c.in-Err.place record { steady = c.requires.steady; part = c.requires.part; few = c.requires.few; count_is = c.fill-count.ensures.count; head_is = c.fill-count.ensures.bytes } c.len.ensures.count c.as_slice.ensures (subst (λ (k : ℕ). Reads (IsRecordHeader (c.len.result + 1) k) c.as_slice.result.now (Err c.in-Err.place)) c.answer_len.ensures c.in-Err.ensures) in
+    let after = header_after c.args.self.now c.args.piece.now c.fill-count.result c.len.result c.fill-count.new.self c.as_slice.result.now c.in-Err.place record { steady = c.requires.steady; part = c.requires.part; few = c.requires.few; count_is = c.fill-count.ensures.count; head_is = c.fill-count.ensures.bytes } c.len.ensures.count c.as_slice.ensures (subst (λ (k : ℕ). Reads (IsRecordHeader (c.len.result + 1) k) c.as_slice.result.now (Err c.in-Err.place)) c.answer_len-most.ensures c.in-Err.ensures) in
     omega (arith, after, c.len-before.ensures)
 
 pub returns-then-place-len-clause-bytes : goal.returns-then-place-len-clause-bytes
 returns-then-place-len-clause-bytes c =
-    header_refuses c.args.self.now c.args.piece.now c.fill-count.result c.len.result c.len-before.result c.fill-count.new.self c.as_slice.result.now c.in-Err.place record { steady = c.requires.steady; part = c.requires.part; few = c.requires.few; count_is = c.fill-count.ensures.count; head_is = c.fill-count.ensures.bytes } c.len.ensures.count c.as_slice.ensures c.len-before.ensures (subst (λ (k : ℕ). Reads (IsRecordHeader (c.len.result + 1) k) c.as_slice.result.now (Err c.in-Err.place)) c.answer_len.ensures c.in-Err.ensures)
+    header_refuses c.args.self.now c.args.piece.now c.fill-count.result c.len.result c.len-before.result c.fill-count.new.self c.as_slice.result.now c.in-Err.place record { steady = c.requires.steady; part = c.requires.part; few = c.requires.few; count_is = c.fill-count.ensures.count; head_is = c.fill-count.ensures.bytes } c.len.ensures.count c.as_slice.ensures c.len-before.ensures (subst (λ (k : ℕ). Reads (IsRecordHeader (c.len.result + 1) k) c.as_slice.result.now (Err c.in-Err.place)) c.answer_len-most.ensures c.in-Err.ensures)
     (subst (λ (n : ℕ). c.in-Err.place < n) c.len-in-Err.ensures c.if-place-len.true)
 
 pub returns-else-place-len-clause-open : goal.returns-else-place-len-clause-open
 returns-else-place-len-clause-open c =
-    header_goes_on c.args.self.now c.args.piece.now c.fill-count.result c.len.result c.fill-count.new.self c.as_slice.result.now c.in-Err.place record { steady = c.requires.steady; part = c.requires.part; few = c.requires.few; count_is = c.fill-count.ensures.count; head_is = c.fill-count.ensures.bytes } c.len.ensures.count c.as_slice.ensures (subst (λ (k : ℕ). Reads (IsRecordHeader (c.len.result + 1) k) c.as_slice.result.now (Err c.in-Err.place)) c.answer_len.ensures c.in-Err.ensures)
+    header_goes_on c.args.self.now c.args.piece.now c.fill-count.result c.len.result c.fill-count.new.self c.as_slice.result.now c.in-Err.place record { steady = c.requires.steady; part = c.requires.part; few = c.requires.few; count_is = c.fill-count.ensures.count; head_is = c.fill-count.ensures.bytes } c.len.ensures.count c.as_slice.ensures (subst (λ (k : ℕ). Reads (IsRecordHeader (c.len.result + 1) k) c.as_slice.result.now (Err c.in-Err.place)) c.answer_len-most.ensures c.in-Err.ensures)
     (subst (λ (n : ℕ). n ≤ c.in-Err.place) c.len-in-Err.ensures c.if-place-len.false)

@@ -1,0 +1,53 @@
+#!/usr/bin/env bash
+# Times the verdict on the answers of servers with rows of 65536 bytes, beside the C++ program rows.cc of a folder, where that
+# and a compiler are there.
+# usage: bench/decide.sh [ROUNDS [FOLDER]]
+set -eu
+top=$(cd "$(dirname "$0")/.." && pwd)
+rounds=${1:-200}
+peers=${2:-$top/../shared/peers}
+width=65536
+(cd "$top/crates/bench_decide" && rt run >/dev/null 2>&1)
+work=$(mktemp -d)
+trap 'rm -rf "$work"' EXIT
+if [ ! -e "$peers/rows.cc" ]; then
+  echo "there is no rows.cc in $peers: it is skipped, and there is no ratio"
+elif ! command -v g++ >/dev/null; then
+  echo "g++ isn't installed: the C++ program is skipped, and there is no ratio"
+else
+  g++ -O3 -std=c++17 -msse4.2 "$peers/rows.cc" -o "$work/rows" -lpthread 2>/dev/null
+fi
+
+# ours K T H LIARS FIRST: our best time in milliseconds; the last LIARS lie in the columns from FIRST on.
+ours() {
+  (cd "$top/bench" && python3 -c '
+import sys
+from make_session import answers
+servers, degree, width, liars, first = map(int, sys.argv[1:6])
+sys.stdout.buffer.writelines(answers(degree, servers, width, liars, first, 1))' "$1" "$2" $width "$4" "$5") >"$work/bytes"
+  "$top/crates/bench_decide/out/bench_decide" "$2" "$3" $width "$rounds" "$work/bytes" | awk '{ print $1 / 1e6, $2 }'
+}
+
+# The first line of each case and width in the C++ program's table is that of 65536 columns.
+[ -x "$work/rows" ] && "$work/rows" bench 0.5 >"$work/table"
+while IFS='|' read -r k t h liars first case; do
+  read -r time blocks < <(ours "$k" "$t" "$h" "$liars" "$first")
+  theirs=
+  [ -s "$work/table" ] && theirs=$(awk -v shape="$k,$t,$h" -v said="$case" -v width=$width '
+    $1 == shape && index($0, said " ") { sub(".*" said, ""); if ($1 == width) { print $2; exit } }' "$work/table")
+  awk -v name="decide $k,$t,$h $case, $blocks listed" -v ours="$time" -v theirs="$theirs" 'BEGIN {
+    printf "%s: %.3f ms", name, ours
+    if (theirs != "") printf ", C++ %.3f ms, ratio %.2f", theirs, ours / theirs
+    print ""
+  }'
+done <<'CASES'
+3|1|2|0|0|all agree
+8|1|5|0|0|all agree
+8|3|6|0|0|all agree
+8|3|6|2|0|2 liars, all columns
+8|3|6|2|65535|2 liars, last column
+20|3|12|0|0|all agree
+20|3|12|8|0|8 liars, all columns
+32|15|24|0|0|all agree
+32|15|24|8|0|8 liars, all columns
+CASES

@@ -1,6 +1,0 @@
-use Rattle.std.proofs.Common.{◌≡◌, take}
-use Rattle.block_decoder.specs.Narrowing.{points_of}
-use Rattle.block_decoder.proofs.answers.points_of.Given as goal
-
-abbrev pub invariant-loop-answer : goal.invariant-loop-answer
-invariant-loop-answer l = l.points.items ≡ points_of (take l.answer-index l.answers) l.column

@@ -1,0 +1,38 @@
+use Rattle.std.proofs.Common.{◌≡◌, ◌≢◌, ◌<◌, ℕ, ◌+◌, ◌-◌, ◌*◌, ◌≤◌, length, get_or, take, drop, refl, sym, ap, subst, ◌∙◌, arith}
+use borrow.Rule.Slice.PartMut.{put_mid}
+use Rattle.gf256.specs.Field.{◌⊕◌, ◌⊗◌}
+use Rattle.gs_interpolate.specs.Family.{multiplier, IsRowStep}
+use Rattle.gs_interpolate.proofs.Places.{places_fit, length-part}
+use Rattle.gs_interpolate.proofs.Steps.{with_own_multiple, row_step-none, row_step-next, carried_on}
+use Rattle.gs_interpolate.proofs.family.step_row_of_any.Goals as goal
+
+pub loop-i-init : goal.loop-i-init
+unfolding Rattle.gs_interpolate.specs.Family.preceding
+loop-i-init c = record {
+  carry = refl;
+  done = row_step-none (length c.args.factors.now) c.args.row.now c.args.factors.now c.args.p (multiplier c.args.factors.now c.args.p);
+}
+
+pub loop-i-preserved : goal.loop-i-preserved
+loop-i-preserved c =
+    let n = length c.args.factors.now in
+    let i = c.loop-i.i in
+    let row = c.loop-i.row in
+    let before = c.args.row.now in
+    let part = c.step_cell-carry.new.cell in
+    let whole : i * n + n - i * n ≡ n = omega arith in
+    let fit = places_fit i c.args.count n c.loop-i-test.true in
+    let room : i * n + n ≤ length before = omega (arith, fit, c.requires.room) in
+    let held = ap (λ k. take k (drop (i * n) row)) whole in
+    let own = c.step_cell-carry.ensures.own ∙ ap (λ xs. get_or xs c.args.p 0) held in
+    let byte : get_or (take n (drop (i * n) row)) c.args.p 0 < 256 = subst (λ x. x < 256) own c.step_cell-carry.type_inv in
+    let pivot =
+    subst (λ xs. get_or part c.args.p 0 ≡ (get_or xs c.args.p 0 ⊕ get_or xs c.args.p 0 ⊗ get_or c.args.factors.now c.args.p 0) ⊕ c.loop-i.carry) held c.step_cell-carry.ensures.pivot
+    ∙ with_own_multiple (get_or (take n (drop (i * n) row)) c.args.p 0) (get_or c.args.factors.now c.args.p 0) c.loop-i.carry byte in
+    let others = subst (λ xs. (g : ℕ) → g ≢ c.args.p → get_or part g 0 ≡ get_or xs g 0 ⊕ get_or xs c.args.p 0 ⊗ get_or c.args.factors.now g 0) held c.step_cell-carry.ensures.others in
+    let size : length part ≡ n = c.step_cell-carry.auto.cell ∙ ap length held ∙ length-part row (i * n) n (omega (arith, room, c.loop-i.auto.row)) in
+    record {
+      carry = own ∙ carried_on n row before c.args.factors.now part c.args.p (multiplier c.args.factors.now c.args.p) c.loop-i.carry i c.requires.inside c.loop-i.auto.row room c.loop-i.invariant.done c.loop-i.invariant.carry size pivot others;
+      done = subst (λ k. IsRowStep n (put_mid (i * n) k row part) before c.args.factors.now c.args.p (multiplier c.args.factors.now c.args.p) (i + 1)) (sym whole)
+          (row_step-next n row before c.args.factors.now part c.args.p (multiplier c.args.factors.now c.args.p) c.loop-i.carry i c.requires.inside c.loop-i.auto.row room c.loop-i.invariant.done c.loop-i.invariant.carry size pivot others);
+    }

@@ -1,0 +1,78 @@
+// Why calls on ports failed, for whoever asks.
+use crate::port_name::PortName;
+use pir_ports::Port;
+use std::alloc::{AllocError, Global};
+use std::io::{self, Eprint};
+use std::net::SocketAddr;
+
+// What a port was opened by.
+#[derive(Drop)]
+struct Opened {
+    port: Port,
+    name: String,
+}
+
+/// Says on standard error why a call failed, where that is asked for: with the port, the file or address that it was opened
+/// by, and the system's words. Nothing that a port hands out or takes is ever said.
+#[derive(Drop)]
+pub struct Explainer {
+    is_asked: bool,
+    alloc: Global,
+    opened: Vec<Opened>,
+    guest: Option<SocketAddr>,
+}
+
+impl Explainer {
+    /// No port was opened so far.
+    pub fn new(alloc: Global, is_asked: bool) -> Self {
+        Explainer {
+            is_asked,
+            alloc,
+            opened: Vec::new(alloc),
+            guest: None,
+        }
+    }
+
+    /// The port was opened by this name. Where there is no memory to keep it, the lines to come lack it.
+    pub fn note_name(&mut self, p: Port, name: &str) {
+        if self.is_asked {
+            let _ = self.keep(p, name);
+        }
+    }
+
+    /// The guest who is in came from this address.
+    pub fn note_guest(&mut self, address: SocketAddr) {
+        self.guest = Some(address);
+    }
+
+    fn keep(&mut self, p: Port, name: &str) -> Result<(), AllocError> {
+        let name = String::from_str(self.alloc, name)?;
+        match self.opened.iter_mut().find(|opened| opened.port == p) {
+            Some(opened) => opened.name = name,
+            None => self.opened.push(Opened { port: p, name })?,
+        }
+        Ok(())
+    }
+
+    // What the port was last opened by.
+    fn name_of(&self, p: Port) -> Option<&str> {
+        let opened = self.opened.iter().find(|opened| opened.port == p)?;
+        Some(opened.name.as_str())
+    }
+
+    /// Says that a call on the port failed with this error, where that is asked for. A name is that of a call which has
+    /// one of its own, as opening has.
+    pub fn explain<R: Eprint>(&self, rt: &R, p: Port, name: Option<&str>, error: &io::Error) {
+        if self.is_asked {
+            let port = PortName(p);
+            // A line that can't be written is lost: the failed call is counted all the same.
+            let _ = match (name.or(self.name_of(p)), self.guest) {
+                (None, Some(guest)) if p == Port::Guest => eprintln!(rt;
+                    "pir: {port} {guest}: {error}"
+                ),
+                (Some(name), _) => eprintln!(rt; "pir: {port} {name}: {error}"),
+                (None, _) => eprintln!(rt; "pir: {port}: {error}"),
+            };
+        }
+    }
+}

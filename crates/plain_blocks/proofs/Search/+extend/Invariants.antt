@@ -1,0 +1,18 @@
+use Rattle.std.proofs.Common.{◌≡◌, ◌-◌, vec_len}
+use Rattle.std.specs.Cmp.Lexicographic.{slice_cmp}
+use Rattle.std.specs.List.Sorted.{IsStrictlySortedBy}
+use Rattle.std.specs.Ordering.{nat_cmp}
+use Rattle.block_decoder.specs.Gains.{Gains}
+use Rattle.block_decoder.specs.Numbered.{ContinuesBelow}
+use Rattle.plain_blocks.proofs.Search.+extend.Given as goal
+
+abbrev pub decreases-extend : goal.decreases-extend
+decreases-extend l = l.self.now.width - vec_len l.numbers.now
+
+abbrev pub invariant-loop-number : goal.invariant-loop-number
+invariant-loop-number l = record {
+  kept : l.numbers.items ≡ l.initial.numbers.items;
+  length_kept : vec_len l.numbers ≡ vec_len l.initial.numbers;
+  ascending : IsStrictlySortedBy (slice_cmp nat_cmp) l.listing;
+  gains : Gains (ContinuesBelow l.number l.self.answers l.self.width l.self.degree l.self.agreement l.initial.numbers.items) l.initial.listing l.listing;
+}

@@ -1,0 +1,15 @@
+-- The values of a polynomial at all bytes, and the powers of bytes that they are made from.
+use Rattle.std.specs.Prelude.{◌≡◌, ℕ, ◌<◌, List, length, slice_index}
+use Rattle.gf256.specs.Field.{power}
+use Rattle.gf256.specs.Polynomial.{val}
+use Rattle.bi_poly.specs.Rows.{row}
+
+-- row e has at place g the power of the byte g with exponent e
+pub record ArePowers (rows : List (List ℕ)) : Type 0 where
+  pub size : (e : ℕ) → e < length rows → length (row rows e) ≡ 256
+  pub each : (e g : ℕ) → e < length rows → g < 256 → slice_index (row rows e) g ≡ power g e
+
+-- at place g is the value of p at the byte g
+pub record AreValues (values p : List ℕ) : Type 0 where
+  pub size : length values ≡ 256
+  pub each : (g : ℕ) → g < 256 → slice_index values g ≡ val p g

@@ -1,0 +1,2 @@
+pub mod AnswerSums
+pub mod MaskSums

@@ -1,0 +1,27 @@
+-- What several bitmaps ask for in sums that lie in blocks.
+use Rattle.std.specs.Prelude.{◌≡◌, ℕ, List, ◌+◌, ◌*◌, ◌%◌, ◌<◌, bit_and, length, slice_index}
+use Rattle.gf256.specs.Field.{◌⊕◌}
+use Rattle.server_product.specs.Queries.{piece}
+use Rattle.server_product.specs.Blocks.{column_at, query_at}
+use Rattle.chor_xor.specs.Bitmap.{bit_of, size_of}
+use Rattle.chor_xor.specs.Chosen.{given}
+
+-- what row j gives to place p of the sums for n bitmaps
+unfoldable pub block_asked : List ℕ → List (List ℕ) → ℕ → ℕ → ℕ → ℕ → ℕ
+block_asked bitmaps rows width n p j =
+    given (piece (size_of (length rows)) bitmaps (query_at n p)) rows (column_at width n p) j
+
+-- what four rows give to it, by the masks of each bitmap: 16 bytes for each row
+unfoldable pub masked_at : List ℕ → List ℕ → List ℕ → List ℕ → List ℕ → ℕ → ℕ → ℕ → ℕ
+masked_at a b c d masks width n p =
+    bit_and (slice_index a (column_at width n p)) (slice_index masks (64 * query_at n p + p % 16))
+    ⊕ bit_and (slice_index b (column_at width n p)) (slice_index masks (64 * query_at n p + 16 + p % 16))
+    ⊕ bit_and (slice_index c (column_at width n p)) (slice_index masks (64 * query_at n p + 32 + p % 16))
+    ⊕ bit_and (slice_index d (column_at width n p)) (slice_index masks (64 * query_at n p + 48 + p % 16))
+
+-- the masks of the first n bitmaps, of so many bytes, for row j and for the three that follow each
+-- so many rows after the one before: all bits where a bitmap asks for the row, and else none
+abbrev pub AreMasks : List ℕ → List ℕ → ℕ → ℕ → ℕ → ℕ → Type 0
+AreMasks masks bitmaps size n j apart =
+    (v g k : ℕ) → v < n → g < 4 → k < 16
+    → slice_index masks (64 * v + 16 * g + k) ≡ 255 * bit_of (piece size bitmaps v) (j + g * apart)

@@ -1,0 +1,87 @@
+//! The sums over a run of rows for several bitmaps.
+
+ghost use Rattle.std.specs.Prelude.{◌≡◌, ℕ, ◌+◌, ◌*◌, ◌<◌, ◌≤◌, true, length, slice_index};
+ghost use Rattle.std.specs.Int.{div_ceil};
+ghost use Rattle.gf256.specs.Sums.{run_sum};
+ghost use Rattle.wire_frames.specs.declared.TheConstants.{MOST_BLOCKS};
+ghost use Rattle.chor_xor.specs.Bitmap.{size_of};
+ghost use Rattle.chor_xor.specs.Chosen.{given};
+ghost use Rattle.server_answer.specs.Asked.{asked};
+ghost use Rattle.server_answer.specs.declared.group.TheConstants.{MOST_LANES};
+
+use crate::group::{MOST_LANES, sum_group};
+use block_matrix::Matrix;
+use chor_xor::add_chosen_rows;
+use gf256::rows::clear;
+
+/// How many bytes the sums of so many bitmaps have.
+pub fn places_of(matrix: &Matrix, count: u8) -> usize
+    ensures { result ≡ count * matrix.now.width }
+{
+    count as usize * matrix.width() as usize
+}
+
+/// Makes `sums` the sums over the rows from `from` up to `to` for each of so many bitmaps, those of
+/// the first bitmap first. Where there are several, the rows are gone over once for all.
+pub fn sum_bitmaps(matrix: &Matrix, bitmaps: &[u8], count: u8, from: u32, to: u32, sums: &mut [u8])
+    requires few { count ≤ MOST_BLOCKS }
+    requires order { from ≤ to }
+    requires within { to ≤ length matrix.now.rows }
+    requires bitmaps { length bitmaps.now ≡ count * size_of (length matrix.now.rows) }
+    requires room { length sums.old ≡ count * matrix.now.width }
+    ensures { (p : ℕ) → p < count * matrix.now.width → slice_index sums.new p
+        ≡ run_sum (asked bitmaps.now matrix.now.rows matrix.now.width p) from to }
+{
+    if is_group(count, matrix.width()) {
+        sum_group(matrix, bitmaps, count as usize, from, to, sums);
+    } else {
+        sum_each(matrix, bitmaps, count, from, to, sums);
+    }
+}
+
+/// Whether so many bitmaps go in a group where rows have so many bytes.
+fn is_group(count: u8, width: u32) -> bool
+    requires some { 1 ≤ width }
+    requires few { width ≤ 65536 }
+    ensures some { result ≡ true → 1 ≤ count }
+    ensures wide { result ≡ true → 16 ≤ width }
+    ensures fits { result ≡ true → count * div_ceil width 16 ≤ MOST_LANES }
+{
+    count > 1 && width >= 16 && u32::from(count) * width.div_ceil(16) <= MOST_LANES
+}
+
+/// The same, by one pass over the rows for each bitmap.
+fn sum_each(matrix: &Matrix, bitmaps: &[u8], count: u8, from: u32, to: u32, sums: &mut [u8])
+    requires few { count ≤ MOST_BLOCKS }
+    requires order { from ≤ to }
+    requires within { to ≤ length matrix.now.rows }
+    requires bitmaps { length bitmaps.now ≡ count * size_of (length matrix.now.rows) }
+    requires room { length sums.old ≡ count * matrix.now.width }
+    ensures { (p : ℕ) → p < count * matrix.now.width → slice_index sums.new p
+        ≡ run_sum (asked bitmaps.now matrix.now.rows matrix.now.width p) from to }
+{
+    let size = matrix.rows().div_ceil(8) as usize;
+    let width = matrix.width() as usize;
+    for v in 0..count as usize {
+        let bitmap = &bitmaps[v * size..(v + 1) * size];
+        sum_one(
+            matrix,
+            bitmap,
+            from,
+            to,
+            &mut sums[v * width..(v + 1) * width],
+        );
+    }
+}
+
+/// The sums for one bitmap.
+fn sum_one(matrix: &Matrix, bitmap: &[u8], from: u32, to: u32, sums: &mut [u8])
+    requires order { from ≤ to }
+    requires within { to ≤ length matrix.now.rows }
+    requires bitmap { length bitmap.now ≡ size_of (length matrix.now.rows) }
+    requires room { length sums.old ≡ matrix.now.width }
+    ensures { (k : ℕ) → slice_index sums.new k ≡ run_sum (given bitmap.now matrix.now.rows k) from to }
+{
+    clear(sums);
+    add_chosen_rows(matrix, bitmap, from, to, sums);
+}

@@ -1,0 +1,27 @@
+use Rattle.std.proofs.Common.{◌≡◌, ◌+◌, ◌*◌, length, ap, subst, arith}
+use Rattle.std.specs.Int.{div_ceil}
+use Rattle.gf256.specs.Rows.{IsAdded}
+use Rattle.gf256.proofs.Added.{added-none, added-on}
+use Rattle.server_product.specs.Blocks.{four_at}
+use Rattle.server_product.proofs.four_rows.add_four_rows.Goals as goal
+
+pub loop-i-init : goal.loop-i-init
+loop-i-init c =
+    let g = four_at c.args.a.now c.args.b.now c.args.c.now c.args.d.now c.args.factors.now (length c.args.a.now) c.args.count in
+    let none : 0 ≡ 16 * (0 * c.args.count) = omega arith in
+    subst (IsAdded c.args.sums.now c.args.sums.now g 0) none (added-none c.args.sums.now g 0)
+
+pub loop-i-preserved : goal.loop-i-preserved
+loop-i-preserved c =
+    let g = four_at c.args.a.now c.args.b.now c.args.c.now c.args.d.now c.args.factors.now (length c.args.a.now) c.args.count in
+    let n = c.args.count in
+    let i = c.loop-i.i in
+    let next : 16 * (i * n + n) ≡ 16 * ((i + 1) * n) = grind arith in
+    subst (IsAdded c.add_block.new.sums c.args.sums.now g 0) next
+    (added-on c.add_block.new.sums c.loop-i.sums c.args.sums.now g 0 (16 * (i * n)) (16 * (i * n + n)) (omega arith) (omega arith) c.loop-i.invariant c.add_block.ensures)
+
+pub returns : goal.returns
+returns c = λ p l.
+    let end : c.loop-i.i ≡ div_ceil (length c.args.a.now) 16 = omega arith in
+    let places = ap (λ i. 16 * (i * c.args.count)) end in
+    c.loop-i.invariant.added p (omega arith) (omega (arith, l, places))

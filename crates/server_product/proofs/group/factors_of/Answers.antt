@@ -1,0 +1,31 @@
+use Rattle.std.proofs.Common.{◌≡◌, ℕ, ◌+◌, ◌*◌, ◌/◌, ◌%◌, ◌<◌, slice_index, ap, ap₂, ◌∙◌, refl, arith}
+use Rattle.std.proofs.Math.ListN.{length-set}
+use Rattle.server_product.proofs.QuerySums.{filled-four}
+use Rattle.server_product.proofs.group.factors_of.Goals as goal
+
+pub loop-v-preserved : goal.loop-v-preserved
+loop-v-preserved c =
+    let h = λ (p : ℕ). slice_index c.args.queries.now (p / 4 * c.args.rows + (c.args.j + p % 4 * c.args.apart)) in
+    let v = c.loop-v.v in
+    let size = c.loop-v.invariant.size in
+    let first = 4 * v in
+    let is : (p q g : ℕ) → p ≡ first + g → g < 4 → q ≡ v * c.args.rows + c.args.j + g * c.args.apart → slice_index c.args.queries.now q ≡ h p =
+    λ p q g e l f.
+    let quotient : v ≡ p / 4 = omega arith in
+    let rest : g ≡ p % 4 = omega arith in
+    let place : q ≡ v * c.args.rows + (c.args.j + g * c.args.apart) = omega arith in
+    ap (slice_index c.args.queries.now) place ∙ ap₂ (λ u k. slice_index c.args.queries.now (u * c.args.rows + (c.args.j + k * c.args.apart))) quotient rest in
+    record {
+      size = length-set _ (first + 3) _ ∙ length-set _ (first + 2) _ ∙ length-set _ (first + 1) _ ∙ length-set c.loop-v.factors first _ ∙ size;
+      filled = λ p l.
+          filled-four c.loop-v.factors h first _ _ _ _ (omega arith) (is first _ 0 (omega arith) (omega arith) (omega arith))
+          (is (first + 1) _ 1 refl (omega arith) (omega arith)) (is (first + 2) _ 2 refl (omega arith) (omega arith)) (is (first + 3) _ 3 refl (omega arith) (omega arith))
+          c.loop-v.invariant.filled p (omega arith);
+    }
+
+pub returns : goal.returns
+returns c = λ v g l m.
+    let quotient : (4 * v + g) / 4 ≡ v = omega arith in
+    let rest : (4 * v + g) % 4 ≡ g = omega arith in
+    c.loop-v.invariant.filled (4 * v + g) (omega arith)
+    ∙ ap₂ (λ u k. slice_index c.args.queries.now (u * c.args.rows + (c.args.j + k * c.args.apart))) quotient rest

@@ -1,0 +1,39 @@
+use Rattle.std.proofs.Common.{◌≡◌, ◌∙◌, ◌+◌, ◌-◌, ◌*◌, ◌/◌, length, ap, ap₂, sym, arith, slice_index, take, drop}
+use Rattle.gf256.specs.Field.{◌⊕◌}
+use Rattle.gf256.specs.Sums.{run_sum}
+use Rattle.server_product.specs.Queries.{entry}
+use Rattle.server_product.specs.Parts.{part}
+use Rattle.gf256.proofs.RunSums.{run-none}
+use Rattle.server_product.proofs.Workers.{at-range, first-zero, first-all, next-part}
+use Rattle.server_product.proofs.QuerySums.{products-are}
+use Rattle.server_product.proofs.whole.products_into.Goals as goal
+
+pub loop-worker-init : goal.loop-worker-init
+loop-worker-init g c = λ p lt.
+    let matrix = c.args.matrix.now in
+    let f = entry c.args.queries.now matrix.rows matrix.width p in
+    c.clear.ensures p ∙ sym (ap (run_sum f 0) (first-zero (length matrix.rows) c.args.workers) ∙ run-none f 0)
+
+pub loop-worker-preserved : goal.loop-worker-preserved
+loop-worker-preserved g c = λ p lt.
+    let matrix = c.args.matrix.now in
+    let f = entry c.args.queries.now matrix.rows matrix.width in
+    let places = c.args.count * matrix.width in
+    let worker = c.loop-worker.worker in
+    let scratch = c.sum_parts.new.scratch in
+    c.add_row.ensures p
+    ∙ ap₂ ◌⊕◌ (c.loop-worker.invariant p lt)
+    (ap (λ w. slice_index (take (worker * w + w - worker * w) (drop (worker * w) scratch)) p) c.places_of-places.ensures
+    ∙ at-range scratch (worker * places) _ p (omega arith) ∙ c.sum_parts.ensures worker p (omega arith) lt
+    ∙ ap (λ n. part f (length matrix.rows) n worker p) c.from.ensures)
+    ∙ next-part f (length matrix.rows) c.args.workers worker p
+
+pub returns : goal.returns
+returns g c =
+    let matrix = c.args.matrix.now in
+    let f = entry c.args.queries.now matrix.rows matrix.width in
+    let end : c.loop-worker.worker ≡ c.args.workers = omega arith in
+    products-are c.args.queries.now c.loop-worker.out matrix.rows matrix.width c.args.count (omega (arith, c.requires.room)) (omega (arith, c.requires.queries))
+    (λ p lt.
+    c.loop-worker.invariant p lt
+    ∙ ap (run_sum (f p) 0) (ap (λ w. w * length matrix.rows / c.args.workers) end ∙ first-all (length matrix.rows) c.args.workers (omega arith)))

@@ -1,0 +1,153 @@
+//! The sums over a run of rows for a group of queries, with one pass over the rows.
+
+ghost use Rattle.std.specs.Prelude.{◌≡◌, ℕ, ◌+◌, ◌*◌, ◌<◌, ◌≤◌, length, slice_index};
+ghost use Rattle.std.specs.Int.{div_ceil};
+ghost use Rattle.gf256.specs.Field.{◌⊕◌};
+ghost use Rattle.gf256.specs.Sums.{run_sum};
+ghost use Rattle.server_product.specs.Queries.{entry};
+ghost use Rattle.server_product.specs.Blocks.{block_entry};
+ghost use Rattle.wire_frames.specs.declared.TheConstants.{MOST_ROWS};
+ghost use Rattle.server_product.specs.declared.group.TheConstants.{MOST_LANES};
+
+use crate::blocks::lay_out;
+use crate::four_rows::add_four_rows;
+use crate::sixths::{add_in_sixths, share_of};
+use crate::tables::Tables;
+use block_matrix::Matrix;
+use gf256::rows::clear;
+
+/// The most blocks of 16 sums of a group: 64 KB, which the second cache holds.
+pub const MOST_LANES: u32 = 4096;
+
+/// Makes `sums` the sums over the rows from `from` up to `to` for each of so many queries, those of
+/// the first query first. The sums are made in blocks on the stack, four rows at once, and then put
+/// where they belong; the rows left over are added one by one.
+pub fn sum_group(matrix: &Matrix, queries: &[u8], count: usize, from: u32, to: u32, sums: &mut [u8])
+    requires some { 1 ≤ count }
+    requires few { count ≤ 16 }
+    requires wide { 16 ≤ matrix.now.width }
+    requires fits { count * div_ceil matrix.now.width 16 ≤ MOST_LANES }
+    requires order { from ≤ to }
+    requires within { to ≤ length matrix.now.rows }
+    requires queries { length queries.now ≡ count * length matrix.now.rows }
+    requires room { length sums.old ≡ count * matrix.now.width }
+    ensures { (p : ℕ) → p < count * matrix.now.width → slice_index sums.new p
+        ≡ run_sum (entry queries.now matrix.now.rows matrix.now.width p) from to }
+{
+    let mut stack = [0; 16 * MOST_LANES as usize];
+    let size = 16 * (matrix.width().div_ceil(16) as usize * count);
+    sum_in_blocks(matrix, queries, count, from, to, &mut stack[..size], sums);
+}
+
+/// The same with room for the sums in blocks, which begin as zeros.
+fn sum_in_blocks(
+    matrix: &Matrix,
+    queries: &[u8],
+    count: usize,
+    from: u32,
+    to: u32,
+    blocks: &mut [u8],
+    sums: &mut [u8],
+)
+    requires some { 1 ≤ count }
+    requires few { count ≤ 16 }
+    requires wide { 16 ≤ matrix.now.width }
+    requires order { from ≤ to }
+    requires within { to ≤ length matrix.now.rows }
+    requires queries { length queries.now ≡ count * length matrix.now.rows }
+    requires blocks { length blocks.old ≡ 16 * (div_ceil matrix.now.width 16 * count) }
+    requires zeros { (p : ℕ) → slice_index blocks.old p ≡ 0 }
+    requires room { length sums.old ≡ count * matrix.now.width }
+    ensures { (p : ℕ) → p < count * matrix.now.width → slice_index sums.new p
+        ≡ run_sum (entry queries.now matrix.now.rows matrix.now.width p) from to }
+{
+    let quarter = share_of(to - from, matrix.width(), 4);
+    add_quarters(matrix, queries, count, from, quarter, blocks);
+    lay_out(blocks, matrix.width() as usize, count, sums);
+    add_rest(matrix, queries, count, from + 4 * quarter, to, sums);
+}
+
+/// Adds the rows from `from` on, four times `quarter` of them, to sums in blocks: one from each
+/// quarter at once, so that the memory is read in four streams.
+fn add_quarters(
+    matrix: &Matrix,
+    queries: &[u8],
+    count: usize,
+    from: u32,
+    quarter: u32,
+    sums: &mut [u8],
+)
+    requires some { 1 ≤ count }
+    requires few { count ≤ 16 }
+    requires wide { 16 ≤ matrix.now.width }
+    requires within { from + 4 * quarter ≤ length matrix.now.rows }
+    requires queries { length queries.now ≡ count * length matrix.now.rows }
+    requires room { length sums.old ≡ 16 * (div_ceil matrix.now.width 16 * count) }
+    ensures { (p : ℕ) → p < length sums.old → slice_index sums.new p ≡ slice_index sums.old p
+        ⊕ run_sum (block_entry queries.now matrix.now.rows matrix.now.width count p)
+        from (from + 4 * quarter) }
+{
+    let rows = matrix.rows() as usize;
+    // Its contract bounds the width.
+    let _width = matrix.width();
+    let tables = Tables::new();
+    for i in 0..quarter {
+        let factors = factors_of(queries, rows, count, (from + i) as usize, quarter as usize);
+        add_four_rows(
+            sums,
+            matrix.row(from + i),
+            matrix.row(from + quarter + i),
+            matrix.row(from + 2 * quarter + i),
+            matrix.row(from + 3 * quarter + i),
+            &factors,
+            count,
+            &tables,
+        );
+    }
+}
+
+/// For each of so many queries its bytes for row `j` and for the three that follow each so many rows
+/// after the one before, four after the other.
+fn factors_of(queries: &[u8], rows: usize, count: usize, j: usize, apart: usize) -> [u8; 64]
+    requires few { count ≤ 16 }
+    requires within { j + 3 * apart < rows }
+    requires memory { rows ≤ MOST_ROWS }
+    requires queries { length queries.now ≡ count * rows }
+    ensures { (v g : ℕ) → v < count → g < 4
+        → slice_index result (4 * v + g) ≡ slice_index queries.now (v * rows + (j + g * apart)) }
+{
+    let mut factors = [0; 64];
+    for v in 0..count {
+        let from = v * rows + j;
+        factors[4 * v] = queries[from];
+        factors[4 * v + 1] = queries[from + apart];
+        factors[4 * v + 2] = queries[from + 2 * apart];
+        factors[4 * v + 3] = queries[from + 3 * apart];
+    }
+    factors
+}
+
+/// Adds the rows from `from` up to `to`, which are few, for each query.
+fn add_rest(matrix: &Matrix, queries: &[u8], count: usize, from: u32, to: u32, sums: &mut [u8])
+    requires few { count ≤ 16 }
+    requires order { from ≤ to }
+    requires within { to ≤ length matrix.now.rows }
+    requires queries { length queries.now ≡ count * length matrix.now.rows }
+    requires room { length sums.old ≡ count * matrix.now.width }
+    ensures { (p : ℕ) → p < count * matrix.now.width → slice_index sums.new p
+        ≡ slice_index sums.old p
+        ⊕ run_sum (entry queries.now matrix.now.rows matrix.now.width p) from to }
+{
+    let rows = matrix.rows() as usize;
+    let width = matrix.width() as usize;
+    for v in 0..count {
+        let query = &queries[v * rows..(v + 1) * rows];
+        add_in_sixths(
+            matrix,
+            query,
+            from,
+            to,
+            &mut sums[v * width..(v + 1) * width],
+        );
+    }
+}
