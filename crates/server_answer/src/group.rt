@@ -25,6 +25,8 @@ pub const MOST_LANES: u32 = 4112;
 /// Makes `sums` the sums over the rows from `from` up to `to` for each of so many bitmaps, those of
 /// the first bitmap first. The sums are made in blocks on the stack, four rows at once, and then put
 /// where they belong; the rows left over are added after that.
+// Else each worker's stack would have room for these sums, also where one bitmap is asked.
+#[inline(never)]
 pub fn sum_group(matrix: &Matrix, bitmaps: &[u8], count: usize, from: u32, to: u32, sums: &mut [u8])
     requires some { 1 ≤ count }
     requires few { count ≤ 16 }
