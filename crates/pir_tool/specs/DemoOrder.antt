@@ -60,4 +60,10 @@ words_of_children o = map (λ i. words_to_serve o.database o.width (address_from
 
 -- the fetch from the children, which isn't recorded
 abbrev pub fetch_from_children : DemoOrder → FetchOrder
-fetch_from_children o = record { plan = plan_of o; blocks = o.block ∷ []; addresses = addresses_from o.port o.servers; coins = o.coins; keep = None }
+fetch_from_children o = record {
+  plan = plan_of o;
+  blocks = o.block ∷ [];
+  addresses = addresses_from o.port o.servers;
+  coins = o.coins;
+  keep = None
+}
