@@ -73,10 +73,8 @@ impl<'a> Queries<'a> {
     pub(crate) fn take_coins<P: Ports>(&mut self, ports: &mut P) -> Result<(), FetchFault>
         ensures plan { self.new.plan ≡ self.old.plan }
         ensures blocks { self.new.blocks ≡ self.old.blocks }
-        ensures taken {
-            TakesCoins (need self.old.plan (length self.old.blocks)) result self.new.coins
-                (P.world ports.old) (P.world ports.new)
-        }
+        ensures taken { TakesCoins (need self.old.plan (length self.old.blocks)) result self.new.coins
+            (P.world ports.old) (P.world ports.new) }
         ensures others { Touches COINS (P.world ports.old) (P.world ports.new) }
     {
         take_coins(ports, &mut self.coins)
