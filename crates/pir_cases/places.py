@@ -7,9 +7,9 @@ and shares nothing with the reader that is tested. Nothing runs it but a person 
 """
 import sys
 
-MOST_DEGREE, MOST_SERVERS, MOST_BLOCKS = 31, 32, 16
+MOST_DEGREE, MOST_SERVERS, MOST_BLOCKS = 254, 255, 16
 MOST_ROWS, MOST_WIDTH, MOST_CELLS = 1 << 20, 1 << 16, 1 << 30
-BYTES = [0, 1, 2, 3, 4, 16, 26, 27, 31, 32, 33, 64, 128, 255]
+BYTES = [0, 1, 2, 3, 4, 16, 26, 27, 31, 32, 33, 64, 128, 254, 255]
 
 
 class Wrong(Exception):

@@ -2,7 +2,7 @@
 ghost use Rattle.std.specs.Prelude.{◌≢◌, ◌≡◌, ◌<◌, All, AllPairs, IsTrue};
 
 use crate::rows::are;
-use column_lists::{column_list, plan};
+use column_lists::{MOST_COST, MOST_POINTS, column_list, plan};
 use gs_interpolate::{Elimination, Interpolate, Koetter};
 use std::alloc::{AllocError, Global};
 use std::marker::Brand;
@@ -50,11 +50,11 @@ fn listed_in_steps<I: Interpolate, C: Ledger, N: Ledger>(
     requires cols { (cols.name ≡ C.name) × (cols.parts ≡ C.parts) × (0 < cols.parts) }
     requires nodes { (nodes.name ≡ N.name) × (nodes.parts ≡ N.parts) × (0 < nodes.parts) }
 {
-    if points.len() > 32 || !are_places(points) {
+    if points.len() > MOST_POINTS as usize || !are_places(points) {
         return Ok(None);
     }
     let k = points.len() as u32;
-    if t < 1 || t >= h || h > k || h * h <= k * t || plan(k, t, h).cost > 4096 {
+    if t < 1 || t >= h || h > k || h * h <= k * t || plan(k, t, h).cost > MOST_COST {
         return Ok(None);
     }
     let mut cols: Steps<C> = Steps::new(cols);

@@ -30,6 +30,15 @@ fn plans_have_their_numbers(rt: HostRuntime) {
     assert!(rt; has_plan(23, 1, 5, 10, 49, 1265));
 }
 
+// The least cost over the limit and the greatest within it; the dearest of close agreements; and the greatest of all.
+#[test]
+fn plans_of_many_points_have_their_numbers(rt: HostRuntime) {
+    assert!(rt; has_plan(241, 1, 16, 16, 255, 32776));
+    assert!(rt; has_plan(156, 38, 78, 20, 1559, 32760));
+    assert!(rt; has_plan(255, 224, 240, 8, 1919, 9180));
+    assert!(rt; has_plan(255, 112, 169, 9633, 1627976, 11832551055));
+}
+
 /// How many monomials `x^i * y^j` have `i + t*j <= d`, by the definition that contracts cite.
 #[tactic(auto, unfolding(gs_interpolate::specs::Monomials::monomials_below))]
 fn count_monomials(t: u32, d: u32) -> u64

@@ -77,7 +77,7 @@ fn measure<C: Ledger, N: Ledger, R: Clock>(
 /// The first so many indices, or as many as there may be.
 fn first_indices(alloc: Global, count: usize) -> Result<Vec<u8>> {
     let mut indices = Vec::new(alloc);
-    for index in 1..MOST_SERVERS + 1 {
+    for index in 1..=MOST_SERVERS {
         if usize::from(index) <= count {
             indices.push(index)?;
         }

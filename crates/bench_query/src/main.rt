@@ -35,7 +35,7 @@ fn measure<R: Clock>(
     requires out { length out.old ≡ rows }
     requires rows { 0 < rows }
     requires some { 1 ≤ degree }
-    requires few { degree ≤ 31 }
+    requires few { degree ≤ 254 }
 {
     let start = Instant::now(rt)?;
     copy.copy_from_slice(coins);
@@ -57,7 +57,7 @@ fn main(rt: HostRuntime) -> Result<()> {
         .context("degree")?
         .as_str()
         .parse::<u32>()?
-        .clamp(1, 31);
+        .clamp(1, 254);
     let rounds = words.next().context("rounds")?.as_str().parse::<u64>()?;
     let mut coins = vec![in rt.alloc(); 0; rows as usize * degree as usize]?;
     let mut copy = vec![in rt.alloc(); 0; rows as usize * degree as usize]?;

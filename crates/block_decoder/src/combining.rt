@@ -21,7 +21,8 @@ pub(crate) fn combine_all(alloc: Global, session: &Session) -> Result<Verdict, A
     let params = session.params();
     let mut sum = vec![in alloc; 0; params.block_len() as usize]?;
     let mut k = 0;
-    for index in 1..params.n + 1 {
+    for place in 0..params.n {
+        let index = place + 1;
         if let Some(payload) = usable_payload(session, index) {
             combine_into(&mut sum, payload);
             k += 1;

@@ -82,7 +82,8 @@ fn usable_answers<'a>(alloc: Global, session: &'a Session) -> Result<AnswerSet<'
     ensures few { IfOk result (λ set. length set ≤ session.now.params.n) }
 {
     let mut usable = AnswerSet::with_room(alloc, session.record_count() as usize)?;
-    for index in 1..session.params().n + 1 {
+    for place in 0..session.params().n {
+        let index = place + 1;
         if let Some(payload) = usable_payload(session, index) {
             usable.push(Answer::new(index, payload))?;
         }

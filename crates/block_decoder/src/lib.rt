@@ -32,4 +32,4 @@ pub use decoder::{bound, decide};
 pub use judging::judge;
 pub use listing::Listing;
 pub use verdict::Verdict;
-pub use write::write_verdict;
+pub use write::{write_block, write_verdict};

@@ -77,8 +77,12 @@ fn write_hex<P: Ports>(ports: &mut P, bytes: &[u8]) -> Result<(), Failed>
     Ok(())
 }
 
-/// A block in hexadecimal, and a newline.
-fn write_block<P: Ports>(ports: &mut P, block: &[u8]) -> Result<(), Failed>
+/// Writes a block to Output, in lower-case hexadecimal and with a newline, in pieces; it takes no memory.
+///
+/// # Errors
+///
+/// `Failed` exactly where the count of Output rose; then Output took a proper front of the line.
+pub fn write_block<P: Ports>(ports: &mut P, block: &[u8]) -> Result<(), Failed>
     ensures written { Written OUTPUT (block_line block.now) result (P.world ports.old) (P.world ports.new) }
     ensures others { Touches OUTPUT (P.world ports.old) (P.world ports.new) }
 {

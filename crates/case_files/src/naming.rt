@@ -38,6 +38,7 @@ pub fn read_status(text: &str, front: usize) -> Result<Status, Fault> {
         "usage" => Ok(Status::Usage),
         "no-block" => Ok(Status::NoBlock),
         "several" => Ok(Status::Several),
+        "absent" => Ok(Status::Absent),
         "read-fault" => Ok(Status::ReadFault),
         "write-fault" => Ok(Status::WriteFault),
         "door-fault" => Ok(Status::DoorFault),

@@ -1,6 +1,6 @@
 -- There are more monomials of the plan's weighted degree than equations, so that the interpolation has a solution (Guruswami
 -- and Sudan 1999).
-use Rattle.std.proofs.Common.{◌≡◌, ℕ, zero, suc, ◌+◌, ◌*◌, ◌-◌, ◌/◌, ◌<◌, ◌≤◌, sym, ap, subst, arith, inl, inr, refl, mul-le-mul_left}
+use Rattle.std.proofs.Common.{◌≡◌, ℕ, zero, suc, ◌+◌, ◌*◌, ◌^◌, ◌-◌, ◌/◌, ◌<◌, ◌≤◌, sym, ap, subst, arith, inl, inr, refl, mul-le-mul_left}
 use Rattle.std.proofs.lemmas.Bool.{cases_lt}
 use Rattle.gs_interpolate.specs.Monomials.{monomials, monomials_below, conditions}
 use Rattle.column_lists.specs.Numbers.{mult, cost}
@@ -70,128 +70,95 @@ enough_monomials k t h d some l strong degree =
 
 -- ---- sizes
 
+products : (a b c d : ℕ) → a ≤ c → b ≤ d → a * b ≤ c * d
+products a b c d h l = let e = mul-le-mul_left a l in let f = mul-le-mul_left d h in omega (arith, e, f)
+
+quotient_below : (x d n : ℕ) → x < suc n * d → x / d ≤ n
+quotient_below x d n h =
+    elim (cases_lt (x / d) (suc n)) [
+      | inl small ↦ omega (arith, small)
+      | inr large ↦
+          let w = mul-le-mul_left d large in
+          let e : d * (x / d) ≤ x = whole x d in
+          absurd (omega (arith, h, w, e))
+    ]
+  where
+    whole : (x d : ℕ) → d * (x / d) ≤ x
+    whole x d = omega arith
+
 -- the multiplicity is small
-pub mult-small : (k t h : ℕ) → 1 ≤ t → t < h → h ≤ k → k ≤ 32 → k * t < h * h → t * (k - h) / (h * h - k * t) + 1 ≤ 962
+pub mult-small : (k t h : ℕ) → 1 ≤ t → t < h → h ≤ k → k ≤ MOST_POINTS → k * t < h * h
+    → t * (k - h) / (h * h - k * t) + 1 ≤ 64263
 mult-small k t h some more l few strong =
-    let a : t * (k - h) ≤ t * 31 = mul-le-mul_left t (omega arith) in
+    let a : t * (k - h) ≤ 254 * 253 = products t (k - h) 254 253 (omega (arith, few)) (omega (arith, few)) in
     let d : ℕ = h * h - k * t in
     let p : 1 ≤ d = omega arith in
     let q : t * (k - h) / d ≤ t * (k - h) = quotient (t * (k - h)) d p in
-    omega arith
+    omega (arith, a, q)
   where
     quotient : (x d : ℕ) → 1 ≤ d → x / d ≤ x
     quotient x d p = omega arith
 
--- so the number of equations is
-pub equations-small : (k m : ℕ) → k ≤ 32 → m ≤ 962 → k * m * (m + 1) ≤ 32 * 962 * 963
+-- so the number of equations is, also before it is halved
+pub equations-small : (k m : ℕ) → k ≤ MOST_POINTS → m ≤ 64263 → k * m * (m + 1) ≤ 255 * 64263 * 64264
 equations-small k m few small =
-    let a : k * m ≤ 32 * 962 = products k m 32 962 few small in
-    products (k * m) (m + 1) (32 * 962) 963 a (omega arith)
+    let a : k * m ≤ 255 * 64263 = products k m 255 64263 few small in
+    products (k * m) (m + 1) (255 * 64263) 64264 a (omega (arith, small))
+
+-- it is less than 2 ^ 40
+pub cost-small : (k t h : ℕ) → 1 ≤ t → t < h → h ≤ k → k ≤ MOST_POINTS → k * t < h * h → cost k t h < 2 ^ 40
+unfolding mult
+cost-small k t h some more l few strong =
+    let m : ℕ = t * (k - h) / (h * h - k * t) + 1 in
+    halved (k * m * (m + 1)) (equations-small k m few (mult-small k t h some more l few strong))
   where
-    products : (a b c d : ℕ) → a ≤ c → b ≤ d → a * b ≤ c * d
-    products a b c d h l = let e = mul-le-mul_left a l in let f = mul-le-mul_left d h in omega arith
+    halved : (q : ℕ) → q ≤ 255 * 64263 * 64264 → q / 2 < 2 ^ 40
+    halved q l = omega (arith, l)
 
 -- ---- where 2 h is more than k + t
 
--- a square is at least so much
-square_room : (x : ℕ) → 4 * x ≤ x * x + 4
-square_room x =
-    elim (cases_lt x 4) [
-      | inl small ↦ below x small
-      | inr large ↦ let w = mul-le-mul_left x large in omega arith
-    ]
-  where
-    below : (x : ℕ) → x < 4 → 4 * x ≤ x * x + 4
-    below zero l = omega arith
-    below (suc zero) l = omega arith
-    below (suc (suc zero)) l = omega arith
-    below (suc (suc (suc zero))) l = omega arith
-    below (suc (suc (suc (suc x)))) l = absurd (omega (arith, l))
-
--- at the greatest r that is less than g
-room_next : (t g : ℕ) → t + 2 * g ≤ 31 → 3 * (t * g) < 2 * (t * (g + 1)) + 2 * ((g + 1) * (g + 1))
-room_next t g few =
-    elim (cases_lt g 2) [
-      | inl small ↦ let w : t * g ≤ t * 2 = mul-le-mul_left t (omega arith) in omega (arith, w)
-      | inr large ↦
-          let x : ℕ = g - 2 in
-          let e : x + 2 ≡ g = omega arith in
-          subst (λ (y : ℕ). 3 * (t * y) < 2 * (t * (y + 1)) + 2 * ((y + 1) * (y + 1))) e (wide x (omega arith))
-    ]
-  where
-    wide : (x : ℕ) → t + 2 * x ≤ 27 → 3 * (t * (x + 2)) < 2 * (t * (x + 2 + 1)) + 2 * ((x + 2 + 1) * (x + 2 + 1))
-    wide x few =
-        let a : x * (t + 2 * x) ≤ x * 27 = mul-le-mul_left x few in
-        let b = square_room x in
-        omega (arith, a, b)
-
--- at a smaller one
-room_below : (t g r : ℕ) → r + 2 ≤ g → t + g ≤ 32 → 3 * (t * r) < 2 * (t * g) + 2 * (g * g)
-room_below t g r less few =
-    let w : t * (r + 2) ≤ t * g = mul-le-mul_left t less in
-    elim (cases_lt g 6) [
-      | inl small ↦ let u : t * g ≤ t * 6 = mul-le-mul_left t (omega arith) in let v : g * 1 ≤ g * g = mul-le-mul_left g (omega arith) in omega (arith, w, u, v)
-      | inr large ↦
-          let x : ℕ = g - 6 in
-          let e : x + 6 ≡ g = omega arith in
-          let wide = subst (λ (y : ℕ). t * y < 6 * t + 2 * (y * y)) e (six x (omega arith)) in
-          omega (arith, w, wide)
-    ]
-  where
-    six : (x : ℕ) → t + x ≤ 26 → t * (x + 6) < 6 * t + 2 * ((x + 6) * (x + 6))
-    six x few =
-        let a : x * (t + x) ≤ x * 26 = mul-le-mul_left x few in
-        let b = square_room x in
-        omega (arith, a, b)
-
-room : (t g r : ℕ) → r < g → t + g + r ≤ 32 → 3 * (t * r) < 2 * (t * g) + 2 * (g * g)
+-- with as many answers as there can be
+room : (t g r : ℕ) → r < g → t ≤ 255 → 16 * (t * r) < 15 * (t * g) + 15 * (g * g)
 room t g r less few =
-    elim (cases_lt (r + 1) g) [
-      | inl below ↦ room_below t g r (omega arith) (omega arith)
-      | inr next ↦
-          let e : r + 1 ≡ g = omega arith in
-          subst (λ (x : ℕ). 3 * (t * r) < 2 * (t * x) + 2 * (x * x)) e (room_next t r (omega arith))
+    let w : t * (r + 1) ≤ t * g = mul-le-mul_left t (omega (arith, less)) in
+    elim (cases_lt r 16) [
+      | inl small ↦
+          let u : t * r ≤ t * 15 = mul-le-mul_left t (omega (arith, small)) in
+          let v : g * 1 ≤ g * g = mul-le-mul_left g (omega (arith, less)) in
+          omega (arith, less, w, u, v)
+      | inr large ↦
+          let u : r * t ≤ r * 255 = mul-le-mul_left r few in
+          let v : g * 17 ≤ g * g = mul-le-mul_left g (omega (arith, large, less)) in
+          omega (arith, less, w, u, v)
     ]
 
 -- h is t + g, and k is h + r
-double : (k t h g r d : ℕ) → h ≡ t + g → k ≡ t + g + r → h * h ≡ k * t + d → r < g → k ≤ 32 → t * r < 2 * d
-double k t h g r d eh ek square less few =
+fifteenfold : (k t h g r d : ℕ) → h ≡ t + g → k ≡ t + g + r → h * h ≡ k * t + d → r < g → k ≤ 255 → t * r < 15 * d
+fifteenfold k t h g r d eh ek square less few =
     let e1 = ap (λ (x : ℕ). x * x) eh in
     let e2 = ap (λ (x : ℕ). x * t) ek in
-    let e3 = room t g r less (omega arith) in
+    let e3 = room t g r less (omega (arith, ek, few)) in
     omega (arith, e1, e2, e3, square)
 
--- then the multiplicity is 2 at most
-pub close_mult : (k t h : ℕ) → h ≤ k → k ≤ MOST_POINTS → k + t < 2 * h → k * t < h * h → mult k t h ≤ 2
+-- then the multiplicity is 15 at most
+pub close_mult : (k t h : ℕ) → h ≤ k → k ≤ MOST_POINTS → k + t < 2 * h → k * t < h * h → mult k t h ≤ 15
 unfolding mult
 close_mult k t h within few close strong =
     let d : ℕ = h * h - k * t in
     let e : h * h ≡ k * t + d = omega arith in
-    let twice = double k t h (h - t) (k - h) d (omega arith) (omega arith) e (omega arith) few in
-    let q : t * (k - h) / d ≤ 1 = quotient (t * (k - h)) d twice in
+    let past = fifteenfold k t h (h - t) (k - h) d (omega arith) (omega arith) e (omega arith) few in
+    let q : t * (k - h) / d ≤ 14 = quotient_below (t * (k - h)) d 14 past in
     omega (arith, q)
-  where
-    quotient : (x d : ℕ) → x < 2 * d → x / d ≤ 1
-    quotient x d h =
-        elim (cases_lt (x / d) 2) [
-          | inl small ↦ omega (arith, small)
-          | inr large ↦ let w = mul-le-mul_left d large in absurd (let e : d * (x / d) ≤ x = whole x d in omega (arith, h, w, e))
-        ]
-      where
-        whole : (x d : ℕ) → d * (x / d) ≤ x
-        whole x d = omega arith
 
 -- and the cost small
 pub close_is_cheap : (k t h : ℕ) → h ≤ k → k ≤ MOST_POINTS → k + t < 2 * h → k * t < h * h → cost k t h ≤ MOST_COST
 close_is_cheap k t h within few close strong =
     let m = close_mult k t h within few close strong in
-    halved k (mult k t h) (equations k (mult k t h) few m)
+    halved (k * mult k t h * (mult k t h + 1)) (equations k (mult k t h) few m)
   where
-    equations : (k m : ℕ) → k ≤ 32 → m ≤ 2 → k * m * (m + 1) ≤ 192
-    equations k zero few small = omega arith
-    equations k (suc zero) few small = omega arith
-    equations k (suc (suc zero)) few small = omega arith
-    equations k (suc (suc (suc m))) few small = absurd (omega (arith, small))
+    equations : (k m : ℕ) → k ≤ 255 → m ≤ 15 → k * m * (m + 1) ≤ 255 * 15 * 16
+    equations k m few small =
+        products (k * m) (m + 1) (255 * 15) 16 (products k m 255 15 few small) (omega (arith, small))
 
-    halved : (k m : ℕ) → k * m * (m + 1) ≤ 192 → conditions k m ≤ MOST_COST
-    halved k m l = let q : ℕ = k * m * (m + 1) in (let e : q ≤ 192 = l in omega (arith, e))
+    halved : (q : ℕ) → q ≤ 255 * 15 * 16 → q / 2 ≤ MOST_COST
+    halved q l = omega (arith, l)

@@ -32,16 +32,18 @@ use std::alloc::{AllocError, Global};
 use std::sync::ledger::Ledger;
 use uni_poly::steps::Steps;
 
-/// The most points of a list decoding.
-pub const MOST_POINTS: u32 = 32;
+/// The most points of a list decoding. Their first members are bytes, and none is 0.
+pub const MOST_POINTS: u32 = 255;
 
-/// The most equations that a list decoding takes.
-pub const MOST_COST: u64 = 4096;
+/// The most equations that a list decoding takes, as many as an
+/// [interpolation](gs_interpolate::MOST_EQUATIONS) takes. With so many the multiplicity and the degree of [`plan`] are
+/// in the ranges that the interpolation has for them.
+pub const MOST_COST: u64 = 1 << 15;
 
 /// The numbers of a list decoding of `k` points of which `h` agree with polynomials of degree at most `t`, where
 /// `1 <= t < h <= k`, `h * h > k * t` and k is at most [`MOST_POINTS`] (Guruswami and Sudan 1999): the multiplicity m is
 /// `t * (k - h) / (h * h - k * t) + 1`, the degree `h * m - 1`, and the cost `k * m * (m + 1) / 2`, all in whole numbers. There
-/// are more monomials of that weighted degree than the cost.
+/// are more monomials of that weighted degree than the cost, which is below 2^40.
 ///
 /// For five points, of which three agree with lines, m is 1, the degree 2 and the cost 5. It takes no memory.
 pub fn plan(k: u32, t: u32, h: u32) -> Plan
@@ -56,7 +58,7 @@ pub fn plan(k: u32, t: u32, h: u32) -> Plan
     ensures enough { result.cost < monomials t result.d }
 {
     let m = t * (k - h) / (h * h - k * t) + 1;
-    let cost = u64::from(k * m * (m + 1) / 2);
+    let cost = u64::from(k * m) * u64::from(m + 1) / 2;
     Plan {
         m,
         d: h * m - 1,

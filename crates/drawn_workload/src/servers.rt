@@ -156,7 +156,8 @@ pub fn answer_all<R: Threads + Sync>(
     let mut answer = vec![in alloc; 0; width]?;
     let mut indices = Vec::with_capacity(alloc, count)?;
     let mut payloads = Vec::with_capacity(alloc, count * width)?;
-    'servers: for index in 1..load.servers + 1 {
+    'servers: for place in 0..load.servers {
+        let index = place + 1;
         servers.answer_into(rt, index, &mut query, &mut scratch, &mut answer);
         indices.push(index)?;
         payloads.extend_from_slice(&answer)?;

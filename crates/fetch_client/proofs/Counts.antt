@@ -14,7 +14,7 @@ use Rattle.fetch_client.specs.Fetched.{CountsForSome, FetchCounts}
 -- takes, of which there are no more than servers
 pub counts_of_all : (most : ℕ → ℕ → ℕ → ℕ → ℕ) (p q : FetchPlan) (blocks : List ℕ) (session : Transcript) (result : Result (Transcript × Verdict) FetchFault)
     (before now : ℕ) → result ≡ Err Memory → q ≡ p → length session.records ≡ q.n
-    → now ≤ before + most (length (answers session)) q.t q.h (length blocks * q.s) → FetchCounts most p blocks result before now
+    → now ≤ before + most (length (answers session)) (q.t + q.tau) q.h (length blocks * q.s) → FetchCounts most p blocks result before now
 counts_of_all most p q blocks session result before now fault same whole bounded =
     let few = length-answers_from-le 1 session.params session.records in
     let some : CountsForSome most q blocks before now = record { answers = length (answers session); few = omega (arith, few, whole); bounded = bounded } in

@@ -1,7 +1,7 @@
 -- In each column honest answers lie on one polynomial, whose constant is the block's byte there.
-use Rattle.std.proofs.Common.{◌≡◌, ◌≢◌, ℕ, ◌+◌, ◌*◌, ◌<◌, List, [], length, map, drop, get_or, All, cond, refl, sym, ap, ap₂, ◌∙◌, arith, inl, inr}
+use Rattle.std.proofs.Common.{◌≡◌, ◌≢◌, ℕ, ◌+◌, ◌*◌, ◌<◌, List, [], length, map, drop, get_or, cond, refl, sym, ap, ap₂, ◌∙◌, arith, inl, inr}
 use Rattle.std.specs.List.{range_with_len}
-use Rattle.std.proofs.lemmas.List.{get_or-map, length-take-le, length-drop}
+use Rattle.std.proofs.lemmas.List.{ext_get_or, length-take-le, length-drop}
 use Rattle.std.proofs.lemmas.List.FromFn.{length-map-range_with_len, get_or-map-range_with_len}
 use Rattle.std.proofs.lemmas.Bool.Decides.{eqb_tells}
 use Rattle.std.proofs.lemmas.Simd.{map-map}
@@ -12,10 +12,13 @@ use Rattle.gf256.specs.Product.{IsMatrix, product_at, product}
 use Rattle.gf256.proofs.FieldLaws.{one_mul, zero_mul}
 use Rattle.gf256.proofs.Sums.{sum_to-same, sum_to-one}
 use Rattle.uni_poly.proofs.Coefficients.{IsBytes-from_all}
-use Rattle.uni_poly.proofs.Combination.{combined, length-combined, coef-combined, bytes-combined, val-combined}
 use Rattle.block_decoder.proofs.Agreement.{row_within}
 use Rattle.shamir_share.specs.Query.{query, row_polynomial, row_coins}
-use Rattle.fetch_client.specs.Honest.{block_of}
+use Rattle.shamir_share.proofs.Rows.{length-row_coins, rows_fit}
+use Rattle.share_db.specs.Share.{position_polynomial}
+use Rattle.share_db.proofs.ProductSums.{product_sum, degree-product_sum, val-product_sum, constant-product_sum}
+use Rattle.fetch_client.specs.Held.{block_of, bytes_of, held_by}
+use Rattle.fetch_client.proofs.HeldRows.{byte_of, held_at, held_is_matrix, place_within}
 
 -- ---- the polynomials of the rows
 
@@ -48,72 +51,64 @@ constant_elsewhere coins t block j differ =
 
 -- ---- the polynomials of the columns
 
--- that of column c: the rows' polynomials, each times the byte of its row
-pub column_of : List (List ℕ) → List ℕ → ℕ → ℕ → ℕ → ℕ → List ℕ
-column_of matrix coins t r block c = combined (map (row_polynomial coins t block) (range_with_len 0 r)) (map (λ row. get_or row c 0) matrix) (t + 1)
+-- the polynomials of the bytes of column c, one for each row
+abbrev pub cells : List (List ℕ) → ℕ → List ℕ → ℕ → ℕ → ℕ → List ℕ
+cells matrix tau share_coins s c j = position_polynomial (bytes_of matrix) share_coins tau (j * s + c)
 
-module _ (matrix : List (List ℕ)) (coins : List ℕ) (t r s block : ℕ) (is : IsMatrix matrix r s) (size : length coins ≡ r * t) where
-  rows : List (List ℕ)
-  rows = map (row_polynomial coins t block) (range_with_len 0 r)
+-- that of column c: the rows' polynomials, each times that of the byte of its row
+pub column_of : List (List ℕ) → ℕ → List ℕ → List ℕ → ℕ → ℕ → ℕ → ℕ → ℕ → List ℕ
+column_of matrix tau share_coins coins t r s block c =
+    product_sum (row_polynomial coins t block) (cells matrix tau share_coins s c) r t tau
 
-  length-rows : length rows ≡ r
-  unfolding rows
-  length-rows = length-map-range_with_len (row_polynomial coins t block) 0 r
+module _ (matrix : List (List ℕ)) (tau : ℕ) (share_coins coins : List ℕ) (t r s block : ℕ) where
+  pub degree-column_of : (c : ℕ) → IsPolynomial (t + tau) (column_of matrix tau share_coins coins t r s block c)
+  unfolding column_of
+  degree-column_of c = degree-product_sum (row_polynomial coins t block) (cells matrix tau share_coins s c) r t tau
 
-  row_is : (j : ℕ) (d : List ℕ) → j < r → get_or rows j d ≡ row_polynomial coins t block j
-  unfolding rows
-  row_is j d l = get_or-map-range_with_len (row_polynomial coins t block) 0 r j j d l (omega arith)
+  module _ (is : IsMatrix matrix r s) (shared : length share_coins ≡ r * s * tau) (size : length coins ≡ r * t) where
+    length-cell : (c j : ℕ) → c < s → j < r → length (cells matrix tau share_coins s c j) ≡ tau + 1
+    unfolding position_polynomial
+    length-cell c j in_row low =
+        let room = rows_fit (j * s + c) (r * s) tau (place_within matrix r s is j c low in_row) in
+        let own = length-row_coins share_coins tau (j * s + c) (omega (arith, room, shared)) in
+        omega (arith, own)
 
-  row_sizes : All (λ p. length p ≡ t + 1) rows
-  row_sizes = λ j d l. let n = length-rows in let k : j < r = omega (arith, l, n) in ap length (row_is j d k) ∙ length-row_polynomial coins t r block j size k
+    -- at an index it takes the byte of the answer of the honest server with this index
+    val-column_of : (c a : ℕ) → c < s
+        → val (column_of matrix tau share_coins coins t r s block c) a ≡ product_at (query coins t r block a) (held_by tau matrix s share_coins a) c
+    unfolding column_of product_at query
+    val-column_of c a in_row =
+        let held = held_by tau matrix s share_coins a in
+        let rows = row_polynomial coins t block in
+        let n = (held_is_matrix matrix share_coins r s is tau a).rows in
+        val-product_sum rows (cells matrix tau share_coins s c) r t tau (λ j low. length-row_polynomial coins t r block j size low) (λ j low. length-cell c j in_row low) a
+        ∙ sum_to-same (λ j. val (rows j) a ⊗ val (cells matrix tau share_coins s c j) a) (λ j. get_or (query coins t r block a) j 0 ⊗ get_or (get_or held j []) c 0) r
+        (λ j low.
+        ap₂ ◌⊗◌ (sym (get_or-map-range_with_len (λ j. val (rows j) a) 0 r j j 0 low (omega arith))) (sym (held_at matrix share_coins r s is tau j c a low in_row)))
+        ∙ ap (sum_to (λ j. get_or (query coins t r block a) j 0 ⊗ get_or (get_or held j []) c 0)) (sym n)
 
-  column : ℕ → List ℕ
-  column c = map (λ row. get_or row c 0) matrix
+    -- so at an index the columns' polynomials take the honest answer
+    pub reply_is : (a : ℕ) → map (λ p. val p a) (map (column_of matrix tau share_coins coins t r s block) (range_with_len 0 s)) ≡ product (held_by tau matrix s share_coins a) s (query coins t r block a)
+    unfolding product
+    reply_is a =
+        let value : ℕ → ℕ = λ c. val (column_of matrix tau share_coins coins t r s block c) a in
+        let byte = product_at (query coins t r block a) (held_by tau matrix s share_coins a) in
+        let long = length-map-range_with_len value 0 s in
+        map-map (λ p. val p a) (column_of matrix tau share_coins coins t r s block) (range_with_len 0 s)
+        ∙ ext_get_or 0 (map value (range_with_len 0 s)) (map byte (range_with_len 0 s)) (long ∙ sym (length-map-range_with_len byte 0 s)) (λ c l.
+        let in_row : c < s = omega (arith, l, long) in
+        get_or-map-range_with_len value 0 s c c 0 in_row (omega arith) ∙ val-column_of c a in_row
+        ∙ sym (get_or-map-range_with_len byte 0 s c c 0 in_row (omega arith)))
 
-  column_is : (c j : ℕ) → j < r → get_or (column c) j 0 ≡ get_or (get_or matrix j []) c 0
-  unfolding column
-  column_is c j l = let n = is.rows in get_or-map (λ row. get_or row c 0) matrix j [] 0 (omega (arith, l, n))
-
-  -- the rows' polynomials, each times the byte of its row
-  pub column_polynomial : ℕ → List ℕ
-  column_polynomial c = combined rows (column c) (t + 1)
-
-  pub column_polynomial-is : (c : ℕ) → column_polynomial c ≡ column_of matrix coins t r block c
-  unfolding column_polynomial rows column column_of
-  column_polynomial-is c = refl
-
-  pub degree-column_polynomial : (c : ℕ) → IsPolynomial t (column_polynomial c)
-  unfolding column_polynomial
-  degree-column_polynomial c = record { size = length-combined rows (column c) (t + 1); bytes = bytes-combined rows (column c) (t + 1) }
-
-  -- at an index it takes the byte of the honest answer
-  pub val-column_polynomial : (c a : ℕ) → val (column_polynomial c) a ≡ product_at (query coins t r block a) matrix c
-  unfolding column_polynomial product_at query
-  val-column_polynomial c a =
-      let n = is.rows in
-      val-combined rows (column c) (t + 1) a row_sizes
-      ∙ ap (sum_to (λ j. val (get_or rows j []) a ⊗ get_or (column c) j 0)) (length-rows ∙ sym n)
-      ∙ sum_to-same (λ j. val (get_or rows j []) a ⊗ get_or (column c) j 0) (λ j. get_or (query coins t r block a) j 0 ⊗ get_or (get_or matrix j []) c 0) (length matrix)
-      (λ j l.
-      let k : j < r = omega (arith, l, n) in
-      ap₂ ◌⊗◌ (ap (λ p. val p a) (row_is j [] k) ∙ sym (get_or-map-range_with_len (λ j. val (row_polynomial coins t block j) a) 0 r j j 0 k (omega arith))) (column_is c j k))
-
-  -- so at an index the columns' polynomials take the honest answer
-  pub reply_is : (a : ℕ) → map (λ p. val p a) (map column_polynomial (range_with_len 0 s)) ≡ product matrix s (query coins t r block a)
-  unfolding product
-  reply_is a =
-      let each : ◌≡◌ {A = ℕ → ℕ} (λ c. val (column_polynomial c) a) (product_at (query coins t r block a) matrix) = λ i c. val-column_polynomial c a i in
-      map-map (λ p. val p a) column_polynomial (range_with_len 0 s) ∙ ap (λ f. map f (range_with_len 0 s)) each
-
-  -- its constant is the block's byte
-  pub constant-column_polynomial : block < r → (c : ℕ) → coef (column_polynomial c) 0 ≡ get_or (block_of matrix block) c 0
-  unfolding column_polynomial coef
-  constant-column_polynomial within c =
-      let n = is.rows in
-      coef-combined rows (column c) (t + 1) 0 (omega arith)
-      ∙ sum_to-one (λ j. coef (get_or rows j []) 0 ⊗ get_or (column c) j 0) (length rows) block (let m = length-rows in omega (arith, within, m))
-      (λ j l other.
-      let m = length-rows in
-      ap (λ v. v ⊗ get_or (column c) j 0) (ap (λ p. coef p 0) (row_is j [] (omega (arith, l, m))) ∙ constant_elsewhere coins t block j other) ∙ zero_mul (get_or (column c) j 0))
-      ∙ ap₂ ◌⊗◌ (ap (λ p. coef p 0) (row_is block [] within) ∙ constant_at_block coins t block) (column_is c block within)
-      ∙ one_mul (get_or (block_of matrix block) c 0) (IsBytes-from_all (block_of matrix block) (is.bytes block [] (omega (arith, within, n))) c)
+    -- its constant is the block's byte
+    pub constant-column_of : block < r → (c : ℕ) → c < s → coef (column_of matrix tau share_coins coins t r s block c) 0 ≡ get_or (block_of matrix block) c 0
+    unfolding column_of coef position_polynomial
+    constant-column_of within c in_row =
+        let n = is.rows in
+        let rows = row_polynomial coins t block in
+        let own = byte_of matrix r s is block c within in_row in
+        constant-product_sum rows (cells matrix tau share_coins s c) r t tau (λ j low. length-row_polynomial coins t r block j size low) (λ j low. length-cell c j in_row low)
+        ∙ sum_to-one (λ j. coef (rows j) 0 ⊗ coef (cells matrix tau share_coins s c j) 0) r block within
+        (λ j low other. ap (λ v. v ⊗ coef (cells matrix tau share_coins s c j) 0) (constant_elsewhere coins t block j other) ∙ zero_mul (coef (cells matrix tau share_coins s c j) 0))
+        ∙ ap₂ ◌⊗◌ (constant_at_block coins t block) own
+        ∙ one_mul (get_or (block_of matrix block) c 0) (IsBytes-from_all (block_of matrix block) (is.bytes block [] (omega (arith, within, n))) c)

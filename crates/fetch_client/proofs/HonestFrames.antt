@@ -7,15 +7,17 @@ use Rattle.wire_frames.specs.Answer.{Answer, answers_from, asked, usable, with_a
 use Rattle.wire_frames.specs.Session.{Transcript}
 use Rattle.block_decoder.proofs.Counting.{one_if, count-cons}
 use Rattle.block_decoder.proofs.UsableAnswers.{usable_frame, answers_from-cons}
+use Rattle.fetch_client.specs.Plan.{with_degree}
+use Rattle.fetch_client.specs.Held.{held_by}
 use Rattle.fetch_client.specs.Honest.{IsHonest, HonestRecords, answer_by, honest_frame, is_frame}
 use Rattle.fetch_client.proofs.Schemes.{length-answer_by}
 
-module _ (p : SessionParams) (matrix : List (List ℕ)) (coins blocks : List ℕ) (count : length blocks ≡ p.count) where
+module _ (p : SessionParams) (t : ℕ) (held : ℕ → List (List ℕ)) (coins blocks : List ℕ) (count : length blocks ≡ p.count) where
   abbrev reply : ℕ → List ℕ
-  reply i = answer_by p matrix coins blocks i
+  reply i = answer_by (with_degree t p) (held i) coins blocks i
 
   abbrev frame : ℕ → List ℕ
-  frame i = honest_frame p matrix coins blocks i
+  frame i = honest_frame (with_degree t p) (held i) coins blocks i
 
   abbrev is_honest : Answer → Bool
   is_honest a = bytes_eq a.payload (reply a.index)
@@ -25,7 +27,7 @@ module _ (p : SessionParams) (matrix : List (List ℕ)) (coins blocks : List ℕ
 
   usable_honest : (i : ℕ) → usable (frame i) (asked p i) ≡ Some (reply i)
   unfolding honest_frame
-  usable_honest i = usable_frame (reply i) (asked p i) (length-answer_by p matrix coins blocks i ∙ ap (λ (n : ℕ). n * p.s) count)
+  usable_honest i = usable_frame (reply i) (asked p i) (length-answer_by (with_degree t p) (held i) coins blocks i ∙ ap (λ (n : ℕ). n * p.s) count)
 
   -- one more server in front takes none away
   no_fewer : (i : ℕ) (o : Option (List ℕ)) (rest : List Answer) → count_by is_honest rest ≤ count_by is_honest (with_answer i o rest)
@@ -65,11 +67,13 @@ module _ (p : SessionParams) (matrix : List (List ℕ)) (coins blocks : List ℕ
       omega (arith, more, ih, step, one, all)
 
 -- where enough records are honest frames, enough answers are honest
-pub honest_from_records : (session : Transcript) (matrix : List (List ℕ)) (coins blocks : List ℕ) → length blocks ≡ session.params.count
-    → HonestRecords session matrix coins blocks → IsHonest session matrix coins blocks
-honest_from_records session matrix coins blocks count records =
-    let few = count_frames session.params matrix coins blocks count session.records session.records 1 (omega arith) (λ k l. let e : 1 + k - 1 ≡ k = omega arith in ap (λ k. get_or session.records k None) e) in
+pub honest_from_records : (session : Transcript) (t tau : ℕ) (matrix : List (List ℕ)) (share_coins coins blocks : List ℕ) → length blocks ≡ session.params.count
+    → HonestRecords session t tau matrix share_coins coins blocks → IsHonest session t tau matrix share_coins coins blocks
+honest_from_records session t tau matrix share_coins coins blocks count records =
+    let held = held_by tau matrix session.params.s share_coins in
+    let few = count_frames session.params t held coins blocks count session.records session.records 1 (omega arith) (λ k l. let e : 1 + k - 1 ≡ k = omega arith in ap (λ k. get_or session.records k None) e) in
     record {
       matrix_is = records.matrix_is;
+      shared = records.shared;
       enough = let e = records.enough in omega (arith, few, e);
     }

@@ -13,7 +13,7 @@ use Rattle.block_decoder.specs.declared.verdict.Verdict.{Verdict}
 use Rattle.block_decoder.specs.declared.verdict.Verdict.TheVariants.{Listed, TooFew, TooWeak, TooCostly}
 use Rattle.block_decoder.proofs.OneBlock.{close_verdict_is_listed}
 use Rattle.block_decoder.proofs.UsableAnswers.{columns-answers, length-answers_from-le}
-use Rattle.fetch_client.specs.Plan.{query_coins}
+use Rattle.fetch_client.specs.Plan.{query_coins, with_degree}
 use Rattle.fetch_client.specs.Honest.{FindsHonestBlock, HonestRecords, IsHonest, blocks_of}
 use Rattle.fetch_client.proofs.Schemes.{coins_of_shamir}
 use Rattle.fetch_client.proofs.HonestFrames.{honest_from_records}
@@ -34,10 +34,10 @@ listed_if_alone verdict block blocks alone is =
     let same : block ∷ [] ≡ blocks = cc in
     subst (λ (bs : List (List ℕ)). Contains bs block) same (Contains-get_or (block ∷ []) 0 [] (omega arith))
 
-module _ (session : Transcript) (coins asked : List ℕ) (verdict : Verdict) (count : length asked ≡ session.params.count) (range : IsInRange session.params) (few : length session.records ≤ session.params.n)
-    (bytes : All (λ r. IfSome r (All (λ b. b < 256))) session.records) (size : length coins ≡ length asked * query_coins session.params) (within : All (λ b. b < session.params.r) asked) (is : IsVerdict session verdict) where
-  by_frames : (matrix : List (List ℕ)) → HonestRecords session matrix coins asked → IsHonest session matrix coins asked
-  by_frames matrix = honest_from_records session matrix coins asked count
+module _ (session : Transcript) (t tau : ℕ) (coins asked : List ℕ) (verdict : Verdict) (count : length asked ≡ session.params.count) (range : IsInRange session.params) (few : length session.records ≤ session.params.n)
+    (bytes : All (λ r. IfSome r (All (λ b. b < 256))) session.records) (size : length coins ≡ length asked * query_coins (with_degree t session.params)) (within : All (λ b. b < session.params.r) asked) (is : IsVerdict session verdict) where
+  by_frames : (matrix : List (List ℕ)) (share_coins : List ℕ) → HonestRecords session t tau matrix share_coins coins asked → IsHonest session t tau matrix share_coins coins asked
+  by_frames matrix share_coins = honest_from_records session t tau matrix share_coins coins asked count
 
   columns : HasColumns (block_len session.params) (answers session)
   columns = let servers = range.few_servers in columns-answers session (omega (arith, few, servers)) bytes
@@ -49,53 +49,65 @@ module _ (session : Transcript) (coins asked : List ℕ) (verdict : Verdict) (co
   close enough near = close_verdict_is_listed session verdict range columns few enough near is
 
   -- in Shamir's sharing
-  module _ (one : session.params.scheme ≡ SHAMIR) where
-    decided : IsDecided (answers session) (block_len session.params) session.params.t session.params.h verdict
-    decided = is.shamir one
+  module _ (degree : session.params.t ≡ t + tau) (one : session.params.scheme ≡ SHAMIR) where
+    width : block_len session.params ≡ length asked * session.params.s
+    width = ap (λ (n : ℕ). n * session.params.s) (sym count)
 
-    listed : (matrix : List (List ℕ)) → IsHonest session matrix coins asked → (blocks : List (List ℕ)) → verdict ≡ Listed blocks → Contains blocks (blocks_of matrix asked)
-    listed matrix honest blocks same =
+    decided : IsDecided (answers session) (length asked * session.params.s) (t + tau) session.params.h verdict
+    decided = subst (λ (w : ℕ). IsDecided (answers session) w (t + tau) session.params.h verdict) width
+        (subst (λ (d : ℕ). IsDecided (answers session) (block_len session.params) d session.params.h verdict) degree (is.shamir one))
+
+    coins_are : length coins ≡ length asked * (session.params.r * t)
+    coins_are = size ∙ ap (λ (n : ℕ). length asked * n) (coins_of_shamir (with_degree t session.params) one)
+
+    listed : (matrix : List (List ℕ)) (share_coins : List ℕ) → IsHonest session t tau matrix share_coins coins asked → (blocks : List (List ℕ)) → verdict ≡ Listed blocks → Contains blocks (blocks_of matrix asked)
+    listed matrix share_coins honest blocks same =
         let p = session.params in
-        let width : block_len p ≡ length asked * p.s = ap (λ (n : ℕ). n * p.s) (sym count) in
-        honest_is_listed (answers session) matrix coins asked p.t p.r p.s p.h blocks (size ∙ ap (λ (n : ℕ). length asked * n) (coins_of_shamir p one)) within (products_from_honest session matrix coins asked one honest)
-        (subst (λ (w : ℕ). IsDecided (answers session) w p.t p.h (Listed blocks)) width (subst (λ (v : Verdict). IsDecided (answers session) (block_len p) p.t p.h v) same decided))
+        honest_is_listed (answers session) matrix tau share_coins coins asked t p.r p.s p.h blocks coins_are within (products_from_honest session t tau matrix share_coins coins asked one honest)
+        (subst (λ (v : Verdict). IsDecided (answers session) (length asked * p.s) (t + tau) p.h v) same decided)
 
-    alone : (matrix : List (List ℕ)) → IsHonest session matrix coins asked → length (answers session) + session.params.t < 2 * session.params.h → verdict ≡ Listed (blocks_of matrix asked ∷ [])
-    alone matrix honest near =
+    alone : (matrix : List (List ℕ)) (share_coins : List ℕ) → IsHonest session t tau matrix share_coins coins asked → length (answers session) + session.params.t < 2 * session.params.h → verdict ≡ Listed (blocks_of matrix asked ∷ [])
+    alone matrix share_coins honest near =
         let p = session.params in
-        let width : block_len p ≡ length asked * p.s = ap (λ (n : ℕ). n * p.s) (sym count) in
-        honest_is_alone (answers session) matrix coins asked p.t p.r p.s p.h verdict (subst (λ (w : ℕ). HasColumns w (answers session)) width columns) few_answers (size ∙ ap (λ (n : ℕ). length asked * n) (coins_of_shamir p one)) within
-        (products_from_honest session matrix coins asked one honest) near (subst (λ (w : ℕ). IsDecided (answers session) w p.t p.h verdict) width decided)
+        honest_is_alone (answers session) matrix tau share_coins coins asked t p.r p.s p.h verdict (subst (λ (w : ℕ). HasColumns w (answers session)) width columns) few_answers coins_are within
+        (products_from_honest session t tau matrix share_coins coins asked one honest) (omega (arith, near, degree)) decided
 
-    pub finds_in_shamir : FindsHonestBlock session coins asked verdict
+    pub finds_in_shamir : FindsHonestBlock session t tau coins asked verdict
     finds_in_shamir = record {
       listed = listed;
       alone = alone;
       close = close;
-      listed_by_frames = λ matrix records. listed matrix (by_frames matrix records);
-      alone_by_frames = λ matrix records. alone matrix (by_frames matrix records);
+      listed_by_frames = λ matrix share_coins records. listed matrix share_coins (by_frames matrix share_coins records);
+      alone_by_frames = λ matrix share_coins records. alone matrix share_coins (by_frames matrix share_coins records);
       xor = λ two. absurd (omega (arith, one, two));
       xor_by_frames = λ two. absurd (omega (arith, one, two));
     }
 
   -- in the XOR scheme
-  module _ (two : session.params.scheme ≡ XOR) where
-    alone_of_all : (matrix : List (List ℕ)) → IsHonest session matrix coins asked → verdict ≡ Listed (blocks_of matrix asked ∷ [])
-    alone_of_all matrix honest =
+  module _ (whole : tau ≡ 0) (two : session.params.scheme ≡ XOR) where
+    held_whole : (matrix : List (List ℕ)) (share_coins : List ℕ) → IsHonest session t tau matrix share_coins coins asked → IsHonest session t 0 matrix share_coins coins asked
+    held_whole matrix share_coins honest = subst (λ (u : ℕ). IsHonest session t u matrix share_coins coins asked) whole honest
+
+    alone_of_all : (matrix : List (List ℕ)) (share_coins : List ℕ) → IsHonest session t 0 matrix share_coins coins asked → verdict ≡ Listed (blocks_of matrix asked ∷ [])
+    alone_of_all matrix share_coins honest =
         let p = session.params in
-        combined_alone (answers session) (block_len p) p.n p.h (blocks_of matrix asked) verdict (all_usable session matrix coins asked count range two few bytes honest)
-        (combined_is_the_blocks session matrix coins asked count range two few bytes honest within) (is.xor two)
+        combined_alone (answers session) (block_len p) p.n p.h (blocks_of matrix asked) verdict (all_usable session t matrix coins asked count range two few bytes share_coins honest)
+        (combined_is_the_blocks session t matrix coins asked count range two few bytes share_coins honest within) (is.xor two)
 
-    listed_of_all : (matrix : List (List ℕ)) → IsHonest session matrix coins asked → (blocks : List (List ℕ)) → verdict ≡ Listed blocks → Contains blocks (blocks_of matrix asked)
-    listed_of_all matrix honest blocks same = listed_if_alone verdict (blocks_of matrix asked) blocks (alone_of_all matrix honest) same
+    alone_of_enough : (matrix : List (List ℕ)) (share_coins : List ℕ) → IsHonest session t tau matrix share_coins coins asked → verdict ≡ Listed (blocks_of matrix asked ∷ [])
+    alone_of_enough matrix share_coins honest = alone_of_all matrix share_coins (held_whole matrix share_coins honest)
 
-    pub finds_in_xor : FindsHonestBlock session coins asked verdict
+    listed_of_all : (matrix : List (List ℕ)) (share_coins : List ℕ) → IsHonest session t tau matrix share_coins coins asked → (blocks : List (List ℕ)) → verdict ≡ Listed blocks → Contains blocks (blocks_of matrix asked)
+    listed_of_all matrix share_coins honest blocks same = listed_if_alone verdict (blocks_of matrix asked) blocks (alone_of_enough matrix share_coins honest) same
+
+    pub finds_in_xor : FindsHonestBlock session t tau coins asked verdict
     finds_in_xor = record {
       listed = listed_of_all;
-      alone = λ matrix honest near. alone_of_all matrix honest;
+      alone = λ matrix share_coins honest near. alone_of_enough matrix share_coins honest;
       close = close;
-      listed_by_frames = λ matrix records. listed_of_all matrix (by_frames matrix records);
-      alone_by_frames = λ matrix records near. alone_of_all matrix (by_frames matrix records);
-      xor = λ two. alone_of_all;
-      xor_by_frames = λ two matrix honest. alone_of_all matrix (by_frames matrix (records_from_all session matrix coins asked count range two few bytes honest));
+      listed_by_frames = λ matrix share_coins records. listed_of_all matrix share_coins (by_frames matrix share_coins records);
+      alone_by_frames = λ matrix share_coins records near. alone_of_enough matrix share_coins (by_frames matrix share_coins records);
+      xor = λ two. alone_of_enough;
+      xor_by_frames = λ two matrix honest. alone_of_all matrix []
+          (honest_from_records session t 0 matrix [] coins asked count (records_from_all session t matrix coins asked count range two few bytes honest));
     }

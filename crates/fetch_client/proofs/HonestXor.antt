@@ -1,5 +1,5 @@
 -- In the XOR scheme the answers of all servers add up to the block.
-use Rattle.std.proofs.Common.{◌≡◌, ℕ, zero, suc, ◌+◌, ◌-◌, ◌*◌, ◌<◌, ◌≤◌, Bool, true, Option, None, Some, List, [], length, map, get_or, count_by, bytes_eq, All, AllPairs, IfSome, inl, inr, refl, sym, ap, subst, ◌∙◌, arith}
+use Rattle.std.proofs.Common.{◌≡◌, ℕ, zero, suc, ◌+◌, ◌-◌, ◌*◌, ◌<◌, ◌≤◌, Bool, true, Option, None, Some, List, [], length, map, get_or, count_by, bytes_eq, All, AllPairs, IfSome, inl, inr, refl, sym, ap, subst, ◌∙◌, arith, mul-zero}
 use Rattle.std.specs.List.{range_with_len}
 use Rattle.std.proofs.lemmas.Bool.{cases_lt}
 use Rattle.std.proofs.lemmas.List.{ext_get_or, get_or_past, length-map, get_or-map}
@@ -21,7 +21,8 @@ use Rattle.block_decoder.proofs.UsableAnswers.{AreInOrder, answers_in_order}
 use Rattle.wire_frames.specs.Turns.{in_turn, piece}
 use Rattle.wire_frames.proofs.Turns.{in_turn-same, piece-in_turn}
 use Rattle.chor_xor.proofs.BlockSums.{combined-in_turn}
-use Rattle.fetch_client.specs.Plan.{query_coins}
+use Rattle.fetch_client.specs.Plan.{query_coins, with_degree}
+use Rattle.fetch_client.specs.Held.{held_by}
 use Rattle.fetch_client.specs.Sent.{vector_at}
 use Rattle.fetch_client.specs.Honest.{AllHonest, HonestRecords, IsHonest, answer_by, blocks_of, honest_frame, is_frame}
 use Rattle.fetch_client.proofs.Schemes.{answer_of_xor, coins_of_xor, payload_of_xor}
@@ -56,10 +57,13 @@ index_is width n all k order size l =
 
 -- ---- the answers
 
-module _ (session : Transcript) (matrix : List (List ℕ)) (coins blocks : List ℕ) (count : length blocks ≡ session.params.count) (range : IsInRange session.params) (two : session.params.scheme ≡ XOR)
+module _ (session : Transcript) (t : ℕ) (matrix : List (List ℕ)) (coins blocks : List ℕ) (count : length blocks ≡ session.params.count) (range : IsInRange session.params) (two : session.params.scheme ≡ XOR)
     (few : length session.records ≤ session.params.n) (bytes : All (λ r. IfSome r (All (λ b. b < 256))) session.records) where
   abbrev p : SessionParams
   p = session.params
+
+  abbrev q : SessionParams
+  q = with_degree t p
 
   abbrev database : Database
   database = record { rows = matrix; width = p.s }
@@ -68,7 +72,7 @@ module _ (session : Transcript) (matrix : List (List ℕ)) (coins blocks : List 
   all = answers session
 
   abbrev test : Answer → Bool
-  test a = bytes_eq a.payload (answer_by p matrix coins blocks a.index)
+  test a = bytes_eq a.payload (answer_by q matrix coins blocks a.index)
 
   order : AreInOrder (block_len p) 1 (1 + length session.records) all
   order = answers_in_order session bytes
@@ -84,9 +88,10 @@ module _ (session : Transcript) (matrix : List (List ℕ)) (coins blocks : List 
     | inr none ↦ omega (arith, none)
   ]
 
-  module _ (honest : IsHonest session matrix coins blocks) where
+  module _ (share_coins : List ℕ) (honest : IsHonest session t 0 matrix share_coins coins blocks) where
     -- so all servers answered, and honestly
     many : p.n ≤ count_by test all
+    unfolding held_by
     many = let e = honest.enough in let same = range.all_answer two in omega (arith, e, same)
 
     pub all_usable : length all ≡ p.n
@@ -113,12 +118,12 @@ module _ (session : Transcript) (matrix : List (List ℕ)) (coins blocks : List 
         let m = many in
         let a = get_or all k no_answer in
         let passed = all_pass test all (omega (arith, u, m)) k no_answer (omega (arith, u, l)) in
-        (bytes_eq-Decides a.payload (answer_by p matrix coins blocks a.index)).0 passed
-        ∙ ap (answer_by p matrix coins blocks) (index_is (block_len p) p.n all k in_order u l)
+        (bytes_eq-Decides a.payload (answer_by q matrix coins blocks a.index)).0 passed
+        ∙ ap (answer_by q matrix coins blocks) (index_is (block_len p) p.n all k in_order u l)
         ∙ in_turn-same (length blocks) _ _ (λ v low.
-        answer_of_xor p two matrix (vector_at p coins blocks (k + 1) v)
-        ∙ ap (chosen database) (payload_of_xor p two (piece (query_coins p) v coins) (get_or blocks v 0) (k + 1)
-        ∙ ap (λ (n : ℕ). bitmap (piece n v coins) p.n p.r (get_or blocks v 0) (k + 1)) (coins_of_xor p two)))
+        answer_of_xor q two matrix (vector_at q coins blocks (k + 1) v)
+        ∙ ap (chosen database) (payload_of_xor q two (piece (query_coins q) v coins) (get_or blocks v 0) (k + 1)
+        ∙ ap (λ (n : ℕ). bitmap (piece n v coins) p.n p.r (get_or blocks v 0) (k + 1)) (coins_of_xor q two)))
 
     -- in each row the payloads are the answers of the servers in their order
     payloads_are : (v : ℕ) → v < length blocks → map (piece p.s v) (map (λ a. a.payload) all) ≡ chosen_answers database (own_coins v) p.n (get_or blocks v 0)
@@ -156,14 +161,14 @@ module _ (session : Transcript) (matrix : List (List ℕ)) (coins blocks : List 
   record_of i = get_or session.records (i - 1) None
 
   abbrev framed : ℕ → Bool
-  framed i = is_frame (honest_frame p matrix coins blocks i) (record_of i)
+  framed i = is_frame (honest_frame q matrix coins blocks i) (record_of i)
 
-  all_recorded : AllHonest session matrix coins blocks → length session.records ≡ p.n
+  all_recorded : AllHonest session t matrix coins blocks → length session.records ≡ p.n
   all_recorded honest =
       let a = range.private in
       let b = range.agreement in
       let c = range.servers in
-      let last : record_of p.n ≡ Some (honest_frame p matrix coins blocks p.n) = honest.each p.n (omega (arith, a, b, c)) (omega arith) in
+      let last : record_of p.n ≡ Some (honest_frame q matrix coins blocks p.n) = honest.each p.n (omega (arith, a, b, c)) (omega arith) in
       elim (cases_lt (p.n - 1) (length session.records)) [
         | inl there ↦ omega (arith, there, few, a, b, c)
         | inr past ↦
@@ -172,7 +177,8 @@ module _ (session : Transcript) (matrix : List (List ℕ)) (coins blocks : List 
       ]
 
   -- and enough are such frames
-  pub records_from_all : AllHonest session matrix coins blocks → HonestRecords session matrix coins blocks
+  pub records_from_all : AllHonest session t matrix coins blocks → HonestRecords session t 0 matrix [] coins blocks
+  unfolding held_by
   records_from_all honest =
       let size = all_recorded honest in
       let servers = range_with_len 1 (length session.records) in
@@ -180,12 +186,13 @@ module _ (session : Transcript) (matrix : List (List ℕ)) (coins blocks : List 
       let each : All (λ i. framed i ≡ true) servers = λ k d l.
       let at = get_or-range_with_len 1 (length session.records) k d (omega (arith, l, long)) in
       let i = get_or servers k d in
-      let frame = honest_frame p matrix coins blocks i in
+      let frame = honest_frame q matrix coins blocks i in
       ap (is_frame frame) (honest.each i (omega (arith, at)) (omega (arith, at, l, long, size)))
       ∙ (bytes_eq-Decides frame frame).1 refl in
       let counted = pass_all framed servers each in
       let same = range.all_answer two in
       record {
         matrix_is = honest.matrix_is;
+        shared = sym (mul-zero (p.r * p.s));
         enough = omega (arith, size, same, counted, long);
       }

@@ -1,5 +1,6 @@
 pub mod Asking
 pub mod Schemes
+pub mod HeldRows
 pub mod HonestColumns
 pub mod HonestBlock
 pub mod HonestFrames

@@ -1,5 +1,5 @@
 -- The numbers of a session in which several blocks are fetched are in their ranges.
-use Rattle.std.proofs.Common.{◌≡◌, ℕ, ◌*◌, ◌^◌, ◌<◌, ◌≤◌, List, [], ◌∷◌, length, one-mul, arith}
+use Rattle.std.proofs.Common.{ℕ, ◌*◌, ◌^◌, ◌<◌, ◌≤◌, List, [], ◌∷◌, length, one-mul, arith}
 use Rattle.std.specs.Prelude.{◌==◌}
 use Rattle.std.proofs.lemmas.Bool.{cond_both, eqb-true}
 use Rattle.std.proofs.lemmas.List.Elements.{All-cons, All-nil}
@@ -31,17 +31,17 @@ count_for n s some few bytes = cond_both (n == 1) SINGLE SEVERAL (λ v. IsCount 
 
 pub range_of : (p : FetchPlan) (blocks : List ℕ) (number : ℕ) → IsPlan p → AreBlocks p blocks → number < 2 ^ 64 → IsInRange (params_of p (length blocks) number)
 range_of p blocks number plan are below = record {
-  scheme = plan.scheme;
-  private = plan.private;
-  few_private = plan.few_private;
-  agreement = plan.agreement;
-  few_agree = plan.few_agree;
-  servers = plan.servers;
-  few_servers = plan.few_servers;
-  all_agree = plan.all_agree;
-  all_answer = plan.all_answer;
+  scheme = plan.numbers.scheme;
+  private = plan.numbers.private;
+  few_private = plan.numbers.few_private;
+  agreement = plan.numbers.agreement;
+  few_agree = plan.numbers.few_agree;
+  servers = plan.numbers.servers;
+  few_servers = plan.numbers.few_servers;
+  all_agree = plan.numbers.all_agree;
+  all_answer = plan.numbers.all_answer;
   session = below;
-  shape = plan.shape;
+  shape = plan.numbers.shape;
   blocks = count_for (length blocks) p.s are.some are.few are.few_bytes;
 }
 
@@ -51,5 +51,5 @@ one_block p block plan low = record {
   some = omega arith;
   few = omega arith;
   each = All-cons (λ b. b < p.r) block [] low (All-nil (λ b. b < p.r));
-  few_bytes = omega (arith, one-mul p.s, plan.shape.few_bytes);
+  few_bytes = omega (arith, one-mul p.s, plan.numbers.shape.few_bytes);
 }

@@ -18,7 +18,7 @@ use Rattle.chor_xor.specs.Chosen.{chosen}
 use Rattle.chor_xor.proofs.Shares.{length-bitmap}
 use Rattle.chor_xor.proofs.ChosenSums.{length-chosen}
 use Rattle.fetch_client.specs.declared.plan.FetchPlan.{FetchPlan}
-use Rattle.fetch_client.specs.Plan.{params_of, coins_for, query_coins}
+use Rattle.fetch_client.specs.Plan.{coins_for, query_coins, query_params}
 use Rattle.fetch_client.specs.Sent.{header_to, payload_for, payload_in, payload_to, queries_from, sent, session_number, vector_at}
 use Rattle.fetch_client.specs.Honest.{answer_at, answer_by, answer_in, honest_answer}
 
@@ -51,31 +51,31 @@ module _ (p : SessionParams) (one : p.scheme ≡ SHAMIR) where
   answer_of_shamir matrix payload = ap (λ (s : Scheme). answer_in s p matrix payload) (shamir_is p.scheme one)
 
 -- the coins of the queries don't depend on the session's number, nor on how many blocks are asked for
-pub coins_of_session : (p : FetchPlan) (count number : ℕ) → query_coins (params_of p count number) ≡ query_coins (params_of p 1 0)
+pub coins_of_session : (p : FetchPlan) (count number : ℕ) → query_coins (query_params p count number) ≡ query_coins (query_params p 1 0)
 unfolding query_coins
 coins_of_session p count number = by_scheme (scheme_of p.scheme)
   where
-    by_scheme : (s : Scheme) → coins_for s (params_of p count number) ≡ coins_for s (params_of p 1 0)
+    by_scheme : (s : Scheme) → coins_for s (query_params p count number) ≡ coins_for s (query_params p 1 0)
     by_scheme Shamir = refl
     by_scheme Xor = refl
 
 -- nor does the vector of a query
 pub vector_of_session : (p : FetchPlan) (count number : ℕ) (coins : List ℕ) (block i : ℕ)
-    → payload_to (params_of p 1 0) coins block i ≡ payload_to (params_of p count number) coins block i
+    → payload_to (query_params p 1 0) coins block i ≡ payload_to (query_params p count number) coins block i
 unfolding payload_to
 vector_of_session p count number coins block i = by_scheme (scheme_of p.scheme)
   where
-    by_scheme : (s : Scheme) → payload_in s (params_of p 1 0) coins block i ≡ payload_in s (params_of p count number) coins block i
+    by_scheme : (s : Scheme) → payload_in s (query_params p 1 0) coins block i ≡ payload_in s (query_params p count number) coins block i
     by_scheme Shamir = refl
     by_scheme Xor = refl
 
 -- nor does its payload
 pub payload_of_session : (p : FetchPlan) (count number : ℕ) (coins blocks : List ℕ) (i : ℕ)
-    → payload_for (params_of p 1 0) coins blocks i ≡ payload_for (params_of p count number) coins blocks i
+    → payload_for (query_params p 1 0) coins blocks i ≡ payload_for (query_params p count number) coins blocks i
 payload_of_session p count number coins blocks i =
     in_turn-same (length blocks) _ _ (λ v l.
-    ap (λ (n : ℕ). payload_to (params_of p 1 0) (piece n v coins) (get_or blocks v 0) i) (sym (coins_of_session p count number))
-    ∙ vector_of_session p count number (piece (query_coins (params_of p count number)) v coins) (get_or blocks v 0) i)
+    ap (λ (n : ℕ). payload_to (query_params p 1 0) (piece n v coins) (get_or blocks v 0) i) (sym (coins_of_session p count number))
+    ∙ vector_of_session p count number (piece (query_coins (query_params p count number)) v coins) (get_or blocks v 0) i)
 
 -- what a server is sent in Shamir's sharing
 pub sent_in_shamir : (p : FetchPlan) (blocks coins : List ℕ) (i : ℕ) → p.scheme ≡ SHAMIR
@@ -83,7 +83,7 @@ pub sent_in_shamir : (p : FetchPlan) (blocks coins : List ℕ) (i : ℕ) → p.s
     ++ in_turn (length blocks) (λ v. query (piece (p.r * p.t) v (queries_from coins)) p.t p.r (get_or blocks v 0) i)
 unfolding sent
 sent_in_shamir p blocks coins i one =
-    let params = params_of p (length blocks) (session_number coins) in
+    let params = query_params p (length blocks) (session_number coins) in
     ap (λ (l : List ℕ). query_header (header_to p (length blocks) coins i) ++ l) (in_turn-same (length blocks) _ _ (λ v l.
     ap (λ (n : ℕ). payload_to params (piece n v (queries_from coins)) (get_or blocks v 0) i) (coins_of_shamir params one)
     ∙ payload_of_shamir params one (piece (p.r * p.t) v (queries_from coins)) (get_or blocks v 0) i))
@@ -94,7 +94,7 @@ pub sent_in_xor : (p : FetchPlan) (blocks coins : List ℕ) (i : ℕ) → p.sche
     ++ in_turn (length blocks) (λ v. bitmap (piece ((p.n - 1) * size_of p.r) v (queries_from coins)) p.n p.r (get_or blocks v 0) i)
 unfolding sent
 sent_in_xor p blocks coins i two =
-    let params = params_of p (length blocks) (session_number coins) in
+    let params = query_params p (length blocks) (session_number coins) in
     ap (λ (l : List ℕ). query_header (header_to p (length blocks) coins i) ++ l) (in_turn-same (length blocks) _ _ (λ v l.
     ap (λ (n : ℕ). payload_to params (piece n v (queries_from coins)) (get_or blocks v 0) i) (coins_of_xor params two)
     ∙ payload_of_xor params two (piece ((p.n - 1) * size_of p.r) v (queries_from coins)) (get_or blocks v 0) i))

@@ -1,5 +1,5 @@
 -- What a fetch does.
-use Rattle.std.specs.Prelude.{ℕ, ◌≡◌, ◌+◌, ◌*◌, ◌≤◌, ◌⊎◌, ◌++◌, ◌∷◌, List, [], length, Option, None, Result, Ok, Err}
+use Rattle.std.specs.Prelude.{ℕ, ◌≡◌, ◌+◌, ◌*◌, ◌≤◌, ◌⊎◌, ◌∷◌, List, [], length, None, Result, Ok, Err}
 use Rattle.std.specs.Prelude.{slice_index_or}
 use Rattle.pir_ports.specs.World.{World}
 use Rattle.pir_ports.specs.Number.{COINS, link}
@@ -20,14 +20,6 @@ use Rattle.fetch_client.specs.Sent.{sent, session_number, queries_from}
 use Rattle.fetch_client.specs.Tossed.{Tossed, RunsOut}
 use Rattle.fetch_client.specs.Link.{LinkAsked}
 use Rattle.fetch_client.specs.Honest.{FindsHonestBlock}
-
--- one more server was asked, and its record is the last
-pub record AsksNext (p : FetchPlan) (blocks address coins : List ℕ) (before after : Transcript)
-    (old new : World) : Type 0 where
-  pub answer : Option (List ℕ)
-  pub session : after ≡ record before { records = before.records ++ answer ∷ [] }
-  pub asked : LinkAsked address (sent p blocks coins (length before.records + 1)) (answer_len (length blocks) p.s) answer
-      (old.at (link 1 + length before.records)) (new.at (link 1 + length before.records))
 
 -- each of the first n servers was asked, by its address, and the session has its record
 abbrev pub AskedEach : FetchPlan → List ℕ → List (List ℕ) → List ℕ → ℕ → Transcript → World → World → Type 0
@@ -71,7 +63,7 @@ pub record Concludes (p : FetchPlan) (blocks : List ℕ) (addresses : List (List
   pub coins : List ℕ
   pub asked : AsksWith p blocks addresses coins session old new
   pub judged : IsVerdict session verdict
-  pub found : FindsHonestBlock session (queries_from coins) blocks verdict
+  pub found : FindsHonestBlock session p.t p.tau (queries_from coins) blocks verdict
 
 -- what a fetch answers, and what it did then. Without the coins no server is asked
 abbrev pub Fetches : FetchPlan → List ℕ → List (List ℕ) → Result (Transcript × Verdict) FetchFault → World → World → Type 0
@@ -86,12 +78,12 @@ Fetches p blocks addresses (Err Memory) old new = (new ≡ old) ⊎ AsksSome p b
 pub record CountsForSome (most : ℕ → ℕ → ℕ → ℕ → ℕ) (p : FetchPlan) (blocks : List ℕ) (before now : ℕ) : Type 0 where
   pub answers : ℕ
   pub few : answers ≤ p.n
-  pub bounded : now ≤ before + most answers p.t p.h (length blocks * p.s)
+  pub bounded : now ≤ before + most answers (p.t + p.tau) p.h (length blocks * p.s)
 
 -- how many steps are counted at most: as many as judging the usable answers takes; where memory ran out, as many as
 -- judging some answers takes; and without the coins none
 abbrev pub FetchCounts : (ℕ → ℕ → ℕ → ℕ → ℕ) → FetchPlan → List ℕ → Result (Transcript × Verdict) FetchFault → ℕ → ℕ → Type 0
-FetchCounts most p blocks (Ok both) before now = now ≤ before + most (length (answers both.0)) p.t p.h (length blocks * p.s)
+FetchCounts most p blocks (Ok both) before now = now ≤ before + most (length (answers both.0)) (p.t + p.tau) p.h (length blocks * p.s)
 FetchCounts most p blocks (Err CoinsFault) before now = now ≡ before
 FetchCounts most p blocks (Err (CoinsEnded taken)) before now = now ≡ before
 FetchCounts most p blocks (Err Memory) before now = CountsForSome most p blocks before now

@@ -1,6 +1,7 @@
--- Honest servers: what they answer, and that a verdict has the block that they hold (Goldberg 2007; in the XOR scheme Chor,
--- Goldreich, Kushilevitz and Sudan 1995).
-use Rattle.std.specs.Prelude.{◌≡◌, ℕ, ◌+◌, ◌-◌, ◌*◌, ◌<◌, ◌≤◌, Bool, false, Option, None, Some, List, [], ◌∷◌, ◌++◌, length, slice_index, slice_index_or, Contains, count_by, bytes_eq}
+-- Honest servers: what they answer, and that a verdict has the block of the database that they hold, each the whole of it or
+-- a share (Goldberg 2007; in the XOR scheme Chor, Goldreich, Kushilevitz and Sudan 1995).
+use Rattle.std.specs.Prelude.{◌≡◌, ℕ, ◌+◌, ◌-◌, ◌*◌, ◌<◌, ◌≤◌, Bool, false, Option, None, Some, List, [], ◌∷◌, ◌++◌}
+use Rattle.std.specs.Prelude.{length, slice_index, slice_index_or, Contains, count_by, bytes_eq}
 use Rattle.std.specs.List.{range_with_len}
 use Rattle.gf256.specs.Product.{IsMatrix, product}
 use Rattle.wire_frames.specs.declared.session.SessionParams.{SessionParams}
@@ -16,11 +17,9 @@ use Rattle.block_decoder.specs.Verdict.{ListsAtMostOne}
 use Rattle.block_decoder.specs.declared.verdict.Verdict.{Verdict}
 use Rattle.block_decoder.specs.declared.verdict.Verdict.TheVariants.{Listed}
 use Rattle.wire_frames.specs.Turns.{in_turn}
+use Rattle.fetch_client.specs.Plan.{with_degree}
+use Rattle.fetch_client.specs.Held.{block_of, held_by}
 use Rattle.fetch_client.specs.Sent.{vector_at}
-
--- the block with this number: a row of the matrix
-abbrev pub block_of : List (List ℕ) → ℕ → List ℕ
-block_of matrix block = slice_index_or matrix block []
 
 -- the blocks with these numbers, one behind another
 abbrev pub blocks_of : List (List ℕ) → List ℕ → List ℕ
@@ -48,11 +47,18 @@ answer_by p matrix coins blocks i = in_turn (length blocks) (answer_at p matrix 
 unfoldable pub honest_frame : SessionParams → List (List ℕ) → List ℕ → List ℕ → ℕ → List ℕ
 honest_frame p matrix coins blocks i = answer_header (asked p i) 0 ++ answer_by p matrix coins blocks i
 
--- at least h of a session's usable answers are those of honest servers that hold the matrix
-pub record IsHonest (session : Transcript) (matrix : List (List ℕ)) (coins blocks : List ℕ) : Type 0 where
+-- how many coins the shares of a database of that shape take: tau for each byte
+abbrev pub AreShareCoins : SessionParams → ℕ → List ℕ → Type 0
+AreShareCoins p tau share_coins = length share_coins ≡ p.r * p.s * tau
+
+-- at least h of a session's usable answers to queries of degree t are those of honest servers, each of which holds the matrix
+-- or, where tau isn't 0, its share of degree tau by these coins
+pub record IsHonest (session : Transcript) (t tau : ℕ) (matrix : List (List ℕ)) (share_coins coins blocks : List ℕ) : Type 0 where
   pub matrix_is : IsMatrix matrix session.params.r session.params.s
-  pub enough : session.params.h
-      ≤ count_by (λ a. bytes_eq a.payload (answer_by session.params matrix coins blocks a.index)) (answers session)
+  pub shared : AreShareCoins session.params tau share_coins
+  pub enough : session.params.h ≤ count_by (λ a. bytes_eq a.payload
+      (answer_by (with_degree t session.params) (held_by tau matrix session.params.s share_coins a.index) coins blocks a.index))
+      (answers session)
 
 -- whether a server's record is this frame
 abbrev pub is_frame : List ℕ → Option (List ℕ) → Bool
@@ -63,20 +69,22 @@ is_frame frame (Some bytes) = bytes_eq bytes frame
 abbrev pub record_by : Transcript → ℕ → Option (List ℕ)
 record_by session i = slice_index_or session.records (i - 1) None
 
--- at least h of a session's records are the frames of honest servers that hold the matrix
-pub record HonestRecords (session : Transcript) (matrix : List (List ℕ)) (coins blocks : List ℕ) : Type 0 where
+-- at least h of a session's records are the frames of such servers
+pub record HonestRecords (session : Transcript) (t tau : ℕ) (matrix : List (List ℕ)) (share_coins coins blocks : List ℕ) : Type 0 where
   pub matrix_is : IsMatrix matrix session.params.r session.params.s
-  pub enough : session.params.h
-      ≤ count_by (λ i. is_frame (honest_frame session.params matrix coins blocks i) (record_by session i))
+  pub shared : AreShareCoins session.params tau share_coins
+  pub enough : session.params.h ≤ count_by (λ i. is_frame
+      (honest_frame (with_degree t session.params) (held_by tau matrix session.params.s share_coins i) coins blocks i)
+      (record_by session i))
       (range_with_len 1 (length session.records))
 
 -- each of the session's n records is the frame of an honest server that holds the matrix
-pub record AllHonest (session : Transcript) (matrix : List (List ℕ)) (coins blocks : List ℕ) : Type 0 where
+pub record AllHonest (session : Transcript) (t : ℕ) (matrix : List (List ℕ)) (coins blocks : List ℕ) : Type 0 where
   pub matrix_is : IsMatrix matrix session.params.r session.params.s
   pub each : (i : ℕ) → 1 ≤ i → i ≤ session.params.n
-      → record_by session i ≡ Some (honest_frame session.params matrix coins blocks i)
+      → record_by session i ≡ Some (honest_frame (with_degree t session.params) matrix coins blocks i)
 
--- 2 h > k + t, for k usable answers: so no two blocks are agreed on
+-- 2 h > k + t, for k usable answers and the session's degree t: so no two blocks are agreed on
 abbrev pub IsClose : Transcript → Type 0
 IsClose session = length (answers session) + session.params.t < 2 * session.params.h
 
@@ -88,21 +96,23 @@ ListsAmong verdict block = (blocks : List (List ℕ)) → verdict ≡ Listed blo
 abbrev pub ListsAlone : Verdict → List ℕ → Type 0
 ListsAlone verdict block = verdict ≡ Listed (block ∷ [])
 
--- whatever the matrix that enough honest servers hold: where the verdict lists blocks, the asked ones, as one, are among them, and
--- where 2 h > k + t, the verdict lists that alone. The same where enough records are the frames of such servers. Whatever
--- the answers: where h <= k and 2 h > k + t, one block is listed, or none. In the XOR scheme, where h is n, enough honest
--- servers are all, and the verdict lists their block alone
-pub record FindsHonestBlock (session : Transcript) (coins blocks : List ℕ) (verdict : Verdict) : Type 0 where
-  pub listed : (matrix : List (List ℕ)) → IsHonest session matrix coins blocks
+-- whatever the matrix that enough honest servers hold, or in shares of degree tau by whatever coins: where the verdict lists
+-- blocks, the asked ones, as one, are among them, and where 2 h > k + t for the session's degree, the verdict lists that alone.
+-- The same where enough records are the frames of such servers. Whatever the answers: where h <= k and 2 h > k + t, one block
+-- is listed, or none. In the XOR scheme, where h is n, enough honest servers are all, and the verdict lists their block alone.
+-- The queries have degree t, and the session the degree t + tau
+pub record FindsHonestBlock (session : Transcript) (t tau : ℕ) (coins blocks : List ℕ) (verdict : Verdict) : Type 0 where
+  pub listed : (matrix : List (List ℕ)) (share_coins : List ℕ) → IsHonest session t tau matrix share_coins coins blocks
       → ListsAmong verdict (blocks_of matrix blocks)
-  pub alone : (matrix : List (List ℕ)) → IsHonest session matrix coins blocks → IsClose session
-      → ListsAlone verdict (blocks_of matrix blocks)
+  pub alone : (matrix : List (List ℕ)) (share_coins : List ℕ) → IsHonest session t tau matrix share_coins coins blocks
+      → IsClose session → ListsAlone verdict (blocks_of matrix blocks)
   pub close : session.params.h ≤ length (answers session) → IsClose session → ListsAtMostOne verdict
-  pub listed_by_frames : (matrix : List (List ℕ)) → HonestRecords session matrix coins blocks
-      → ListsAmong verdict (blocks_of matrix blocks)
-  pub alone_by_frames : (matrix : List (List ℕ)) → HonestRecords session matrix coins blocks → IsClose session
+  pub listed_by_frames : (matrix : List (List ℕ)) (share_coins : List ℕ)
+      → HonestRecords session t tau matrix share_coins coins blocks → ListsAmong verdict (blocks_of matrix blocks)
+  pub alone_by_frames : (matrix : List (List ℕ)) (share_coins : List ℕ)
+      → HonestRecords session t tau matrix share_coins coins blocks → IsClose session
       → ListsAlone verdict (blocks_of matrix blocks)
-  pub xor : session.params.scheme ≡ XOR → (matrix : List (List ℕ)) → IsHonest session matrix coins blocks
-      → ListsAlone verdict (blocks_of matrix blocks)
-  pub xor_by_frames : session.params.scheme ≡ XOR → (matrix : List (List ℕ)) → AllHonest session matrix coins blocks
+  pub xor : session.params.scheme ≡ XOR → (matrix : List (List ℕ)) (share_coins : List ℕ)
+      → IsHonest session t tau matrix share_coins coins blocks → ListsAlone verdict (blocks_of matrix blocks)
+  pub xor_by_frames : session.params.scheme ≡ XOR → (matrix : List (List ℕ)) → AllHonest session t matrix coins blocks
       → ListsAlone verdict (blocks_of matrix blocks)

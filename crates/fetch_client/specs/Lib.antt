@@ -2,6 +2,8 @@ pub mod Plan
 pub mod Queries
 pub mod Sent
 pub mod Link
+pub mod Rounds
 pub mod Tossed
+pub mod Held
 pub mod Honest
 pub mod Fetched

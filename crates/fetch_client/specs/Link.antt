@@ -1,5 +1,5 @@
 -- What happens on one link.
-use Rattle.std.specs.Prelude.{ℕ, ◌≡◌, ◌<◌, ◌≤◌, ◌⊎◌, List, length, take, Option, Some, None, IfSome}
+use Rattle.std.specs.Prelude.{ℕ, ◌≡◌, ◌<◌, ◌≤◌, ◌⊎◌, List, length, take, Bool, true, false, Option, Some, None, IfSome}
 use Rattle.pir_ports.specs.World.{Cell}
 use Rattle.pir_ports.specs.Moves.{Rose, took, gave, named, counted}
 
@@ -36,3 +36,42 @@ pub record LinkBreaks (address frame : List ℕ) (most : ℕ) (old new : Cell) :
 abbrev pub LinkAsked : List ℕ → List ℕ → ℕ → Option (List ℕ) → Cell → Cell → Type 0
 LinkAsked address frame most (Some bytes) old new = LinkAnswers address frame most bytes old new
 LinkAsked address frame most None old new = LinkBreaks address frame most old new
+
+-- the link was opened once, took the whole frame, and handed out nothing
+abbrev pub TakesFrame : List ℕ → List ℕ → Cell → Cell → Type 0
+TakesFrame address frame old new = new ≡ gave frame (named address old)
+
+-- a call failed that was to open the link, or to give it the frame, and none came after it
+pub record FailsToBeAsked (address frame : List ℕ) (old new : Cell) : Type 0 where
+  pub how : FailsToOpen old new ⊎ FailsToTake address frame old new
+  pub rose : Rose old.faults new.faults
+
+-- what a link did when its server was sent the frame, by whether it was reached: whether the link took the whole of it
+abbrev pub LinkSent : List ℕ → List ℕ → Bool → Cell → Cell → Type 0
+LinkSent address frame true old new = TakesFrame address frame old new
+LinkSent address frame false old new = FailsToBeAsked address frame old new
+
+-- the link handed out these bytes: the first that it held, up to so many
+pub record HandsAnswer (most : ℕ) (bytes : List ℕ) (old new : Cell) : Type 0 where
+  pub cell : new ≡ took (length bytes) old
+  pub short : length bytes ≤ most
+  pub told : IfSome old.holds (λ held. bytes ≡ take most held)
+
+-- the link handed out fewer bytes than a whole answer has; and then a call failed, and none came after it
+pub record FailsToHand (most : ℕ) (old new : Cell) : Type 0 where
+  pub m : ℕ
+  pub fewer : m < most
+  pub held : IfSome old.holds (λ held. m ≤ length held)
+  pub cell : new ≡ counted new.faults (took m old)
+  pub rose : Rose old.faults new.faults
+
+-- what a link did when the answer was taken of a server that was reached, by the record: the bytes, or none where a call failed
+abbrev pub ReachedTaken : ℕ → Option (List ℕ) → Cell → Cell → Type 0
+ReachedTaken most (Some bytes) old new = HandsAnswer most bytes old new
+ReachedTaken most None old new = FailsToHand most old new
+
+-- what a link did when the answers were taken, by whether its server was reached: if it wasn't, nothing was done with the
+-- link, and there is no record
+abbrev pub LinkTaken : ℕ → Bool → Option (List ℕ) → Cell → Cell → Type 0
+LinkTaken most true answer old new = ReachedTaken most answer old new
+LinkTaken most false answer old new = (answer ≡ None) × (new ≡ old)

@@ -1,6 +1,7 @@
 -- The plan of a fetch.
-use Rattle.std.specs.Prelude.{ℕ, ◌+◌, ◌-◌, ◌*◌, ◌<◌, ◌≤◌, ◌==◌, if◌then◌else◌, List, length, All}
+use Rattle.std.specs.Prelude.{ℕ, ◌≡◌, ◌+◌, ◌-◌, ◌*◌, ◌<◌, ◌≤◌, ◌==◌, if◌then◌else◌, List, length, All}
 use Rattle.wire_frames.specs.declared.session.SessionParams.{SessionParams}
+use Rattle.wire_frames.specs.declared.scheme.TheConstants.{XOR}
 use Rattle.wire_frames.specs.declared.scheme.Scheme.{Scheme}
 use Rattle.wire_frames.specs.declared.scheme.Scheme.TheVariants.{Shamir, Xor}
 use Rattle.wire_frames.specs.Limits.{IsInRange}
@@ -14,12 +15,13 @@ use Rattle.fetch_client.specs.declared.plan.FetchPlan.{FetchPlan}
 unfoldable pub version_for : ℕ → ℕ
 version_for count = if count == 1 then SINGLE else SEVERAL
 
--- the numbers of the session in which so many blocks are fetched by a plan, which has this number
+-- the numbers of the session in which so many blocks are fetched by a plan, which has this number. The degree of its answers is
+-- that of the queries and that of the shares of the database together
 abbrev pub params_of : FetchPlan → ℕ → ℕ → SessionParams
 params_of p count number = record {
   version = version_for count;
   scheme = p.scheme;
-  t = p.t;
+  t = p.t + p.tau;
   h = p.h;
   n = p.n;
   count = count;
@@ -28,9 +30,19 @@ params_of p count number = record {
   s = p.s;
 }
 
--- its numbers are those of a session
-abbrev pub IsPlan : FetchPlan → Type 0
-IsPlan p = IsInRange (record (params_of p 1 0) { version = SINGLE })
+-- the numbers of a session, with this degree for its own
+abbrev pub with_degree : ℕ → SessionParams → SessionParams
+with_degree t p = record p { t = t }
+
+-- the numbers by which its queries are made: those of the session, with the degree of the queries alone
+abbrev pub query_params : FetchPlan → ℕ → ℕ → SessionParams
+query_params p count number = with_degree p.t (params_of p count number)
+
+-- its numbers are those of a session, its queries hide the block, and in the XOR scheme the database isn't shared
+pub record IsPlan (p : FetchPlan) : Type 0 where
+  pub numbers : IsInRange (record (params_of p 1 0) { version = SINGLE })
+  pub private : 1 ≤ p.t
+  pub held_whole : p.scheme ≡ XOR → p.tau ≡ 0
 
 -- these are blocks that may be asked for at once: some, and each of the database
 pub record AreBlocks (p : FetchPlan) (blocks : List ℕ) : Type 0 where
@@ -51,4 +63,4 @@ query_coins p = coins_for (scheme_of p.scheme) p
 
 -- how many coins a plan needs for so many blocks: those of the session's number, and those of the queries
 abbrev pub need : FetchPlan → ℕ → ℕ
-need p count = NUMBER_LEN + count * query_coins (params_of p 1 0)
+need p count = NUMBER_LEN + count * query_coins (query_params p 1 0)

@@ -15,7 +15,7 @@ use Rattle.chor_xor.specs.Bitmap.{bitmap}
 use Rattle.shamir_share.specs.Query.{query}
 use Rattle.fetch_client.specs.declared.coins.TheConstants.{NUMBER_LEN}
 use Rattle.fetch_client.specs.declared.plan.FetchPlan.{FetchPlan}
-use Rattle.fetch_client.specs.Plan.{params_of, query_coins}
+use Rattle.fetch_client.specs.Plan.{params_of, query_coins, query_params}
 
 -- the number of the session: that in the first coins
 unfoldable pub session_number : List ℕ → ℕ
@@ -55,4 +55,4 @@ payload_for p coins blocks i = in_turn (length blocks) (vector_at p coins blocks
 unfoldable pub sent : FetchPlan → List ℕ → List ℕ → ℕ → List ℕ
 sent p blocks coins i =
     query_header (header_to p (length blocks) coins i)
-    ++ payload_for (params_of p (length blocks) (session_number coins)) (queries_from coins) blocks i
+    ++ payload_for (query_params p (length blocks) (session_number coins)) (queries_from coins) blocks i

@@ -12,9 +12,9 @@ ghost use Rattle.fetch_client.specs.Honest.{FindsHonestBlock};
 ghost use Rattle.fetch_client.specs.Fetched.{AsksServers, FetchCounts, Fetches, TouchesLinks};
 
 use crate::laws::honest_block_is_found;
-use crate::links::ask_next;
 use crate::plan::{FetchFault, FetchPlan};
 use crate::queries::Queries;
+use crate::rounds::{ask_all, take_all};
 use block_decoder::{Verdict, judge};
 use gs_interpolate::Interpolate;
 use pir_ports::Ports;
@@ -23,13 +23,14 @@ use std::sync::ledger::Ledger;
 use uni_poly::steps::Steps;
 use wire_frames::Session;
 
-/// The memory that a fetch takes, beside the coins, before anything is touched: a session with no record yet, and
-/// room for one query and for one answer.
+/// The memory that a fetch takes, beside the coins, before anything is touched: a session with no record yet, room for
+/// one query and for one answer, and for each server a mark, whether it was reached.
 #[derive(Drop)]
 struct Room {
     session: Session,
     frame: Vec<u8>,
     answer: Vec<u8>,
+    reached: Vec<bool>,
 }
 
 /// Takes that memory.
@@ -38,16 +39,18 @@ fn room_for(alloc: Global, queries: &Queries) -> Result<Room, AllocError>
         room.session ≡ record { params = params_of queries.now.plan (length queries.now.blocks) 0; records = [] }) }
     ensures frame { IfOk result (λ room. vec_len room.frame ≡ frame_len queries.now.plan (length queries.now.blocks)) }
     ensures answer { IfOk result (λ room. vec_len room.answer ≡ answer_len (length queries.now.blocks) queries.now.plan.s) }
+    ensures reached { IfOk result (λ room. vec_len room.reached ≡ queries.now.plan.n) }
 {
     Ok(Room {
         session: Session::new(alloc, queries.params())?,
         frame: vec![in alloc; 0; queries.frame_len()]?,
         answer: vec![in alloc; 0; queries.answer_len()]?,
+        reached: vec![in alloc; false; usize::from(queries.servers())]?,
     })
 }
 
-/// Takes the coins, gives the session its number, and asks every server, one after the other. No server is left out,
-/// whatever the others answer.
+/// Takes the coins, gives the session its number, asks every server, and then takes the answer of each. No server is
+/// left out of either round, whatever the others answer.
 ///
 /// # Errors
 ///
@@ -56,26 +59,30 @@ fn ask_servers<P: Ports>(
     queries: &mut Queries,
     addresses: &[String],
     ports: &mut P,
-    frame: &mut [u8],
-    answer: &mut [u8],
-    session: &mut Session,
+    room: &mut Room,
 ) -> Result<(), FetchFault>
     requires addresses { length addresses.now ≡ queries.old.plan.n }
-    requires frame { length frame.old ≡ frame_len queries.old.plan (length queries.old.blocks) }
-    requires answer { length answer.old ≡ answer_len (length queries.old.blocks) queries.old.plan.s }
-    requires session { session.old ≡ record { params = params_of queries.old.plan (length queries.old.blocks) 0; records = [] } }
+    requires session { room.old.session
+        ≡ record { params = params_of queries.old.plan (length queries.old.blocks) 0; records = [] } }
+    requires frame { vec_len room.old.frame ≡ frame_len queries.old.plan (length queries.old.blocks) }
+    requires answer { vec_len room.old.answer ≡ answer_len (length queries.old.blocks) queries.old.plan.s }
+    requires reached { vec_len room.old.reached ≡ queries.old.plan.n }
     ensures plan { queries.new.plan ≡ queries.old.plan }
     ensures blocks { queries.new.blocks ≡ queries.old.blocks }
-    ensures asked { AsksServers queries.old.plan queries.old.blocks (map string_bytes addresses.now) result queries.new.coins session.new
-        (P.world ports.old) (P.world ports.new) }
+    ensures asked { AsksServers queries.old.plan queries.old.blocks (map string_bytes addresses.now) result
+        queries.new.coins room.new.session (P.world ports.old) (P.world ports.new) }
     ensures others { TouchesLinks queries.old.plan.n (P.world ports.old) (P.world ports.new) }
 {
     queries.take_coins(ports)?;
-    session.set_session(queries.session_number());
-    'links: for index in 1..queries.servers() + 1 {
-        let address = &addresses[usize::from(index) - 1];
-        ask_next(queries, index, address, ports, frame, answer, session);
-    }
+    room.session.set_session(queries.session_number());
+    ask_all(
+        queries,
+        addresses,
+        ports,
+        &mut room.frame,
+        &mut room.reached,
+    );
+    take_all(&room.reached, ports, &mut room.answer, &mut room.session);
     Ok(())
 }
 
@@ -96,11 +103,12 @@ fn conclude<I: Interpolate, C: Ledger, N: Ledger>(
         (length queries.now.blocks) (session_number queries.now.coins) }
     requires all { length session.now.records ≡ queries.now.plan.n }
     ensures judged { IfOk result (IsVerdict session.now) }
-    ensures found { IfOk result (FindsHonestBlock session.now (queries_from queries.now.coins) queries.now.blocks) }
+    ensures found { IfOk result (FindsHonestBlock session.now queries.now.plan.t queries.now.plan.tau
+        (queries_from queries.now.coins) queries.now.blocks) }
     ensures cols { cols.new ≤ cols.old + most_columns (length (answers session.now))
-        queries.now.plan.t queries.now.plan.h (length queries.now.blocks * queries.now.plan.s) }
+        (queries.now.plan.t + queries.now.plan.tau) queries.now.plan.h (length queries.now.blocks * queries.now.plan.s) }
     ensures nodes { nodes.new ≤ nodes.old + most_nodes (length (answers session.now))
-        queries.now.plan.t queries.now.plan.h (length queries.now.blocks * queries.now.plan.s) }
+        (queries.now.plan.t + queries.now.plan.tau) queries.now.plan.h (length queries.now.blocks * queries.now.plan.s) }
     ensures least { cols.old ≤ cols.new }
     ensures least_nodes { nodes.old ≤ nodes.new }
     ensures listed { queries.now.plan.scheme ≡ SHAMIR
@@ -108,23 +116,31 @@ fn conclude<I: Interpolate, C: Ledger, N: Ledger>(
     ensures xor { queries.now.plan.scheme ≡ XOR → (cols.new ≡ cols.old) × (nodes.new ≡ nodes.old) }
 {
     let verdict = judge(alloc, way, session, cols, nodes)?;
-    honest_block_is_found(session, queries.query_coins(), queries.blocks(), &verdict);
+    let FetchPlan { t, tau, .. } = queries.plan();
+    honest_block_is_found(
+        session,
+        t,
+        tau,
+        queries.query_coins(),
+        queries.blocks(),
+        &verdict,
+    );
     Ok(verdict)
 }
 
-/// Fetches blocks, from 1 to [`MOST_BLOCKS`](wire_frames::MOST_BLOCKS) in one query: takes the coins, asks every server, and judges what they answered. Coins is open already; there
-/// is one address for each server, in the order of their indices. Where the verdict takes an interpolation with
-/// multiplicities, it is made in this `way`. `cols` and `nodes` count the steps of the verdict, as in [`judge`]: the
-/// columns that are decoded, and the coefficients that are fixed in looking for roots. The XOR scheme takes no such
-/// step.
+/// Fetches blocks, from 1 to [`MOST_BLOCKS`](wire_frames::MOST_BLOCKS) in one query: takes the coins, asks every
+/// server, and judges what they answered. Coins is open already; there is one address for each server, in the order
+/// of their indices. Where the verdict takes an interpolation with multiplicities, it is made in this `way`. `cols`
+/// and `nodes` count the steps of the verdict, as in [`judge`]: the columns that are decoded, and the coefficients
+/// that are fixed in looking for roots. The XOR scheme takes no such step.
 ///
 /// All memory but that for judging is taken first. Then the coins are taken: 8 bytes for the number of the session,
 /// and for the queries, for each block, `r * t`, which is `t` for each row, or in the XOR scheme
-/// `(n - 1) * ceil(r / 8)`, a bitmap for each server but the last. Then each server in turn is sent its query, whose
-/// payload has for each block r bytes or, in the XOR scheme, `ceil(r / 8)`: of version 1 for one block, and else of
-/// version 2; and of its answer as many bytes as a whole one has are taken. A server whose link fails has
-/// no record: nothing is done with a link after a failed call. None is left out, and no byte that is sent depends on
-/// an answer.
+/// `(n - 1) * ceil(r / 8)`, a bitmap for each server but the last. Then each server, in the order of their indices, is
+/// sent its query, whose payload has for each block r bytes or, in the XOR scheme, `ceil(r / 8)`: of version 1 for one
+/// block, and else of version 2. When all were sent theirs, of the answer of each, in the same order, as many bytes as
+/// a whole one has are taken. A server whose link fails has no record: nothing is done with a link after a failed call.
+/// None is left out, and no byte that is sent depends on an answer.
 ///
 /// # Errors
 ///
@@ -157,14 +173,7 @@ pub fn fetch<I: Interpolate, C: Ledger, N: Ledger, P: Ports>(
 {
     let mut queries = Queries::with_room(alloc, plan, blocks)?;
     let mut room = room_for(alloc, &queries)?;
-    ask_servers(
-        &mut queries,
-        addresses,
-        ports,
-        &mut room.frame,
-        &mut room.answer,
-        &mut room.session,
-    )?;
+    ask_servers(&mut queries, addresses, ports, &mut room)?;
     let verdict = conclude(alloc, way, &queries, &room.session, cols, nodes)?;
     Ok((room.session, verdict))
 }

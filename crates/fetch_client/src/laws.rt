@@ -1,37 +1,51 @@
 //! The law of the honest servers, as a call whose contract is the law. A call changes nothing.
 
-ghost use Rattle.std.specs.Prelude.{ℕ, List, ◌≡◌, ◌*◌, ◌<◌, length, All};
+ghost use Rattle.std.specs.Prelude.{ℕ, List, ◌≡◌, ◌+◌, ◌*◌, ◌<◌, length, All};
+ghost use Rattle.wire_frames.specs.declared.scheme.TheConstants.{XOR};
 ghost use Rattle.block_decoder.specs.Verdict.{IsVerdict};
 ghost use Rattle.fetch_client.specs.Honest.{FindsHonestBlock, HonestRecords, IsHonest};
-ghost use Rattle.fetch_client.specs.Plan.{query_coins};
+ghost use Rattle.fetch_client.specs.Plan.{query_coins, with_degree};
 
 use block_decoder::Verdict;
 use wire_frames::Session;
 
 /// Where `h` or more of the usable answers of a session are those of honest servers that hold one matrix, a verdict that
-/// lists blocks lists the row of the matrix that was asked for, and where `2h > k + t`, for k usable answers, the verdict
-/// lists it alone (Goldberg 2007). The same where `h` or more of the records are the frames of such servers. Whatever the
-/// servers did, where `h <= k` and `2h > k + t` the verdict lists one block, or none. In the XOR scheme, where `h` is `n`,
-/// the verdict lists the row alone where all `n` servers are honest (Chor, Goldreich, Kushilevitz and Sudan 1995).
+/// lists blocks lists the row of the matrix that was asked for, and where `2h > k + t + tau`, for k usable answers, the
+/// verdict lists it alone (Goldberg 2007). Where `tau` isn't 0, each of these servers holds its share of the matrix alone,
+/// of degree `tau` and by whatever coins. The same where `h` or more of the records are the frames of such servers.
+/// Whatever the servers did, where `h <= k` and `2h > k + t + tau` the verdict lists one block, or none. In the XOR scheme,
+/// where `h` is `n` and `tau` is 0, the verdict lists the row alone where all `n` servers are honest (Chor, Goldreich,
+/// Kushilevitz and Sudan 1995).
 ///
-/// The queries are those of these coins for the rows `blocks`, which are as many as the session asks for, and whose rows
-/// count as one: there are for each block `r * t` coins, or in the XOR scheme `(n - 1) * ceil(r / 8)`.
-pub fn honest_block_is_found(session: &Session, coins: &[u8], blocks: &[u32], verdict: &Verdict)
+/// The queries are those of degree `t` by these coins for the rows `blocks`, which are as many as the session asks for, and
+/// whose rows count as one: there are for each block `r * t` coins, or in the XOR scheme `(n - 1) * ceil(r / 8)`. The
+/// degree of the session is `t + tau`.
+pub fn honest_block_is_found(
+    session: &Session,
+    t: u8,
+    tau: u8,
+    coins: &[u8],
+    blocks: &[u32],
+    verdict: &Verdict,
+)
     requires count { length blocks.now ≡ session.now.params.count }
-    requires coins { length coins.now ≡ length blocks.now * query_coins session.now.params }
+    requires degree { session.now.params.t ≡ t + tau }
+    requires held_whole { session.now.params.scheme ≡ XOR → tau ≡ 0 }
+    requires coins { length coins.now ≡ length blocks.now * query_coins (with_degree t session.now.params) }
     requires blocks { All (λ b. b < session.now.params.r) blocks.now }
     requires verdict { IsVerdict session.now verdict.now }
-    ensures { FindsHonestBlock session.now coins.now blocks.now verdict.now }
+    ensures { FindsHonestBlock session.now t tau coins.now blocks.now verdict.now }
 {
     // What holds of every session is told by its calls alone.
     session.params();
     session.record_count();
 }
 
-/// Where `h` or more of the records of a session are, byte by byte, the frames in which honest servers that hold one
-/// matrix answer, so many of the usable answers are honest.
-pub fn honest_frames_are_usable(session: &Session, coins: &[u8], blocks: &[u32])
+/// Where `h` or more of the records of a session are, byte by byte, the frames in which honest servers answer that hold one
+/// matrix, or their shares of it, so many of the usable answers are honest.
+pub fn honest_frames_are_usable(session: &Session, t: u8, tau: u8, coins: &[u8], blocks: &[u32])
     requires { length blocks.now ≡ session.now.params.count }
-    ensures { (matrix : List (List ℕ)) → HonestRecords session.now matrix coins.now blocks.now
-        → IsHonest session.now matrix coins.now blocks.now }
+    ensures { (matrix : List (List ℕ)) (share_coins : List ℕ)
+        → HonestRecords session.now t tau matrix share_coins coins.now blocks.now
+        → IsHonest session.now t tau matrix share_coins coins.now blocks.now }
 {}

@@ -3,7 +3,7 @@
 ghost use Rattle.std.specs.Prelude.{◌≡◌, ◌≤◌};
 ghost use Rattle.wire_frames.specs.declared.TheConstants.{MOST_CELLS};
 ghost use Rattle.wire_frames.specs.Scheme.{scheme_of};
-ghost use Rattle.fetch_client.specs.Plan.{IsPlan, need, params_of, query_coins};
+ghost use Rattle.fetch_client.specs.Plan.{IsPlan, need, params_of, query_coins, query_params};
 
 use crate::coins::NUMBER_LEN;
 use std::alloc::AllocError;
@@ -18,6 +18,9 @@ pub struct FetchPlan {
     /// So many servers together learn nothing of the block. In Shamir's sharing this is the degree of the queries'
     /// polynomials; in the XOR scheme it is `n - 1`.
     pub t: u8,
+    /// So many servers together can't read the database: the degree in which it is shared among them, and 0 where each
+    /// server holds the whole of it, as in the XOR scheme. The degree of the session is `t + tau`.
+    pub tau: u8,
     /// How many answers have to agree: in the XOR scheme all `n`.
     pub h: u8,
     /// The number of servers.
@@ -32,12 +35,13 @@ impl FetchPlan {
     /// The numbers of the session in which so many blocks are fetched, but for the session's number, which is 0.
     #[tactic(auto, unfolding(crate::specs::Plan::version_for))]
     pub(crate) fn params(&self, count: u8) -> SessionParams
+        requires { IsPlan self.now }
         ensures { result ≡ params_of self.now count 0 }
     {
         SessionParams {
             version: if count == 1 { SINGLE } else { SEVERAL },
             scheme: self.scheme,
-            t: self.t,
+            t: self.t + self.tau,
             h: self.h,
             n: self.n,
             count,
@@ -59,7 +63,7 @@ impl FetchPlan {
     #[tactic(auto, unfolding(crate::specs::Plan::query_coins))]
     pub(crate) fn query_coins(&self) -> usize
         requires { IsPlan self.now }
-        ensures is { result ≡ query_coins (params_of self.now 1 0) }
+        ensures is { result ≡ query_coins (query_params self.now 1 0) }
         ensures few { result ≤ MOST_CELLS }
     {
         let scheme = self.scheme();

@@ -8,7 +8,7 @@ ghost use Rattle.wire_frames.specs.Header.{query_header};
 ghost use Rattle.wire_frames.specs.Limits.{IsInRange};
 ghost use Rattle.wire_frames.specs.Scheme.{scheme_of, payload_len};
 ghost use Rattle.wire_frames.specs.Sizes.{answer_len};
-ghost use Rattle.fetch_client.specs.Plan.{AreBlocks, IsPlan, need, params_of, query_coins};
+ghost use Rattle.fetch_client.specs.Plan.{AreBlocks, IsPlan, need, params_of, query_coins, query_params};
 ghost use Rattle.fetch_client.specs.Sent.{frame_len, header_to, payload_for, payload_to, queries_from, sent, session_number};
 ghost use Rattle.fetch_client.specs.Tossed.{TakesCoins};
 
@@ -80,6 +80,14 @@ impl<'a> Queries<'a> {
         take_coins(ports, &mut self.coins)
     }
 
+    /// The plan by which they are asked.
+    pub(crate) fn plan(&self) -> FetchPlan
+        ensures is { result ≡ self.now.plan }
+        ensures is_plan { IsPlan self.now.plan }
+    {
+        self.plan
+    }
+
     /// The number of servers.
     pub(crate) fn servers(&self) -> u8
         ensures is { result ≡ self.now.plan.n }
@@ -124,7 +132,7 @@ impl<'a> Queries<'a> {
     pub(crate) fn query_coins(&self) -> &[u8]
         ensures is { result.now ≡ queries_from self.now.coins }
         ensures size { length (queries_from self.now.coins)
-            ≡ length self.now.blocks * query_coins (params_of self.now.plan 1 0) }
+            ≡ length self.now.blocks * query_coins (query_params self.now.plan 1 0) }
     {
         &self.coins[NUMBER_LEN..]
     }
@@ -162,9 +170,9 @@ impl<'a> Queries<'a> {
         requires first { 1 ≤ index }
         requires last { index ≤ self.now.plan.n }
         requires block { block < self.now.plan.r }
-        requires coins { length coins.now ≡ query_coins (params_of self.now.plan 1 0) }
+        requires coins { length coins.now ≡ query_coins (query_params self.now.plan 1 0) }
         requires room { length out.old ≡ payload_len (scheme_of self.now.plan.scheme) self.now.plan.r }
-        ensures { out.new ≡ payload_to (params_of self.now.plan 1 0) coins.now block index }
+        ensures { out.new ≡ payload_to (query_params self.now.plan 1 0) coins.now block index }
     {
         let FetchPlan { t, n, r, .. } = self.plan;
         match self.plan.scheme() {
@@ -179,7 +187,7 @@ impl<'a> Queries<'a> {
         requires last { index ≤ self.now.plan.n }
         requires room { length out.old ≡ length self.now.blocks
             * payload_len (scheme_of self.now.plan.scheme) self.now.plan.r }
-        ensures { out.new ≡ payload_for (params_of self.now.plan 1 0) (queries_from self.now.coins)
+        ensures { out.new ≡ payload_for (query_params self.now.plan 1 0) (queries_from self.now.coins)
             self.now.blocks index }
     {
         let coins = self.query_coins();

@@ -244,23 +244,44 @@ start-leads rows s some few all sorted = record {
   inside = λ none j lt at_j. (omega arith, omega arith);
 }
 
+-- after all turns none of the rows is left that may still have the key
+none-led : (s : Standing) (rows : List (List ℕ)) → Leads rows s 0 → s.found ≡ None → row_with s.key rows ≡ None
+none-led s rows h none =
+    row_with-none s.key rows (λ j lt at_j.
+    let left = h.inside none j lt at_j in
+    let few = h.few none in
+    let one = pow-zero 2 in
+    omega arith)
+
+found-led : (s : Standing) (rows : List (List ℕ)) (found : Option (List ℕ)) → s.found ≡ found → Leads rows s 0
+    → found ≡ row_with s.key rows
+found-led s rows None is h = sym (none-led s rows h is)
+found-led s rows (Some row) is h = sym (h.found row is)
+
 -- after all turns
 ends : (s : Standing) (rows : List (List ℕ)) (o : Outcome) → Leads rows s 0 → EndsAs s o → Finds s.key rows o
 ends s rows Lost h lost = absurd (cc (sym lost ∙ h.safe))
 ends s rows (Found row) h is = h.found row.now is.1
-ends s rows Absent h is =
-    row_with-none s.key rows (λ j lt at_j.
-    let left = h.inside is.1 j lt at_j in
-    let few = h.few is.1 in
-    let one = pow-zero 2 in
-    omega arith)
+ends s rows Absent h is = none-led s rows h is.1
+
+-- a look-up of rows that were asked for, in all turns, as it stands then
+led : (s : Standing) (rows : List (List ℕ)) (answers : List (Option (List ℕ)))
+    → 1 ≤ s.rows → s.rows < 2 ^ 32 → s.turn ≡ turns_of s.rows → IsLookUp rows s answers → Leads rows s 0
+led s rows answers some few turn h =
+    let count : length answers ≡ turns_of s.rows = omega (arith, ap (λ (t : Standing). t.turn) h.told_so, fold-turn answers (start_of s), turn) in
+    let begun = start-leads rows s some few h.all h.sorted in
+    let led = fold-leads answers rows (start_of s) (subst (λ (k : ℕ). Leads rows (start_of s) k) (sym count) begun) h.asked_for in
+    subst (λ (t : Standing). Leads rows t 0) (sym h.told_so) led
 
 -- a look-up finds the row with the key, or that there is none
 pub Finds-from : (s : Standing) (rows : List (List ℕ)) (answers : List (Option (List ℕ))) (o : Outcome)
     → 1 ≤ s.rows → s.rows < 2 ^ 32 → s.turn ≡ turns_of s.rows → EndsAs s o → IsLookUp rows s answers → Finds s.key rows o
-Finds-from s rows answers o some few turn is h =
-    let count : length answers ≡ turns_of s.rows = omega (arith, ap (λ (t : Standing). t.turn) h.told_so, fold-turn answers (start_of s), turn) in
-    let begun = start-leads rows s some few h.all h.sorted in
-    let led = fold-leads answers rows (start_of s) (subst (λ (k : ℕ). Leads rows (start_of s) k) (sym count) begun) h.asked_for in
-    let here = subst (λ (t : Standing). Leads rows t 0) (sym h.told_so) led in
-    ends s rows o here is
+Finds-from s rows answers o some few turn is h = ends s rows o (led s rows answers some few turn h) is
+
+-- so nothing was lost, and what it found is the row with the key, where there is one
+pub found-from : (s : Standing) (rows : List (List ℕ)) (answers : List (Option (List ℕ)))
+    → 1 ≤ s.rows → s.rows < 2 ^ 32 → s.turn ≡ turns_of s.rows → IsLookUp rows s answers
+    → (s.is_lost ≡ false) × (s.found ≡ row_with s.key rows)
+found-from s rows answers some few turn h =
+    let led = led s rows answers some few turn h in
+    (led.safe, found-led s rows s.found refl led)

@@ -16,6 +16,7 @@ impl fmt::Display for Shown<'_> {
             Asked::Serve { .. } => serve(f, self.0),
             Asked::Selfrun { .. } => selfrun(f, self.0),
             Asked::Demo { .. } => demo(f, self.0),
+            Asked::Lookup { .. } => lookup(f, self.0),
         }
     }
 }
@@ -58,6 +59,7 @@ fn fetch<W: Write>(f: &mut Formatter<W>, asked: &Asked) -> fmt::Result {
         width,
         blocks,
         degree,
+        tau,
         agree,
         coins,
         keep,
@@ -70,6 +72,9 @@ fn fetch<W: Write>(f: &mut Formatter<W>, asked: &Asked) -> fmt::Result {
     shape(f, *rows, *width)?;
     numbers(f, blocks.as_slice())?;
     agreement(f, *degree, *agree)?;
+    if *tau > 0 {
+        number(f, " tau", u64::from(*tau))?;
+    }
     text(f, " coins", coins.as_str())?;
     match keep {
         Some(name) => text(f, " record", name.as_str())?,
@@ -151,4 +156,33 @@ fn demo<W: Write>(f: &mut Formatter<W>, asked: &Asked) -> fmt::Result {
     number(f, " servers", u64::from(*servers))?;
     agreement(f, *degree, *agree)?;
     text(f, " coins", coins.as_str())
+}
+
+/// Writes `lookup` with its values, the key in hexadecimal.
+fn lookup<W: Write>(f: &mut Formatter<W>, asked: &Asked) -> fmt::Result {
+    let Asked::Lookup {
+        rows,
+        width,
+        key,
+        degree,
+        agree,
+        coins,
+        addresses,
+    } = asked
+    else {
+        return Ok(());
+    };
+    f.write_str("lookup")?;
+    shape(f, *rows, *width)?;
+    f.write_str(" key ")?;
+    for byte in key.as_slice() {
+        write!(f, "{byte:02x}")?;
+    }
+    agreement(f, *degree, *agree)?;
+    text(f, " coins", coins.as_str())?;
+    f.write_str(" from ")?;
+    for address in addresses.as_slice() {
+        write!(f, "<{address}>")?;
+    }
+    Ok(())
 }

@@ -20,7 +20,7 @@ use Rattle.pir_tool.specs.FetchOutcome.{InSession, FetchReported, FetchEnds, Tou
 use Rattle.pir_tool.specs.DemoOrder.{DemoOrder, plan_of, address_from, addresses_from, words_to_serve, words_of_children, fetch_from_children}
 use Rattle.pir_tool.specs.DemoOutcome.{StartsAll, StartsSome, Demonstrated, DemoOutcome, DemoPromise, DemoReported, files}
 use Rattle.pir_tool.specs.declared.status.Status.{Status}
-use Rattle.pir_tool.specs.declared.status.Status.TheVariants.{One, Usage, NoBlock, Several, TooFew, TooWeak, TooCostly, ReadFault, WriteFault, BadInput, DoorFault, ChildFault, Memory}
+use Rattle.pir_tool.specs.declared.status.Status.TheVariants.{One, Usage, NoBlock, Several, Absent, TooFew, TooWeak, TooCostly, ReadFault, WriteFault, BadInput, DoorFault, ChildFault, Memory}
 use Rattle.pir_tool.specs.declared.status.Bad.TheVariants.{CoinsEnded}
 use Rattle.pir_tool.proofs.Headline.{fetch_promised}
 use Rattle.pir_tool.proofs.Fetching.{recorded_before}
@@ -52,6 +52,7 @@ demonstrated_as o One old new d = d
 demonstrated_as o Usage old new d = d
 demonstrated_as o NoBlock old new d = d
 demonstrated_as o Several old new d = d
+demonstrated_as o Absent old new d = d
 demonstrated_as o (TooFew k h) old new d = d
 demonstrated_as o (TooWeak k t h) old new d = d
 demonstrated_as o (TooCostly equations) old new d = d
@@ -143,6 +144,7 @@ module _ (o : DemoOrder) (old new : World) (few : o.servers < 256) (none : NoneR
     demo_reported Usage enough d = reports Usage enough d
     demo_reported NoBlock enough d = reports NoBlock enough d
     demo_reported Several enough d = reports Several enough d
+    demo_reported Absent enough d = reports Absent enough d
     demo_reported (TooFew k h) enough d = reports (TooFew k h) enough d
     demo_reported (TooWeak k t h) enough d = reports (TooWeak k t h) enough d
     demo_reported (TooCostly equations) enough d = reports (TooCostly equations) enough d
@@ -159,6 +161,7 @@ module _ (o : DemoOrder) (old new : World) (few : o.servers < 256) (none : NoneR
     demo_too_few Usage short d = lacks Usage short d
     demo_too_few NoBlock short d = lacks NoBlock short d
     demo_too_few Several short d = lacks Several short d
+    demo_too_few Absent short d = lacks Absent short d
     demo_too_few (TooFew k h) short d = lacks (TooFew k h) short d
     demo_too_few (TooWeak k t h) short d = lacks (TooWeak k t h) short d
     demo_too_few (TooCostly equations) short d = lacks (TooCostly equations) short d

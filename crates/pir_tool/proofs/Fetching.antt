@@ -30,9 +30,9 @@ one_command wanted asked other a b = ap (λ (o : Option Command). unwrap_or o as
 
 -- an order for as many servers as it has addresses is the one that its command gives
 pub order_is : (o : FetchOrder) → o.plan.n ≡ length o.addresses
-    → order_of o.plan.scheme o.plan.r o.plan.s o.blocks o.plan.t o.plan.h o.coins o.keep o.addresses ≡ o
+    → order_of o.plan.scheme o.plan.r o.plan.s o.blocks o.plan.t o.plan.tau o.plan.h o.coins o.keep o.addresses ≡ o
 order_is o is = ap (λ (n : ℕ). record {
-  plan = record { scheme = o.plan.scheme; t = o.plan.t; h = o.plan.h; n = n; r = o.plan.r; s = o.plan.s };
+  plan = record { scheme = o.plan.scheme; t = o.plan.t; tau = o.plan.tau; h = o.plan.h; n = n; r = o.plan.r; s = o.plan.s };
   blocks = o.blocks;
   addresses = o.addresses;
   coins = o.coins;
@@ -129,7 +129,7 @@ ends_with_report o session verdict status w v u z plan are is_open touch fetched
     settled : Settled o session verdict w z
     settled = record {
       coins = fetched.coins;
-      fetched = asked_within o fetched.coins session w v u z (omega (arith, plan.few_servers)) is_open touch fetched.asked files;
+      fetched = asked_within o fetched.coins session w v u z (omega (arith, plan.numbers.few_servers)) is_open touch fetched.asked files;
       judged = fetched.judged;
       found = fetched.found;
       held = held_row o.plan o.blocks fetched.coins session plan are fetched.asked.tossed.size fetched.asked.tossed.bytes fetched.asked.asked.params fetched.asked.asked.whole verdict fetched.found;

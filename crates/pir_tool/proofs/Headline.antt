@@ -16,7 +16,7 @@ use Rattle.replay.specs.Replayed.{Judged, NoSession, ReadsWhole}
 use Rattle.replay.proofs.Readings.{at_told}
 use Rattle.fetch_client.specs.Plan.{need}
 use Rattle.pir_tool.specs.declared.status.Status.{Status}
-use Rattle.pir_tool.specs.declared.status.Status.TheVariants.{One, Usage, NoBlock, Several, TooFew, TooWeak, TooCostly, ReadFault, WriteFault, BadInput, DoorFault, ChildFault, Memory}
+use Rattle.pir_tool.specs.declared.status.Status.TheVariants.{One, Usage, NoBlock, Several, Absent, TooFew, TooWeak, TooCostly, ReadFault, WriteFault, BadInput, DoorFault, ChildFault, Memory}
 use Rattle.pir_tool.specs.declared.status.Bad.TheVariants.{Session, EmptyFile, TooBig, CoinsEnded}
 use Rattle.pir_tool.specs.Told.{NoneRose, ToldWhole}
 use Rattle.pir_tool.specs.Table.{status_of}
@@ -46,6 +46,7 @@ answered name One old new bytes session told whole none said = inl (answered_by 
 answered name Usage old new bytes session told whole none said = absurd said
 answered name NoBlock old new bytes session told whole none said = inl (answered_by name NoBlock old new bytes session told whole said)
 answered name Several old new bytes session told whole none said = inl (answered_by name Several old new bytes session told whole said)
+answered name Absent old new bytes session told whole none said = absurd said
 answered name (TooFew k h) old new bytes session told whole none said = inl (answered_by name (TooFew k h) old new bytes session told whole said)
 answered name (TooWeak k t h) old new bytes session told whole none said = inl (answered_by name (TooWeak k t h) old new bytes session told whole said)
 answered name (TooCostly equations) old new bytes session told whole none said = inl (answered_by name (TooCostly equations) old new bytes session told whole said)
@@ -71,6 +72,7 @@ refused name One old new bytes told nothing none said = absurd (no_report name O
 refused name Usage old new bytes told nothing none said = absurd said
 refused name NoBlock old new bytes told nothing none said = absurd (no_report name NoBlock old new bytes told nothing said)
 refused name Several old new bytes told nothing none said = absurd (no_report name Several old new bytes told nothing said)
+refused name Absent old new bytes told nothing none said = absurd said
 refused name (TooFew k h) old new bytes told nothing none said = absurd (no_report name (TooFew k h) old new bytes told nothing said)
 refused name (TooWeak k t h) old new bytes told nothing none said = absurd (no_report name (TooWeak k t h) old new bytes told nothing said)
 refused name (TooCostly equations) old new bytes told nothing none said = absurd (no_report name (TooCostly equations) old new bytes told nothing said)
@@ -115,6 +117,7 @@ reported o One old new held told enough none said = inl said
 reported o Usage old new held told enough none said = absurd said
 reported o NoBlock old new held told enough none said = inl said
 reported o Several old new held told enough none said = inl said
+reported o Absent old new held told enough none said = absurd said
 reported o (TooFew k h) old new held told enough none said = inl said
 reported o (TooWeak k t h) old new held told enough none said = inl said
 reported o (TooCostly equations) old new held told enough none said = inl said
@@ -144,6 +147,7 @@ too_few o One old new held told few none said = absurd (no_coins o One old new h
 too_few o Usage old new held told few none said = absurd said
 too_few o NoBlock old new held told few none said = absurd (no_coins o NoBlock old new held told few said)
 too_few o Several old new held told few none said = absurd (no_coins o Several old new held told few said)
+too_few o Absent old new held told few none said = absurd said
 too_few o (TooFew k h) old new held told few none said = absurd (no_coins o (TooFew k h) old new held told few said)
 too_few o (TooWeak k t h) old new held told few none said = absurd (no_coins o (TooWeak k t h) old new held told few said)
 too_few o (TooCostly equations) old new held told few none said = absurd (no_coins o (TooCostly equations) old new held told few said)

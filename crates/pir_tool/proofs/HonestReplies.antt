@@ -21,7 +21,7 @@ use Rattle.wire_frames.proofs.Parsing.{same_digits}
 use Rattle.wire_frames.proofs.Servers.{scheme_in}
 use Rattle.fetch_client.specs.declared.coins.TheConstants.{NUMBER_LEN}
 use Rattle.fetch_client.specs.declared.plan.FetchPlan.{FetchPlan}
-use Rattle.fetch_client.specs.Plan.{AreBlocks, IsPlan, params_of, need, query_coins}
+use Rattle.fetch_client.specs.Plan.{AreBlocks, IsPlan, need, query_coins, query_params}
 use Rattle.fetch_client.specs.Sent.{frame_len, header_to, payload_for, payload_in, payload_to, queries_from, sent, session_number, vector_at}
 use Rattle.fetch_client.specs.Honest.{answer_by, answer_in, honest_answer, honest_frame}
 use Rattle.fetch_client.proofs.Schemes.{length-payload_for, length-payload_to}
@@ -46,7 +46,7 @@ module _ (q p : QueryHeader) (hq : IsQuery q) (hp : IsQuery p) (same : query_hea
 
 module _ (p : FetchPlan) (blocks : List ℕ) (are : AreBlocks p blocks) (coins : List ℕ) (i : ℕ) (is_query : IsQuery (header_to p (length blocks) coins i)) (matrix : List (List ℕ)) (workers : ℕ) (is : IsMatrix matrix p.r p.s) where
   abbrev params : SessionParams
-  params = params_of p (length blocks) (session_number coins)
+  params = query_params p (length blocks) (session_number coins)
 
   abbrev header : QueryHeader
   header = header_to p (length blocks) coins i
@@ -178,7 +178,7 @@ session_below coins byte =
 pub asks_a_query : (p : FetchPlan) (blocks coins : List ℕ) (i : ℕ) → IsPlan p → AreBlocks p blocks → length coins ≡ need p (length blocks) → All (λ b. b < 256) coins → 1 ≤ i → i < 256
     → IsQuery (header_to p (length blocks) coins i)
 asks_a_query p blocks coins i plan are size bytes some few =
-    let scheme = scheme_in p.scheme plan.scheme in
+    let scheme = scheme_in p.scheme plan.numbers.scheme in
     let range = range_of p blocks 0 plan are (omega arith) in
     record {
       some_scheme = scheme.0;
@@ -186,6 +186,6 @@ asks_a_query p blocks coins i plan are size bytes some few =
       some_index = some;
       few_indices = omega (arith, few);
       session = session_below coins (λ k l. bytes k 0 (omega (arith, size, l)));
-      shape = plan.shape;
+      shape = plan.numbers.shape;
       blocks = range.blocks;
     }

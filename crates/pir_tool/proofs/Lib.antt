@@ -6,8 +6,11 @@ mod ServeHeadline
 mod UnusedBits
 mod HonestReplies
 mod HeldRow
+mod Plans
 mod InTurn
 mod SameFrames
 pub mod Fetching
 mod AskedRow
+mod LookingUp
+mod SameLookUps
 mod SelfrunHeadline

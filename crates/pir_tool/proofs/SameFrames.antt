@@ -11,7 +11,7 @@ use Rattle.wire_frames.specs.Turns.{in_turn, piece}
 use Rattle.wire_frames.proofs.Turns.{in_turn-same}
 use Rattle.fetch_client.specs.declared.coins.TheConstants.{NUMBER_LEN}
 use Rattle.fetch_client.specs.declared.plan.FetchPlan.{FetchPlan}
-use Rattle.fetch_client.specs.Plan.{params_of, query_coins, need}
+use Rattle.fetch_client.specs.Plan.{params_of, query_coins, query_params, need}
 use Rattle.fetch_client.specs.Sent.{session_number, payload_for, payload_to, sent, vector_at}
 use Rattle.fetch_client.proofs.Asking.{sent_is}
 use Rattle.fetch_client.proofs.Schemes.{coins_of_shamir, payload_of_shamir, coins_of_xor, payload_of_xor}
@@ -76,10 +76,10 @@ module _ (n : ℕ) where
 
 -- a frame is the same where each vector of its payload is
 same_frame : (p : FetchPlan) (blocks others : List ℕ) (i : ℕ) (coins rest : List ℕ) → length others ≡ length blocks → AreCoins (need p (length blocks)) coins
-    → ((v : ℕ) → v < length blocks → vector_at (params_of p 1 0) rest others i v ≡ vector_at (params_of p 1 0) (drop NUMBER_LEN coins) blocks i v)
+    → ((v : ℕ) → v < length blocks → vector_at (query_params p 1 0) rest others i v ≡ vector_at (query_params p 1 0) (drop NUMBER_LEN coins) blocks i v)
     → sent p others (take NUMBER_LEN coins ++ rest) i ≡ sent p blocks coins i
 same_frame p blocks others i coins rest as_many is same =
-    let params = params_of p 1 0 in
+    let params = query_params p 1 0 in
     let front = (parts (length blocks * query_coins params) coins is).0 in
     let number : session_number (take NUMBER_LEN coins ++ rest) ≡ session_number coins =
     sym (session_front (take NUMBER_LEN coins ++ rest)) ∙ ap session_number (front_of (take NUMBER_LEN coins) rest front) ∙ session_front coins in
@@ -99,13 +99,13 @@ module _ (p : FetchPlan) (one : p.scheme ≡ SHAMIR) (coalition blocks others : 
   pub bijection_in_shamir : IsBijection (need p (length blocks)) (λ coins. partner_coins p coalition blocks others coins)
   unfolding partner_coins
   bijection_in_shamir =
-      bijection_behind (length blocks * query_coins (params_of p 1 0)) changed
-      (subst (λ (n : ℕ). IsBijection (length blocks * n) changed) (sym (coins_of_shamir (params_of p 1 0) one)) (IsBijection-list p.t p.r coalition blocks others as_many bytes nonzero))
+      bijection_behind (length blocks * query_coins (query_params p 1 0)) changed
+      (subst (λ (n : ℕ). IsBijection (length blocks * n) changed) (sym (coins_of_shamir (query_params p 1 0) one)) (IsBijection-list p.t p.r coalition blocks others as_many bytes nonzero))
 
   pub same_in_shamir : length coalition ≤ p.t → IsSentTheSame p coalition blocks others
   unfolding partner_coins
   same_in_shamir few coins is = λ k d l.
-      let params = params_of p 1 0 in
+      let params = query_params p 1 0 in
       let i = get_or coalition k d in
       let behind_number = drop NUMBER_LEN coins in
       let own = coins_of_shamir params one in
@@ -126,13 +126,13 @@ module _ (p : FetchPlan) (two : p.scheme ≡ XOR) (left_out : ℕ) (blocks other
   pub bijection_in_xor : IsBijection (need p (length blocks)) (λ coins. partner_coins_xor p left_out blocks others coins)
   unfolding partner_coins_xor
   bijection_in_xor =
-      bijection_behind (length blocks * query_coins (params_of p 1 0)) flipped
-      (subst (λ (n : ℕ). IsBijection (length blocks * n) flipped) (sym (coins_of_xor (params_of p 1 0) two)) (IsBijection-xor_list p.n p.r left_out blocks others as_many))
+      bijection_behind (length blocks * query_coins (query_params p 1 0)) flipped
+      (subst (λ (n : ℕ). IsBijection (length blocks * n) flipped) (sym (coins_of_xor (query_params p 1 0) two)) (IsBijection-xor_list p.n p.r left_out blocks others as_many))
 
   pub same_in_xor : All (λ b. b < p.r) blocks → All (λ b. b < p.r) others → 1 ≤ left_out → left_out ≤ p.n → OthersAreSentTheSame p left_out blocks others
   unfolding partner_coins_xor
   same_in_xor in_range others_in_range least most coins is i first last ne =
-      let params = params_of p 1 0 in
+      let params = query_params p 1 0 in
       let size = (p.n - 1) * size_of p.r in
       let behind_number = drop NUMBER_LEN coins in
       let own = coins_of_xor params two in

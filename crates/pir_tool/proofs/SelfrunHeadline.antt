@@ -6,7 +6,7 @@ use Rattle.drawn_workload.specs.declared.order.Workload.{Workload}
 use Rattle.pir_tool.specs.Told.{NoneRose}
 use Rattle.pir_tool.specs.SelfrunOutcome.{SelfrunEnds, SelfrunPromise, SelfrunReported}
 use Rattle.pir_tool.specs.declared.status.Status.{Status}
-use Rattle.pir_tool.specs.declared.status.Status.TheVariants.{One, Usage, NoBlock, Several, TooFew, TooWeak, TooCostly, ReadFault, WriteFault, BadInput, DoorFault, ChildFault, Memory}
+use Rattle.pir_tool.specs.declared.status.Status.TheVariants.{One, Usage, NoBlock, Several, Absent, TooFew, TooWeak, TooCostly, ReadFault, WriteFault, BadInput, DoorFault, ChildFault, Memory}
 
 -- where no call on Output failed, the verdict is reported
 selfrun_reported : (w : Workload) (status : Status) (old new : World) → NoneRose (OUTPUT ∷ []) old new → SelfrunEnds w status old new → SelfrunReported w status old new ⊎ (status ≡ Memory)
@@ -14,6 +14,7 @@ selfrun_reported w One old new none said = inl said
 selfrun_reported w Usage old new none said = absurd said
 selfrun_reported w NoBlock old new none said = inl said
 selfrun_reported w Several old new none said = inl said
+selfrun_reported w Absent old new none said = absurd said
 selfrun_reported w (TooFew k h) old new none said = inl said
 selfrun_reported w (TooWeak k t h) old new none said = inl said
 selfrun_reported w (TooCostly equations) old new none said = inl said

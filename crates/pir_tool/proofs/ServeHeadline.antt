@@ -10,7 +10,7 @@ use Rattle.pir_tool.specs.ServeOrder.{ServeOrder}
 use Rattle.pir_tool.specs.ServeSteps.{Loaded}
 use Rattle.pir_tool.specs.ServeOutcome.{ServeEnds, ServedAll, ServePromise, files}
 use Rattle.pir_tool.specs.declared.status.Status.{Status}
-use Rattle.pir_tool.specs.declared.status.Status.TheVariants.{One, Usage, NoBlock, Several, TooFew, TooWeak, TooCostly, ReadFault, WriteFault, BadInput, DoorFault, ChildFault, Memory}
+use Rattle.pir_tool.specs.declared.status.Status.TheVariants.{One, Usage, NoBlock, Several, Absent, TooFew, TooWeak, TooCostly, ReadFault, WriteFault, BadInput, DoorFault, ChildFault, Memory}
 use Rattle.pir_tool.specs.declared.status.Bad.TheVariants.{Session, EmptyFile, TooBig, CoinsEnded}
 
 -- Door's count rose
@@ -25,6 +25,7 @@ module _ (o : ServeOrder) (old new : World) (none : NoneRose files old new) (byt
   served Usage some few said = absurd said
   served NoBlock some few said = absurd said
   served Several some few said = absurd said
+  served Absent some few said = absurd said
   served (TooFew k h) some few said = absurd said
   served (TooWeak k t h) some few said = absurd said
   served (TooCostly equations) some few said = absurd said
@@ -56,6 +57,7 @@ module _ (o : ServeOrder) (old new : World) (none : NoneRose files old new) (byt
   empty_file Usage size said = absurd said
   empty_file NoBlock size said = absurd said
   empty_file Several size said = absurd said
+  empty_file Absent size said = absurd said
   empty_file (TooFew k h) size said = absurd said
   empty_file (TooWeak k t h) size said = absurd said
   empty_file (TooCostly equations) size said = absurd said
@@ -77,6 +79,7 @@ module _ (o : ServeOrder) (old new : World) (none : NoneRose files old new) (byt
   too_big Usage more said = absurd said
   too_big NoBlock more said = absurd said
   too_big Several more said = absurd said
+  too_big Absent more said = absurd said
   too_big (TooFew k h) more said = absurd said
   too_big (TooWeak k t h) more said = absurd said
   too_big (TooCostly equations) more said = absurd said

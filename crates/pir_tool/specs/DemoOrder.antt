@@ -24,11 +24,12 @@ pub record DemoOrder : Type 0 where
 abbrev pub asked_to_demonstrate : DemoOrder → Asked
 asked_to_demonstrate o = Demo o.port o.database o.rows o.width o.block o.servers o.degree o.agree o.coins
 
--- a plan in Shamir's scheme
+-- a plan in Shamir's scheme, by which each server holds the whole database
 abbrev pub plan_with : ℕ → ℕ → ℕ → ℕ → ℕ → FetchPlan
 plan_with rows width servers degree agree = record {
   scheme = SHAMIR;
   t = degree;
+  tau = 0;
   h = agree;
   n = servers;
   r = rows;
@@ -65,5 +66,5 @@ fetch_from_children o = record {
   blocks = o.block ∷ [];
   addresses = addresses_from o.port o.servers;
   coins = o.coins;
-  keep = None
+  keep = None;
 }

@@ -16,7 +16,7 @@ pub record FetchOrder : Type 0 where
 
 -- the command that orders it
 abbrev pub asked_by_order : FetchOrder → Asked
-asked_by_order o = Fetch o.plan.scheme o.plan.r o.plan.s o.blocks o.plan.t o.plan.h o.coins o.keep o.addresses
+asked_by_order o = Fetch o.plan.scheme o.plan.r o.plan.s o.blocks o.plan.t o.plan.tau o.plan.h o.coins o.keep o.addresses
 
 -- the words order it, of as many servers as there are addresses
 pub record Orders (words : List (List ℕ)) (o : FetchOrder) : Type 0 where

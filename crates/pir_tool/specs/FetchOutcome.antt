@@ -20,7 +20,7 @@ use Rattle.pir_ports.specs.declared.port.Failed.{Failed}
 use Rattle.pir_tool.specs.Told.{NoneRose, Told, Unread, Unwritten}
 use Rattle.pir_tool.specs.FetchOrder.{FetchOrder}
 use Rattle.pir_tool.specs.declared.status.Status.{Status}
-use Rattle.pir_tool.specs.declared.status.Status.TheVariants.{Usage, ReadFault, WriteFault, BadInput, DoorFault, ChildFault, Memory}
+use Rattle.pir_tool.specs.declared.status.Status.TheVariants.{Usage, Absent, ReadFault, WriteFault, BadInput, DoorFault, ChildFault, Memory}
 use Rattle.pir_tool.specs.declared.status.Bad.TheVariants.{Session, EmptyFile, TooBig, CoinsEnded}
 
 -- Coins was opened by its name and gave these coins, and every server was asked with them, in this session
@@ -34,7 +34,7 @@ pub record Settled (o : FetchOrder) (session : Transcript) (verdict : Verdict) (
   pub coins : List ℕ
   pub fetched : InSession o coins session old new
   pub judged : IsVerdict session verdict
-  pub found : FindsHonestBlock session (queries_from coins) o.blocks verdict
+  pub found : FindsHonestBlock session o.plan.t o.plan.tau (queries_from coins) o.blocks verdict
   pub held : FindsHeldRow o.plan o.blocks coins session verdict
 
 -- Record was opened by this name, and has taken the file of the session
@@ -95,6 +95,7 @@ pub record FetchUnfinished (o : FetchOrder) (old new : World) : Type 0 where
 -- what `fetch` did, by its status
 abbrev pub FetchEnds : FetchOrder → Status → World → World → Type 0
 FetchEnds o Usage old new = ⊥
+FetchEnds o Absent old new = ⊥
 FetchEnds o ReadFault old new = FetchUnreadable o old new
 FetchEnds o WriteFault old new = FetchCutShort o old new
 FetchEnds o (BadInput (Session place)) old new = ⊥

@@ -2,7 +2,7 @@
 use Rattle.std.specs.Prelude.{◌≡◌, ◌↔◌, ℕ, List, length}
 use Rattle.gf256.specs.Product.{IsMatrix}
 use Rattle.fetch_client.specs.declared.plan.FetchPlan.{FetchPlan}
-use Rattle.fetch_client.specs.Plan.{params_of}
+use Rattle.fetch_client.specs.Plan.{query_params}
 use Rattle.fetch_client.specs.Sent.{queries_from, session_number, sent}
 use Rattle.fetch_client.specs.Honest.{honest_frame}
 use Rattle.serve_core.specs.Service.{Service}
@@ -16,7 +16,8 @@ service_with p matrix workers = record { database = record { rows = matrix; widt
 
 -- the frame of honest server i in the session that is fetched with these coins
 abbrev pub frame_of : FetchPlan → List ℕ → List ℕ → List (List ℕ) → ℕ → List ℕ
-frame_of p blocks coins matrix i = honest_frame (params_of p (length blocks) (session_number coins)) matrix (queries_from coins) blocks i
+frame_of p blocks coins matrix i =
+    honest_frame (query_params p (length blocks) (session_number coins)) matrix (queries_from coins) blocks i
 
 -- its reply to what it is sent is this frame, and nothing else
 abbrev pub RepliesHonestly : FetchPlan → List ℕ → List ℕ → ℕ → List (List ℕ) → ℕ → Type 0

@@ -6,6 +6,8 @@ pub mod FetchOrder
 pub mod FetchOutcome
 pub mod DemoOrder
 pub mod DemoOutcome
+pub mod LookUpOrder
+pub mod LookUpOutcome
 pub mod ServeOrder
 pub mod ServeSteps
 pub mod ServeOutcome

@@ -3,8 +3,11 @@ use Rattle.std.specs.Prelude.{◌≡◌, ◌⊎◌, ℕ, List, length, Option, S
 use Rattle.pir_ports.specs.World.{World}
 use Rattle.pir_words.specs.Form.{asked_of}
 use Rattle.pir_words.specs.declared.asked.Asked.{Asked}
-use Rattle.pir_words.specs.declared.asked.Asked.TheVariants.{Replay, Fetch, Serve, Selfrun, Demo}
+use Rattle.pir_words.specs.declared.asked.Asked.TheVariants.{Replay, Fetch, Serve, Selfrun, Demo, Lookup}
 use Rattle.pir_tool.specs.FetchOrder.{FetchOrder}
+use Rattle.wire_frames.specs.declared.scheme.TheConstants.{SHAMIR}
+use Rattle.pir_tool.specs.LookUpOrder.{LookUpOrder}
+use Rattle.pir_tool.specs.LookUpOutcome.{LookUpOutcome}
 use Rattle.pir_tool.specs.ReplayOutcome.{ReplayOutcome}
 use Rattle.pir_tool.specs.FetchOutcome.{FetchOutcome}
 use Rattle.pir_tool.specs.ServeOutcome.{ServeOutcome}
@@ -14,20 +17,29 @@ use Rattle.pir_tool.specs.declared.status.Status.{Status}
 use Rattle.pir_tool.specs.declared.status.Status.TheVariants.{Usage, Memory}
 
 -- what the words of `fetch` order
-abbrev pub order_of : ℕ → ℕ → ℕ → List ℕ → ℕ → ℕ → List ℕ → Option (List ℕ) → List (List ℕ) → FetchOrder
-order_of scheme rows width blocks degree agree coins keep addresses = record {
-  plan = record { scheme = scheme; t = degree; h = agree; n = length addresses; r = rows; s = width };
+abbrev pub order_of : ℕ → ℕ → ℕ → List ℕ → ℕ → ℕ → ℕ → List ℕ → Option (List ℕ) → List (List ℕ) → FetchOrder
+order_of scheme rows width blocks degree tau agree coins keep addresses = record {
+  plan = record { scheme = scheme; t = degree; tau = tau; h = agree; n = length addresses; r = rows; s = width };
   blocks = blocks;
   addresses = addresses;
   coins = coins;
   keep = keep;
 }
 
+-- what the words of `lookup` order
+abbrev pub look_up_by : ℕ → ℕ → List ℕ → ℕ → ℕ → List ℕ → List (List ℕ) → LookUpOrder
+look_up_by rows width key degree agree coins addresses = record {
+  plan = record { scheme = SHAMIR; t = degree; tau = 0; h = agree; n = length addresses; r = rows; s = width };
+  key = key;
+  addresses = addresses;
+  coins = coins;
+}
+
 -- what the command did, by its status
 abbrev pub Outcome : Asked → Status → World → World → Type 0
 Outcome (Replay file) status old new = ReplayOutcome file status old new
-Outcome (Fetch scheme rows width blocks degree agree coins keep addresses) status old new =
-    FetchOutcome (order_of scheme rows width blocks degree agree coins keep addresses) status old new
+Outcome (Fetch scheme rows width blocks degree tau agree coins keep addresses) status old new =
+    FetchOutcome (order_of scheme rows width blocks degree tau agree coins keep addresses) status old new
 Outcome (Serve scheme database width guests listen workers) status old new = ServeOutcome (record {
   scheme = scheme;
   database = database;
@@ -56,6 +68,8 @@ Outcome (Demo port database rows width block servers degree agree coins) status 
   agree = agree;
   coins = coins;
 }) status old new
+Outcome (Lookup rows width key degree agree coins addresses) status old new =
+    LookUpOutcome (look_up_by rows width key degree agree coins addresses) status old new
 
 -- memory ran out before the command, which nothing was touched for; or this is what the command did
 abbrev pub Runs : Asked → Status → World → World → Type 0

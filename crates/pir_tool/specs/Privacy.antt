@@ -1,10 +1,12 @@
 -- What a coalition of servers is sent for some blocks, it is sent for any others, from coins that a bijection gives: in
 -- Shamir's sharing (Goldberg 2007), and in the XOR scheme (Chor, Goldreich, Kushilevitz and Sudan 1995).
-use Rattle.std.specs.Prelude.{◌≡◌, ◌≢◌, ℕ, ◌≤◌, List, length, ◌++◌, take, drop, All}
+use Rattle.std.specs.Prelude.{◌≡◌, ◌≢◌, ℕ, ◌≤◌, List, [], ◌∷◌, length, ◌++◌, take, drop, All, ⊤}
 use Rattle.fetch_client.specs.declared.coins.TheConstants.{NUMBER_LEN}
 use Rattle.fetch_client.specs.declared.plan.FetchPlan.{FetchPlan}
 use Rattle.fetch_client.specs.Plan.{need}
 use Rattle.fetch_client.specs.Sent.{sent}
+use Rattle.key_fetches.specs.Rounds.{Round}
+use Rattle.key_fetches.specs.Sent.{frames_to}
 use Rattle.privacy_law.specs.Bijection.{AreCoins}
 use Rattle.privacy_law.specs.Partner.{partner_list, partner_xor_list}
 
@@ -30,3 +32,24 @@ abbrev pub OthersAreSentTheSame : FetchPlan → ℕ → List ℕ → List ℕ �
 OthersAreSentTheSame p left_out blocks others = (coins : List ℕ) → AreCoins (need p (length blocks)) coins
     → (i : ℕ) → 1 ≤ i → i ≤ p.n → i ≢ left_out
     → sent p others (partner_coins_xor p left_out blocks others coins) i ≡ sent p blocks coins i
+
+-- the fetches of a look-up for other rows, each with the coins that show the coalition the same
+abbrev pub partner_rounds : FetchPlan → List ℕ → List ℕ → List Round → List Round
+partner_rounds p coalition [] rounds = []
+partner_rounds p coalition (other ∷ others) [] = []
+partner_rounds p coalition (other ∷ others) (round ∷ rounds) =
+    record {
+      row = other;
+      coins = partner_coins p coalition (round.row ∷ []) (other ∷ []) round.coins;
+      session = round.session;
+    } ∷ partner_rounds p coalition others rounds
+
+-- each fetch has as many coins as one needs
+abbrev pub HaveCoins : FetchPlan → List Round → Type 0
+HaveCoins p [] = ⊤
+HaveCoins p (round ∷ rounds) = AreCoins (need p 1) round.coins × HaveCoins p rounds
+
+-- each member is sent the same frames in all of them
+abbrev pub LookUpLooksTheSame : FetchPlan → List ℕ → List ℕ → Type 0
+LookUpLooksTheSame p coalition others = (rounds : List Round) → length others ≡ length rounds → HaveCoins p rounds
+    → All (λ i. frames_to p i (partner_rounds p coalition others rounds) ≡ frames_to p i rounds) coalition

@@ -13,7 +13,7 @@ use Rattle.replay.specs.Replayed.{BreaksOff, Judged, NoSession, ReadsLittle, Rea
 use Rattle.pir_tool.specs.Table.{status_of}
 use Rattle.pir_tool.specs.Told.{DidRise, NoneRose, ToldWhole}
 use Rattle.pir_tool.specs.declared.status.Status.{Status}
-use Rattle.pir_tool.specs.declared.status.Status.TheVariants.{Usage, ReadFault, WriteFault, BadInput, DoorFault, ChildFault, Memory}
+use Rattle.pir_tool.specs.declared.status.Status.TheVariants.{Usage, Absent, ReadFault, WriteFault, BadInput, DoorFault, ChildFault, Memory}
 use Rattle.pir_tool.specs.declared.status.Bad.TheVariants.{Session, EmptyFile, TooBig, CoinsEnded}
 
 -- the verdict on all that Input held, which was opened by this name, is written whole, and nothing else
@@ -48,6 +48,7 @@ pub record Unfinished (name : List ℕ) (old new : World) : Type 0 where
 -- what `replay FILE` did, by its status
 abbrev pub ReplayEnds : List ℕ → Status → World → World → Type 0
 ReplayEnds name Usage old new = ⊥
+ReplayEnds name Absent old new = ⊥
 ReplayEnds name ReadFault old new = Unreadable name old new
 ReplayEnds name WriteFault old new = CutShort name old new
 ReplayEnds name (BadInput (Session place)) old new = Refused name place old new

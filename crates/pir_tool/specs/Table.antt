@@ -1,9 +1,10 @@
 -- The exit code and the line of each status, and the status of each verdict.
-use Rattle.std.specs.Prelude.{ℕ, List, [], ◌∷◌, codes}
+use Rattle.std.specs.Prelude.{ℕ, List, [], ◌∷◌, Option, Some, None, codes}
 use Rattle.block_decoder.specs.declared.verdict.Verdict.{Verdict}
 use Rattle.block_decoder.specs.declared.verdict.Verdict.TheVariants.{Listed as IsListed, TooFew as IsTooFew, TooWeak as IsTooWeak, TooCostly as IsTooCostly}
+use Rattle.key_fetches.specs.Listed.{Ended}
 use Rattle.pir_tool.specs.declared.status.Status.{Status}
-use Rattle.pir_tool.specs.declared.status.Status.TheVariants.{One, Usage, NoBlock, Several, TooFew, TooWeak, TooCostly, ReadFault, WriteFault, BadInput, DoorFault, ChildFault, Memory}
+use Rattle.pir_tool.specs.declared.status.Status.TheVariants.{One, Usage, NoBlock, Several, Absent, TooFew, TooWeak, TooCostly, ReadFault, WriteFault, BadInput, DoorFault, ChildFault, Memory}
 
 abbrev pub code_of : Status → ℕ
 code_of One = 0
@@ -19,6 +20,7 @@ code_of (BadInput bad) = 10
 code_of DoorFault = 11
 code_of Memory = 12
 code_of ChildFault = 13
+code_of Absent = 14
 
 -- what stands on standard error, empty where nothing does
 abbrev pub line_of : Status → List ℕ
@@ -35,6 +37,7 @@ line_of (BadInput bad) = codes "pir: bad input"
 line_of DoorFault = codes "pir: door fault"
 line_of Memory = codes "pir: no memory"
 line_of ChildFault = codes "pir: child fault"
+line_of Absent = []
 
 -- by how many blocks are listed
 abbrev pub status_of_blocks : List (List ℕ) → Status
@@ -47,3 +50,12 @@ status_of (IsListed blocks) = status_of_blocks blocks
 status_of (IsTooFew k h) = TooFew k h
 status_of (IsTooWeak k t h) = TooWeak k t h
 status_of (IsTooCostly equations) = TooCostly equations
+
+-- of a look-up, by the verdict that didn't list exactly one block, if there was one, and by the row that was found, if one was
+abbrev pub status_by_end : Option Verdict → Option (List ℕ) → Status
+status_by_end (Some verdict) found = status_of verdict
+status_by_end None (Some row) = One
+status_by_end None None = Absent
+
+abbrev pub status_of_end : Ended → Status
+status_of_end ended = status_by_end ended.unlisted ended.found

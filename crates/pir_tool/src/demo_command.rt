@@ -15,7 +15,7 @@ use std::alloc::{AllocError, Global};
 use wire_frames::SHAMIR;
 
 impl<'a> Demonstration<'a> {
-    /// The plan of the fetch, in Shamir's scheme.
+    /// The plan of the fetch, in Shamir's scheme, from servers that each hold the whole database.
     fn plan(&self) -> FetchPlan
         ensures plan { result ≡ plan_of self.now }
         ensures ranges { IsPlan result }
@@ -24,6 +24,7 @@ impl<'a> Demonstration<'a> {
         FetchPlan {
             scheme: SHAMIR,
             t: self.degree,
+            tau: 0,
             h: self.agree,
             n: self.servers,
             r: self.rows,

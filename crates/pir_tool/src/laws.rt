@@ -5,7 +5,7 @@ ghost use Rattle.wire_frames.specs.declared.scheme.TheConstants.{SHAMIR, XOR};
 ghost use Rattle.fetch_client.specs.Plan.{AreBlocks, IsPlan, need};
 ghost use Rattle.pir_tool.specs.HonestReply.{RepliesHonestly};
 ghost use Rattle.privacy_law.specs.Bijection.{IsBijection};
-ghost use Rattle.pir_tool.specs.Privacy.{IsSentTheSame, OthersAreSentTheSame, partner_coins, partner_coins_xor};
+ghost use Rattle.pir_tool.specs.Privacy.{IsSentTheSame, LookUpLooksTheSame, OthersAreSentTheSame, partner_coins, partner_coins_xor};
 
 use fetch_client::FetchPlan;
 
@@ -41,7 +41,19 @@ pub fn coalition_is_sent_the_same(
     ensures same { IsSentTheSame plan.now coalition.now blocks.now others.now }
 {}
 
-/// In the XOR scheme the same holds of all servers but one, whichever that is: what they together are sent for some
+/// In Shamir's sharing, what up to `t` servers together are sent in all fetches of a look-up for some rows, they are sent
+/// for as many others from other coins, byte for byte: the coins of each fetch are those of
+/// [`coalition_is_sent_the_same`], which a bijection gives. How many fetches there are depends on the number of rows
+/// alone, so where the coins are uniform, secret and used once, what they see doesn't tell the key, nor what was found
+/// (Goldberg 2007).
+pub fn coalition_is_sent_the_same_in_each_fetch(plan: &FetchPlan, coalition: &[u8], others: &[u32])
+    requires scheme { plan.now.scheme ≡ SHAMIR }
+    requires bound { length coalition.now ≤ plan.now.t }
+    requires nonzero { All (λ a. a ≢ 0) coalition.now }
+    ensures { LookUpLooksTheSame plan.now coalition.now others.now }
+{}
+
+/// In the XOR scheme the same as [`coalition_is_sent_the_same`] holds of all servers but one, whichever that is: what they together are sent for some
 /// blocks, they are sent for as many others from other coins, byte for byte, the session's number included; and a
 /// bijection of all coins takes the one to the other (Chor, Goldreich, Kushilevitz and Sudan 1995). `left_out` is the
 /// index of the one.

@@ -5,6 +5,7 @@ mod demo_command;
 mod faults;
 mod fetch_command;
 pub mod laws;
+mod lookup_command;
 mod obey;
 mod orders;
 mod replay_command;

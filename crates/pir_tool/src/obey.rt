@@ -7,7 +7,8 @@ ghost use Rattle.pir_tool.specs.Outcome.{Outcome};
 
 use crate::demo_command::demonstrate;
 use crate::fetch_command::fetch_block;
-use crate::orders::{Demonstration, Fetching, Serving};
+use crate::lookup_command::look_up_row;
+use crate::orders::{Demonstration, Fetching, LookingUp, Serving};
 use crate::replay_command::replay_file;
 use crate::selfrun_command::run_workload;
 use crate::serve_command::serve_file;
@@ -18,6 +19,7 @@ use pir_ports::Ports;
 use pir_words::{Asked, Text};
 use std::alloc::Global;
 use std::thread::Threads;
+use wire_frames::SHAMIR;
 
 /// The text of a word, where there is one.
 fn text_of(word: &Option<Text>) -> Option<&str>
@@ -30,7 +32,7 @@ fn text_of(word: &Option<Text>) -> Option<&str>
 }
 
 /// Does what the command says. It is told apart here and nowhere else.
-#[tactic(auto, using(fetch_client::proofs::Ranges::one_block))]
+#[tactic(auto, using(fetch_client::proofs::Ranges::one_block, crate::proofs::Plans::fetch_plan, crate::proofs::Plans::demo_plan))]
 #[rattlefmt::skip]
 pub(crate) fn obey<R: Threads + Sync, P: Ports>(rt: &R, alloc: Global, asked: &Asked, ports: &mut P) -> Status
     requires { InRange asked.now }
@@ -38,10 +40,10 @@ pub(crate) fn obey<R: Threads + Sync, P: Ports>(rt: &R, alloc: Global, asked: &A
 {
     match asked {
         Asked::Replay { file } => replay_file(alloc, file.as_str(), ports),
-        Asked::Fetch { scheme, rows, width, blocks, degree, agree, coins, keep, addresses } => {
+        Asked::Fetch { scheme, rows, width, blocks, degree, tau, agree, coins, keep, addresses } => {
             let addresses = addresses.as_slice();
-            let (scheme, t, h, n) = (*scheme, *degree, *agree, addresses.len() as u8);
-            let plan = FetchPlan { scheme, t, h, n, r: *rows, s: *width };
+            let (scheme, t, tau, h, n) = (*scheme, *degree, *tau, *agree, addresses.len() as u8);
+            let plan = FetchPlan { scheme, t, tau, h, n, r: *rows, s: *width };
             let (blocks, coins, record_name) = (blocks.as_slice(), coins.as_str(), text_of(keep));
             let order = Fetching { plan, blocks, addresses, coins, record_name };
             fetch_block(alloc, &order, ports)
@@ -63,6 +65,12 @@ pub(crate) fn obey<R: Threads + Sync, P: Ports>(rt: &R, alloc: Global, asked: &A
             let (database, coins) = (database.as_str(), coins.as_str());
             let order = Demonstration { port, database, rows, width, block, servers, degree, agree, coins };
             demonstrate(alloc, &order, ports)
+        }
+        Asked::Lookup { rows, width, key, degree, agree, coins, addresses } => {
+            let (addresses, coins) = (addresses.as_slice(), coins.as_str());
+            let (t, h, n) = (*degree, *agree, addresses.len() as u8);
+            let plan = FetchPlan { scheme: SHAMIR, t, tau: 0, h, n, r: *rows, s: *width };
+            look_up_row(alloc, &LookingUp { plan, key, addresses, coins }, ports)
         }
     }
 }

@@ -1,6 +1,7 @@
 //! What each command is told to do, with the ranges of its values.
 
 use fetch_client::FetchPlan;
+use key_search::Key;
 use std::marker::Model;
 
 /// TCP has so many ports, from 0 on.
@@ -34,6 +35,34 @@ impl<'a, 'b> Model for Fetching<'a, 'b> {
 
     ghost invariant = { λ f. IsPlan f.plan × AreBlocks f.plan f.blocks.now
         × (length f.addresses.now ≡ f.plan.n) };
+}
+
+/// Which row is looked up, among which rows and how, from which servers, and with which coins.
+#[derive(Drop)]
+pub(crate) struct LookingUp<'a, 'b> {
+    pub(crate) plan: FetchPlan,
+    pub(crate) key: &'a Key,
+    pub(crate) addresses: &'a [String],
+    pub(crate) coins: &'b str,
+}
+
+impl<'a, 'b> Model for LookingUp<'a, 'b> {
+    ghost use Rattle.std.specs.Prelude.{◌≡◌, ◌≤◌, length, map, string_bytes};
+    ghost use Rattle.wire_frames.specs.declared.scheme.TheConstants.{SHAMIR};
+    ghost use Rattle.fetch_client.specs.Plan.{IsPlan};
+    ghost use Rattle.pir_tool.specs.LookUpOrder.{LookUpOrder};
+
+    ghost Value = { LookUpOrder };
+
+    ghost view = { λ l. record {
+      plan = l.plan;
+      key = l.key.now;
+      addresses = map string_bytes l.addresses.now;
+      coins = l.coins.now;
+    } };
+
+    ghost invariant = { λ l. IsPlan l.plan × (l.plan.scheme ≡ SHAMIR) × (length l.key.now ≤ l.plan.s)
+        × (length l.addresses.now ≡ l.plan.n) };
 }
 
 /// What is served, where, to how many guests, and by how many workers.

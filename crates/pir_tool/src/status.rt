@@ -22,7 +22,7 @@ pub enum Bad {
 /// How a run ends.
 #[derive(Clone, Copy, Debug, PartialEq, Eq)]
 pub enum Status {
-    /// One block is listed; or a server served all its guests.
+    /// One block is listed; or the row with the key is found; or a server served all its guests.
     One,
     /// The words don't have the form of a command; nothing was touched.
     Usage,
@@ -30,6 +30,8 @@ pub enum Status {
     NoBlock,
     /// Two blocks or more are listed.
     Several,
+    /// No row begins with the key that was looked up.
+    Absent,
     /// Only `k` answers are usable, fewer than the `h` that have to agree.
     TooFew { k: u32, h: u32 },
     /// With `k` answers and degree `t` an agreement of `h` is too weak.
@@ -68,6 +70,7 @@ pub fn code(status: &Status) -> u8
         Status::DoorFault => 11,
         Status::Memory => 12,
         Status::ChildFault => 13,
+        Status::Absent => 14,
     }
 }
 
@@ -79,6 +82,7 @@ pub fn line(status: &Status) -> &'static str
         Status::One
         | Status::NoBlock
         | Status::Several
+        | Status::Absent
         | Status::TooFew { .. }
         | Status::TooWeak { .. }
         | Status::TooCostly { .. } => "",

@@ -15,6 +15,8 @@ ghost use Rattle.pir_tool.specs.SelfrunOrder.{asked_to_selfrun};
 ghost use Rattle.pir_tool.specs.SelfrunOutcome.{SelfrunPromise};
 ghost use Rattle.pir_tool.specs.DemoOrder.{DemoOrder, asked_to_demonstrate};
 ghost use Rattle.pir_tool.specs.DemoOutcome.{DemoPromise};
+ghost use Rattle.pir_tool.specs.LookUpOrder.{LookUpOrder, OrdersLookUp};
+ghost use Rattle.pir_tool.specs.LookUpOutcome.{LookUpPromise};
 
 use crate::obey::obey;
 use crate::status::Status;
@@ -30,11 +32,12 @@ use std::thread::Threads;
 /// a file for it is named, and writes the verdict's text. `serve` loads a database, opens Door, writes `ready` to
 /// Output, and serves its guests one after the other. `selfrun` draws a workload from a number, runs its servers and
 /// the decoder in memory, and writes the verdict's text. `demo` starts this program as a child for each server, and
-/// fetches a block from them.
+/// fetches a block from them. `lookup` reads coins, fetches a row in each turn of a binary search among rows that
+/// ascend by their first bytes, and writes the row with a key, or that there is none.
 ///
 /// The first three know both schemes: Shamir's sharing (Goldberg 2007), in which servers that lie or are silent can be
 /// outvoted, and the XOR scheme (Chor, Goldreich, Kushilevitz and Sudan 1995), in which all servers have to answer, and
-/// a lie isn't noticed. `selfrun` and `demo` take Shamir's.
+/// a lie isn't noticed. `selfrun`, `demo` and `lookup` take Shamir's.
 pub fn run<R: Threads + Sync, P: Ports>(
     rt: &R,
     alloc: Global,
@@ -65,6 +68,8 @@ pub fn run<R: Threads + Sync, P: Ports>(
         → SelfrunPromise order.load result (P.world ports.old) (P.world ports.new) }
     ensures demo { (order : DemoOrder) → AskFor (map string_bytes words.now) (asked_to_demonstrate order)
         → DemoPromise order result (P.world ports.old) (P.world ports.new) }
+    ensures lookup { (order : LookUpOrder) → OrdersLookUp (map string_bytes words.now) order
+        → LookUpPromise order result (P.world ports.old) (P.world ports.new) }
 {
     match read_words(alloc, words) {
         Ok(asked) => obey(rt, alloc, &asked, ports),

@@ -1,8 +1,11 @@
 -- The values of a command are in their ranges.
-use Rattle.std.proofs.Common.{◌≡◌, inr, ℕ, ◌≤◌, ◌-◌, ◌&&◌, List, length, Some, None, Bool, true, false, codes, refl, lit<, subst, arith}
-use Rattle.std.specs.Prelude.{if◌then◌else◌, is_none, nat_le}
+use Rattle.std.proofs.Common.{◌≡◌, inr, ℕ, ◌+◌, ◌≤◌, ◌-◌, ◌&&◌, List, length, Some, None, Bool, true, false, codes, refl, sym, lit<, subst, arith, unwrap_or, ◌/◌, ap}
+use Rattle.std.specs.Prelude.{if◌then◌else◌, is_none, nat_le, nat_lt}
 use Rattle.std.specs.Str.{bytes_eq}
-use Rattle.std.proofs.lemmas.Bool.{leb-true}
+use Rattle.std.proofs.lemmas.Bool.{and_parts, leb-true, ltb-true}
+use Rattle.std.specs.Result.{result_ok}
+use Rattle.std.specs.Prelude.{Result, Ok, Err}
+use Rattle.hex.specs.declared.FromHexError.{FromHexError}
 use Rattle.clap.specs.Words.{Row, Text, all_of, first_of, subcommand_of}
 use Rattle.wire_frames.specs.Limits.{IsShape}
 use Rattle.wire_frames.proofs.Counts.{single_count}
@@ -11,16 +14,20 @@ use Rattle.wire_frames.specs.declared.scheme.Scheme.{Scheme}
 use Rattle.wire_frames.specs.declared.scheme.Scheme.TheVariants.{Shamir, Xor}
 use Rattle.wire_frames.specs.declared.scheme.TheConstants.{XOR}
 use Rattle.wire_frames.specs.Scheme.{number_of}
-use Rattle.pir_words.specs.Numbers.{limited, number_in}
+use Rattle.pir_words.specs.Numbers.{limited, number, number_in}
 use Rattle.pir_words.specs.Ranges.{FitsSession, block_in, scheme_in, servers_in, sharing_in, sizes_in, workers_in}
 use Rattle.pir_words.specs.ReplayForm.{replay_of}
-use Rattle.pir_words.specs.FetchForm.{addresses_in, blocks_in, fetch_of, fetch_sharing_in, xor_sharing_in}
+use Rattle.pir_words.specs.FetchForm.{IsSharedFetch, addresses_in, blocks_in, fetch_of, fetch_sharing_in, tau_in, xor_sharing_in}
 use Rattle.pir_words.specs.ServeForm.{serve_of}
 use Rattle.pir_words.specs.SelfrunForm.{selfrun_of}
 use Rattle.pir_words.specs.DemoForm.{demo_of}
+use Rattle.pir_words.specs.LookUpForm.{key_in, key_named, lookup_of}
+use Rattle.hex.specs.Hex.{decode_of}
+use Rattle.hex.proofs.HexLemmas.{decode_of-ok}
+use Rattle.key_search.specs.Spelled.{spells_bytes}
 use Rattle.pir_words.specs.Form.{InRange, are_taken, asked_by, asked_in, asked_of}
 use Rattle.pir_words.specs.Command.{pir}
-use Rattle.pir_words.specs.declared.TheConstants.{LEAST_PORT, MOST_PORT}
+use Rattle.pir_words.specs.declared.TheConstants.{LEAST_PORT, MOST_PORT, MOST_TAU}
 use Rattle.pir_words.specs.declared.ranges.Sharing.{Sharing}
 use Rattle.pir_words.specs.declared.asked.Asked.{Asked}
 use Rattle.pir_words.specs.declared.asked.Asked.TheVariants.{Replay}
@@ -35,17 +42,17 @@ xor_range n m sharing e =
     let two = test_of (nat_le LEAST_SERVERS n) _ sharing none.1 in
     (leb-true LEAST_SERVERS n two.0, some_is _ sharing two.1)
 
--- with which a session of the XOR scheme may be
-xor_fits : (r s n : ℕ) → IsShape r s → LEAST_SERVERS ≤ n → n ≤ MOST_SERVERS → FitsSession XOR (n - 1) n n r s
-xor_fits r s n shape two few = record {
+-- with which a session of the XOR scheme may be, where the database isn't shared
+xor_fits : (r s n tau : ℕ) → IsShape r s → LEAST_SERVERS ≤ n → n ≤ MOST_SERVERS → tau ≡ 0 → FitsSession XOR (n - 1 + tau) n n r s
+xor_fits r s n tau shape two few whole = record {
   scheme = inr refl;
-  private = omega (arith, two);
-  few_private = omega (arith, two, few);
-  agreement = omega (arith, two);
+  private = omega (arith, two, whole);
+  few_private = omega (arith, two, few, whole);
+  agreement = omega (arith, two, whole);
   few_agree = few;
   servers = omega arith;
   few_servers = few;
-  all_agree = λ e. omega (arith, two);
+  all_agree = λ e. omega (arith, two, whole);
   all_answer = λ e. refl;
   session = lit< tt;
   shape = shape;
@@ -53,13 +60,35 @@ xor_fits r s n shape two few = record {
 }
 
 -- a session may have the sharing of a fetch
-fetch_fits : (scheme : Scheme) (n r s : ℕ) (m : List Row) (sharing : Sharing) → IsShape r s → n ≤ MOST_SERVERS
-    → fetch_sharing_in scheme n m ≡ Some sharing → FitsSession (number_of scheme) sharing.degree sharing.agree n r s
-unfolding fetch_sharing_in
-fetch_fits Shamir n r s m sharing shape few e = shamir_fits r s sharing.degree sharing.agree n shape (sharing_range n m sharing e) few
-fetch_fits Xor n r s m sharing shape few e =
+fetch_fits : (scheme : Scheme) (n r s : ℕ) (m : List Row) (sharing : Sharing) (tau : ℕ) → IsShape r s → n ≤ MOST_SERVERS
+    → fetch_sharing_in scheme n m ≡ Some sharing → tau_in scheme sharing m ≡ Some tau
+    → IsSharedFetch (number_of scheme) r s sharing.degree tau sharing.agree n
+unfolding fetch_sharing_in tau_in
+fetch_fits Shamir n r s m sharing tau shape few e f =
+    let shares = sharing_range n m sharing e in
+    let given = value_of (number (unwrap_or (first_of (codes "tau") m) (codes "0"))) _ tau f in
+    let tested = test_of (nat_le given.0 MOST_TAU && nat_lt (sharing.degree + given.0) sharing.agree) _ tau given.2 in
+    let less = ltb-true _ _ (and_parts (nat_le given.0 MOST_TAU) (nat_lt (sharing.degree + given.0) sharing.agree) tested.0).1 in
+    let is = some_is given.0 tau tested.1 in
+    record {
+      numbers = shamir_fits r s (sharing.degree + tau) sharing.agree n shape (record {
+        private = omega (arith, shares.private);
+        few_private = omega (arith, less, is, shares.servers, few);
+        agreement = omega (arith, less, is);
+        servers = shares.servers;
+      }) few;
+      private = shares.private;
+      held_whole = λ two. omega (arith, two);
+    }
+fetch_fits Xor n r s m sharing tau shape few e f =
     let all = xor_range n m sharing e in
-    subst (λ (z : Sharing). FitsSession XOR z.degree z.agree n r s) all.1 (xor_fits r s n shape all.0 few)
+    let none = test_of (is_none (first_of (codes "tau") m)) _ tau f in
+    let whole = sym (some_is 0 tau none.1) in
+    subst (λ (z : Sharing). IsSharedFetch XOR r s z.degree tau z.agree n) all.1 (record {
+      numbers = xor_fits r s n tau shape all.0 few whole;
+      private = let two = all.0 in omega (arith, two);
+      held_whole = λ e. whole;
+    })
 
 -- there are no more addresses than there may be
 pub addresses_range : (m : List Row) (addresses : List Text) → addresses_in m ≡ Some addresses → length addresses ≤ MOST_SERVERS
@@ -86,9 +115,10 @@ fetch_range m asked e =
     let addresses = value_of (addresses_in m) _ asked scheme.2 in
     let n = length addresses.0 in
     let sharing = value_of (fetch_sharing_in scheme.0 n m) _ asked addresses.2 in
-    subst InRange (some_is _ asked sharing.2) (record {
-      numbers = fetch_fits scheme.0 n sizes.0.rows sizes.0.width m sharing.0
-          (sizes_range m sizes.0 sizes.1) (addresses_range m addresses.0 addresses.1) sharing.1;
+    let tau = value_of (tau_in scheme.0 sharing.0 m) _ asked sharing.2 in
+    subst InRange (some_is _ asked tau.2) (record {
+      shared = fetch_fits scheme.0 n sizes.0.rows sizes.0.width m sharing.0 tau.0
+          (sizes_range m sizes.0 sizes.1) (addresses_range m addresses.0 addresses.1) sharing.1 tau.1;
       together = blocks_range sizes.0 m blocks.0 blocks.1;
     })
 
@@ -156,25 +186,60 @@ demo_range m asked e =
       block = block_range sizes.0.rows m block.0 block.1;
     })
 
+-- the key is not empty, and not longer than a row
+key_range : (width : ℕ) (m : List Row) (key : List ℕ) → key_in width m ≡ Some key → (1 ≤ length key) × (length key ≤ width)
+unfolding key_in key_named
+key_range width m key e =
+    let text = value_of (first_of (codes "key") m) _ key e in
+    let spells = test_of (spells_bytes text.0) _ key text.2 in
+    let short = test_of (nat_le (length text.0 / 2) width) _ key spells.1 in
+    let half = (decode_of-ok text.0 key (decoded (decode_of text.0) short.1)).2 in
+    let some = ltb-true 0 (length text.0) (and_parts _ _ (and_parts _ _ spells.0).0).0 in
+    let few = leb-true (length text.0 / 2) width short.0 in
+    (omega (arith, half, some), omega (arith, half, few))
+  where
+    decoded : (r : Result (List ℕ) FromHexError) → result_ok r ≡ Some key → r ≡ Ok key
+    decoded (Ok bytes) is = ap Ok (some_is bytes key is)
+    decoded (Err fault) is = cc
+
+-- the values of `lookup`
+lookup_range : (m : List Row) (asked : Asked) → lookup_of m ≡ Some asked → InRange asked
+unfolding lookup_of
+lookup_range m asked e =
+    let sizes = value_of (sizes_in m) _ asked e in
+    let key = value_of (key_in sizes.0.width m) _ asked sizes.2 in
+    let addresses = value_of (addresses_in m) _ asked key.2 in
+    let n = length addresses.0 in
+    let sharing = value_of (sharing_in n m) _ asked addresses.2 in
+    let size = key_range sizes.0.width m key.0 key.1 in
+    subst InRange (some_is _ asked sharing.2) (record {
+      numbers = shamir_fits sizes.0.rows sizes.0.width sharing.0.degree sharing.0.agree n
+          (sizes_range m sizes.0 sizes.1) (sharing_range n m sharing.0 sharing.1) (addresses_range m addresses.0 addresses.1);
+      some_key = size.0;
+      short_key = size.1;
+    })
+
 -- the values of a command by its name
 named_range : (name : Text) (m : List Row) (asked : Asked) → asked_by name m ≡ Some asked → InRange asked
 unfolding asked_by
 named_range name m asked e =
-    by_name (bytes_eq name (codes "replay")) (bytes_eq name (codes "fetch")) (bytes_eq name (codes "serve")) (bytes_eq name (codes "selfrun")) (bytes_eq name (codes "demo")) e
+    by_name (bytes_eq name (codes "replay")) (bytes_eq name (codes "fetch")) (bytes_eq name (codes "serve")) (bytes_eq name (codes "selfrun")) (bytes_eq name (codes "demo")) (bytes_eq name (codes "lookup")) e
   where
-    by_name : (is_replay is_fetch is_serve is_selfrun is_demo : Bool)
+    by_name : (is_replay is_fetch is_serve is_selfrun is_demo is_lookup : Bool)
         → (if is_replay then replay_of m
         else (if is_fetch then fetch_of m
         else (if is_serve then serve_of m
         else (if is_selfrun then selfrun_of m
-        else (if is_demo then demo_of m else None))))) ≡ Some asked
+        else (if is_demo then demo_of m
+        else (if is_lookup then lookup_of m else None)))))) ≡ Some asked
         → InRange asked
-    by_name true is_fetch is_serve is_selfrun is_demo h = replay_range m asked h
-    by_name false true is_serve is_selfrun is_demo h = fetch_range m asked h
-    by_name false false true is_selfrun is_demo h = serve_range m asked h
-    by_name false false false true is_demo h = selfrun_range m asked h
-    by_name false false false false true h = demo_range m asked h
-    by_name false false false false false h = cc
+    by_name true is_fetch is_serve is_selfrun is_demo is_lookup h = replay_range m asked h
+    by_name false true is_serve is_selfrun is_demo is_lookup h = fetch_range m asked h
+    by_name false false true is_selfrun is_demo is_lookup h = serve_range m asked h
+    by_name false false false true is_demo is_lookup h = selfrun_range m asked h
+    by_name false false false false true is_lookup h = demo_range m asked h
+    by_name false false false false false true h = lookup_range m asked h
+    by_name false false false false false false h = cc
 
 -- the values of the command that words ask for
 pub asked_range : (words : List Text) (asked : Asked) → asked_of words ≡ Some asked → InRange asked

@@ -35,7 +35,7 @@ operands_rule name = record (new_rule name) { required = true; action = Some App
 unfoldable pub replay_app : App
 replay_app = with_rule (new_app (codes "replay")) (operand_rule (codes "file"))
 
--- `fetch --rows R --width S --block B --more B,.. --degree T --agree H ADDRESS..`
+-- `fetch --rows R --width S --block B --more B,.. --degree T --tau U --agree H ADDRESS..`
 unfoldable pub fetch_app : App
 fetch_app =
     let rows = with_option (new_app (codes "fetch")) (codes "rows") true in
@@ -44,7 +44,8 @@ fetch_app =
     let more = with_option block (codes "more") false in
     let scheme = with_option more (codes "scheme") false in
     let degree = with_option scheme (codes "degree") false in
-    let agree = with_option degree (codes "agree") false in
+    let tau = with_option degree (codes "tau") false in
+    let agree = with_option tau (codes "agree") false in
     let coins = with_option agree (codes "coins") false in
     let recorded = with_option coins (codes "record") false in
     with_rule recorded (operands_rule (codes "addresses"))
@@ -85,6 +86,17 @@ demo_app =
     let agree = with_option degree (codes "agree") true in
     with_option agree (codes "coins") false
 
+-- `lookup --rows R --width S --key HEX --degree T --agree H ADDRESS..`
+unfoldable pub lookup_app : App
+lookup_app =
+    let rows = with_option (new_app (codes "lookup")) (codes "rows") true in
+    let width = with_option rows (codes "width") true in
+    let key = with_option width (codes "key") true in
+    let degree = with_option key (codes "degree") true in
+    let agree = with_option degree (codes "agree") true in
+    let coins = with_option agree (codes "coins") false in
+    with_rule coins (operands_rule (codes "addresses"))
+
 -- `pir` with no command, whose words begin after the program's name
 abbrev pub bare : App
 bare = let a = new_app (codes "pir") in record a { top = record a.top { no_binary_name = true } }
@@ -96,4 +108,5 @@ pir =
     let fetch = with_subcommand replay fetch_app.top in
     let serve = with_subcommand fetch serve_app.top in
     let selfrun = with_subcommand serve selfrun_app.top in
-    with_subcommand selfrun demo_app.top
+    let demo = with_subcommand selfrun demo_app.top in
+    with_subcommand demo lookup_app.top

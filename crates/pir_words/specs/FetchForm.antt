@@ -1,13 +1,17 @@
 -- The form of `fetch`.
-use Rattle.std.specs.Prelude.{ℕ, ◌*◌, ◌-◌, ◌<◌, ◌≤◌, ◌==◌, ◌&&◌, Bool, List, [], ◌∷◌, All, length, Option, None, Some, option_map, codes, is_none, nat_le}
+use Rattle.std.specs.Prelude.{ℕ, ◌≡◌, ◌+◌, ◌*◌, ◌-◌, ◌<◌, ◌≤◌, ◌==◌, ◌&&◌, Bool, List, [], ◌∷◌, All, length}
+use Rattle.std.specs.Prelude.{Option, None, Some, option_map, codes, is_none, nat_le, nat_lt, unwrap_or}
 use Rattle.std.specs.List.{slice_split}
 use Rattle.clap.specs.Words.{Row, Text, all_of, first_of}
 use Rattle.wire_frames.specs.declared.TheConstants.{LEAST_SERVERS, MOST_BLOCKS, MOST_SERVERS, MOST_WIDTH}
+use Rattle.wire_frames.specs.declared.scheme.TheConstants.{XOR}
 use Rattle.wire_frames.specs.declared.scheme.Scheme.{Scheme}
 use Rattle.wire_frames.specs.declared.scheme.Scheme.TheVariants.{Shamir, Xor}
 use Rattle.wire_frames.specs.Scheme.{number_of}
 use Rattle.pir_words.specs.Chain.{◌>>=◌, ◌>>◌}
+use Rattle.pir_words.specs.Numbers.{number}
 use Rattle.pir_words.specs.Ranges.{FitsSession, block_in, coins_in, row_named, scheme_in, sharing_in, sizes_in}
+use Rattle.pir_words.specs.declared.TheConstants.{MOST_TAU}
 use Rattle.pir_words.specs.declared.ranges.Sizes.{Sizes}
 use Rattle.pir_words.specs.declared.ranges.Sharing.{Sharing}
 use Rattle.pir_words.specs.declared.asked.Asked.{Asked}
@@ -32,6 +36,17 @@ xor_sharing_in n m = do
 unfoldable pub fetch_sharing_in : Scheme → ℕ → List Row → Option Sharing
 fetch_sharing_in Shamir n m = sharing_in n m
 fetch_sharing_in Xor n m = xor_sharing_in n m
+
+-- the degree in which the database is shared, 0 where it isn't given: with that of the queries it is
+-- less than the agreement. In the XOR scheme it is not given
+unfoldable pub tau_in : Scheme → Sharing → List Row → Option ℕ
+tau_in Shamir sharing m = do
+  tau ← number (unwrap_or (first_of (codes "tau") m) (codes "0"))
+  nat_le tau MOST_TAU && nat_lt (sharing.degree + tau) sharing.agree
+  Some tau
+tau_in Xor sharing m = do
+  is_none (first_of (codes "tau") m)
+  Some 0
 
 -- a comma
 abbrev pub is_comma : ℕ → Bool
@@ -74,7 +89,8 @@ fetch_of m = do
   scheme ← scheme_in m
   addresses ← addresses_in m
   (sharing : Sharing) ← fetch_sharing_in scheme (length addresses) m
-  Some (Fetch (number_of scheme) sizes.rows sizes.width blocks sharing.degree sharing.agree
+  tau ← tau_in scheme sharing m
+  Some (Fetch (number_of scheme) sizes.rows sizes.width blocks sharing.degree tau sharing.agree
       (coins_in m) (first_of (codes "record") m) addresses)
 
 -- these are blocks that may be asked for at once: some, each one of r rows, and all of them of few bytes
@@ -84,7 +100,14 @@ pub record AreAtOnce (r s : ℕ) (blocks : List ℕ) : Type 0 where
   pub each : All (λ b. b < r) blocks
   pub few_bytes : length blocks * s ≤ MOST_WIDTH
 
+-- the degree t of the queries and tau of the shares, and the agreement h, suit n servers and a database of r rows of s bytes:
+-- t hides the block, and t + tau and h are those of a session; in the XOR scheme the database isn't shared
+pub record IsSharedFetch (scheme r s t tau h n : ℕ) : Type 0 where
+  pub numbers : FitsSession scheme (t + tau) h n r s
+  pub private : 1 ≤ t
+  pub held_whole : scheme ≡ XOR → tau ≡ 0
+
 -- the values of `fetch` with n addresses are those of a session, and the blocks may be asked for at once
-pub record IsFetch (scheme r s : ℕ) (blocks : List ℕ) (t h n : ℕ) : Type 0 where
-  pub numbers : FitsSession scheme t h n r s
+pub record IsFetch (scheme r s : ℕ) (blocks : List ℕ) (t tau h n : ℕ) : Type 0 where
+  pub shared : IsSharedFetch scheme r s t tau h n
   pub together : AreAtOnce r s blocks

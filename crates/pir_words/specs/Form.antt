@@ -4,6 +4,8 @@ use Rattle.std.specs.Str.{bytes_eq}
 use Rattle.clap.specs.Words.{Row, Text, fault_of, subcommand_of}
 use Rattle.clap.specs.declared.error.kind.ErrorKind.{ErrorKind}
 use Rattle.clap.specs.declared.error.kind.ErrorKind.TheVariants.{OutOfMemory}
+use Rattle.key_search.specs.declared.key.KeyFault.{KeyFault}
+use Rattle.key_search.specs.declared.key.KeyFault.TheVariants.{NotHex, TooLong, Memory as NoMemory}
 use Rattle.pir_words.specs.Chain.{◌>>=◌, ◌>>◌}
 use Rattle.pir_words.specs.Command.{pir}
 use Rattle.pir_words.specs.ReplayForm.{replay_of}
@@ -11,8 +13,9 @@ use Rattle.pir_words.specs.FetchForm.{IsFetch, fetch_of}
 use Rattle.pir_words.specs.ServeForm.{IsServe, serve_of}
 use Rattle.pir_words.specs.SelfrunForm.{IsSelfrun, selfrun_of}
 use Rattle.pir_words.specs.DemoForm.{IsDemo, demo_of}
+use Rattle.pir_words.specs.LookUpForm.{FitsLookUp, lookup_of}
 use Rattle.pir_words.specs.declared.asked.Asked.{Asked}
-use Rattle.pir_words.specs.declared.asked.Asked.TheVariants.{Replay, Fetch, Serve, Selfrun, Demo}
+use Rattle.pir_words.specs.declared.asked.Asked.TheVariants.{Replay, Fetch, Serve, Selfrun, Demo, Lookup}
 use Rattle.pir_words.specs.declared.asked.WordsFault.{WordsFault}
 use Rattle.pir_words.specs.declared.asked.WordsFault.TheVariants.{Usage, Memory}
 
@@ -21,6 +24,12 @@ abbrev pub fault_by : ErrorKind → WordsFault
 fault_by OutOfMemory = Memory
 fault_by _ = Usage
 
+-- what a text that isn't read as a key comes to
+abbrev pub fault_of_key : KeyFault → WordsFault
+fault_of_key NotHex = Usage
+fault_of_key (TooLong max) = Usage
+fault_of_key NoMemory = Memory
+
 -- the command of this name, with what the words give to its arguments
 unfoldable pub asked_by : Text → List Row → Option Asked
 asked_by name m =
@@ -28,7 +37,8 @@ asked_by name m =
     else (if bytes_eq name (codes "fetch") then fetch_of m
     else (if bytes_eq name (codes "serve") then serve_of m
     else (if bytes_eq name (codes "selfrun") then selfrun_of m
-    else (if bytes_eq name (codes "demo") then demo_of m else None))))
+    else (if bytes_eq name (codes "demo") then demo_of m
+    else (if bytes_eq name (codes "lookup") then lookup_of m else None)))))
 
 -- the command that a parse entered
 unfoldable pub asked_in : Option (Text × List Row) → Option Asked
@@ -55,8 +65,9 @@ IsReadAs wanted (Err Memory) = Unit {0}
 -- the values of a command are in their ranges
 abbrev pub InRange : Asked → Type 0
 InRange (Replay file) = Unit {0}
-InRange (Fetch scheme r s blocks t h coins keep addresses) =
-    IsFetch scheme r s blocks t h (length addresses)
+InRange (Fetch scheme r s blocks t tau h coins keep addresses) =
+    IsFetch scheme r s blocks t tau h (length addresses)
 InRange (Serve scheme database s guests listen workers) = IsServe scheme s guests workers
 InRange (Selfrun seed r s n t h v workers slow) = IsSelfrun seed r s n t h v workers
 InRange (Demo port database r s b n t h coins) = IsDemo port r s b t h n
+InRange (Lookup r s key t h coins addresses) = FitsLookUp r s key t h (length addresses)

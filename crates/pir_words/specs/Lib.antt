@@ -7,4 +7,5 @@ pub mod FetchForm
 pub mod ServeForm
 pub mod SelfrunForm
 pub mod DemoForm
+pub mod LookUpForm
 pub mod Form

@@ -3,6 +3,7 @@
 use crate::blocks::Blocks;
 use crate::text::{Text, Texts};
 use clap::error::ErrorKind;
+use key_search::{Key, KeyFault};
 use std::alloc::AllocError;
 use thiserror::Error;
 
@@ -26,6 +27,9 @@ pub enum Asked {
         blocks: Blocks,
         /// The degree t: so many servers together learn nothing; in the XOR scheme all but one.
         degree: u8,
+        /// The degree in which the database is shared: so many servers together can't read it; 0 where each holds
+        /// the whole of it, as in the XOR scheme.
+        tau: u8,
         /// How many answers have to agree; in the XOR scheme all.
         agree: u8,
         /// The file that random bytes come from.
@@ -92,6 +96,23 @@ pub enum Asked {
         /// The file that random bytes come from.
         coins: Text,
     },
+    /// Look up a row by its key in a database that several servers hold, in Shamir's scheme.
+    Lookup {
+        /// How many rows the database has.
+        rows: u32,
+        /// How many bytes a row has.
+        width: u32,
+        /// The first bytes of the row that is looked for.
+        key: Key,
+        /// The degree t: so many servers together learn nothing.
+        degree: u8,
+        /// How many answers have to agree.
+        agree: u8,
+        /// The file that random bytes come from.
+        coins: Text,
+        /// The address of each server.
+        addresses: Texts,
+    },
 }
 
 /// Why words give no command.
@@ -113,6 +134,22 @@ impl From<AllocError> for WordsFault {
 
     fn from(_error: AllocError) -> WordsFault {
         WordsFault::Memory
+    }
+}
+
+/// What a text that isn't read as a key comes to.
+impl From<KeyFault> for WordsFault {
+    ghost use Rattle.std.specs.Prelude.{◌≡◌};
+    ghost use Rattle.pir_words.specs.Form.{fault_of_key};
+
+    ghost from_gives = { λ fault given. given ≡ fault_of_key fault };
+
+    fn from(fault: KeyFault) -> WordsFault {
+        match fault {
+            KeyFault::NotHex => WordsFault::Usage,
+            KeyFault::TooLong { .. } => WordsFault::Usage,
+            KeyFault::Memory => WordsFault::Memory,
+        }
     }
 }
 

@@ -4,7 +4,7 @@ ghost use Rattle.std.specs.Prelude.{◌≡◌, Bool, false, IfOk};
 ghost use Rattle.clap.specs.Words.{app_of};
 ghost use Rattle.clap.specs.declared.builder.command.Command.TheViews.{out-Command};
 ghost use Rattle.pir_words.specs.Command.{with_flag, with_option};
-ghost use Rattle.pir_words.specs.Command.{replay_app, fetch_app, serve_app, selfrun_app, demo_app, pir};
+ghost use Rattle.pir_words.specs.Command.{replay_app, fetch_app, serve_app, selfrun_app, demo_app, lookup_app, pir};
 
 use clap::{Arg, ArgAction, Command};
 use std::alloc::{AllocError, Global};
@@ -65,7 +65,8 @@ fn fetch_command<'a>(alloc: Global) -> Result<Command<'a>, AllocError>
     let more = with_option(alloc, block, "more", false)?;
     let scheme = with_option(alloc, more, "scheme", false)?;
     let degree = with_option(alloc, scheme, "degree", false)?;
-    let agree = with_option(alloc, degree, "agree", false)?;
+    let tau = with_option(alloc, degree, "tau", false)?;
+    let agree = with_option(alloc, tau, "agree", false)?;
     let coins = with_option(alloc, agree, "coins", false)?;
     let recorded = with_option(alloc, coins, "record", false)?;
     let addresses = Arg::new(alloc, "addresses")
@@ -122,6 +123,24 @@ fn demo_command<'a>(alloc: Global) -> Result<Command<'a>, AllocError>
     with_option(alloc, agree, "coins", false)
 }
 
+/// `lookup`.
+fn lookup_command<'a>(alloc: Global) -> Result<Command<'a>, AllocError>
+    ensures app { IfOk result (λ c. app_of c ≡ lookup_app) }
+    ensures local { IfOk result (λ c. (out-Command c).has_globals ≡ false) }
+{
+    let start = Command::new(alloc, "lookup");
+    let rows = with_option(alloc, start, "rows", true)?;
+    let width = with_option(alloc, rows, "width", true)?;
+    let key = with_option(alloc, width, "key", true)?;
+    let degree = with_option(alloc, key, "degree", true)?;
+    let agree = with_option(alloc, degree, "agree", true)?;
+    let coins = with_option(alloc, agree, "coins", false)?;
+    let addresses = Arg::new(alloc, "addresses")
+        .required(true)
+        .action(ArgAction::Append);
+    coins.arg(addresses)
+}
+
 /// `pir` with its commands. The words come without the program's name.
 pub fn pir_command<'a>(alloc: Global) -> Result<Command<'a>, AllocError>
     ensures { IfOk result (λ c. app_of c ≡ pir) }
@@ -136,5 +155,7 @@ pub fn pir_command<'a>(alloc: Global) -> Result<Command<'a>, AllocError>
     let selfrun = selfrun_command(alloc)?;
     let with_selfrun = with_serve.subcommand(selfrun)?;
     let demo = demo_command(alloc)?;
-    with_selfrun.subcommand(demo)
+    let with_demo = with_selfrun.subcommand(demo)?;
+    let lookup = lookup_command(alloc)?;
+    with_demo.subcommand(lookup)
 }

@@ -3,21 +3,22 @@
 ghost use Rattle.std.specs.Prelude.{◌≡◌, ◌≤◌, IfSome, length, map, option_map};
 ghost use Rattle.wire_frames.specs.declared.TheConstants.{MOST_SERVERS};
 ghost use Rattle.pir_words.specs.Numbers.{given};
-ghost use Rattle.pir_words.specs.FetchForm.{addresses_in, fetch_of, fetch_sharing_in, xor_sharing_in};
+ghost use Rattle.pir_words.specs.FetchForm.{addresses_in, fetch_of, fetch_sharing_in, tau_in, xor_sharing_in};
 ghost use Rattle.pir_words.specs.Form.{IsReadAs};
 
+use crate::MOST_TAU;
 use crate::asked::{Asked, WordsFault};
 use crate::blocks::blocks_at;
 use crate::ranges::{Sharing, coins_at, scheme_at, sharing_at, sizes_at};
 use crate::text::Texts;
-use crate::values::{owned, owned_if_given, text_at, texts_at};
+use crate::values::{number_of, owned, owned_if_given, text_at, texts_at};
 use clap::ArgMatches;
 use std::alloc::Global;
 use wire_frames::{LEAST_SERVERS, MOST_SERVERS, Scheme};
 
 /// The addresses, of no more servers than there may be.
 #[tactic(auto, unfolding(crate::specs::FetchForm::addresses_in))]
-fn addresses_at<'a, 'b>(matches: &'b ArgMatches<'a>) -> Option<&'b [&'a str]>
+pub(crate) fn addresses_at<'a, 'b>(matches: &'b ArgMatches<'a>) -> Option<&'b [&'a str]>
     ensures value { option_map (λ s. map (λ v. v.now) s.now) result ≡ addresses_in (given matches.now) }
     ensures few { IfSome result (λ s. length s.now ≤ MOST_SERVERS) }
 {
@@ -55,6 +56,32 @@ fn fetch_sharing_at(matches: &ArgMatches, scheme: Scheme, servers: u8) -> Option
     }
 }
 
+/// The degree in which the database is shared, 0 where it isn't given: with that of the queries it is less than the
+/// agreement. In the XOR scheme it is not given.
+#[tactic(auto, unfolding(crate::specs::FetchForm::tau_in))]
+fn tau_at(matches: &ArgMatches, scheme: Scheme, sharing: Sharing) -> Option<u8>
+    ensures { result ≡ tau_in scheme sharing (given matches.now) }
+{
+    let given = text_at(matches, "tau");
+    match scheme {
+        Scheme::Shamir => {
+            let tau = number_of(given.unwrap_or("0"))?;
+            let (degree, agree) = (u64::from(sharing.degree), u64::from(sharing.agree));
+            if tau <= u64::from(MOST_TAU) && degree + tau < agree {
+                Some(tau as u8)
+            } else {
+                None
+            }
+        }
+        Scheme::Xor => {
+            if given.is_some() {
+                return None;
+            }
+            Some(0)
+        }
+    }
+}
+
 /// `fetch` with its values, each in its range.
 #[tactic(auto, unfolding(crate::specs::FetchForm::fetch_of))]
 pub fn read_fetch(alloc: Global, matches: &ArgMatches) -> Result<Asked, WordsFault>
@@ -67,6 +94,7 @@ pub fn read_fetch(alloc: Global, matches: &ArgMatches) -> Result<Asked, WordsFau
     let sharing = fetch_sharing_at(matches, scheme, addresses.len() as u8).ok_or(
         WordsFault::Usage,
     )?;
+    let tau = tau_at(matches, scheme, sharing).ok_or(WordsFault::Usage)?;
     let coins = owned(alloc, coins_at(matches))?;
     let keep = owned_if_given(alloc, text_at(matches, "record"))?;
     let addresses = Texts::new(alloc, addresses)?;
@@ -76,6 +104,7 @@ pub fn read_fetch(alloc: Global, matches: &ArgMatches) -> Result<Asked, WordsFau
         width: sizes.width,
         blocks,
         degree: sharing.degree,
+        tau,
         agree: sharing.agree,
         coins,
         keep,

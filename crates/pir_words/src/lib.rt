@@ -24,6 +24,7 @@ mod blocks;
 mod command;
 mod demo_words;
 mod fetch_words;
+mod lookup_words;
 mod ranges;
 mod replay_words;
 mod selfrun_words;
@@ -37,17 +38,23 @@ use clap::ArgMatches;
 use command::pir_command;
 use demo_words::read_demo;
 use fetch_words::read_fetch;
+use lookup_words::read_lookup;
 use replay_words::read_replay;
 use selfrun_words::read_selfrun;
 use serve_words::read_serve;
 use std::alloc::Global;
 pub use text::{Text, Texts};
+use wire_frames::MOST_DEGREE;
 
 /// The least port of a demonstration, whose servers listen at those that follow it.
 pub const LEAST_PORT: u16 = 1024;
 
 /// The greatest port of a demonstration.
 pub const MOST_PORT: u16 = 65000;
+
+/// The greatest degree in which the database of `fetch` may be shared: with queries of degree 1 it is the greatest degree of
+/// a session.
+pub const MOST_TAU: u8 = MOST_DEGREE - 1;
 
 /// The matches of the words, where they have some.
 fn parse<'a>(alloc: Global, words: &'a [String]) -> Result<ArgMatches<'a>, WordsFault>
@@ -72,6 +79,7 @@ fn read_command(alloc: Global, name: &str, matches: &ArgMatches) -> Result<Asked
         "serve" => read_serve(alloc, matches),
         "selfrun" => read_selfrun(matches).ok_or(WordsFault::Usage),
         "demo" => read_demo(alloc, matches),
+        "lookup" => read_lookup(alloc, matches),
         _ => Err(WordsFault::Usage),
     }
 }
@@ -91,11 +99,12 @@ fn read_matches(alloc: Global, matches: &ArgMatches) -> Result<Asked, WordsFault
 /// | Command | Required | May be left out |
 /// |---|---|---|
 /// | `replay` | FILE | |
-/// | `fetch` | `--rows R --width S --block B --degree T --agree H`, two addresses or more | `--more B,B,..`, `--scheme shamir`, `--coins FILE` (`/dev/urandom`), `--record FILE` |
+/// | `fetch` | `--rows R --width S --block B --degree T --agree H`, two addresses or more | `--more B,B,..`, `--scheme shamir`, `--tau U` (0), `--coins FILE` (`/dev/urandom`), `--record FILE` |
 /// | `fetch` | `--scheme xor --rows R --width S --block B`, two addresses or more | `--more B,B,..`, `--coins FILE` (`/dev/urandom`), `--record FILE` |
 /// | `serve` | `--database FILE --width S --conns GUESTS --listen ADDR` | `--scheme shamir` or `--scheme xor` (`shamir`), `--workers W` (1) |
 /// | `selfrun` | `--seed SEED --rows R --width S --servers N --degree T --agree H --liars V` | `--workers W` (1), `--slow` |
 /// | `demo` | `--port P --database FILE --rows R --width S --block B --servers N --degree T --agree H` | `--coins FILE` (`/dev/urandom`) |
+/// | `lookup` | `--rows R --width S --key HEX --degree T --agree H`, two addresses or more | `--coins FILE` (`/dev/urandom`) |
 ///
 /// Options come in any order, each once, as `--rows 2` or `--rows=2`, and addresses may stand between them; `--slow`
 /// takes no value. What follows the word `--` is no option. A value that begins with `-` is written `--coins=-x`; `-`
@@ -107,12 +116,14 @@ fn read_matches(alloc: Global, matches: &ArgMatches) -> Result<Asked, WordsFault
 /// product is at most [`MOST_CELLS`](wire_frames::MOST_CELLS), and the block B is below R. Further
 /// blocks are such numbers too, split by single commas, in the order in which they are fetched, and
 /// may repeat; with B they are at most [`MOST_BLOCKS`](wire_frames::MOST_BLOCKS), and of at most
-/// [`MOST_WIDTH`](wire_frames::MOST_WIDTH) bytes together. There are at least
+/// [`MOST_WIDTH`](wire_frames::MOST_WIDTH) bytes together. A key HEX is an even number of hexadecimal
+/// digits of either case, two for each of its bytes, of which there are 1 to S. There are at least
 /// [`LEAST_SERVERS`](wire_frames::LEAST_SERVERS) servers and at most
 /// [`MOST_SERVERS`](wire_frames::MOST_SERVERS), as many as `--servers` says or addresses stand.
 /// Degree and agreement of N servers have `1 <= T < H <= N`, and T is at most
-/// [`MOST_DEGREE`](wire_frames::MOST_DEGREE). In the XOR scheme neither may stand: the agreement is
-/// N, and the degree one less. At most all servers are liars. The number of guests is at least 1 and
+/// [`MOST_DEGREE`](wire_frames::MOST_DEGREE). The degree U in which the database is shared is at most
+/// [`MOST_TAU`], with `T + U < H`. In the XOR scheme none of the three may stand, not even as 0: the
+/// agreement is N, and the degree one less. At most all servers are liars. The number of guests is at least 1 and
 /// at most [`MOST_GUESTS`](wire_frames::MOST_GUESTS), the number W of workers at least 1 and at
 /// most [`MOST_WORKERS`](wire_frames::MOST_WORKERS), and the port P at least [`LEAST_PORT`] and at
 /// most [`MOST_PORT`].

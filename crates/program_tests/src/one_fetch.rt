@@ -20,6 +20,7 @@ use wire_frames::Session;
 const PLAN: FetchPlan = FetchPlan {
     scheme: 1,
     t: 1,
+    tau: 0,
     h: 2,
     n: 3,
     r: 2,

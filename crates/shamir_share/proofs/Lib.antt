@@ -1,4 +1,5 @@
 mod Horner
-mod HornerLanes
+mod LaneParts
+mod LanePlaces
 pub mod Rows
 pub mod Queries

@@ -3,7 +3,7 @@ use Rattle.std.proofs.Common.{◌≡◌, ℕ, ◌+◌, ◌-◌, ◌*◌, ◌<◌
 use Rattle.std.specs.List.{slice_range}
 use Rattle.std.proofs.Math.Nat.{add-mul, mul-le-mul_right}
 use Rattle.std.proofs.lemmas.Bool.{cases_lt}
-use Rattle.std.proofs.lemmas.List.{ext_get_or, get_or-take, get_or-drop, get_or-map, get_or_append_left, get_or-append_right, length-map, length-take, drop-drop, drop-take, take-take, take_all, drop_more}
+use Rattle.std.proofs.lemmas.List.{ext_get_or, get_or-take, get_or-drop, get_or-map, get_or_append_left, get_or-append_right, length-map, length-take, drop-drop, drop-take, take-take, take_all, take_rest, drop_more}
 use Rattle.std.proofs.lemmas.List.FromFn.{length-map-range_with_len, get_or-map-range_with_len}
 use Rattle.gf256.specs.Field.{◌⊕◌, ◌⊗◌}
 use Rattle.gf256.specs.Polynomial.{val}
@@ -86,7 +86,7 @@ masks_next coins t m a enough =
     ap (λ l. masks coins t m a ++ l) (masks_one row t a long) ∙ masks_more coins t m 1 a
 
 -- the value of a row of one coin is the coin
-val_of_coin : (coins : List ℕ) (i a : ℕ) → i < length coins → get_or coins i 0 < 256 → val (row_coins coins 1 i) a ≡ get_or coins i 0
+pub val_of_coin : (coins : List ℕ) (i a : ℕ) → i < length coins → get_or coins i 0 < 256 → val (row_coins coins 1 i) a ≡ get_or coins i 0
 unfolding row_coins
 val_of_coin coins i a lt byte =
     let place : i * 1 ≡ i = omega arith in
@@ -99,3 +99,30 @@ masks_of_coins coins r a long bytes =
     ext_get_or 0 (map (◌⊗◌ a) coins) (masks coins 1 r a) (length-map coins (◌⊗◌ a) ∙ long ∙ sym (length-masks coins 1 r a)) (λ i lt.
     let within : i < length coins = omega (arith, length-map coins (◌⊗◌ a)) in
     get_or-map (◌⊗◌ a) coins i 0 0 within ∙ ap (◌⊗◌ a) (sym (val_of_coin coins i a within (bytes i))) ∙ sym (masks_at coins 1 r a i (omega arith)))
+
+-- masks of rows that have the same coins
+masks_same : (xs ys : List ℕ) (t r a : ℕ) → ((j : ℕ) → j < r → row_coins xs t j ≡ row_coins ys t j) → masks xs t r a ≡ masks ys t r a
+masks_same xs ys t r a same =
+    ext_get_or 0 (masks xs t r a) (masks ys t r a) (length-masks xs t r a ∙ sym (length-masks ys t r a)) (λ j l.
+    let few : j < r = omega (arith, l, length-masks xs t r a) in
+    masks_at xs t r a j few ∙ ap (λ p. a ⊗ val p a) (same j few) ∙ sym (masks_at ys t r a j few))
+
+-- more coins behind n rows change nothing
+pub masks_of_first : (coins : List ℕ) (t n a : ℕ) → masks (take (n * t) coins) t n a ≡ masks coins t n a
+unfolding row_coins
+masks_of_first coins t n a =
+    masks_same (take (n * t) coins) coins t n a (λ j l.
+    let fit = rows_fit j n t l in
+    let size : n * t ≡ j * t + (n * t - j * t) = omega (arith, fit) in
+    ap (λ k. take t (drop (j * t) (take k coins))) size
+    ∙ ap (take t) (drop-take (j * t) (n * t - j * t) coins)
+    ∙ take-take t (n * t - j * t) (drop (j * t) coins) (omega (arith, fit)))
+
+-- the masks of n rows at the front of what is left are those of the rows in a slice
+pub masks_of_rest : (coins : List ℕ) (t m n a : ℕ) → masks (take (length coins - m * t) (drop (m * t) coins)) t n a ≡ masks (slice_range coins (m * t) ((m + n) * t)) t n a
+unfolding row_coins
+masks_of_rest coins t m n a =
+    ap (λ xs. masks xs t n a) (take_rest coins (m * t))
+    ∙ masks_same (drop (m * t) coins) (slice_range coins (m * t) ((m + n) * t)) t n a (λ j l.
+    ap (take t) (drop-drop (j * t) (m * t) coins ∙ ap (λ k. drop k coins) (sym (add-mul m j t)))
+    ∙ sym (row_of_slice coins t m n j l))

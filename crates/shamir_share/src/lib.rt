@@ -14,8 +14,10 @@
 //! places that are read of a table depend on the coins.
 #![tactic(auto)]
 
+mod cells;
 mod lanes;
 mod masks;
+mod places;
 mod products;
 
 ghost use Rattle.std.specs.Prelude.{◌≡◌, ◌≢◌, ◌*◌, ◌<◌, ◌≤◌, length};
@@ -30,7 +32,7 @@ pub use products::ProductTable;
 /// `j * t` and on.
 ///
 /// There are `r * t` coins, `out` is `r` long, the block is one of the `r` rows, the index isn't 0,
-/// and the degree `t` is from 1 to 31. It takes no memory.
+/// and the degree `t` is from 1 to 254. It takes no memory.
 ///
 /// ```
 /// // Two rows and degree 1: the polynomials are `05 x` and `01 + 07 x`.
@@ -43,7 +45,7 @@ pub fn query_into(coins: &[u8], t: u32, r: u32, block: u32, index: u8, out: &mut
     requires block { block < r }
     requires index { index ≢ 0 }
     requires some { 1 ≤ t }
-    requires few { t ≤ 31 }
+    requires few { t ≤ 254 }
     ensures { out.new ≡ query coins.now t r block index }
 {
     let products = ProductTable::of(index);

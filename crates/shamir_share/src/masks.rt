@@ -23,7 +23,13 @@ pub fn masks_into(products: &ProductTable, coins: &[u8], t: usize, out: &mut [u8
 }
 
 /// The same from row `from` on, where those before are done: row by row, four of them at once.
-fn rows_into(products: &ProductTable, coins: &[u8], t: usize, from: usize, out: &mut [u8])
+pub(crate) fn rows_into(
+    products: &ProductTable,
+    coins: &[u8],
+    t: usize,
+    from: usize,
+    out: &mut [u8],
+)
     requires coins { length coins.now ≡ length out.old * t }
     requires within { from ≤ length out.old }
     requires done { take from out.old ≡ masks coins.now t from products.now }

@@ -1,29 +1,35 @@
 //! The products of one byte and every other, from tables.
 ghost use Rattle.std.specs.Prelude.{◌≡◌, length, map};
-ghost use Rattle.gf256.specs.Field.{◌⊗◌};
+ghost use Rattle.gf256.specs.Field.{◌⊗◌, power};
 
 use gf256::rows;
 use std::marker::Model;
 use std::simd::prelude::*;
 
 /// The products of one byte, the factor, and every byte: looked up for one, and by
-/// [`rows::Products`] for 16 at once. Contracts see the factor.
+/// [`rows::Products`] for 16 at once, also with some powers of the factor. Contracts see the factor.
 #[derive(Drop)]
 pub struct ProductTable {
     // The product with each byte.
     table: [u8; 256],
     lanes: rows::Products,
+    second: rows::Products,
+    fourth: rows::Products,
+    eighth: rows::Products,
+    sixteenth: rows::Products,
 }
 
 impl Model for ProductTable {
     ghost use Rattle.std.specs.Prelude.{◌≡◌, ℕ, ◌<◌, slice_index};
-    ghost use Rattle.gf256.specs.Field.{◌⊗◌};
+    ghost use Rattle.gf256.specs.Field.{◌⊗◌, power};
 
     ghost Value = { ℕ };
 
     ghost view = { λ p. p.lanes };
 
-    ghost invariant = { λ p. (x : ℕ) → x < 256 → slice_index p.table x ≡ p.lanes ⊗ x };
+    ghost invariant = { λ p. ((x : ℕ) → x < 256 → slice_index p.table x ≡ p.lanes ⊗ x)
+        × (p.second ≡ power p.lanes 2) × (p.fourth ≡ power p.lanes 4)
+        × (p.eighth ≡ power p.lanes 8) × (p.sixteenth ≡ power p.lanes 16) };
 }
 
 impl ProductTable {
@@ -38,7 +44,51 @@ impl ProductTable {
         ProductTable {
             table,
             lanes: rows::Products::of(factor),
+            second: rows::Products::of(gf256::pow(factor, 2)),
+            fourth: rows::Products::of(gf256::pow(factor, 4)),
+            eighth: rows::Products::of(gf256::pow(factor, 8)),
+            sixteenth: rows::Products::of(gf256::pow(factor, 16)),
         }
+    }
+
+    /// The products with the factor.
+    #[inline(always)]
+    pub(crate) fn first(&self) -> &rows::Products
+        ensures { result.now ≡ self.now }
+    {
+        &self.lanes
+    }
+
+    /// The products with the square of the factor.
+    #[inline(always)]
+    pub(crate) fn second(&self) -> &rows::Products
+        ensures { result.now ≡ power self.now 2 }
+    {
+        &self.second
+    }
+
+    /// The products with the fourth power of the factor.
+    #[inline(always)]
+    pub(crate) fn fourth(&self) -> &rows::Products
+        ensures { result.now ≡ power self.now 4 }
+    {
+        &self.fourth
+    }
+
+    /// The products with the eighth power of the factor.
+    #[inline(always)]
+    pub(crate) fn eighth(&self) -> &rows::Products
+        ensures { result.now ≡ power self.now 8 }
+    {
+        &self.eighth
+    }
+
+    /// The products with the sixteenth power of the factor.
+    #[inline(always)]
+    pub(crate) fn sixteenth(&self) -> &rows::Products
+        ensures { result.now ≡ power self.now 16 }
+    {
+        &self.sixteenth
     }
 
     /// The product of the factor and this byte.

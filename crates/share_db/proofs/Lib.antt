@@ -1,2 +1,3 @@
-mod Shares
+pub mod Shares
+pub mod ProductSums
 mod SameShares

@@ -46,8 +46,7 @@ pub fn share_into(bytes: &[u8], coins: &[u8], tau: u32, index: u8, out: &mut [u8
     }
 }
 
-/// Writes the share of the first positions, sixteen of them at once, where each has one coin, two
-/// or four. Gives how many are done.
+/// Writes the share of the first positions, sixteen of them at once. Gives how many are done.
 fn lanes_into(
     products: &ProductTable,
     bytes: &[u8],
@@ -55,17 +54,15 @@ fn lanes_into(
     tau: usize,
     out: &mut [u8],
 ) -> usize
+    requires some { 1 ≤ tau }
     requires coins { length coins.now ≡ length bytes.now * tau }
     requires room { length out.old ≡ length bytes.now }
     ensures within { result ≤ length bytes.now }
     ensures done { take result out.new ≡ take result (share bytes.now coins.now tau products.now) }
 {
     let mut at = 0;
-    if tau != 1 && tau != 2 && tau != 4 {
-        return at;
-    }
     'lanes: while out.len() - at >= 16 {
-        let masks = sixteen_masks(products, &coins[at * tau..(at + 16) * tau], tau);
+        let masks = sixteen_masks(products, &coins[at * tau..], tau);
         (masks ^ u8x16::from_slice(&bytes[at..])).copy_to_slice(&mut out[at..]);
         at += 16;
     }

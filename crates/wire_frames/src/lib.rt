@@ -47,9 +47,9 @@ pub use write::write_session;
 /// The least number of servers: one alone would learn the block.
 pub const LEAST_SERVERS: u8 = 2;
 
-/// The greatest number of servers. An index is one byte, so 255 is the end; a verdict needs list
-/// decodings of so many points.
-pub const MOST_SERVERS: u8 = 32;
+/// The greatest number of servers. An index is one byte and not 0, so 255 is the end; a verdict needs
+/// list decodings of so many points, and a row of servers is gone through with no index past it.
+pub const MOST_SERVERS: u8 = 255;
 
 /// The greatest degree of a query's polynomials, so how many servers together may learn nothing. It
 /// goes with [`MOST_SERVERS`]: one server more has to agree.

@@ -8,37 +8,37 @@ use Rattle.block_decoder.proofs.UsableAnswers.{columns-answers, nonzero-answers,
 use Rattle.block_decoder.proofs.judging.usable_answers.Goals as goal
 use Rattle.block_decoder.proofs.judging.usable_answers.Goals.{in-Some+in_ok-push, in_default}
 
-pub loop-index-init : goal.loop-index-init
-loop-index-init c =
+pub loop-place-init : goal.loop-place-init
+loop-place-init c =
     subst (λ (made : List Answer). HasCollected c.args.session.now made 1) (sym c.in_ok-usable.ensures) (collected_none c.args.session.now)
 
-pub loop-index-preserved : goal.loop-index-preserved
-loop-index-preserved c =
+pub loop-place-preserved : goal.loop-place-preserved
+loop-place-preserved c =
     let session = c.args.session.now in
-    let next = c.loop-index.index in
-    let before = c.loop-index.usable in
-    let n = ap (λ (p : SessionParams). p.n) c.params-index-end.ensures.value in
+    let next : ℕ = c.loop-place.place + 1 in
+    let before = c.loop-place.usable in
+    let n = ap (λ (p : SessionParams). p.n) c.params-place-end.ensures.value in
     elim c.match-usable_payload.branch [
       | in-Some+in_ok-push w ↦
           subst (λ (made : List Answer). HasCollected session made (next + 1)) (sym (w.usable-is ∙ w.in_ok-push.ensures ∙ ap (λ (a : Answer). before ++ a ∷ []) w.new.ensures))
-          (collected_present session before next w.in-Some.payload.now (omega arith) (omega (arith, c.requires.all, n)) (sym w.in-Some.ensures) c.loop-index.invariant)
+          (collected_present session before next w.in-Some.payload.now (omega arith) (omega (arith, c.requires.all, n)) (sym w.in-Some.ensures) c.loop-place.invariant)
       | in_default w ↦
           subst (λ (made : List Answer). HasCollected session made (next + 1)) (sym w.usable-is)
-          (collected_absent session before next (omega arith) (omega (arith, c.requires.all, n)) (sym w.in_default.ensures) c.loop-index.invariant)
+          (collected_absent session before next (omega arith) (omega (arith, c.requires.all, n)) (sym w.in_default.ensures) c.loop-place.invariant)
     ]
 
 pub returns-clause-answers : goal.returns-clause-answers
 returns-clause-answers c =
-    let n = ap (λ (p : SessionParams). p.n) c.params-index-end.ensures.value in
-    let end : c.loop-index.index ≡ c.args.session.now.params.n + 1 = omega (arith, n) in
-    collected_all c.args.session.now c.loop-index.usable c.requires.all
-    (subst (λ (next : ℕ). HasCollected c.args.session.now c.loop-index.usable next) end c.loop-index.invariant)
+    let n = ap (λ (p : SessionParams). p.n) c.params-place-end.ensures.value in
+    let end : c.loop-place.place + 1 ≡ c.args.session.now.params.n + 1 = omega (arith, n) in
+    collected_all c.args.session.now c.loop-place.usable c.requires.all
+    (subst (λ (next : ℕ). HasCollected c.args.session.now c.loop-place.usable next) end c.loop-place.invariant)
 
 pub returns-clause-columns : goal.returns-clause-columns
 returns-clause-columns c =
     let session = c.args.session.now in
     subst (HasColumns (block_len session.params)) (sym (returns-clause-answers c))
-    (columns-answers session (omega (arith, c.record_count.ensures.few, c.params-index-end.ensures.range)) (bytes_from_fits (answer_len session.params.count session.params.s) session.records c.record_count.ensures.fits))
+    (columns-answers session (omega (arith, c.record_count.ensures.few, c.params-place-end.ensures.range)) (bytes_from_fits (answer_len session.params.count session.params.s) session.records c.record_count.ensures.fits))
 
 pub returns-clause-nonzero : goal.returns-clause-nonzero
 returns-clause-nonzero c =

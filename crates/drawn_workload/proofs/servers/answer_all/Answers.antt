@@ -28,7 +28,7 @@ answer_into-requires-clause-room g c = rw c.in_ok-servers.ensures (search rules)
 pub servers-preserved : goal.servers-preserved
 servers-preserved g c =
     let held = c.servers.invariant in
-    let next = c.servers.index in
+    let next : ℕ = c.servers.place + 1 in
     let out = c.answer_into.new.out in
     let room = c.servers.answer in
     let whole = whole_again room.len out room.items (c.answer_into.auto.out ∙ c.deref_mut-in-servers-2.ensures.len) (sym room.ok.0) in
@@ -45,23 +45,23 @@ pub returns-clause-size : goal.returns-clause-size
 returns-clause-size g c =
     let w = c.args.order.now.load in
     let held = c.servers.invariant in
-    let all : c.servers.index - 1 ≡ w.servers = all_answered c.servers.index c.order.inside.load.servers w.servers (omega (arith, c.servers-test.false, c.servers.auto.index-end)) (ap (λ (o : WorkloadOrder). o.load.servers) c.order.view_is) in
+    let all : c.servers.place + 1 - 1 ≡ w.servers = all_answered (c.servers.place + 1) c.order.inside.load.servers w.servers (omega (arith, c.servers-test.false, c.servers.auto.place-end)) (ap (λ (o : WorkloadOrder). o.load.servers) c.order.view_is) in
     c.servers.payloads.ok.0
     ∙ ap length held.payloads
-    ∙ length-each w.width (payload w) (range_with_len 1 (c.servers.index - 1)) (length-payload w)
-    ∙ ap (λ n. n * w.width) (length-range_with_len 1 (c.servers.index - 1) ∙ all)
+    ∙ length-each w.width (payload w) (range_with_len 1 (c.servers.place + 1 - 1)) (length-payload w)
+    ∙ ap (λ n. n * w.width) (length-range_with_len 1 (c.servers.place + 1 - 1) ∙ all)
 
 pub returns-clause-answers : goal.returns-clause-answers
 unfolding all_answers
 returns-clause-answers g c =
     let w = c.args.order.now.load in
     let held = c.servers.invariant in
-    let all : c.servers.index - 1 ≡ w.servers = all_answered c.servers.index c.order.inside.load.servers w.servers (omega (arith, c.servers-test.false, c.servers.auto.index-end)) (ap (λ (o : WorkloadOrder). o.load.servers) c.order.view_is) in
+    let all : c.servers.place + 1 - 1 ≡ w.servers = all_answered (c.servers.place + 1) c.order.inside.load.servers w.servers (omega (arith, c.servers-test.false, c.servers.auto.place-end)) (ap (λ (o : WorkloadOrder). o.load.servers) c.order.view_is) in
     ap₂ (answers_of w.width) held.indices held.payloads
-    ∙ answers_of-each w.width (payload w) (range_with_len 1 (c.servers.index - 1)) (length-payload w)
+    ∙ answers_of-each w.width (payload w) (range_with_len 1 (c.servers.place + 1 - 1)) (length-payload w)
     ∙ ap (λ n. map (λ (i : ℕ). record { index = i; payload = payload w i }) (range_with_len 1 n)) all
 
 pub returns-clause-indices : goal.returns-clause-indices
 returns-clause-indices g c =
-    let all : c.servers.index - 1 ≡ c.args.order.now.load.servers = all_answered c.servers.index c.order.inside.load.servers c.args.order.now.load.servers (omega (arith, c.servers-test.false, c.servers.auto.index-end)) (ap (λ (o : WorkloadOrder). o.load.servers) c.order.view_is) in
+    let all : c.servers.place + 1 - 1 ≡ c.args.order.now.load.servers = all_answered (c.servers.place + 1) c.order.inside.load.servers c.args.order.now.load.servers (omega (arith, c.servers-test.false, c.servers.auto.place-end)) (ap (λ (o : WorkloadOrder). o.load.servers) c.order.view_is) in
     c.servers.invariant.indices ∙ ap (range_with_len 1) all

@@ -18,10 +18,10 @@ returns-in_err-verdict-clause-cols g c =
     let whole = c.in_ok-ask_servers.ensures.asked.asked.whole ∙ ap (λ (p : FetchPlan). p.n) (sym kept) in
     let same : length c.ask_servers.new.queries.blocks ≡ length c.args.blocks.now = ap length (c.ask_servers.ensures.blocks ∙ c.in_ok-queries.ensures.blocks) in
     let q = c.ask_servers.new.queries.plan in
-    counts_of_all most_columns c.args.plan.now q c.args.blocks.now c.ask_servers.new.session _ _ _
+    counts_of_all most_columns c.args.plan.now q c.args.blocks.now c.ask_servers.new.room.session _ _ _
     (fault.1 ∙ ap Err fault.2)
     (kept ∙ c.in_ok-queries.ensures.plan) whole
-    (subst (λ (n : ℕ). c.conclude.new.cols ≤ c.args.cols.now + most_columns (length (answers c.ask_servers.new.session)) q.t q.h (n * q.s)) same c.in_err-verdict.ensures.cols)
+    (subst (λ (n : ℕ). c.conclude.new.cols ≤ c.args.cols.now + most_columns (length (answers c.ask_servers.new.room.session)) (q.t + q.tau) q.h (n * q.s)) same c.in_err-verdict.ensures.cols)
 
 pub returns-in_err-verdict-clause-nodes : goal.returns-in_err-verdict-clause-nodes
 returns-in_err-verdict-clause-nodes g c =
@@ -30,14 +30,14 @@ returns-in_err-verdict-clause-nodes g c =
     let whole = c.in_ok-ask_servers.ensures.asked.asked.whole ∙ ap (λ (p : FetchPlan). p.n) (sym kept) in
     let same : length c.ask_servers.new.queries.blocks ≡ length c.args.blocks.now = ap length (c.ask_servers.ensures.blocks ∙ c.in_ok-queries.ensures.blocks) in
     let q = c.ask_servers.new.queries.plan in
-    counts_of_all most_nodes c.args.plan.now q c.args.blocks.now c.ask_servers.new.session _ _ _
+    counts_of_all most_nodes c.args.plan.now q c.args.blocks.now c.ask_servers.new.room.session _ _ _
     (fault.1 ∙ ap Err fault.2)
     (kept ∙ c.in_ok-queries.ensures.plan) whole
-    (subst (λ (n : ℕ). c.conclude.new.nodes ≤ c.args.nodes.now + most_nodes (length (answers c.ask_servers.new.session)) q.t q.h (n * q.s)) same c.in_err-verdict.ensures.nodes)
+    (subst (λ (n : ℕ). c.conclude.new.nodes ≤ c.args.nodes.now + most_nodes (length (answers c.ask_servers.new.room.session)) (q.t + q.tau) q.h (n * q.s)) same c.in_err-verdict.ensures.nodes)
 
 pub returns-clause-fetched : goal.returns-clause-fetched
 returns-clause-fetched g c =
-    let session = c.ask_servers.new.session in
+    let session = c.ask_servers.new.room.session in
     let verdict = c.in_ok-verdict.verdict in
     let coins = c.ask_servers.new.queries.coins in
     subst (λ (blocks : List ℕ). Concludes c.args.plan.now blocks (map string_bytes c.args.addresses.now) session verdict
@@ -50,6 +50,8 @@ returns-clause-fetched g c =
       coins = coins;
       asked = c.in_ok-ask_servers.ensures.asked;
       judged = c.in_ok-verdict.ensures.judged;
-      found = subst (λ (blocks : List ℕ). FindsHonestBlock session (queries_from coins) blocks verdict)
-          c.ask_servers.ensures.blocks c.in_ok-verdict.ensures.found;
+      found = subst (λ (p : FetchPlan). FindsHonestBlock session p.t p.tau (queries_from coins) c.in_ok-queries.queries.blocks verdict)
+          c.ask_servers.ensures.plan
+          (subst (λ (blocks : List ℕ). FindsHonestBlock session c.ask_servers.new.queries.plan.t c.ask_servers.new.queries.plan.tau (queries_from coins) blocks verdict)
+          c.ask_servers.ensures.blocks c.in_ok-verdict.ensures.found);
     }))

@@ -11,6 +11,6 @@ returns c =
     let few = c.record_count.ensures.few in
     let bytes = bytes_from_fits (answer_len session.params.count session.params.s) session.records c.record_count.ensures.fits in
     elim range.scheme [
-      | inl one ↦ finds_in_shamir session c.args.coins.now c.args.blocks.now c.args.verdict.now c.requires.count range few bytes c.requires.coins c.requires.blocks c.requires.verdict one
-      | inr two ↦ finds_in_xor session c.args.coins.now c.args.blocks.now c.args.verdict.now c.requires.count range few bytes c.requires.coins c.requires.blocks c.requires.verdict two
+      | inl one ↦ finds_in_shamir session c.args.t c.args.tau c.args.coins.now c.args.blocks.now c.args.verdict.now c.requires.count range few bytes c.requires.coins c.requires.blocks c.requires.verdict c.requires.degree one
+      | inr two ↦ finds_in_xor session c.args.t c.args.tau c.args.coins.now c.args.blocks.now c.args.verdict.now c.requires.count range few bytes c.requires.coins c.requires.blocks c.requires.verdict (c.requires.held_whole two) two
     ]

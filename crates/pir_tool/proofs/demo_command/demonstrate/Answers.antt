@@ -14,7 +14,7 @@ start_children-requires g c =
     let o = c.order.inside in
     let words = words_are string_bytes (λ w. map string_bytes w.items) o.database.now o.width o.port o.servers c.in-Ok.addresses.items c.deref.result.now c.in-Ok-words_of_children.lists.items c.deref-2.result.now c.in-Ok.ensures c.deref.ensures.value c.in-Ok-words_of_children.ensures c.deref-2.ensures.value in
     let size = size_of_words (λ w. map string_bytes w.items) _ c.deref-2.result.now o.servers words in
-    omega (arith, size, c.order.invariant.1.few_servers)
+    omega (arith, size, c.order.invariant.1.numbers.few_servers)
 
 pub returns-in_default-start_children : goal.returns-in_default-start_children
 returns-in_default-start_children g c =

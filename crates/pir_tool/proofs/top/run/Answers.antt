@@ -6,6 +6,8 @@ use Rattle.pir_tool.proofs.Headline.{answered, replay_promised, fetch_promised}
 use Rattle.pir_tool.proofs.SelfrunHeadline.{selfrun_promised}
 use Rattle.pir_tool.proofs.ServeHeadline.{serve_promised}
 use Rattle.pir_tool.proofs.Fetching.{one_command, order_is}
+use Rattle.pir_tool.specs.LookUpOutcome.{LookUpOutcome}
+use Rattle.pir_tool.proofs.LookingUp.{look_up_is, look_up_promised}
 use Rattle.pir_words.specs.Form.{InRange}
 use Rattle.pir_tool.proofs.top.run.Goals as goal
 
@@ -51,3 +53,11 @@ returns-in-Ok-clause-demo g c = λ order command.
     let same = one_command _ _ _ c.in-Ok.ensures.form command in
     let ranges = subst InRange same c.in-Ok.ensures.ranges in
     demo_promised order c.obey.result old new (omega (arith, ranges.numbers.few_servers)) (subst (λ a. Outcome a c.obey.result old new) same c.obey.ensures)
+
+pub returns-in-Ok-clause-lookup : goal.returns-in-Ok-clause-lookup
+returns-in-Ok-clause-lookup g c = λ order orders.
+    let old = g.P.Ports.world c.args.ports.now in
+    let new = g.P.Ports.world c.obey.new.ports in
+    let outcome = subst (λ a. Outcome a c.obey.result old new) (one_command _ _ _ c.in-Ok.ensures.form orders.command) c.obey.ensures in
+    look_up_promised order c.obey.result old new
+    (subst (λ o. LookUpOutcome o c.obey.result old new) (look_up_is order orders.scheme orders.whole orders.servers) outcome).ends

@@ -13,7 +13,8 @@ returns-clause-app c =
     let more_is = c.in_ok-more.ensures.app ∙ ap (λ (a : App). with_option a (codes "more") false) block_is in
     let scheme_is = c.in_ok-scheme.ensures.app ∙ ap (λ (a : App). with_option a (codes "scheme") false) more_is in
     let degree_is = c.in_ok-degree.ensures.app ∙ ap (λ (a : App). with_option a (codes "degree") false) scheme_is in
-    let agree_is = c.in_ok-agree.ensures.app ∙ ap (λ (a : App). with_option a (codes "agree") false) degree_is in
+    let tau_is = c.in_ok-tau.ensures.app ∙ ap (λ (a : App). with_option a (codes "tau") false) degree_is in
+    let agree_is = c.in_ok-agree.ensures.app ∙ ap (λ (a : App). with_option a (codes "agree") false) tau_is in
     let coins_is = c.in_ok-coins.ensures.app ∙ ap (λ (a : App). with_option a (codes "coins") false) agree_is in
     let recorded_is = c.in_ok-recorded.ensures.app ∙ ap (λ (a : App). with_option a (codes "record") false) coins_is in
     let addresses_is : rule_of c.action-addresses.result ≡ operands_rule (codes "addresses") = search rules in
@@ -22,7 +23,7 @@ returns-clause-app c =
 pub returns-clause-local : goal.returns-clause-local
 returns-clause-local c =
     let three = c.in_ok-block.ensures.local ∙ (c.in_ok-width.ensures.local ∙ (c.in_ok-rows.ensures.local ∙ c.new-start.ensures.local)) in
-    let six = c.in_ok-agree.ensures.local ∙ (c.in_ok-degree.ensures.local ∙ (c.in_ok-scheme.ensures.local ∙ (c.in_ok-more.ensures.local ∙ three))) in
-    let local = c.in_ok-recorded.ensures.local ∙ (c.in_ok-coins.ensures.local ∙ six) in
+    let seven = c.in_ok-agree.ensures.local ∙ (c.in_ok-tau.ensures.local ∙ (c.in_ok-degree.ensures.local ∙ (c.in_ok-scheme.ensures.local ∙ (c.in_ok-more.ensures.local ∙ three)))) in
+    let local = c.in_ok-recorded.ensures.local ∙ (c.in_ok-coins.ensures.local ∙ seven) in
     let operands : c.action-addresses.result.global ≡ false = search rules in
     IfOk-weaker c.arg.result _ _ (λ r h. h.globals ∙ ap₂ ◌||◌ local operands) c.arg.ensures

@@ -15,5 +15,6 @@ returns c =
     let fetch_is = c.in_ok-with_fetch.ensures.shape c.in_ok-fetch.ensures.local ∙ ap₂ with_subcommand replay_is (ap above c.in_ok-fetch.ensures.app) in
     let serve_is = c.in_ok-with_serve.ensures.shape c.in_ok-serve.ensures.local ∙ ap₂ with_subcommand fetch_is (ap above c.in_ok-serve.ensures.app) in
     let selfrun_is = c.in_ok-with_selfrun.ensures.shape c.in_ok-selfrun.ensures.local ∙ ap₂ with_subcommand serve_is (ap above c.in_ok-selfrun.ensures.app) in
-    IfOk-weaker c.subcommand-5.result _ _ (λ r h. h.shape c.in_ok-demo.ensures.local
-    ∙ ap₂ with_subcommand selfrun_is (ap above c.in_ok-demo.ensures.app)) c.subcommand-5.ensures
+    let demo_is = c.in_ok-with_demo.ensures.shape c.in_ok-demo.ensures.local ∙ ap₂ with_subcommand selfrun_is (ap above c.in_ok-demo.ensures.app) in
+    IfOk-weaker c.subcommand-6.result _ _ (λ r h. h.shape c.in_ok-lookup.ensures.local
+    ∙ ap₂ with_subcommand demo_is (ap above c.in_ok-lookup.ensures.app)) c.subcommand-6.ensures

@@ -1,8 +1,9 @@
-use Rattle.std.proofs.Common.{◌≡◌, ◌*◌, map, length, sym, ap, ◌∙◌, arith}
-use Rattle.std.proofs.lemmas.List.{take_all}
-use Rattle.gf256.specs.Field.{◌⊗◌}
+use Rattle.std.proofs.Common.{◌∙◌, ◌≤◌, ◌≡◌, ap, sym, arith, length, get_or, take}
+use Rattle.gf256.proofs.LaneSums.{lanes-of}
 use Rattle.shamir_share.specs.Query.{masks}
-use Rattle.shamir_share.proofs.Rows.{masks_of_coins}
+use Rattle.shamir_share.specs.Lanes.{value_from}
+use Rattle.shamir_share.proofs.Rows.{val_of_coin, masks_of_first}
+use Rattle.shamir_share.proofs.LaneParts.{lanes-first, masks_from_values}
 use Rattle.shamir_share.proofs.lanes.sixteen_masks.Goals as goal
 
 pub returns-then-t-eq1 : goal.returns-then-t-eq1
@@ -10,6 +11,16 @@ returns-then-t-eq1 c =
     let rows = c.args.rows.now in
     let a = c.args.products.now in
     let one : c.args.t ≡ 1 = c.if-t-eq1.true in
-    let long : length rows ≡ 16 = c.requires.rows ∙ ap (λ t. 16 * t) one in
-    c.times_lanes.ensures ∙ ap (map (◌⊗◌ a)) (take_all 16 rows (omega (arith, long))) ∙ masks_of_coins rows 16 a long (λ i. (c.type_inv.rows i).fits)
+    let room : 16 ≤ length rows = omega (arith, one, c.requires.rows) in
+    masks_from_values rows _ c.times_lanes.result 1 a c.times_lanes.ensures
+    (lanes-first _ (λ k. get_or rows k 0) (value_from rows 1 0 a) (λ k l. sym (val_of_coin rows k a (omega (arith, l, room)) (c.type_inv.rows k).fits)) (lanes-of rows 0 room))
     ∙ ap (λ t. masks rows t 16 a) (sym one)
+
+pub returns-then-rows-width : goal.returns-then-rows-width
+returns-then-rows-width c =
+    let rows = c.args.rows.now in
+    let t = c.args.t in
+    c.last_masks.ensures ∙ ap (λ n. masks (take n rows) t 16 c.args.products.now) (omega arith) ∙ masks_of_first rows t 16 c.args.products.now
+
+pub returns : goal.returns
+returns c = masks_from_values c.args.rows.now _ c.times_lanes-2.result c.args.t c.args.products.now c.times_lanes-2.ensures c.sixteen_values.ensures

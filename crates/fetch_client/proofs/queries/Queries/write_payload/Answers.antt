@@ -3,7 +3,7 @@ use Rattle.fetch_client.specs.Queries.{Queries}
 use Rattle.wire_frames.specs.Scheme.{scheme_of, payload_len}
 use Rattle.wire_frames.specs.Turns.{in_turn, piece}
 use Rattle.wire_frames.proofs.Turns.{in_turn-more, piece_between, piece_fits, turn_keeps, turn_written}
-use Rattle.fetch_client.specs.Plan.{params_of, query_coins}
+use Rattle.fetch_client.specs.Plan.{query_coins, query_params}
 use Rattle.fetch_client.specs.Sent.{payload_to, queries_from, vector_at}
 use Rattle.fetch_client.proofs.queries.Queries.write_payload.Goals as goal
 
@@ -20,7 +20,7 @@ loop-i-preserved c =
     let i = c.loop-i.i in
     let out = c.loop-i.out in
     let row = c.write_vector.new.out in
-    let params = params_of q.plan 1 0 in
+    let params = query_params q.plan 1 0 in
     let coins = queries_from q.coins in
     let size = payload_len (scheme_of q.plan.scheme) q.plan.r in
     let given = c.payload_len-size.result in
@@ -33,7 +33,7 @@ loop-i-preserved c =
     let next : i + 1 ≡ suc i = omega arith in
     let step : (i + 1) * size ≡ i * size + size = ap (λ (k : ℕ). k * size) next ∙ suc-mul i size in
     let fits : (i + 1) * size ≤ length q.blocks * size = piece_fits i (length q.blocks) size (omega (arith, c.loop-i-test.true, c.from-i-end.ensures, c.count.ensures.is)) in
-    let own_size : c.query_coins-own.result ≡ query_coins params = c.query_coins-own.ensures.is ∙ ap (λ (z : Queries). query_coins (params_of z.plan 1 0)) c.self.view_is in
+    let own_size : c.query_coins-own.result ≡ query_coins params = c.query_coins-own.ensures.is ∙ ap (λ (z : Queries). query_coins (query_params z.plan 1 0)) c.self.view_is in
     let own = piece_between i c.query_coins-own.result (query_coins params) c.query_coins-coins.result.now own_size
     ∙ ap (piece (query_coins params) i) c.query_coins-coins.ensures.is in
     let is : row ≡ vector_at params coins q.blocks c.args.index i =

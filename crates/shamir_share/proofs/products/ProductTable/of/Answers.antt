@@ -1,6 +1,6 @@
 use Rattle.std.proofs.Common.{◌≡◌, ℕ, List, ◌+◌, ◌<◌, length, get_or, set, sym, ap, ◌∙◌, inl, inr, arith, length-set, get_or-set_same, get_or-set_other}
 use Rattle.std.proofs.lemmas.Bool.{cases_eq}
-use Rattle.gf256.specs.Field.{◌⊗◌}
+use Rattle.gf256.specs.Field.{◌⊗◌, power}
 use Rattle.shamir_share.proofs.products.ProductTable.of.Goals as goal
 
 -- one product more
@@ -21,4 +21,11 @@ loop-x-preserved c =
     }
 
 pub invariant_of-result : goal.invariant_of-result
-invariant_of-result c = λ x lt. c.loop-x.invariant.at x (omega arith) ∙ ap (λ f. f ⊗ x) (sym c.of.ensures)
+invariant_of-result c =
+    let same : c.args.factor ≡ c.of.result = sym c.of.ensures in (
+      λ x lt. c.loop-x.invariant.at x (omega arith) ∙ ap (λ f. f ⊗ x) same,
+      c.of-2.ensures ∙ c.pow.ensures ∙ ap (λ f. power f 2) same,
+      c.of-3.ensures ∙ c.pow-2.ensures ∙ ap (λ f. power f 4) same,
+      c.of-4.ensures ∙ c.pow-3.ensures ∙ ap (λ f. power f 8) same,
+      c.of-5.ensures ∙ c.pow-4.ensures ∙ ap (λ f. power f 16) same,
+    )

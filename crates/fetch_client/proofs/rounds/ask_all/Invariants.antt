@@ -1,0 +1,12 @@
+use Rattle.std.proofs.Common.{map, string_bytes}
+use Rattle.pir_ports.specs.Number.{link}
+use Rattle.pir_ports.specs.Each.{TouchesRange}
+use Rattle.fetch_client.specs.Rounds.{SentEach}
+use Rattle.fetch_client.proofs.rounds.ask_all.Given as goal
+
+abbrev pub invariant-places : goal.invariant-places
+invariant-places g l = record {
+  sent : SentEach l.queries.plan l.queries.blocks (map string_bytes l.addresses) l.queries.coins l.place l.reached
+      (g.P.Ports.world l.initial.ports) (g.P.Ports.world l.ports);
+  others : TouchesRange (link 1) l.place (g.P.Ports.world l.initial.ports) (g.P.Ports.world l.ports);
+}

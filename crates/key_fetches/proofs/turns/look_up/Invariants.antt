@@ -1,0 +1,12 @@
+use Rattle.std.proofs.Common.{map, string_bytes}
+use Rattle.pir_ports.specs.Number.{COINS}
+use Rattle.fetch_client.specs.Fetched.{TouchesLinks}
+use Rattle.key_fetches.proofs.Progress.{InTurns}
+use Rattle.key_fetches.proofs.turns.look_up.Given as goal
+
+abbrev pub invariant-turns : goal.invariant-turns
+invariant-turns g l = record {
+  so_far : InTurns l.plan l.fn.key (map string_bytes l.addresses) l._turn l.search l.unlisted
+      ((g.P.Ports.world l.initial.ports).at COINS) (g.P.Ports.world l.initial.ports) (g.P.Ports.world l.ports);
+  others : TouchesLinks l.plan.n (g.P.Ports.world l.initial.ports) (g.P.Ports.world l.ports);
+}

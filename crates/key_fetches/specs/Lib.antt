@@ -1,0 +1,5 @@
+pub mod Listed
+pub mod Text
+pub mod Rounds
+pub mod Sent
+pub mod LookedUp

@@ -1,0 +1,33 @@
+-- What each server is sent in a look-up.
+use Rattle.std.specs.Prelude.{◌≡◌, ℕ, ◌+◌, ◌++◌, List, [], ◌∷◌, length, take, map, ⊤}
+use Rattle.std.specs.List.{concat}
+use Rattle.std.specs.Option.{option_map}
+use Rattle.pir_ports.specs.World.{Cell, World}
+use Rattle.pir_ports.specs.Number.{link}
+use Rattle.pir_ports.specs.Moves.{Rose}
+use Rattle.pir_ports.specs.Each.{Each}
+use Rattle.fetch_client.specs.declared.plan.FetchPlan.{FetchPlan}
+use Rattle.key_fetches.specs.Rounds.{Round, frame_in}
+
+-- the frame of each fetch to server i
+abbrev pub frames_to : FetchPlan → ℕ → List Round → List (List ℕ)
+frames_to p i rounds = map (frame_in p i) rounds
+
+-- of each frame a front
+abbrev pub AreFronts : List (List ℕ) → List (List ℕ) → Type 0
+AreFronts [] [] = ⊤
+AreFronts [] (frame ∷ frames) = ⊥
+AreFronts (front ∷ fronts) [] = ⊥
+AreFronts (front ∷ fronts) (frame ∷ frames) = (front ≡ take (length front) frame) × AreFronts fronts frames
+
+-- a link took of the frame of each fetch in turn a front; and where its count stayed, exactly these frames
+pub record TakesFrames (frames : List (List ℕ)) (old new : Cell) : Type 0 where
+  pub fronts : List (List ℕ)
+  pub are : AreFronts fronts frames
+  pub took : new.accepted ≡ option_map (λ taken. taken ++ concat fronts) old.accepted
+  pub whole : (Rose old.faults new.faults → ⊥)
+      → new.accepted ≡ option_map (λ taken. taken ++ concat frames) old.accepted
+
+-- each link took the frames of these fetches
+abbrev pub TakeFrames : FetchPlan → List Round → World → World → Type 0
+TakeFrames p rounds old new = Each (λ i. TakesFrames (frames_to p (i + 1) rounds)) (link 1) p.n old new

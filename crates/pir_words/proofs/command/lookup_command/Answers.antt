@@ -1,0 +1,24 @@
+use Rattle.std.proofs.Common.{◌≡◌, ◌∙◌, ◌||◌, true, false, ap, ap₂, codes, rules}
+use Rattle.std.proofs.lemmas.Result.{IfOk-weaker}
+use Rattle.clap.specs.Words.{App, rule_of, with_rule}
+use Rattle.pir_words.specs.Command.{lookup_app, operands_rule, with_option}
+use Rattle.pir_words.proofs.command.lookup_command.Goals as goal
+
+pub returns-clause-app : goal.returns-clause-app
+unfolding lookup_app
+returns-clause-app c =
+    let rows_is = c.in_ok-rows.ensures.app ∙ ap (λ (a : App). with_option a (codes "rows") true) c.new-start.ensures.app in
+    let width_is = c.in_ok-width.ensures.app ∙ ap (λ (a : App). with_option a (codes "width") true) rows_is in
+    let key_is = c.in_ok-key.ensures.app ∙ ap (λ (a : App). with_option a (codes "key") true) width_is in
+    let degree_is = c.in_ok-degree.ensures.app ∙ ap (λ (a : App). with_option a (codes "degree") true) key_is in
+    let agree_is = c.in_ok-agree.ensures.app ∙ ap (λ (a : App). with_option a (codes "agree") true) degree_is in
+    let coins_is = c.in_ok-coins.ensures.app ∙ ap (λ (a : App). with_option a (codes "coins") false) agree_is in
+    let addresses_is : rule_of c.action-addresses.result ≡ operands_rule (codes "addresses") = search rules in
+    IfOk-weaker c.arg.result _ _ (λ r h. h.shape (search rules) ∙ ap₂ with_rule coins_is addresses_is) c.arg.ensures
+
+pub returns-clause-local : goal.returns-clause-local
+returns-clause-local c =
+    let three = c.in_ok-key.ensures.local ∙ (c.in_ok-width.ensures.local ∙ (c.in_ok-rows.ensures.local ∙ c.new-start.ensures.local)) in
+    let local = c.in_ok-coins.ensures.local ∙ (c.in_ok-agree.ensures.local ∙ (c.in_ok-degree.ensures.local ∙ three)) in
+    let operands : c.action-addresses.result.global ≡ false = search rules in
+    IfOk-weaker c.arg.result _ _ (λ r h. h.globals ∙ ap₂ ◌||◌ local operands) c.arg.ensures

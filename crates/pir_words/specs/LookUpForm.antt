@@ -1,0 +1,43 @@
+-- The form of `lookup`.
+use Rattle.std.specs.Prelude.{ℕ, ◌/◌, ◌≤◌, List, length, Option, Some, codes, nat_le}
+use Rattle.std.specs.Result.{result_ok}
+use Rattle.clap.specs.Words.{Row, Text, first_of}
+use Rattle.hex.specs.Hex.{decode_of}
+use Rattle.key_search.specs.Spelled.{spells_bytes}
+use Rattle.wire_frames.specs.declared.scheme.TheConstants.{SHAMIR}
+use Rattle.pir_words.specs.Chain.{◌>>=◌, ◌>>◌}
+use Rattle.pir_words.specs.Ranges.{FitsSession, coins_in, sharing_in, sizes_in}
+use Rattle.pir_words.specs.FetchForm.{addresses_in}
+use Rattle.pir_words.specs.declared.ranges.Sizes.{Sizes}
+use Rattle.pir_words.specs.declared.ranges.Sharing.{Sharing}
+use Rattle.pir_words.specs.declared.asked.Asked.{Asked}
+use Rattle.pir_words.specs.declared.asked.Asked.TheVariants.{Lookup}
+
+-- the key that a text spells, in an even number of hexadecimal digits, no longer than a row of so many bytes
+unfoldable pub key_named : ℕ → Text → Option (List ℕ)
+key_named width text = do
+  spells_bytes text
+  nat_le (length text / 2) width
+  result_ok (decode_of text)
+
+-- the key
+unfoldable pub key_in : ℕ → List Row → Option (List ℕ)
+key_in width m = do
+  text ← first_of (codes "key") m
+  key_named width text
+
+-- `lookup` with its values, each in its range
+unfoldable pub lookup_of : List Row → Option Asked
+lookup_of m = do
+  (sizes : Sizes) ← sizes_in m
+  key ← key_in sizes.width m
+  addresses ← addresses_in m
+  (sharing : Sharing) ← sharing_in (length addresses) m
+  Some (Lookup sizes.rows sizes.width key sharing.degree sharing.agree (coins_in m) addresses)
+
+-- the values of `lookup` with n addresses are those of a session in Shamir's scheme, and the key has a byte or more, and
+-- no more than a row
+pub record FitsLookUp (r s : ℕ) (key : List ℕ) (t h n : ℕ) : Type 0 where
+  pub numbers : FitsSession SHAMIR t h n r s
+  pub some_key : 1 ≤ length key
+  pub short_key : length key ≤ s

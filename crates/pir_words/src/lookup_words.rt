@@ -1,0 +1,54 @@
+//! The words of `lookup`.
+
+ghost use Rattle.pir_words.specs.Numbers.{given};
+ghost use Rattle.pir_words.specs.LookUpForm.{key_in, key_named, lookup_of};
+ghost use Rattle.pir_words.specs.Form.{IsReadAs};
+
+use crate::asked::{Asked, WordsFault};
+use crate::fetch_words::addresses_at;
+use crate::ranges::{coins_at, sharing_at, sizes_at};
+use crate::text::Texts;
+use crate::values::{owned, text_at};
+use clap::ArgMatches;
+use key_search::{Key, read_key};
+use std::alloc::Global;
+
+/// The key that a text spells, for rows of so many bytes.
+fn key_named(alloc: Global, text: &str, width: u32) -> Result<Key, WordsFault>
+    ensures { IsReadAs (key_named width text.now) result }
+{
+    Ok(read_key(alloc, text, width)?)
+}
+
+/// The key, for rows of so many bytes.
+#[tactic(auto, unfolding(crate::specs::LookUpForm::key_in))]
+fn key_at(alloc: Global, matches: &ArgMatches, width: u32) -> Result<Key, WordsFault>
+    ensures { IsReadAs (key_in width (given matches.now)) result }
+{
+    match text_at(matches, "key") {
+        Some(text) => key_named(alloc, text, width),
+        None => Err(WordsFault::Usage),
+    }
+}
+
+/// `lookup` with its values, each in its range.
+#[tactic(auto, unfolding(crate::specs::LookUpForm::lookup_of))]
+pub fn read_lookup(alloc: Global, matches: &ArgMatches) -> Result<Asked, WordsFault>
+    ensures { IsReadAs (lookup_of (given matches.now)) result }
+{
+    let sizes = sizes_at(matches).ok_or(WordsFault::Usage)?;
+    let key = key_at(alloc, matches, sizes.width)?;
+    let addresses = addresses_at(matches).ok_or(WordsFault::Usage)?;
+    let sharing = sharing_at(matches, addresses.len() as u8).ok_or(WordsFault::Usage)?;
+    let coins = owned(alloc, coins_at(matches))?;
+    let addresses = Texts::new(alloc, addresses)?;
+    Ok(Asked::Lookup {
+        rows: sizes.rows,
+        width: sizes.width,
+        key,
+        degree: sharing.degree,
+        agree: sharing.agree,
+        coins,
+        addresses,
+    })
+}
