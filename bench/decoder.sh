@@ -40,7 +40,7 @@ least() { awk -v a="$1" -v b="$2" 'BEGIN { print (a == "" || b + 0 < a + 0) ? b 
 
 # The two take turns, and the best time of each counts, so that a busy machine spoils neither alone. The last number says how
 # many times ROUNDS the list is made in a turn.
-for shape in "8 1 3 40" "8 3 5 10" "20 3 8 2" "32 5 13 1" "32 28 30 1" "32 15 23 40" "20 3 12 200"; do
+for shape in "8 1 3 40" "8 3 5 10" "20 3 8 2" "32 5 13 1" "32 28 30 1" "32 15 23 40" "20 3 12 200" "47 1 7 1" "255 1 17 1"; do
   read -r k t h often <<<"$shape"
   agree=
   few=

@@ -19,7 +19,8 @@ use Rattle.column_runs.specs.OnOne.{LieOnOne}
 use Rattle.column_runs.specs.Run.{IsConstant, IsRun}
 use Rattle.block_decoder.specs.Agreed.{constants_of, holds_first, weight, HasColumns}
 use Rattle.block_decoder.specs.Gains.{Gains}
-use Rattle.block_decoder.specs.Narrowing.{holding, meets, points_of, IsCandidate, ContinuesFrom, ContinuesBy, CountsFrom}
+use Rattle.block_decoder.specs.Narrowing.{agreement_on, holding, meets, points_of, IsCandidate, ContinuesFrom, ContinuesBy, CountsFrom}
+use Rattle.block_decoder.specs.Report.{Agreement, indices_of}
 use Rattle.block_decoder.proofs.Continued.{continues-whole, continues-by}
 use Rattle.block_decoder.proofs.Continues.{Gains-same}
 use Rattle.block_decoder.proofs.Counting.{all_pass}
@@ -96,15 +97,18 @@ module _ (answers : List Answer) (width t h : ℕ) (columns : HasColumns width a
       let f = length-filter (holds_first a.polynomials) answers in
       omega (arith, e, k, f)
 
-  -- at the last column the block is the one that it is continued to
-  pub exact-end : column + n ≡ width → (c : IsCandidate answers t h kept column old) → (b : List ℕ)
-      → (b ≡ new) ↔ ContinuesFrom answers width t h c.polynomials b
+  -- at the last column it is continued to the block with the answers that are kept
+  pub exact-end : column + n ≡ width → (c : IsCandidate answers t h kept column old) → (b : Agreement)
+      → (b ≡ record { block = new; indices = indices_of kept })
+      ↔ ContinuesFrom (agreement_on answers) answers width t h c.polynomials b
   exact-end end c b =
       let a = after c in
-      let whole = continues-whole answers width t h a.polynomials (a.one_a_column ∙ end) (heavy_after c) b in
+      let whole = continues-whole (agreement_on answers) answers width t h a.polynomials (a.one_a_column ∙ end) (heavy_after c) b in
       let block : new ≡ constants_of a.polynomials = sym (take_all (column + n) new (omega (arith, end, size))) ∙ a.constants in
+      let made : ◌≡◌ {A = Agreement} (record { block = new; indices = indices_of kept }) (agreement_on answers a.polynomials) =
+      ap₂ (λ (b : List ℕ) (part : List Answer). record { block = b; indices = indices_of part }) block a.held in
       let is = (run_of c).same b in
-      (λ e. is.0 (whole.0 (e ∙ block)), λ f. whole.1 (is.1 f) ∙ sym block)
+      (λ e. is.0 (whole.0 (e ∙ made)), λ f. whole.1 (is.1 f) ∙ sym made)
 
   pub counts-end : (c : IsCandidate answers t h kept column old) (most c0 c1 n0 : ℕ) → c1 ≡ c0 + n
       → CountsFrom answers width t h most c.polynomials c0 c1 n0 n0
@@ -113,14 +117,16 @@ module _ (answers : List Answer) (width t h : ℕ) (columns : HasColumns width a
   -- before it, to those of its next polynomials
   pub exact-below : column + n < width → (nexts : List (List ℕ))
       → ListsAgreeing nexts (points_of kept (column + n)) t h → (c : IsCandidate answers t h kept column old)
-      (first last : List (List ℕ)) → Gains (ContinuesBy nexts answers width t h (after c).polynomials) first last
-      → Gains (ContinuesFrom answers width t h c.polynomials) first last
+      (first last : List Agreement)
+      → Gains (ContinuesBy (agreement_on answers) nexts answers width t h (after c).polynomials) first last
+      → Gains (ContinuesFrom (agreement_on answers) answers width t h c.polynomials) first last
   exact-below short nexts lists c first last gains =
       let a = after c in
       let long = a.one_a_column in
-      let by = continues-by answers width t h a.polynomials columns.filled (omega (arith, long, short)) nexts
+      let by = continues-by (agreement_on answers) answers width t h a.polynomials columns.filled (omega (arith, long, short)) nexts
       (subst (λ (ps : List (ℕ × ℕ)). ListsAgreeing nexts ps t h) (ap₂ (λ (part : List Answer) (m : ℕ). points_of part m) a.held (sym long)) lists) in
-      Gains-same (ContinuesBy nexts answers width t h a.polynomials) (ContinuesFrom answers width t h c.polynomials) first last
+      Gains-same (ContinuesBy (agreement_on answers) nexts answers width t h a.polynomials)
+      (ContinuesFrom (agreement_on answers) answers width t h c.polynomials) first last
       (λ b. let is = (run_of c).same b in (λ x. is.0 ((by b).0 x), λ y. (by b).1 (is.1 y))) gains
 
   pub counts-below : column + n < width → (nexts : List (List ℕ)) (c : IsCandidate answers t h kept column old)

@@ -4,7 +4,7 @@ use Rattle.std.specs.List.Sorted.{IsStrictlyIncreasing}
 use Rattle.std.proofs.lemmas.List.Elements.{All-cons, All-nil, All-take, All-drop}
 use Rattle.wire_frames.specs.Answer.{Answer}
 use Rattle.block_decoder.specs.Agreed.{answers_of, HasColumns}
-use Rattle.block_decoder.proofs.Agreement.{filled-answers_of, different-answers_of}
+use Rattle.block_decoder.proofs.Agreed.{filled-answers_of, different-answers_of}
 
 -- what is in the payloads are bytes
 bytes-answers_of : (width : ℕ) (indices bytes : List ℕ) → All (λ b. b < 256) bytes → All (λ (a : Answer). All (λ b. b < 256) a.payload) (answers_of width indices bytes)

@@ -15,36 +15,36 @@ pub Contains-one : {X : Type 0} (x y : X) → Contains (x ∷ []) y → y ≡ x
 Contains-one x y (zero, within, is) = sym is
 Contains-one x y (suc i, within, is) = absurd (omega (arith, within))
 
-module _ (answers : List Answer) (width t h : ℕ) (v : List (List ℕ)) where
+module _ {X : Type 0} (made : List (List ℕ) → X) (answers : List Answer) (width t h : ℕ) (v : List (List ℕ)) where
   -- a vector with a polynomial for each column has itself alone
-  pub continues-whole : length v ≡ width → h ≤ weight v answers → (b : List ℕ)
-      → (b ≡ constants_of v) ↔ ContinuesFrom answers width t h v b
+  pub continues-whole : length v ≡ width → h ≤ weight v answers → (b : X)
+      → (b ≡ made v) ↔ ContinuesFrom made answers width t h v b
   continues-whole whole enough b = (
     λ e. record {
       more = [];
       one_a_column = omega (arith, whole);
       degree = All-nil (IsPolynomial t);
       enough = subst (λ ps. h ≤ weight ps answers) (sym (append-nil v)) enough;
-      constants = e ∙ ap constants_of (sym (append-nil v));
+      is = e ∙ ap made (sym (append-nil v));
     },
-    λ c. alone c.more c.one_a_column c.constants,
+    λ c. alone c.more c.one_a_column c.is,
   )
     where
-      alone : {b : List ℕ} (more : List (List ℕ)) → length v + length more ≡ width → b ≡ constants_of (v ++ more)
-          → b ≡ constants_of v
-      alone [] e constants = constants ∙ ap constants_of (append-nil v)
+      alone : {b : X} (more : List (List ℕ)) → length v + length more ≡ width → b ≡ made (v ++ more)
+          → b ≡ made v
+      alone [] e constants = constants ∙ ap made (append-nil v)
       alone (p ∷ more) e constants = absurd (omega (arith, whole, e))
 
   -- there is none where too few answers are left
-  pub continues-light : weight v answers < h → (b : List ℕ) → ContinuesFrom answers width t h v b → ⊥
+  pub continues-light : weight v answers < h → (b : X) → ContinuesFrom made answers width t h v b → ⊥
   continues-light light b c =
       let fewer = weight-append v c.more answers in
       let enough = c.enough in
       omega (arith, fewer, enough, light)
 
   -- one polynomial more may be left away
-  pub continues-before : (p : List ℕ) (b : List ℕ) → IsPolynomial t p
-      → ContinuesFrom answers width t h (v ++ p ∷ []) b → ContinuesFrom answers width t h v b
+  pub continues-before : (p : List ℕ) (b : X) → IsPolynomial t p
+      → ContinuesFrom made answers width t h (v ++ p ∷ []) b → ContinuesFrom made answers width t h v b
   continues-before p b is c =
       let e = append_assoc v (p ∷ []) c.more in
       let n = length-append v (p ∷ []) in
@@ -54,17 +54,17 @@ module _ (answers : List Answer) (width t h : ℕ) (v : List (List ℕ)) where
         one_a_column = omega (arith, n, columns);
         degree = All-cons (IsPolynomial t) p c.more is c.degree;
         enough = subst (λ ps. h ≤ weight ps answers) e c.enough;
-        constants = c.constants ∙ ap constants_of e;
+        is = c.is ∙ ap made e;
       }
 
   -- a shorter one is continued by some polynomial
-  pub continues-next : length v < width → (b : List ℕ) → ContinuesFrom answers width t h v b →
-      (p : List ℕ) × IsPolynomial t p × ContinuesFrom answers width t h (v ++ p ∷ []) b
-  continues-next short b c = first c.more c.one_a_column c.degree c.enough c.constants
+  pub continues-next : length v < width → (b : X) → ContinuesFrom made answers width t h v b →
+      (p : List ℕ) × IsPolynomial t p × ContinuesFrom made answers width t h (v ++ p ∷ []) b
+  continues-next short b c = first c.more c.one_a_column c.degree c.enough c.is
     where
-      first : {b : List ℕ} (more : List (List ℕ)) → length v + length more ≡ width → All (IsPolynomial t) more
-          → h ≤ weight (v ++ more) answers → b ≡ constants_of (v ++ more) →
-          (p : List ℕ) × IsPolynomial t p × ContinuesFrom answers width t h (v ++ p ∷ []) b
+      first : {b : X} (more : List (List ℕ)) → length v + length more ≡ width → All (IsPolynomial t) more
+          → h ≤ weight (v ++ more) answers → b ≡ made (v ++ more) →
+          (p : List ℕ) × IsPolynomial t p × ContinuesFrom made answers width t h (v ++ p ∷ []) b
       first [] columns degree enough constants = absurd (omega (arith, short, columns))
       first (p ∷ more) columns degree enough constants =
           let e = append_assoc v (p ∷ []) more in
@@ -76,14 +76,14 @@ module _ (answers : List Answer) (width t h : ℕ) (v : List (List ℕ)) where
               one_a_column = omega (arith, l, columns);
               degree = All-tail (IsPolynomial t) p more degree;
               enough = subst (λ ps. h ≤ weight ps answers) (sym e) enough;
-              constants = constants ∙ ap constants_of (sym e);
+              is = constants ∙ ap made (sym e);
             },
           )
 
   -- and by one of those that agree with h of its points in the next column
   pub continues-by : Filled width answers → length v < width → (nexts : List (List ℕ))
-      → ListsAgreeing nexts (points_of (holding v answers) (length v)) t h → (b : List ℕ)
-      → ContinuesBy nexts answers width t h v b ↔ ContinuesFrom answers width t h v b
+      → ListsAgreeing nexts (points_of (holding v answers) (length v)) t h → (b : X)
+      → ContinuesBy made nexts answers width t h v b ↔ ContinuesFrom made answers width t h v b
   continues-by filled short nexts lists b = (
     λ c. continues-before c.next b ((lists.exact c.next).0 c.listed).0 c.continues,
     λ c.
@@ -96,25 +96,25 @@ module _ (answers : List Answer) (width t h : ℕ) (v : List (List ℕ)) where
 
   -- where one polynomial alone agrees, it is the next
   pub continues-one : Filled width answers → length v < width → (p : List ℕ)
-      → ListsAgreeing (p ∷ []) (points_of (holding v answers) (length v)) t h → (b : List ℕ)
-      → ContinuesFrom answers width t h (v ++ p ∷ []) b ↔ ContinuesFrom answers width t h v b
+      → ListsAgreeing (p ∷ []) (points_of (holding v answers) (length v)) t h → (b : X)
+      → ContinuesFrom made answers width t h (v ++ p ∷ []) b ↔ ContinuesFrom made answers width t h v b
   continues-one filled short p lists b =
       let by = continues-by filled short (p ∷ []) lists b in (
         λ c. by.0 (record { next = p; listed = (0, omega arith, refl); continues = c }),
-        λ c. let one = by.1 c in subst (λ q. ContinuesFrom answers width t h (v ++ q ∷ []) b) (Contains-one p one.next one.listed) one.continues,
+        λ c. let one = by.1 c in subst (λ q. ContinuesFrom made answers width t h (v ++ q ∷ []) b) (Contains-one p one.next one.listed) one.continues,
       )
 
   -- by none of no polynomials
-  pub continues-by_none : (b : List ℕ) → ContinuesBy [] answers width t h v b → ⊥
+  pub continues-by_none : (b : X) → ContinuesBy made [] answers width t h v b → ⊥
   continues-by_none b c = let l = c.listed.1 in absurd (omega (arith, l))
 
   -- by one of these or by one more
-  pub continues-by_more : (nexts : List (List ℕ)) (p : List ℕ) (b : List ℕ)
-      → ContinuesBy (nexts ++ p ∷ []) answers width t h v b ↔ (ContinuesBy nexts answers width t h v b ⊎ ContinuesFrom answers width t h (v ++ p ∷ []) b)
+  pub continues-by_more : (nexts : List (List ℕ)) (p : List ℕ) (b : X)
+      → ContinuesBy made (nexts ++ p ∷ []) answers width t h v b ↔ (ContinuesBy made nexts answers width t h v b ⊎ ContinuesFrom made answers width t h (v ++ p ∷ []) b)
   continues-by_more nexts p b = (
     λ c. elim (Contains-append_cases nexts (p ∷ []) c.next c.listed) [
       | inl before ↦ inl (record { next = c.next; listed = before; continues = c.continues })
-      | inr last ↦ inr (subst (λ q. ContinuesFrom answers width t h (v ++ q ∷ []) b) (Contains-one p c.next last) c.continues)
+      | inr last ↦ inr (subst (λ q. ContinuesFrom made answers width t h (v ++ q ∷ []) b) (Contains-one p c.next last) c.continues)
     ],
     λ either. elim either [
       | inl c ↦ record { next = c.next; listed = Contains-append_left nexts (p ∷ []) c.next c.listed; continues = c.continues }
@@ -124,8 +124,8 @@ module _ (answers : List Answer) (width t h : ℕ) (v : List (List ℕ)) where
 
 -- the empty vector is continued to the heavy ones
 pub continues-Heavy : (answers : List Answer) (width t h : ℕ) (b : List ℕ)
-    → ContinuesFrom answers width t h [] b ↔ Heavy answers width t h b
+    → ContinuesFrom constants_of answers width t h [] b ↔ Heavy answers width t h b
 continues-Heavy answers width t h b = (
-  λ c. record { polynomials = c.more; one_a_column = let e = c.one_a_column in omega (arith, e); degree = c.degree; enough = c.enough; constants = c.constants },
-  λ a. record { more = a.polynomials; one_a_column = let e = a.one_a_column in omega (arith, e); degree = a.degree; enough = a.enough; constants = a.constants },
+  λ c. record { polynomials = c.more; one_a_column = let e = c.one_a_column in omega (arith, e); degree = c.degree; enough = c.enough; constants = c.is },
+  λ a. record { more = a.polynomials; one_a_column = let e = a.one_a_column in omega (arith, e); degree = a.degree; enough = a.enough; is = a.constants },
 )

@@ -8,22 +8,22 @@ use Rattle.std.proofs.lemmas.List.{map-append, length-map}
 use Rattle.std.proofs.lemmas.List.Elements.{Contains-get_or}
 use Rattle.gf256.specs.Polynomial.{coef}
 use Rattle.wire_frames.specs.Answer.{Answer}
-use Rattle.block_decoder.specs.Agreed.{weight, Agreed, Filled, Heavy, Lists}
+use Rattle.block_decoder.specs.Agreed.{constants_of, weight, Agreed, Filled, Heavy, Lists}
 use Rattle.block_decoder.specs.Gains.{Gains}
 use Rattle.block_decoder.specs.Narrowing.{ContinuesFrom}
 use Rattle.block_decoder.specs.Numbered.{numbered, all_numbered, Continues, ContinuesBelow}
-use Rattle.block_decoder.proofs.Agreement.{agreed_is_heavy}
+use Rattle.block_decoder.proofs.Agreed.{agreed_is_heavy}
 use Rattle.block_decoder.proofs.Numbered.{IsPolynomial-numbered, number-IsPolynomial, constants-all_numbered}
 use Rattle.block_decoder.proofs.Continued.{continues-whole, continues-before, continues-next}
 
 -- ---- gains
 
--- nothing has come where P holds of no block
-pub Gains-none : (P : List ℕ → Type 0) (blocks : List (List ℕ)) → ((b : List ℕ) → P b → ⊥) → Gains P blocks blocks
-Gains-none P blocks none b = (inl, λ either. elim either [ inl old ↦ old | inr new ↦ absurd (none b new) ])
+-- nothing has come where P holds of nothing
+pub Gains-none : {X : Type 0} (P : X → Type 0) (xs : List X) → ((b : X) → P b → ⊥) → Gains P xs xs
+Gains-none P xs none b = (inl, λ either. elim either [ inl old ↦ old | inr new ↦ absurd (none b new) ])
 
 -- what has come may be said in other words
-pub Gains-same : (P Q : List ℕ → Type 0) (old new : List (List ℕ)) → ((b : List ℕ) → P b ↔ Q b) → Gains P old new
+pub Gains-same : {X : Type 0} (P Q : X → Type 0) (old new : List X) → ((b : X) → P b ↔ Q b) → Gains P old new
     → Gains Q old new
 Gains-same P Q old new same gains b = (
   λ has. elim ((gains b).0 has) [ inl o ↦ inl o | inr p ↦ inr ((same b).0 p) ],
@@ -31,8 +31,8 @@ Gains-same P Q old new same gains b = (
 )
 
 -- what came first and what came then have come
-pub Gains-both : (P Q R : List ℕ → Type 0) (first second third : List (List ℕ)) → Gains P first second
-    → Gains Q second third → ((b : List ℕ) → R b ↔ (P b ⊎ Q b)) → Gains R first third
+pub Gains-both : {X : Type 0} (P Q R : X → Type 0) (first second third : List X) → Gains P first second
+    → Gains Q second third → ((b : X) → R b ↔ (P b ⊎ Q b)) → Gains R first third
 Gains-both P Q R first second third p q both b = (
   λ has. elim ((q b).0 has) [
     | inl in_second ↦ elim ((p b).0 in_second) [ inl old ↦ inl old | inr new ↦ inr ((both b).1 (inl new)) ]
@@ -51,7 +51,7 @@ module _ (answers : List Answer) (width t h : ℕ) (numbers : List ℕ) where
   pub Continues-whole : length numbers ≡ width → h ≤ weight (all_numbered t numbers) answers → (b : List ℕ)
       → (b ≡ map (λ n. n % 256) numbers) ↔ Continues answers width t h numbers b
   Continues-whole whole enough b =
-      let is = continues-whole answers width t h (all_numbered t numbers) (length-map numbers (numbered t) ∙ whole) enough b in
+      let is = continues-whole constants_of answers width t h (all_numbered t numbers) (length-map numbers (numbered t) ∙ whole) enough b in
       let constants = constants-all_numbered t numbers in
       (λ e. is.0 (e ∙ sym constants), λ c. is.1 c ∙ constants)
 
@@ -61,15 +61,15 @@ module _ (answers : List Answer) (width t h : ℕ) (numbers : List ℕ) where
   Continues-next short b =
       let v = all_numbered t numbers in
       let size = length-map numbers (numbered t) in (
-        λ c. continues-before answers width t h v (numbered t c.next) b (IsPolynomial-numbered t c.next)
-            (subst (λ w. ContinuesFrom answers width t h w b) (map-append (numbered t) numbers (c.next ∷ [])) c.continues),
+        λ c. continues-before constants_of answers width t h v (numbered t c.next) b (IsPolynomial-numbered t c.next)
+            (subst (λ w. ContinuesFrom constants_of answers width t h w b) (map-append (numbered t) numbers (c.next ∷ [])) c.continues),
         λ c.
-            let (p, is, further) = continues-next answers width t h v (omega (arith, size, short)) b c in
+            let (p, is, further) = continues-next constants_of answers width t h v (omega (arith, size, short)) b c in
             let has = number-IsPolynomial t p is in
             record {
               next = has.number;
               below = has.below;
-              continues = subst (λ w. ContinuesFrom answers width t h w b) (ap (λ q. v ++ q ∷ []) (sym has.is) ∙ sym (map-append (numbered t) numbers (has.number ∷ []))) further;
+              continues = subst (λ w. ContinuesFrom constants_of answers width t h w b) (ap (λ q. v ++ q ∷ []) (sym has.is) ∙ sym (map-append (numbered t) numbers (has.number ∷ []))) further;
             },
       )
 

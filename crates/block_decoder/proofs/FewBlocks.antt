@@ -1,71 +1,88 @@
--- A listing has at most as many blocks as Johnson's bound says: each is the constants of a heavy vector.
-use Rattle.std.proofs.Common.{◌≡◌, ◌≢◌, ℕ, ◌*◌, ◌<◌, ◌≤◌, List, [], ◌∷◌, length, map, get_or, All, AllPairs, refl, sym, ap, ap₂, subst, ◌∙◌}
-use Rattle.std.specs.Cmp.Lexicographic.{slice_cmp}
+-- A listing has at most as many blocks, and a report at most as many agreements, as Johnson's bound says: each is made of a
+-- heavy vector.
+use Rattle.std.proofs.Common.{◌≡◌, ◌≢◌, ℕ, ◌*◌, ◌<◌, ◌≤◌, List, [], ◌∷◌, length, map, get_or, All, AllPairs, refl, sym, ap, ap₂, subst, ◌∙◌, arith}
+use Rattle.std.specs.Cmp.{IsTotalOrder}
 use Rattle.std.specs.List.Sorted.{IsStrictlySortedBy}
-use Rattle.std.specs.Ordering.{nat_cmp}
+use Rattle.std.specs.declared.cmp.Ordering.{Ordering}
 use Rattle.std.proofs.lemmas.Cmp.{nat_list_cmp_total}
 use Rattle.std.proofs.lemmas.List.{length-map}
 use Rattle.std.proofs.lemmas.List.Elements.{All-nil, All-cons, All-head, All-tail, Contains-get_or}
 use Rattle.std.proofs.lemmas.Map.Keys.{Less-from_sorted}
 use Rattle.wire_frames.specs.Answer.{Answer}
-use Rattle.block_decoder.specs.Agreed.{constants_of, Filled, HasColumns, Heavy, Lists}
+use Rattle.block_decoder.specs.Agreed.{constants_of, Filled, HasColumns, Lists}
+use Rattle.block_decoder.specs.Narrowing.{agreement_on, ContinuesFrom}
 use Rattle.block_decoder.specs.Numbers.{bound_of}
+use Rattle.block_decoder.specs.Report.{Agreement, IsReport}
 use Rattle.block_decoder.specs.Vectors.{IsHeavyVector}
 use Rattle.block_decoder.specs.Verdict.{IsDecided, ListsNoMoreThan}
 use Rattle.block_decoder.specs.declared.verdict.Verdict.{Verdict}
 use Rattle.block_decoder.specs.declared.verdict.Verdict.TheVariants.{Listed, TooFew, TooWeak, TooCostly}
-use Rattle.block_decoder.proofs.Agreement.{heavy_from_agreed}
+use Rattle.block_decoder.proofs.Agreed.{heavy_from_agreed}
+use Rattle.block_decoder.proofs.Continued.{continues-Heavy}
 use Rattle.block_decoder.proofs.HeavyVectors.{few_heavy}
 use Rattle.block_decoder.proofs.Members.{not_before_itself}
 use Rattle.block_decoder.proofs.Pairs.{AllPairs-from_map}
+use Rattle.block_decoder.proofs.Reported.{agreement_cmp_total, continues-agreement}
 
--- heavy vectors, one for each block, whose constants are the block
-record HasVectors (answers : List Answer) (c t h : ℕ) (blocks : List (List ℕ)) : Type 0 where
+-- heavy vectors, of which these are made
+record HasVectors {X : Type 0} (made : List (List ℕ) → X) (answers : List Answer) (c t h : ℕ) (xs : List X) : Type 0 where
   vectors : List (List (List ℕ))
   heavy : All (IsHeavyVector answers c t h) vectors
-  constants : map constants_of vectors ≡ blocks
+  are : map made vectors ≡ xs
 
-has_vectors : (answers : List Answer) (c t h : ℕ) (blocks : List (List ℕ)) → All (Heavy answers c t h) blocks
-    → HasVectors answers c t h blocks
-has_vectors answers c t h [] all =
-    record { vectors = []; heavy = All-nil (IsHeavyVector answers c t h); constants = refl }
-has_vectors answers c t h (block ∷ blocks) all =
-    let first = All-head (Heavy answers c t h) block blocks all in
-    let rest = has_vectors answers c t h blocks (All-tail (Heavy answers c t h) block blocks all) in
+has_vectors : {X : Type 0} (made : List (List ℕ) → X) (answers : List Answer) (c t h : ℕ) (xs : List X)
+    → All (ContinuesFrom made answers c t h []) xs → HasVectors made answers c t h xs
+has_vectors made answers c t h [] all =
+    record { vectors = []; heavy = All-nil (IsHeavyVector answers c t h); are = refl }
+has_vectors made answers c t h (x ∷ xs) all =
+    let first = All-head (ContinuesFrom made answers c t h []) x xs all in
+    let rest = has_vectors made answers c t h xs (All-tail (ContinuesFrom made answers c t h []) x xs all) in
     record {
-      vectors = first.polynomials ∷ rest.vectors;
-      heavy = All-cons (IsHeavyVector answers c t h) first.polynomials rest.vectors
-          (record { one_a_column = first.one_a_column; degree = first.degree; enough = first.enough }) rest.heavy;
-      constants = ap₂ (λ b bs. b ∷ bs) (sym first.constants) rest.constants;
+      vectors = first.more ∷ rest.vectors;
+      heavy = All-cons (IsHeavyVector answers c t h) first.more rest.vectors
+          (record { one_a_column = let n = first.one_a_column in omega (arith, n); degree = first.degree; enough = first.enough }) rest.heavy;
+      are = ap₂ (λ y ys. y ∷ ys) (sym first.is) rest.are;
     }
 
--- blocks in order differ
-different_in_order : (blocks : List (List ℕ)) → IsStrictlySortedBy (slice_cmp nat_cmp) blocks
-    → AllPairs (λ a b. a ≢ b) blocks
-different_in_order blocks ascending i j d before within same =
-    let less = Less-from_sorted (slice_cmp nat_cmp) blocks i j d ascending before within in
-    not_before_itself nat_list_cmp_total (get_or blocks j d)
-    (ap (λ b. slice_cmp nat_cmp b (get_or blocks j d)) (sym same) ∙ less)
+-- what stands in order differs
+different_in_order : {K : Type 0} {R : K → K → Ordering} → IsTotalOrder R → (xs : List K) → IsStrictlySortedBy R xs
+    → AllPairs (λ a b. a ≢ b) xs
+different_in_order {K} {R} o xs ascending i j d before within same =
+    let less = Less-from_sorted R xs i j d ascending before within in
+    not_before_itself o (get_or xs j d) (ap (λ b. R b (get_or xs j d)) (sym same) ∙ less)
 
 module _ (answers : List Answer) (bytes : All (λ a. a.index < 256) answers)
     (different : AllPairs (λ a b. a.index ≢ b.index) answers) where
-  -- a listing has at most as many blocks as Johnson's bound says, where k * t < h * h
+  -- of what is made of heavy vectors no more can stand in order than Johnson's bound says, where k * t < h * h
+  few_made : {X : Type 0} {R : X → X → Ordering} → IsTotalOrder R → (made : List (List ℕ) → X) (width t h : ℕ) (xs : List X)
+      → t < h → length answers * t < h * h → IsStrictlySortedBy R xs → All (ContinuesFrom made answers width t h []) xs
+      → length xs ≤ bound_of (length answers) t h
+  few_made {X} {R} o made width t h xs less strong ascending each =
+      let has = has_vectors made answers width t h xs each in
+      let differ : AllPairs (λ a b. a ≢ b) (map made has.vectors) =
+      subst (AllPairs (λ a b. a ≢ b)) (sym has.are) (different_in_order o xs ascending) in
+      let apart = AllPairs-from_map (λ (a b : X). a ≢ b) made has.vectors differ in
+      let count = few_heavy answers bytes different width t h has.vectors less strong (record {
+        different = λ i j d before l same. apart i j d before l (ap made same);
+        heavy = has.heavy;
+      }) in
+      subst (λ n. n ≤ bound_of (length answers) t h) (sym (length-map has.vectors made) ∙ ap length has.are) count
+
+  -- so a listing has no more blocks
   pub few_blocks : (width t h : ℕ) (blocks : List (List ℕ)) → Filled width answers → t < h → length answers * t < h * h
       → Lists blocks answers width t h → length blocks ≤ bound_of (length answers) t h
   few_blocks width t h blocks filled less strong lists =
-      let agreed : All (Heavy answers width t h) blocks = λ i d l.
-      heavy_from_agreed answers width t h (get_or blocks i d) filled
-      ((lists.exact (get_or blocks i d)).0 (Contains-get_or blocks i d l)) in
-      let has = has_vectors answers width t h blocks agreed in
-      let differ : AllPairs (λ a b. a ≢ b) (map constants_of has.vectors) =
-      subst (AllPairs (λ a b. a ≢ b)) (sym has.constants) (different_in_order blocks lists.ascending) in
-      let apart = AllPairs-from_map (λ (a b : List ℕ). a ≢ b) constants_of has.vectors differ in
-      let count = few_heavy answers bytes different width t h has.vectors less strong (record {
-        different = λ i j d before l same. apart i j d before l (ap constants_of same);
-        heavy = has.heavy;
-      }) in
-      subst (λ n. n ≤ bound_of (length answers) t h)
-      (sym (length-map has.vectors constants_of) ∙ ap length has.constants) count
+      few_made nat_list_cmp_total constants_of width t h blocks less strong lists.ascending (λ i d l.
+      (continues-Heavy answers width t h (get_or blocks i d)).1 (heavy_from_agreed answers width t h (get_or blocks i d) filled
+      ((lists.exact (get_or blocks i d)).0 (Contains-get_or blocks i d l))))
+
+  -- and a report no more agreements
+  pub few_agreements : (width t h : ℕ) (agreements : List Agreement) → Filled width answers → t < h
+      → length answers * t < h * h → IsReport answers width t h agreements → length agreements ≤ bound_of (length answers) t h
+  few_agreements width t h agreements filled less strong report =
+      few_made agreement_cmp_total (agreement_on answers) width t h agreements less strong report.ascending (λ i d l.
+      (continues-agreement answers width t h filled (get_or agreements i d)).1
+      ((report.exact (get_or agreements i d)).0 (Contains-get_or agreements i d l)))
 
 -- so has a verdict that is decided
 pub few_decided : (answers : List Answer) (width t h : ℕ) (verdict : Verdict) → HasColumns width answers → t < h

@@ -88,7 +88,7 @@ module _ (answers : List Answer) (bytes : All (λ a. a.index < 256) answers)
 
 -- ---- no column
 
-empty_list : {X : Type 0} (xs : List X) → length xs ≡ 0 → xs ≡ []
+pub empty_list : {X : Type 0} (xs : List X) → length xs ≡ 0 → xs ≡ []
 empty_list [] e = refl
 empty_list (x ∷ xs) e = absurd (omega arith)
 

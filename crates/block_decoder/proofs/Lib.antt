@@ -1,4 +1,4 @@
-pub mod Agreement
+pub mod Agreed
 pub mod Columns
 pub mod Counting
 pub mod Ascending
@@ -30,3 +30,8 @@ pub mod FewBlocks
 pub mod HeavyByLength
 mod Leaves
 mod Candidates
+pub mod Reported
+pub mod OneReport
+mod Beside
+mod FirstAnswers
+pub mod Others

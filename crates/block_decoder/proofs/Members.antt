@@ -19,7 +19,7 @@ module _ {K : Type 0} where
   later : (x : K) (xs : List K) (b : K) → Contains xs b → Contains (x ∷ xs) b
   later x xs b (i, l, is) = (suc i, omega arith, is)
 
-  first_or_later : (x : K) (xs : List K) (b : K) → Contains (x ∷ xs) b → (x ≡ b) ⊎ Contains xs b
+  pub first_or_later : (x : K) (xs : List K) (b : K) → Contains (x ∷ xs) b → (x ≡ b) ⊎ Contains xs b
   first_or_later x xs b (zero, l, is) = inl is
   first_or_later x xs b (suc i, l, is) = inr (i, omega arith, is)
 

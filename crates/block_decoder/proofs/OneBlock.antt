@@ -13,26 +13,43 @@ use Rattle.wire_frames.specs.Session.{Transcript}
 use Rattle.column_lists.specs.declared.TheConstants.{MOST_POINTS}
 use Rattle.column_lists.proofs.Counting.{close_is_cheap}
 use Rattle.block_decoder.specs.Agreed.{constants_of, Agreed, Lists, holds_first, HasColumns}
+use Rattle.block_decoder.specs.Narrowing.{ContinuesFrom, agreement_on}
+use Rattle.block_decoder.specs.Report.{Agreement, agreement_cmp, IsAgreement, IsReport}
 use Rattle.block_decoder.specs.Verdict.{IsDecided, IsCombined, IsVerdict, ListsAtMostOne}
 use Rattle.block_decoder.specs.declared.verdict.Verdict.{Verdict}
 use Rattle.block_decoder.specs.declared.verdict.Verdict.TheVariants.{Listed, TooFew, TooWeak, TooCostly}
-use Rattle.block_decoder.proofs.Agreement.{heavy_from_agreed}
+use Rattle.block_decoder.proofs.Agreed.{heavy_from_agreed}
+use Rattle.block_decoder.proofs.Continued.{continues-Heavy}
 use Rattle.block_decoder.proofs.HeavyVectors.{same_vectors}
 use Rattle.block_decoder.proofs.Members.{not_before_itself}
 use Rattle.block_decoder.proofs.Places.{count_by_both}
+use Rattle.block_decoder.proofs.Reported.{agreement_cmp_total, continues-agreement}
 use Rattle.block_decoder.proofs.UsableAnswers.{length-answers_from-le}
 
--- where 2 h > k + t two agreed blocks are one
+-- where 2 h > k + t what is made of two heavy vectors is one
+pub one_made : {X : Type 0} (made : List (List ℕ) → X) (answers : List Answer) (width t h : ℕ) (one other : X) → HasColumns width answers
+    → length answers + t < 2 * h → ContinuesFrom made answers width t h [] one → ContinuesFrom made answers width t h [] other → one ≡ other
+one_made made answers width t h one other columns close p q =
+    let m = p.enough in
+    let n = q.enough in
+    let both = count_by_both (holds_first p.more) (holds_first q.more) answers in
+    let same = same_vectors answers columns.indices columns.different width t p.more q.more (let c = p.one_a_column in omega (arith, c)) (let c = q.one_a_column in omega (arith, c)) p.degree q.degree (omega (arith, m, n, both, close)) in
+    p.is ∙ ap made same ∙ sym q.is
+
+-- so two agreed blocks are one
 pub one_block : (answers : List Answer) (width t h : ℕ) (one other : List ℕ) → HasColumns width answers → length answers + t < 2 * h
     → Agreed answers width t h one → Agreed answers width t h other → one ≡ other
 one_block answers width t h one other columns close first second =
-    let p = heavy_from_agreed answers width t h one columns.filled first in
-    let q = heavy_from_agreed answers width t h other columns.filled second in
-    let m = p.enough in
-    let n = q.enough in
-    let both = count_by_both (holds_first p.polynomials) (holds_first q.polynomials) answers in
-    let same = same_vectors answers columns.indices columns.different width t p.polynomials q.polynomials p.one_a_column q.one_a_column p.degree q.degree (omega (arith, m, n, both, close)) in
-    p.constants ∙ ap constants_of same ∙ sym q.constants
+    one_made constants_of answers width t h one other columns close
+    ((continues-Heavy answers width t h one).1 (heavy_from_agreed answers width t h one columns.filled first))
+    ((continues-Heavy answers width t h other).1 (heavy_from_agreed answers width t h other columns.filled second))
+
+-- and two agreements
+pub one_agreement : (answers : List Answer) (width t h : ℕ) (one other : Agreement) → HasColumns width answers → length answers + t < 2 * h
+    → IsAgreement answers width t h one → IsAgreement answers width t h other → one ≡ other
+one_agreement answers width t h one other columns close first second =
+    one_made (agreement_on answers) answers width t h one other columns close
+    ((continues-agreement answers width t h columns.filled one).1 first) ((continues-agreement answers width t h columns.filled other).1 second)
 
 -- and a listing has one block at most
 pub listed_alone : (answers : List Answer) (width t h : ℕ) (blocks : List (List ℕ)) → HasColumns width answers → length answers + t < 2 * h
@@ -46,6 +63,22 @@ listed_alone answers width t h blocks columns close lists =
           ((lists.exact (get_or blocks 0 [])).0 first) ((lists.exact (get_or blocks 1 [])).0 second) in
           let before = Less-from_sorted (slice_cmp nat_cmp) blocks 0 1 [] lists.ascending (omega arith) many in
           absurd (not_before_itself nat_list_cmp_total (get_or blocks 1 []) (ap (λ (b : List ℕ). slice_cmp nat_cmp b (get_or blocks 1 [])) (sym same) ∙ before))
+      | inr few ↦ few
+    ]
+
+-- and a report has one agreement at most
+pub reported_alone : (answers : List Answer) (width t h : ℕ) (agreements : List Agreement) → HasColumns width answers
+    → length answers + t < 2 * h → IsReport answers width t h agreements → length agreements ≤ 1
+reported_alone answers width t h agreements columns close report =
+    elim (cases_lt 1 (length agreements)) [
+      | inl many ↦
+          let none : Agreement = record { block = []; indices = [] } in
+          let one = get_or agreements 0 none in
+          let other = get_or agreements 1 none in
+          let same = one_agreement answers width t h one other columns close
+          ((report.exact one).0 (Contains-get_or agreements 0 none (omega arith))) ((report.exact other).0 (Contains-get_or agreements 1 none many)) in
+          let before = Less-from_sorted agreement_cmp agreements 0 1 none report.ascending (omega arith) many in
+          absurd (not_before_itself agreement_cmp_total other (ap (λ (a : Agreement). agreement_cmp a other) (sym same) ∙ before))
       | inr few ↦ few
     ]
 

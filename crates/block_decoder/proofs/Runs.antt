@@ -11,13 +11,14 @@ use Rattle.column_lists.specs.Agreement.{ListsAgreeing}
 use Rattle.column_runs.specs.Run.{IsConstant}
 use Rattle.column_lists.proofs.OnOne.{lists_one}
 use Rattle.block_decoder.specs.Agreed.{constants_of, holds_first, weight, HasColumns}
-use Rattle.block_decoder.specs.Narrowing.{holding, meets, points_of, IsPart, IsCandidate, ContinuesFrom, IsVisited, AreVisited}
+use Rattle.block_decoder.specs.Narrowing.{agreement_on, holding, meets, points_of, IsPart, IsCandidate, ContinuesFrom, IsVisited, AreVisited}
+use Rattle.block_decoder.specs.Report.{Agreement}
 use Rattle.block_decoder.proofs.Holding.{holding-same}
 use Rattle.block_decoder.proofs.Kept.{part-All, part-different, length-points, points-All, points-different}
 use Rattle.block_decoder.proofs.Continued.{continues-one}
 use Rattle.block_decoder.proofs.Pairs.{AllPairs-nil}
 
--- the polynomials of n columns after v, on which all of v's points lie: they lead to the same blocks, and each column was
+-- the polynomials of n columns after v, on which all of v's points lie: they lead to the same agreements, and each column was
 -- visited
 pub record HasRun (answers : List Answer) (width t h : ℕ) (v : List (List ℕ)) (n : ℕ) (bytes : List ℕ) : Type 0 where
   pub more : List (List ℕ)
@@ -25,7 +26,8 @@ pub record HasRun (answers : List Answer) (width t h : ℕ) (v : List (List ℕ)
   pub degree : All (IsPolynomial t) more
   pub held : holding (v ++ more) answers ≡ holding v answers
   pub constants : take n bytes ≡ constants_of more
-  pub same : (b : List ℕ) → ContinuesFrom answers width t h (v ++ more) b ↔ ContinuesFrom answers width t h v b
+  pub same : (b : Agreement) → ContinuesFrom (agreement_on answers) answers width t h (v ++ more) b
+      ↔ ContinuesFrom (agreement_on answers) answers width t h v b
   pub visited : List (List (List ℕ))
   pub count : length visited ≡ n
   pub are : AreVisited answers width t h v visited
@@ -52,7 +54,7 @@ module _ (answers : List Answer) (width t h : ℕ) (columns : HasColumns width a
         degree = All-nil (IsPolynomial t);
         held = ap (λ w. holding w answers) e;
         constants = refl;
-        same = λ b. (subst (λ w. ContinuesFrom answers width t h w b) e, subst (λ w. ContinuesFrom answers width t h w b) (sym e));
+        same = λ b. (subst (λ w. ContinuesFrom (agreement_on answers) answers width t h w b) e, subst (λ w. ContinuesFrom (agreement_on answers) answers width t h w b) (sym e));
         visited = [];
         count = refl;
         are = record { different = AllPairs-nil (λ v w. v ≢ w); each = All-nil (IsVisited answers width t h v) };
@@ -87,7 +89,7 @@ module _ (answers : List Answer) (width t h : ℕ) (columns : HasColumns width a
       let size = length-map (holding w answers) point in
       let meet : All (λ a. meets p (length w) a ≡ true) (holding w answers) =
       λ i d l. eq-eqb _ _ (subst (λ (q : ℕ × ℕ). val p q.0 ≡ q.1) (get_or-map point (holding w answers) i d (0, 0) l) (on i (0, 0) (omega (arith, size, l)))) in
-      let one = continues-one answers width t h w columns.filled room p lists in
+      let one = continues-one (agreement_on answers) answers width t h w columns.filled room p lists in
       let count = r.count in
       let heavy = sym (length-filter (holds_first w) answers) ∙ ap length r.held in
       record {
@@ -96,7 +98,8 @@ module _ (answers : List Answer) (width t h : ℕ) (columns : HasColumns width a
         degree = All-append (IsPolynomial t) r.more (p ∷ []) r.degree (All-cons (IsPolynomial t) p [] constant.degree (All-nil (IsPolynomial t)));
         held = ap (λ u. holding u answers) (sym e) ∙ holding-same answers width (length w) w p columns.filled refl room meet ∙ r.held;
         constants = take_more bytes n 0 within ∙ ap₂ (λ (bs : List ℕ) (b : ℕ). bs ++ b ∷ []) r.constants (sym constant.constant) ∙ sym (map-append (λ p. coef p 0) r.more (p ∷ []));
-        same = λ b. subst (λ u. ContinuesFrom answers width t h u b ↔ ContinuesFrom answers width t h v b) e
+        same = λ b. subst (λ u. ContinuesFrom (agreement_on answers) answers width t h u b
+            ↔ ContinuesFrom (agreement_on answers) answers width t h v b) e
             (λ c. (r.same b).0 ((one b).0 c), λ c. (one b).1 ((r.same b).1 c));
         visited = w ∷ r.visited;
         count = omega (arith, count);

@@ -14,7 +14,7 @@ use Rattle.wire_frames.specs.Session.{Transcript}
 use Rattle.chor_xor.specs.Chosen.{combined}
 use Rattle.column_lists.specs.Numbers.{cost}
 use Rattle.column_lists.specs.declared.TheConstants.{MOST_COST}
-use Rattle.block_decoder.specs.Agreed.{Heavy, weight, Filled, Lists}
+use Rattle.block_decoder.specs.Agreed.{constants_of, Heavy, weight, Filled, Lists}
 use Rattle.block_decoder.specs.Gains.{Gains}
 use Rattle.block_decoder.specs.Numbered.{all_numbered, Continues, ContinuesBelow}
 use Rattle.block_decoder.specs.Verdict.{IsDecided, IsCombined, HasVerdict}
@@ -56,7 +56,7 @@ module _ (answers : List Answer) (width t h : ℕ) where
       → Gained (Continues answers width t h numbers) old
   gained zero numbers e old p =
       elim (cases_lt (weight (all_numbered t numbers) answers) h) [
-        | inl light ↦ record { new = old; ascending = p; gains = Gains-none (Continues answers width t h numbers) old (continues-light answers width t h (all_numbered t numbers) light) }
+        | inl light ↦ record { new = old; ascending = p; gains = Gains-none (Continues answers width t h numbers) old (continues-light constants_of answers width t h (all_numbered t numbers) light) }
         | inr heavy ↦
             let block = map (λ n. n % 256) numbers in
             let more = with_member nat_list_cmp_total exact_bytes block old p in

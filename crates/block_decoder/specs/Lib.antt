@@ -4,6 +4,8 @@ pub mod Verdict
 pub mod Text
 pub mod Numbered
 pub mod Gains
+pub mod Report
+pub mod Reported
 pub mod Vectors
 pub mod Narrowing
 pub mod Leaves

@@ -5,11 +5,17 @@ use Rattle.gf256.specs.Polynomial.{val, IsPolynomial}
 use Rattle.wire_frames.specs.Answer.{Answer}
 use Rattle.block_decoder.specs.Agreed.{holds_first, weight, constants_of}
 use Rattle.block_decoder.specs.Leaves.{NodesFrom}
+use Rattle.block_decoder.specs.Report.{Agreement, indices_of}
 use Rattle.block_decoder.specs.Vectors.{IsHeavyVector}
 
 -- the answers at which the polynomials hold, in their first columns
 abbrev pub holding : List (List ℕ) → List Answer → List Answer
 holding polynomials answers = filter (holds_first polynomials) answers
+
+-- the agreement that the polynomials make, one for each column: on their constants, of the answers at which they hold
+abbrev pub agreement_on : List Answer → List (List ℕ) → Agreement
+agreement_on answers polynomials =
+    record { block = constants_of polynomials; indices = indices_of (holding polynomials answers) }
 
 -- the points of a column: the index of each answer with its byte there
 abbrev pub points_of : List Answer → ℕ → List (ℕ × ℕ)
@@ -34,21 +40,22 @@ pub record IsCandidate (answers : List Answer) (t h : ℕ) (kept : List Answer) 
   pub enough : h ≤ length kept
   pub constants : take column block ≡ constants_of polynomials
 
--- the polynomials can be continued, by one for each column that is left, to polynomials that hold at h answers, and whose
--- constants are the block
-pub record ContinuesFrom (answers : List Answer) (width t h : ℕ) (polynomials : List (List ℕ)) (block : List ℕ) : Type 0 where
+-- the polynomials can be continued, by one for each column that is left, to polynomials that hold at h answers, and of which
+-- this is made, as a block of their constants
+pub record ContinuesFrom {X : Type 0} (made : List (List ℕ) → X) (answers : List Answer) (width t h : ℕ)
+    (polynomials : List (List ℕ)) (x : X) : Type 0 where
   pub more : List (List ℕ)
   pub one_a_column : length polynomials + length more ≡ width
   pub degree : All (IsPolynomial t) more
   pub enough : h ≤ weight (polynomials ++ more) answers
-  pub constants : block ≡ constants_of (polynomials ++ more)
+  pub is : x ≡ made (polynomials ++ more)
 
 -- the same where the next polynomial is one of these
-pub record ContinuesBy (nexts : List (List ℕ)) (answers : List Answer) (width t h : ℕ)
-    (polynomials : List (List ℕ)) (block : List ℕ) : Type 0 where
+pub record ContinuesBy {X : Type 0} (made : List (List ℕ) → X) (nexts : List (List ℕ)) (answers : List Answer)
+    (width t h : ℕ) (polynomials : List (List ℕ)) (x : X) : Type 0 where
   pub next : List ℕ
   pub listed : Contains nexts next
-  pub continues : ContinuesFrom answers width t h (polynomials ++ next ∷ []) block
+  pub continues : ContinuesFrom made answers width t h (polynomials ++ next ∷ []) x
 
 -- a vector of fewer polynomials than there are columns, which begins with these and is heavy
 pub record IsVisited (answers : List Answer) (width t h : ℕ) (polynomials vector : List (List ℕ)) : Type 0 where

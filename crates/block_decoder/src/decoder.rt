@@ -1,16 +1,21 @@
 //! The verdict on answers, and how many blocks can be agreed on.
 
-ghost use Rattle.std.specs.Prelude.{◌≡◌, ◌≢◌, ◌+◌, ◌*◌, ◌^◌, ◌<◌, ◌≤◌, ◌⊎◌, length, All, IfOk};
+ghost use Rattle.std.specs.Prelude.{◌≡◌, ◌≢◌, ◌+◌, ◌*◌, ◌^◌, ◌<◌, ◌≤◌, ◌⊎◌, ℕ, true, List, length, All, IfOk, OnOk};
 ghost use Rattle.std.specs.List.Sorted.{IsStrictlyIncreasing};
 ghost use Rattle.wire_frames.specs.declared.TheConstants.{MOST_SERVERS};
-ghost use Rattle.block_decoder.specs.Agreed.{answers_of, HasColumns};
+ghost use Rattle.column_lists.specs.declared.TheConstants.{MOST_COST};
+ghost use Rattle.column_lists.specs.Numbers.{cost};
+ghost use Rattle.block_decoder.specs.Agreed.{answers_of, HasColumns, Lists};
 ghost use Rattle.block_decoder.specs.Numbers.{bound_of, most_columns, most_nodes};
+ghost use Rattle.block_decoder.specs.Report.{HasBlocks, IsReport};
+ghost use Rattle.block_decoder.specs.Reported.{IsListedFrom, IsReportBeside, ReportsNoMoreThan};
 ghost use Rattle.block_decoder.specs.Vectors.{HeavyVectorsAreFew};
 ghost use Rattle.block_decoder.specs.Verdict.{IsDecided, IsUnlisted, ListsNoMoreThan, least_columns};
 
+use crate::agreements::Report;
 use crate::answer_set::AnswerSet;
 use crate::answers::PackedAnswers;
-use crate::narrowing::list_agreed;
+use crate::narrowing::find_agreements;
 use crate::verdict::Verdict;
 use column_lists::{MOST_COST, plan};
 use gs_interpolate::Interpolate;
@@ -77,10 +82,61 @@ pub fn decide<I: Interpolate, C: Ledger, N: Ledger>(
     ensures few { IfOk result (ListsNoMoreThan (bound_of (length indices.now) t h)) }
 {
     let answers = PackedAnswers::new(indices, bytes, s as usize).to_set(alloc)?;
-    decide_among(alloc, way, answers, t, h, s, cols, nodes)
+    let (verdict, _report) = decide_among(alloc, way, answers, t, h, s, false, cols, nodes)?;
+    Ok(verdict)
 }
 
-/// The same for answers that lie wherever they do, `s` bytes each.
+/// Who agrees: the blocks on which `h` answers or more agree (Goldberg 2007), each with all answers that agree on it. The
+/// answers and the numbers are as for [`decide`], and such that its verdict is a listing.
+///
+/// Each vector of polynomials of degree at most `t`, one for each column, that holds at `h` answers or more makes one
+/// agreement: on the block of its constants, of the servers at whose answers it holds. So a block on which answers agree
+/// by several vectors has an agreement for each. They come in ascending order, by their blocks and then by their
+/// servers. There are at most [`bound`].
+///
+/// It is what `decide` finds on its way to the listing: the steps are the same, and so is the memory, but for the listing.
+///
+/// The answers 1, 2, 3 with the payloads `cfd2`, `4073`, `cce5` (t 1, h 3, s 2) agree on the block `4344`.
+///
+/// # Errors
+///
+/// `AllocError` where there is no memory for the places of answers, for a list of polynomials or for the agreements.
+pub fn report<I: Interpolate, C: Ledger, N: Ledger>(
+    alloc: Global,
+    way: &I,
+    indices: &[u8],
+    bytes: &[u8],
+    t: u32,
+    h: u32,
+    s: u32,
+    cols: &mut Steps<C>,
+    nodes: &mut Steps<N>,
+) -> Result<Report, AllocError>
+    requires ascending { IsStrictlyIncreasing indices.now }
+    requires nonzero { All (λ a. a ≢ 0) indices.now }
+    requires few { length indices.now ≤ MOST_SERVERS }
+    requires agreement { (1 ≤ t) × (t < h) }
+    requires width { 1 ≤ s }
+    requires fit { length bytes.now ≡ length indices.now * s }
+    requires enough { h ≤ length indices.now }
+    requires strong { length indices.now * t < h * h }
+    requires cheap { cost (length indices.now) t h ≤ MOST_COST }
+    ensures report { IfOk result (IsReport (answers_of s indices.now bytes.now) s t h) }
+    ensures blocks { IfOk result (λ report. (blocks : List (List ℕ))
+        → Lists blocks (answers_of s indices.now bytes.now) s t h → HasBlocks blocks report) }
+    ensures cols { cols.new ≤ cols.old + most_columns (length indices.now) t h s }
+    ensures nodes { nodes.new ≤ nodes.old + most_nodes (length indices.now) t h s }
+    ensures least { cols.old ≤ cols.new }
+    ensures least_nodes { nodes.old ≤ nodes.new }
+    ensures tried { OnOk result (cols.old < cols.new) }
+    ensures found { IfOk result (λ report. 0 < length report → cols.old + s ≤ cols.new) }
+    ensures few { IfOk result (λ report. length report ≤ bound_of (length indices.now) t h) }
+{
+    let answers = PackedAnswers::new(indices, bytes, s as usize).to_set(alloc)?;
+    find_agreements(alloc, way, answers, s as usize, t, h, cols, nodes)
+}
+
+/// The verdict on answers that lie wherever they do, `s` bytes each; and, where it is wanted and a listing, who agrees.
 pub(crate) fn decide_among<I: Interpolate, C: Ledger, N: Ledger>(
     alloc: Global,
     way: &I,
@@ -88,36 +144,55 @@ pub(crate) fn decide_among<I: Interpolate, C: Ledger, N: Ledger>(
     t: u32,
     h: u32,
     s: u32,
+    wanted: bool,
     cols: &mut Steps<C>,
     nodes: &mut Steps<N>,
-) -> Result<Verdict, AllocError>
+) -> Result<(Verdict, Option<Report>), AllocError>
     requires columns { HasColumns s answers }
     requires nonzero { All (λ a. a.index ≢ 0) answers }
     requires few { length answers ≤ MOST_SERVERS }
     requires agreement { (1 ≤ t) × (t < h) }
     requires width { 1 ≤ s }
-    ensures verdict { IfOk result (IsDecided answers.entry s t h) }
+    ensures verdict { IfOk result (λ found. IsDecided answers.entry s t h found.0) }
+    ensures report { IfOk result (λ found. wanted ≡ true → IsReportBeside answers.entry s t h found.0 found.1) }
     ensures cols { cols.new ≤ cols.old + most_columns (length answers.entry) t h s }
     ensures nodes { nodes.new ≤ nodes.old + most_nodes (length answers.entry) t h s }
     ensures least { cols.old ≤ cols.new }
     ensures least_nodes { nodes.old ≤ nodes.new }
-    ensures listed { IfOk result (λ verdict. cols.old + least_columns s verdict ≤ cols.new) }
+    ensures listed { IfOk result (λ found. cols.old + least_columns s found.0 ≤ cols.new) }
     ensures unlisted { IsUnlisted (length answers.entry) t h → (cols.new ≡ cols.old) × (nodes.new ≡ nodes.old) }
-    ensures few { IfOk result (ListsNoMoreThan (bound_of (length answers.entry) t h)) }
+    ensures few { IfOk result (λ found. ListsNoMoreThan (bound_of (length answers.entry) t h) found.0) }
+    ensures few_agree { IfOk result (λ found. ReportsNoMoreThan (bound_of (length answers.entry) t h) found.1) }
 {
     let k = answers.len() as u32;
     if k < h {
-        return Ok(Verdict::TooFew { k, h });
+        return Ok((Verdict::TooFew { k, h }, None));
     }
     if h * h <= k * t {
-        return Ok(Verdict::TooWeak { k, t, h });
+        return Ok((Verdict::TooWeak { k, t, h }, None));
     }
     let cost = plan(k, t, h).cost;
     if cost > MOST_COST {
-        return Ok(Verdict::TooCostly { cost });
+        return Ok((Verdict::TooCostly { cost }, None));
     }
-    let listing = list_agreed(alloc, way, answers, s as usize, t, h, cols, nodes)?;
-    Ok(Verdict::Listed(listing))
+    let report = find_agreements(alloc, way, answers, s as usize, t, h, cols, nodes)?;
+    listed(alloc, report, wanted)
+}
+
+/// The listing of what was found, and the report itself where it is wanted; else no block is copied.
+fn listed(
+    alloc: Global,
+    report: Report,
+    wanted: bool,
+) -> Result<(Verdict, Option<Report>), AllocError>
+    ensures { IfOk result (IsListedFrom wanted report) }
+{
+    if wanted {
+        let listing = report.to_listing(alloc)?;
+        return Ok((Verdict::Listed(listing), Some(report)));
+    }
+    let listing = report.into_listing(alloc)?;
+    Ok((Verdict::Listed(listing), None))
 }
 
 /// Johnson's count (Johnson 1962) of the blocks on which `h` of `k` answers can agree, with polynomials of degree at

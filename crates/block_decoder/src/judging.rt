@@ -1,12 +1,14 @@
 //! The verdict on a session.
 
-ghost use Rattle.std.specs.Prelude.{◌≡◌, ◌≢◌, ◌+◌, ◌≤◌, length, All, IfOk};
+ghost use Rattle.std.specs.Prelude.{◌≡◌, ◌≢◌, ◌+◌, ◌≤◌, true, length, All, IfOk};
 ghost use Rattle.wire_frames.specs.declared.scheme.TheConstants.{SHAMIR, XOR};
 ghost use Rattle.wire_frames.specs.Answer.{answers, block_len};
 ghost use Rattle.block_decoder.specs.Agreed.{HasColumns};
 ghost use Rattle.block_decoder.specs.Numbers.{bound_of, most_columns, most_nodes};
+ghost use Rattle.block_decoder.specs.Reported.{IsReportOn, ReportsNoMoreThan};
 ghost use Rattle.block_decoder.specs.Verdict.{IsUnlisted, IsVerdict, ListsNoMoreThan, least_columns};
 
+use crate::agreements::Report;
 use crate::answer_set::AnswerSet;
 use crate::answers::Answer;
 use crate::combining::combine_all;
@@ -54,6 +56,74 @@ pub fn judge<I: Interpolate, C: Ledger, N: Ledger>(
         (bound_of (length (answers session.now)) session.now.params.t session.now.params.h)) }
     ensures xor { session.now.params.scheme ≡ XOR → (cols.new ≡ cols.old) × (nodes.new ≡ nodes.old) }
 {
+    let (verdict, _report) = judge_with(alloc, way, session, false, cols, nodes)?;
+    Ok(verdict)
+}
+
+/// The same verdict as that of [`judge`], and beside a listing of Shamir's scheme who agrees, as [`report`](crate::report)
+/// has it for the session's usable answers. It is what is found on the way to the listing, so the steps are the same.
+/// Beside another verdict, and in the XOR scheme, there is no report.
+///
+/// # Errors
+///
+/// As [`judge`], and where there is no memory for the listed blocks once more.
+pub fn judge_report<I: Interpolate, C: Ledger, N: Ledger>(
+    alloc: Global,
+    way: &I,
+    session: &Session,
+    cols: &mut Steps<C>,
+    nodes: &mut Steps<N>,
+) -> Result<(Verdict, Option<Report>), AllocError>
+    requires all { length session.now.records ≡ session.now.params.n }
+    ensures verdict { IfOk result (λ found. IsVerdict session.now found.0) }
+    ensures report { IfOk result (λ found. IsReportOn session.now found.0 found.1) }
+    ensures cols { cols.new ≤ cols.old
+        + most_columns (length (answers session.now)) session.now.params.t session.now.params.h (block_len session.now.params) }
+    ensures nodes { nodes.new ≤ nodes.old
+        + most_nodes (length (answers session.now)) session.now.params.t session.now.params.h (block_len session.now.params) }
+    ensures least { cols.old ≤ cols.new }
+    ensures least_nodes { nodes.old ≤ nodes.new }
+    ensures listed { session.now.params.scheme ≡ SHAMIR
+        → IfOk result (λ found. cols.old + least_columns (block_len session.now.params) found.0 ≤ cols.new) }
+    ensures unlisted { IsUnlisted (length (answers session.now)) session.now.params.t session.now.params.h
+        → (cols.new ≡ cols.old) × (nodes.new ≡ nodes.old) }
+    ensures few { session.now.params.scheme ≡ SHAMIR → IfOk result (λ found. ListsNoMoreThan
+        (bound_of (length (answers session.now)) session.now.params.t session.now.params.h) found.0) }
+    ensures few_agree { session.now.params.scheme ≡ SHAMIR → IfOk result (λ found. ReportsNoMoreThan
+        (bound_of (length (answers session.now)) session.now.params.t session.now.params.h) found.1) }
+    ensures xor { session.now.params.scheme ≡ XOR → (cols.new ≡ cols.old) × (nodes.new ≡ nodes.old) }
+{
+    judge_with(alloc, way, session, true, cols, nodes)
+}
+
+/// The verdict, and, where it is wanted, the report beside it.
+fn judge_with<I: Interpolate, C: Ledger, N: Ledger>(
+    alloc: Global,
+    way: &I,
+    session: &Session,
+    wanted: bool,
+    cols: &mut Steps<C>,
+    nodes: &mut Steps<N>,
+) -> Result<(Verdict, Option<Report>), AllocError>
+    requires all { length session.now.records ≡ session.now.params.n }
+    ensures verdict { IfOk result (λ found. IsVerdict session.now found.0) }
+    ensures report { IfOk result (λ found. wanted ≡ true → IsReportOn session.now found.0 found.1) }
+    ensures cols { cols.new ≤ cols.old
+        + most_columns (length (answers session.now)) session.now.params.t session.now.params.h (block_len session.now.params) }
+    ensures nodes { nodes.new ≤ nodes.old
+        + most_nodes (length (answers session.now)) session.now.params.t session.now.params.h (block_len session.now.params) }
+    ensures least { cols.old ≤ cols.new }
+    ensures least_nodes { nodes.old ≤ nodes.new }
+    ensures listed { session.now.params.scheme ≡ SHAMIR
+        → IfOk result (λ found. cols.old + least_columns (block_len session.now.params) found.0 ≤ cols.new) }
+    ensures unlisted { IsUnlisted (length (answers session.now)) session.now.params.t session.now.params.h
+        → (cols.new ≡ cols.old) × (nodes.new ≡ nodes.old) }
+    ensures few { session.now.params.scheme ≡ SHAMIR → IfOk result (λ found. ListsNoMoreThan
+        (bound_of (length (answers session.now)) session.now.params.t session.now.params.h) found.0) }
+    ensures few_agree { session.now.params.scheme ≡ SHAMIR → IfOk result (λ found. ReportsNoMoreThan
+        (bound_of (length (answers session.now)) session.now.params.t session.now.params.h) found.1) }
+    ensures xor { session.now.params.scheme ≡ XOR → (cols.new ≡ cols.old) × (nodes.new ≡ nodes.old) }
+{
     let params = session.params();
     match Scheme::of(params.scheme) {
         Scheme::Shamir => {
@@ -65,11 +135,12 @@ pub fn judge<I: Interpolate, C: Ledger, N: Ledger>(
                 u32::from(params.t),
                 u32::from(params.h),
                 params.block_len(),
+                wanted,
                 cols,
                 nodes,
             )
         }
-        Scheme::Xor => combine_all(alloc, session),
+        Scheme::Xor => Ok((combine_all(alloc, session)?, None)),
     }
 }
 

@@ -5,8 +5,11 @@ ghost use Rattle.std.specs.List.Sorted.{IsStrictlyIncreasing};
 ghost use Rattle.wire_frames.specs.declared.TheConstants.{MOST_SERVERS};
 ghost use Rattle.wire_frames.specs.Answer.{answers};
 ghost use Rattle.block_decoder.specs.Agreed.{answers_of, Agreed};
+ghost use Rattle.block_decoder.specs.Report.{IsReport};
+ghost use Rattle.block_decoder.specs.Reported.{HasOneReport};
 ghost use Rattle.block_decoder.specs.Verdict.{HasOneVerdict, HasVerdict, IsDecided, IsVerdict, ListsAtMostOne};
 
+use crate::agreements::Report;
 use crate::verdict::Verdict;
 use wire_frames::Session;
 
@@ -19,6 +22,13 @@ pub fn some_verdict(session: &Session)
 /// alone, and a session that is read again has the verdict that it had.
 pub fn one_verdict(session: &Session)
     ensures { HasOneVerdict session.now }
+{
+    session.params();
+}
+
+/// There is no other report beside a verdict: so its text, too, depends on the session alone.
+pub fn one_report(session: &Session, verdict: &Verdict)
+    ensures { HasOneReport session.now verdict.now }
 {
     session.params();
 }
@@ -39,6 +49,22 @@ pub fn one_block_where_agreement_is_close(
     requires one { Agreed (answers_of s indices.now bytes.now) s t h one.now }
     requires other { Agreed (answers_of s indices.now bytes.now) s t h other.now }
     ensures { one.now ≡ other.now }
+{}
+
+/// Where `2h > k + t`, there is one agreement at most: so where a block is listed, its agreement is the only one.
+pub fn one_agreement_where_it_is_close(
+    indices: &[u8],
+    bytes: &[u8],
+    t: u32,
+    h: u32,
+    s: u32,
+    report: &Report,
+)
+    requires ascending { IsStrictlyIncreasing indices.now }
+    requires fit { length bytes.now ≡ length indices.now * s }
+    requires close { length indices.now + t < 2 * h }
+    requires report { IsReport (answers_of s indices.now bytes.now) s t h report.now }
+    ensures { length report.now ≤ 1 }
 {}
 
 /// Where `h <= k` and `2h > k + t`, the verdict on k answers lists one block, or none, whatever the answers. There are

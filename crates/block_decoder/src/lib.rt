@@ -15,21 +15,26 @@
 //! block of their own; that a wrong answer is noticed in the XOR scheme; that memory is found.
 #![tactic(auto)]
 
+mod agreements;
 mod answer_set;
 mod answers;
 mod combining;
 mod decoder;
 mod judging;
 pub mod laws;
+mod liars;
 mod listing;
 mod narrowing;
+mod reporting;
 mod usable;
 mod verdict;
 mod write;
 
+pub use agreements::{Agreement, Report};
 pub use answers::{Answer, PackedAnswers, ServerAnswers};
-pub use decoder::{bound, decide};
-pub use judging::judge;
+pub use decoder::{bound, decide, report};
+pub use judging::{judge, judge_report};
 pub use listing::Listing;
+pub use reporting::write_report;
 pub use verdict::Verdict;
 pub use write::{write_block, write_verdict};

@@ -50,21 +50,20 @@ impl Listing {
         Ok(Listing { blocks })
     }
 
-    /// Puts the block in its place, where it is not there yet; only then memory is taken, for a copy of it.
+    /// Puts the block in its place, where it is not there yet; it is not copied.
     ///
     /// # Errors
     ///
-    /// `AllocError` where there is no memory for a new block; the listing is as it was.
-    pub fn insert(&mut self, alloc: Global, block: &[u8]) -> Result<(), AllocError>
+    /// `AllocError` where there is no memory for a longer list; the listing is as it was.
+    pub fn insert(&mut self, block: Vec<u8>) -> Result<(), AllocError>
         ensures ascending { IsStrictlySortedBy (slice_cmp nat_cmp) self.new }
-        ensures ok { OnOk result ((b : List ℕ) → Contains self.new b ↔ (Contains self.old b ⊎ (b ≡ block.now))) }
+        ensures ok { OnOk result ((b : List ℕ) → Contains self.new b ↔ (Contains self.old b ⊎ (b ≡ block.items))) }
         ensures err { OnErr result (self.new ≡ self.old) }
     {
-        match place_of(&self.blocks, block) {
+        match place_of(&self.blocks, &block) {
             Ok(_) => Ok(()),
             Err(place) => {
-                let copy = Vec::from_slice(alloc, block)?;
-                self.blocks.insert(place, copy)?;
+                self.blocks.insert(place, block)?;
                 Ok(())
             }
         }

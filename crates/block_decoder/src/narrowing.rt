@@ -1,21 +1,20 @@
 //! Narrows the answers to those that agree, column by column.
 
 ghost use Rattle.std.specs.Prelude.{◌≡◌, ◌≢◌, ◌+◌, ◌-◌, ◌*◌, ◌<◌, ◌≤◌, ◌⊎◌, ℕ, List, length, map, take, drop, All, AllPairs, IfOk, OnOk, MatchResult};
-ghost use Rattle.std.specs.Cmp.Lexicographic.{slice_cmp};
 ghost use Rattle.std.specs.List.Sorted.{IsStrictlySortedBy};
-ghost use Rattle.std.specs.Ordering.{nat_cmp};
 ghost use Rattle.column_lists.specs.declared.TheConstants.{MOST_COST};
 ghost use Rattle.column_lists.specs.Agreement.{ListsAgreeing};
 ghost use Rattle.column_lists.specs.Numbers.{cost};
 ghost use Rattle.column_runs.specs.Run.{IsRun};
 ghost use Rattle.wire_frames.specs.declared.TheConstants.{MOST_SERVERS};
-ghost use Rattle.block_decoder.specs.Agreed.{HasColumns, Lists};
+ghost use Rattle.block_decoder.specs.Agreed.{HasColumns};
 ghost use Rattle.block_decoder.specs.Gains.{Gains};
-ghost use Rattle.block_decoder.specs.Narrowing.{points_of as points_in, CountsFrom, ContinuesFrom, IsCandidate, IsPart};
+ghost use Rattle.block_decoder.specs.Narrowing.{agreement_on, points_of as points_in, CountsFrom, ContinuesFrom, IsCandidate, IsPart};
+ghost use Rattle.block_decoder.specs.Report.{agreement_cmp, IsReport};
 ghost use Rattle.block_decoder.specs.Numbers.{column_nodes, most_columns, most_nodes};
 
+use crate::agreements::Report;
 use crate::answer_set::AnswerSet;
-use crate::listing::Listing;
 use column_lists::{column_list, decode_run};
 use gs_interpolate::Interpolate;
 use std::alloc::{AllocError, Global};
@@ -39,8 +38,8 @@ pub struct Narrowing<'a, I: Interpolate> {
     ghost cheap: { cost (length answers) degree agreement ≤ MOST_COST },
 }
 
-/// The blocks on which `h` or more of the answers agree, with polynomials of degree at most `t`.
-pub fn list_agreed<I: Interpolate, C: Ledger, N: Ledger>(
+/// The blocks on which `h` or more of the answers agree, with polynomials of degree at most `t`, and which answers they are.
+pub fn find_agreements<I: Interpolate, C: Ledger, N: Ledger>(
     alloc: Global,
     way: &I,
     answers: AnswerSet<'_>,
@@ -49,7 +48,7 @@ pub fn list_agreed<I: Interpolate, C: Ledger, N: Ledger>(
     h: u32,
     cols: &mut Steps<C>,
     nodes: &mut Steps<N>,
-) -> Result<Listing, AllocError>
+) -> Result<Report, AllocError>
     requires columns { HasColumns width answers }
     requires nonzero { All (λ a. a.index ≢ 0) answers }
     requires few { length answers ≤ MOST_SERVERS }
@@ -58,15 +57,15 @@ pub fn list_agreed<I: Interpolate, C: Ledger, N: Ledger>(
     requires strong { length answers * t < h * h }
     requires cheap { cost (length answers) t h ≤ MOST_COST }
     requires some { 0 < width }
-    ensures blocks { IfOk result (λ l. Lists l answers.entry width t h) }
+    ensures report { IfOk result (λ r. IsReport answers.entry width t h r) }
     ensures cols { cols.new ≤ cols.old + most_columns (length answers.entry) t h width }
     ensures nodes { nodes.new ≤ nodes.old + most_nodes (length answers.entry) t h width }
     ensures least { (cols.old ≤ cols.new) × (nodes.old ≤ nodes.new) }
     ensures tried { OnOk result (cols.old < cols.new) }
-    ensures found { IfOk result (λ l. 0 < length l → cols.old + width ≤ cols.new) }
+    ensures found { IfOk result (λ r. 0 < length r → cols.old + width ≤ cols.new) }
 {
     let mut block = vec![in alloc; 0; width]?;
-    let mut listing = Listing::new(alloc);
+    let mut report = Report::new(alloc);
     let narrowing = Narrowing {
         way,
         answers,
@@ -79,15 +78,15 @@ pub fn list_agreed<I: Interpolate, C: Ledger, N: Ledger>(
         &narrowing.answers,
         0,
         &mut block,
-        &mut listing,
+        &mut report,
         cols,
         nodes,
     )?;
-    Ok(listing)
+    Ok(report)
 }
 
 impl<'a, I: Interpolate> Narrowing<'a, I> {
-    /// Lists the blocks of a candidate: of the polynomials in the columns before `column`, whose constants begin the
+    /// Reports the agreements of a candidate: of the polynomials in the columns before `column`, whose constants begin the
     /// block, and of the answers `kept` at which these hold.
     ///
     /// As long as all of these answers lie on one polynomial of small degree, there is no other way to go on. Where they
@@ -98,37 +97,37 @@ impl<'a, I: Interpolate> Narrowing<'a, I> {
         kept: &AnswerSet<'_>,
         column: usize,
         block: &mut [u8],
-        listing: &mut Listing,
+        report: &mut Report,
         cols: &mut Steps<C>,
         nodes: &mut Steps<N>,
     ) -> Result<(), AllocError>
         requires width { length block.old ≡ self.now.width }
         requires column { column ≤ self.now.width }
         requires candidate { IsCandidate self.now.answers self.now.degree self.now.agreement kept.now column block.old }
-        requires ascending { IsStrictlySortedBy (slice_cmp nat_cmp) listing.old }
+        requires ascending { IsStrictlySortedBy agreement_cmp report.old }
         ensures size { length block.new ≡ length block.old }
         ensures kept { OnOk result (take column block.new ≡ take column block.old) }
-        ensures ascending { IsStrictlySortedBy (slice_cmp nat_cmp) listing.new }
+        ensures ascending { IsStrictlySortedBy agreement_cmp report.new }
         ensures exact { OnOk result ((c : IsCandidate self.now.answers self.now.degree self.now.agreement kept.now column block.old)
-            → Gains (ContinuesFrom self.now.answers self.now.width self.now.degree self.now.agreement c.polynomials)
-            listing.old listing.new) }
+            → Gains (ContinuesFrom (agreement_on self.now.answers) self.now.answers self.now.width self.now.degree
+            self.now.agreement c.polynomials) report.old report.new) }
         ensures counts { (c : IsCandidate self.now.answers self.now.degree self.now.agreement kept.now column block.old)
             → CountsFrom self.now.answers self.now.width self.now.degree self.now.agreement
             (column_nodes (length self.now.answers) self.now.degree self.now.agreement) c.polynomials
             cols.old cols.new nodes.old nodes.new }
         ensures some { OnOk result (column < self.now.width → cols.old < cols.new) }
-        ensures found { OnOk result ((listing.new ≡ listing.old) ⊎ (cols.old + (self.now.width - column) ≤ cols.new)) }
+        ensures found { OnOk result ((report.new ≡ report.old) ⊎ (cols.old + (self.now.width - column) ≤ cols.new)) }
         ensures rises { (cols.old ≤ cols.new) × (nodes.old ≤ nodes.new) }
     {
         let next = column + self.decode(alloc, kept, column, block, cols)?;
         if next == self.width {
-            return listing.insert(alloc, block);
+            return report.add(alloc, block, kept);
         }
         let list = self.list(alloc, kept, next, cols, nodes)?;
         for polynomial in &list {
             block[next] = polynomial[0];
             let fewer = kept.meeting(alloc, polynomial, next)?;
-            self.extend(alloc, &fewer, next + 1, block, listing, cols, nodes)?;
+            self.extend(alloc, &fewer, next + 1, block, report, cols, nodes)?;
         }
         Ok(())
     }

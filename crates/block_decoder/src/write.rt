@@ -16,7 +16,7 @@ const PIECE: usize = 2048;
 
 /// A space, and a number in decimal.
 #[tactic(auto, using(std::proofs::lemmas::Fmt::decimal_nonempty))]
-fn write_number<P: Ports>(ports: &mut P, n: u64) -> Result<(), Failed>
+pub(crate) fn write_number<P: Ports>(ports: &mut P, n: u64) -> Result<(), Failed>
     ensures written { Written OUTPUT (number_word n) result (P.world ports.old) (P.world ports.new) }
     ensures others { Touches OUTPUT (P.world ports.old) (P.world ports.new) }
 {
@@ -64,7 +64,7 @@ fn write_piece<P: Ports>(ports: &mut P, bytes: &[u8]) -> Result<(), Failed>
 }
 
 /// Any number of bytes, in hexadecimal.
-fn write_hex<P: Ports>(ports: &mut P, bytes: &[u8]) -> Result<(), Failed>
+pub(crate) fn write_hex<P: Ports>(ports: &mut P, bytes: &[u8]) -> Result<(), Failed>
     ensures written { Written OUTPUT (encode_lower bytes.now) result (P.world ports.old) (P.world ports.new) }
     ensures others { Touches OUTPUT (P.world ports.old) (P.world ports.new) }
 {

@@ -1,5 +1,6 @@
 //! The rows of a database, in one block of memory.
 ghost use Rattle.std.specs.Prelude.{◌≡◌, ℕ, [], ◌+◌, ◌*◌, ◌<◌, ◌≤◌, All, length, slice_index_or, vec_len, IfOk, IfErr};
+ghost use Rattle.std.specs.List.{concat};
 ghost use Rattle.gf256.specs.Product.{IsMatrix};
 ghost use Rattle.wire_frames.specs.declared.TheConstants.{MOST_CELLS, MOST_ROWS, MOST_WIDTH};
 ghost use Rattle.block_matrix.specs.Database.{Database, limit, rows_of, database};
@@ -129,6 +130,16 @@ impl Matrix {
         let width = self.width as usize;
         let from = j as usize * width;
         &self.bytes[from..from + width]
+    }
+
+    /// All bytes, row after row.
+    pub fn bytes(&self) -> &[u8]
+        ensures is { result.now ≡ concat self.now.rows }
+        ensures size { length result.now ≡ length self.now.rows * self.now.width }
+        ensures some { 0 < length result.now }
+        ensures few { length result.now ≤ MOST_CELLS }
+    {
+        &self.bytes
     }
 }
 

@@ -26,6 +26,7 @@ fn read_numbered_port<'a>(name: &str, text: &'a str) -> Result<(Port, &'a str), 
     match name {
         "link" => Ok((Port::Link(small_number(word)?), rest)),
         "child" => Ok((Port::Child(small_number(word)?), rest)),
+        "share" => Ok((Port::Share(small_number(word)?), rest)),
         _ => Err(Fault::Form("no port is called so")),
     }
 }

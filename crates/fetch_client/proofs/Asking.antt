@@ -16,7 +16,7 @@ use Rattle.fetch_client.specs.Plan.{need, params_of, query_params}
 use Rattle.fetch_client.specs.Sent.{sent, header_to, payload_for, queries_from, session_number}
 use Rattle.fetch_client.specs.Link.{LinkAsked, LinkBreaks, LinkSent, LinkTaken, FailsToHand}
 use Rattle.fetch_client.specs.Rounds.{SentEach, TakenEach}
-use Rattle.fetch_client.specs.Tossed.{Tossed}
+use Rattle.pir_ports.specs.Tossed.{Tossed}
 use Rattle.fetch_client.specs.Fetched.{AskedEach, AsksWith}
 use Rattle.fetch_client.proofs.Schemes.{payload_of_session}
 

@@ -1,5 +1,5 @@
 -- What a server holds: each byte of its rows is the value of the polynomial of its position, at the server's index.
-use Rattle.std.proofs.Common.{◌≡◌, ℕ, zero, suc, ◌+◌, ◌-◌, ◌*◌, ◌<◌, ◌≤◌, List, [], length, take, drop, get_or, All, refl, sym, ap, ap₂, ◌∙◌, arith, add-mul}
+use Rattle.std.proofs.Common.{◌≡◌, ℕ, zero, suc, ◌+◌, ◌-◌, ◌*◌, ◌<◌, List, [], length, drop, get_or, refl, sym, ap, ap₂, ◌∙◌, arith}
 use Rattle.std.proofs.lemmas.List.{get_or-take, get_or-drop}
 use Rattle.std.proofs.lemmas.List.Elements.{All-from_get_or}
 use Rattle.gf256.specs.Field.{◌⊕◌, ◌⊗◌}
@@ -9,13 +9,11 @@ use Rattle.gf256.proofs.FieldLaws.{mul_one, mul_zero}
 use Rattle.gf256.proofs.Xor.{add_zero}
 use Rattle.uni_poly.proofs.Values.{val_nil, val_lt}
 use Rattle.uni_poly.proofs.Coefficients.{IsBytes-from_all}
-use Rattle.block_matrix.specs.Database.{rows_of, row_at}
-use Rattle.block_matrix.proofs.Rows.{IsMatrix-rows_of, get_or-rows_of, length-rows_of}
+use Rattle.block_matrix.proofs.Rows.{IsMatrix-rows_of, get_or-rows_of}
 use Rattle.shamir_share.specs.Query.{row_coins}
 use Rattle.shamir_share.proofs.Rows.{rows_fit}
 use Rattle.share_db.specs.Share.{position_polynomial, share}
 use Rattle.share_db.proofs.Shares.{length-share, share_at, val-position}
-use Rattle.wire_frames.specs.Turns.{piece}
 use Rattle.wire_frames.proofs.Turns.{length-in_turn, piece-in_turn}
 use Rattle.fetch_client.specs.Held.{block_of, bytes_of, held_by, share_rows}
 

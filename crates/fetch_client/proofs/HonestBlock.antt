@@ -40,17 +40,21 @@ pub record AreProducts (answers : List Answer) (matrix : List (List ℕ)) (tau :
   pub enough : h ≤ count_by (λ a. bytes_eq a.payload (products_at (held_by tau matrix s share_coins) coins blocks t r s a.index)) answers
 
 -- honest servers answer so
+pub answer_by-products : (session : Transcript) (t : ℕ) (held : ℕ → List (List ℕ)) (coins blocks : List ℕ) → session.params.scheme ≡ SHAMIR → (a : ℕ)
+    → answer_by (with_degree t session.params) (held a) coins blocks a ≡ products_at held coins blocks t session.params.r session.params.s a
+answer_by-products session t held coins blocks one a =
+    let p = with_degree t session.params in
+    in_turn-same (length blocks) _ _ (λ v l.
+    answer_of_shamir p one (held a) (vector_at p coins blocks a v)
+    ∙ ap (product (held a) p.s) (payload_of_shamir p one (piece (query_coins p) v coins) (get_or blocks v 0) a
+    ∙ ap (λ (n : ℕ). query (piece n v coins) t p.r (get_or blocks v 0) a) (coins_of_shamir p one)))
+
 pub products_from_honest : (session : Transcript) (t tau : ℕ) (matrix : List (List ℕ)) (share_coins coins blocks : List ℕ) → session.params.scheme ≡ SHAMIR → IsHonest session t tau matrix share_coins coins blocks
     → AreProducts (answers session) matrix tau share_coins coins blocks t session.params.r session.params.s session.params.h
 products_from_honest session t tau matrix share_coins coins blocks one honest =
     let p = with_degree t session.params in
     let held = held_by tau matrix p.s share_coins in
-    let each : (a : ℕ) → answer_by p (held a) coins blocks a ≡ products_at held coins blocks t p.r p.s a = λ a.
-    in_turn-same (length blocks) _ _ (λ v l.
-    answer_of_shamir p one (held a) (vector_at p coins blocks a v)
-    ∙ ap (product (held a) p.s) (payload_of_shamir p one (piece (query_coins p) v coins) (get_or blocks v 0) a
-    ∙ ap (λ (n : ℕ). query (piece n v coins) t p.r (get_or blocks v 0) a) (coins_of_shamir p one))) in
-    let same : ◌≡◌ {A = ℕ → List ℕ} (λ a. answer_by p (held a) coins blocks a) (products_at held coins blocks t p.r p.s) = λ i a. each a i in
+    let same : ◌≡◌ {A = ℕ → List ℕ} (λ a. answer_by p (held a) coins blocks a) (products_at held coins blocks t p.r p.s) = λ i a. answer_by-products session t held coins blocks one a i in
     record {
       matrix_is = honest.matrix_is;
       shared = honest.shared;
@@ -155,7 +159,7 @@ honest_is_listed answers matrix tau share_coins coins asked t r s h blocks size 
     (is.3.exact (blocks_of matrix asked)).1 (honest_is_agreed answers matrix tau share_coins coins asked t r s h size within honest)
 
 -- what has one member at most has only the one that it is known to have
-only_member : {X : Type 0} (xs : List X) (x : X) → length xs ≤ 1 → Contains xs x → xs ≡ x ∷ []
+pub only_member : {X : Type 0} (xs : List X) (x : X) → length xs ≤ 1 → Contains xs x → xs ≡ x ∷ []
 only_member [] x few (k, l, e) = absurd (omega arith)
 only_member (y ∷ []) x few (zero, l, e) = ap (λ z. z ∷ []) e
 only_member (y ∷ []) x few (suc k, l, e) = absurd (omega arith)

@@ -12,7 +12,7 @@ use Rattle.gf256.specs.Product.{IsMatrix, product_at, product}
 use Rattle.gf256.proofs.FieldLaws.{one_mul, zero_mul}
 use Rattle.gf256.proofs.Sums.{sum_to-same, sum_to-one}
 use Rattle.uni_poly.proofs.Coefficients.{IsBytes-from_all}
-use Rattle.block_decoder.proofs.Agreement.{row_within}
+use Rattle.block_decoder.proofs.Agreed.{row_within}
 use Rattle.shamir_share.specs.Query.{query, row_polynomial, row_coins}
 use Rattle.shamir_share.proofs.Rows.{length-row_coins, rows_fit}
 use Rattle.share_db.specs.Share.{position_polynomial}

@@ -6,5 +6,6 @@ pub mod HonestBlock
 pub mod HonestFrames
 pub mod HonestXor
 pub mod HonestVerdicts
+mod HonestReport
 pub mod Counts
 pub mod Ranges

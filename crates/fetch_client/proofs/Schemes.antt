@@ -1,5 +1,5 @@
 -- What the definitions of both schemes are in the one and in the other.
-use Rattle.std.proofs.Common.{◌≡◌, ◌∙◌, ℕ, ◌-◌, ◌*◌, List, length, get_or, ◌++◌, refl, sym, ap}
+use Rattle.std.proofs.Common.{◌≡◌, ◌∙◌, ℕ, ◌-◌, ◌*◌, List, length, get_or, ◌++◌, refl, sym, ap, ap₂}
 use Rattle.std.proofs.lemmas.List.FromFn.{length-map-range_with_len}
 use Rattle.gf256.specs.Product.{product_at, product}
 use Rattle.shamir_share.specs.Query.{query}
@@ -18,7 +18,7 @@ use Rattle.chor_xor.specs.Chosen.{chosen}
 use Rattle.chor_xor.proofs.Shares.{length-bitmap}
 use Rattle.chor_xor.proofs.ChosenSums.{length-chosen}
 use Rattle.fetch_client.specs.declared.plan.FetchPlan.{FetchPlan}
-use Rattle.fetch_client.specs.Plan.{coins_for, query_coins, query_params}
+use Rattle.fetch_client.specs.Plan.{coins_for, params_of, query_coins, query_params, with_degree}
 use Rattle.fetch_client.specs.Sent.{header_to, payload_for, payload_in, payload_to, queries_from, sent, session_number, vector_at}
 use Rattle.fetch_client.specs.Honest.{answer_at, answer_by, answer_in, honest_answer}
 
@@ -58,6 +58,12 @@ coins_of_session p count number = by_scheme (scheme_of p.scheme)
     by_scheme : (s : Scheme) → coins_for s (query_params p count number) ≡ coins_for s (query_params p 1 0)
     by_scheme Shamir = refl
     by_scheme Xor = refl
+
+-- so they are those of the session of a fetch
+pub coins_in_session : (p : FetchPlan) (count number t : ℕ) (params : SessionParams) → params ≡ params_of p count number → t ≡ p.t
+    → query_coins (query_params p 1 0) ≡ query_coins (with_degree t params)
+coins_in_session p count number t params is degree =
+    sym (coins_of_session p count number) ∙ ap query_coins (sym (ap₂ with_degree degree is))
 
 -- nor does the vector of a query
 pub vector_of_session : (p : FetchPlan) (count number : ℕ) (coins : List ℕ) (block i : ℕ)

@@ -1,6 +1,6 @@
 -- Honest servers: what they answer, and that a verdict has the block of the database that they hold, each the whole of it or
 -- a share (Goldberg 2007; in the XOR scheme Chor, Goldreich, Kushilevitz and Sudan 1995).
-use Rattle.std.specs.Prelude.{◌≡◌, ℕ, ◌+◌, ◌-◌, ◌*◌, ◌<◌, ◌≤◌, Bool, false, Option, None, Some, List, [], ◌∷◌, ◌++◌}
+use Rattle.std.specs.Prelude.{◌≡◌, ◌≢◌, ◌↔◌, ℕ, ◌+◌, ◌-◌, ◌*◌, ◌<◌, ◌≤◌, Bool, false, Option, None, Some, List, [], ◌∷◌, ◌++◌}
 use Rattle.std.specs.Prelude.{length, slice_index, slice_index_or, Contains, count_by, bytes_eq}
 use Rattle.std.specs.List.{range_with_len}
 use Rattle.gf256.specs.Product.{IsMatrix, product}
@@ -10,9 +10,11 @@ use Rattle.wire_frames.specs.declared.scheme.Scheme.{Scheme}
 use Rattle.wire_frames.specs.declared.scheme.Scheme.TheVariants.{Shamir, Xor}
 use Rattle.wire_frames.specs.Scheme.{scheme_of}
 use Rattle.wire_frames.specs.Header.{answer_header}
-use Rattle.wire_frames.specs.Answer.{answers, asked}
+use Rattle.wire_frames.specs.Answer.{Answer, answers, asked}
 use Rattle.wire_frames.specs.Session.{Transcript}
 use Rattle.chor_xor.specs.Chosen.{chosen}
+use Rattle.block_decoder.specs.Report.{Agreement}
+use Rattle.block_decoder.specs.Text.{others}
 use Rattle.block_decoder.specs.Verdict.{ListsAtMostOne}
 use Rattle.block_decoder.specs.declared.verdict.Verdict.{Verdict}
 use Rattle.block_decoder.specs.declared.verdict.Verdict.TheVariants.{Listed}
@@ -51,14 +53,18 @@ honest_frame p matrix coins blocks i = answer_header (asked p i) 0 ++ answer_by 
 abbrev pub AreShareCoins : SessionParams → ℕ → List ℕ → Type 0
 AreShareCoins p tau share_coins = length share_coins ≡ p.r * p.s * tau
 
+-- what server i answers to its query of degree t where it holds the matrix or, where tau isn't 0, its share of it
+abbrev pub answer_held : SessionParams → ℕ → ℕ → List (List ℕ) → List ℕ → List ℕ → List ℕ → ℕ → List ℕ
+answer_held p t tau matrix share_coins coins blocks i =
+    answer_by (with_degree t p) (held_by tau matrix p.s share_coins i) coins blocks i
+
 -- at least h of a session's usable answers to queries of degree t are those of honest servers, each of which holds the matrix
 -- or, where tau isn't 0, its share of degree tau by these coins
 pub record IsHonest (session : Transcript) (t tau : ℕ) (matrix : List (List ℕ)) (share_coins coins blocks : List ℕ) : Type 0 where
   pub matrix_is : IsMatrix matrix session.params.r session.params.s
   pub shared : AreShareCoins session.params tau share_coins
   pub enough : session.params.h ≤ count_by (λ a. bytes_eq a.payload
-      (answer_by (with_degree t session.params) (held_by tau matrix session.params.s share_coins a.index) coins blocks a.index))
-      (answers session)
+      (answer_held session.params t tau matrix share_coins coins blocks a.index)) (answers session)
 
 -- whether a server's record is this frame
 abbrev pub is_frame : List ℕ → Option (List ℕ) → Bool
@@ -116,3 +122,24 @@ pub record FindsHonestBlock (session : Transcript) (t tau : ℕ) (coins blocks :
       → IsHonest session t tau matrix share_coins coins blocks → ListsAlone verdict (blocks_of matrix blocks)
   pub xor_by_frames : session.params.scheme ≡ XOR → (matrix : List (List ℕ)) → AllHonest session t matrix coins blocks
       → ListsAlone verdict (blocks_of matrix blocks)
+
+-- there is one agreement, on the asked blocks, as one; and exactly the usable answers that aren't those of honest servers that
+-- hold the matrix, or their shares of it, are not among it
+pub record TellsLiars (session : Transcript) (t tau : ℕ) (matrix : List (List ℕ)) (share_coins coins blocks : List ℕ)
+    (agreements : List Agreement) : Type 0 where
+  pub one : Agreement
+  pub alone : agreements ≡ one ∷ []
+  pub block : one.block ≡ blocks_of matrix blocks
+  pub exact : (a : Answer) → Contains (answers session) a → Contains (others one.indices (answers session)) a.index
+      ↔ (a.payload ≢ answer_held session.params t tau matrix share_coins coins blocks a.index)
+
+-- whatever the matrix that enough honest servers hold, or in shares of degree tau by whatever coins
+abbrev pub NamesLiars : Transcript → ℕ → ℕ → List ℕ → List ℕ → List Agreement → Type 0
+NamesLiars session t tau coins blocks agreements = (matrix : List (List ℕ)) (share_coins : List ℕ)
+    → IsHonest session t tau matrix share_coins coins blocks
+    → TellsLiars session t tau matrix share_coins coins blocks agreements
+
+-- so it is with a report beside a verdict, where 2 h > k + t for the session's degree
+abbrev pub NamesLiarsIn : Transcript → ℕ → ℕ → List ℕ → List ℕ → Option (List Agreement) → Type 0
+NamesLiarsIn session t tau coins blocks report = (agreements : List Agreement) → report ≡ Some agreements
+    → IsClose session → NamesLiars session t tau coins blocks agreements

@@ -6,16 +6,18 @@ ghost use Rattle.wire_frames.specs.Sizes.{answer_len};
 ghost use Rattle.wire_frames.specs.Answer.{answers};
 ghost use Rattle.fetch_client.specs.Plan.{AreBlocks, IsPlan, params_of};
 ghost use Rattle.block_decoder.specs.Numbers.{most_columns, most_nodes};
+ghost use Rattle.block_decoder.specs.Reported.{IsReportOn};
 ghost use Rattle.block_decoder.specs.Verdict.{IsVerdict, least_columns};
 ghost use Rattle.fetch_client.specs.Sent.{frame_len, queries_from, session_number};
-ghost use Rattle.fetch_client.specs.Honest.{FindsHonestBlock};
-ghost use Rattle.fetch_client.specs.Fetched.{AsksServers, FetchCounts, Fetches, TouchesLinks};
+ghost use Rattle.fetch_client.specs.Honest.{FindsHonestBlock, NamesLiarsIn};
+ghost use Rattle.fetch_client.specs.Fetched.{AsksServers, FetchCounts, Fetches, FetchesTo, Gathers, TouchesLinks};
+ghost use Rattle.fetch_client.specs.Fetched.{FetchCountsWhole, FetchesWhole};
 
-use crate::laws::honest_block_is_found;
+use crate::laws::{honest_block_is_found, liars_are_named};
 use crate::plan::{FetchFault, FetchPlan};
 use crate::queries::Queries;
 use crate::rounds::{ask_all, take_all};
-use block_decoder::{Verdict, judge};
+use block_decoder::{Report, Verdict, judge, judge_report};
 use gs_interpolate::Interpolate;
 use pir_ports::Ports;
 use std::alloc::{AllocError, Global};
@@ -86,6 +88,41 @@ fn ask_servers<P: Ports>(
     Ok(())
 }
 
+/// What a fetch has when every server was asked.
+#[derive(Drop)]
+struct Gathered<'a> {
+    queries: Queries<'a>,
+    session: Session,
+}
+
+/// Takes the memory and the coins, asks every server, and takes the answer of each.
+///
+/// # Errors
+///
+/// As [`fetch`].
+fn gather<'a, P: Ports>(
+    alloc: Global,
+    plan: &FetchPlan,
+    blocks: &'a [u32],
+    addresses: &[String],
+    ports: &mut P,
+) -> Result<Gathered<'a>, FetchFault>
+    requires plan { IsPlan plan.now }
+    requires blocks { AreBlocks plan.now blocks.now }
+    requires addresses { length addresses.now ≡ plan.now.n }
+    ensures gathered { FetchesTo (λ all. Gathers plan.now blocks.now (map string_bytes addresses.now) all.queries all.session)
+        plan.now blocks.now (map string_bytes addresses.now) result (P.world ports.old) (P.world ports.new) }
+    ensures others { TouchesLinks plan.now.n (P.world ports.old) (P.world ports.new) }
+{
+    let mut queries = Queries::with_room(alloc, plan, blocks)?;
+    let mut room = room_for(alloc, &queries)?;
+    ask_servers(&mut queries, addresses, ports, &mut room)?;
+    Ok(Gathered {
+        queries,
+        session: room.session,
+    })
+}
+
 /// The verdict on the session that was fetched with these queries, with the steps of [`judge`].
 ///
 /// # Errors
@@ -126,6 +163,47 @@ fn conclude<I: Interpolate, C: Ledger, N: Ledger>(
         &verdict,
     );
     Ok(verdict)
+}
+
+/// The same, and the report beside the verdict.
+///
+/// # Errors
+///
+/// `AllocError` for want of memory.
+fn conclude_report<I: Interpolate, C: Ledger, N: Ledger>(
+    alloc: Global,
+    way: &I,
+    queries: &Queries,
+    session: &Session,
+    cols: &mut Steps<C>,
+    nodes: &mut Steps<N>,
+) -> Result<(Verdict, Option<Report>), AllocError>
+    requires params { session.now.params ≡ params_of queries.now.plan
+        (length queries.now.blocks) (session_number queries.now.coins) }
+    requires all { length session.now.records ≡ queries.now.plan.n }
+    ensures judged { IfOk result (λ found. IsVerdict session.now found.0) }
+    ensures found { IfOk result (λ found. FindsHonestBlock session.now queries.now.plan.t queries.now.plan.tau
+        (queries_from queries.now.coins) queries.now.blocks found.0) }
+    ensures report { IfOk result (λ found. IsReportOn session.now found.0 found.1) }
+    ensures liars { IfOk result (λ found. NamesLiarsIn session.now queries.now.plan.t queries.now.plan.tau
+        (queries_from queries.now.coins) queries.now.blocks found.1) }
+    ensures cols { cols.new ≤ cols.old + most_columns (length (answers session.now))
+        (queries.now.plan.t + queries.now.plan.tau) queries.now.plan.h (length queries.now.blocks * queries.now.plan.s) }
+    ensures nodes { nodes.new ≤ nodes.old + most_nodes (length (answers session.now))
+        (queries.now.plan.t + queries.now.plan.tau) queries.now.plan.h (length queries.now.blocks * queries.now.plan.s) }
+    ensures least { cols.old ≤ cols.new }
+    ensures least_nodes { nodes.old ≤ nodes.new }
+    ensures listed { queries.now.plan.scheme ≡ SHAMIR
+        → IfOk result (λ found. cols.old + least_columns (length queries.now.blocks * queries.now.plan.s) found.0 ≤ cols.new) }
+    ensures xor { queries.now.plan.scheme ≡ XOR → (cols.new ≡ cols.old) × (nodes.new ≡ nodes.old) }
+{
+    let (verdict, report) = judge_report(alloc, way, session, cols, nodes)?;
+    let FetchPlan { t, tau, .. } = queries.plan();
+    let coins = queries.query_coins();
+    let rows = queries.blocks();
+    honest_block_is_found(session, t, tau, coins, rows, &verdict);
+    liars_are_named(session, t, tau, coins, rows, &verdict, &report);
+    Ok((verdict, report))
 }
 
 /// Fetches blocks, from 1 to [`MOST_BLOCKS`](wire_frames::MOST_BLOCKS) in one query: takes the coins, asks every
@@ -171,9 +249,42 @@ pub fn fetch<I: Interpolate, C: Ledger, N: Ledger, P: Ports>(
         → IfOk result (λ both. cols.old + least_columns (length blocks.now * plan.now.s) both.1 ≤ cols.new) }
     ensures xor { plan.now.scheme ≡ XOR → (cols.new ≡ cols.old) × (nodes.new ≡ nodes.old) }
 {
-    let mut queries = Queries::with_room(alloc, plan, blocks)?;
-    let mut room = room_for(alloc, &queries)?;
-    ask_servers(&mut queries, addresses, ports, &mut room)?;
-    let verdict = conclude(alloc, way, &queries, &room.session, cols, nodes)?;
-    Ok((room.session, verdict))
+    let all = gather(alloc, plan, blocks, addresses, ports)?;
+    let verdict = conclude(alloc, way, &all.queries, &all.session, cols, nodes)?;
+    Ok((all.session, verdict))
+}
+
+/// Fetches blocks as [`fetch`] does, and says beside the verdict who agrees, as [`judge_report`] has it: `None` exactly in the
+/// XOR scheme, or where the verdict isn't a listing. The steps are those of [`fetch`].
+///
+/// # Errors
+///
+/// As [`fetch`].
+pub fn fetch_report<I: Interpolate, C: Ledger, N: Ledger, P: Ports>(
+    alloc: Global,
+    way: &I,
+    plan: &FetchPlan,
+    blocks: &[u32],
+    addresses: &[String],
+    ports: &mut P,
+    cols: &mut Steps<C>,
+    nodes: &mut Steps<N>,
+) -> Result<(Session, Verdict, Option<Report>), FetchFault>
+    requires plan { IsPlan plan.now }
+    requires blocks { AreBlocks plan.now blocks.now }
+    requires addresses { length addresses.now ≡ plan.now.n }
+    ensures fetched { FetchesWhole plan.now blocks.now (map string_bytes addresses.now) result
+        (P.world ports.old) (P.world ports.new) }
+    ensures others { TouchesLinks plan.now.n (P.world ports.old) (P.world ports.new) }
+    ensures cols { FetchCountsWhole most_columns plan.now blocks.now result cols.old cols.new }
+    ensures nodes { FetchCountsWhole most_nodes plan.now blocks.now result nodes.old nodes.new }
+    ensures least { cols.old ≤ cols.new }
+    ensures least_nodes { nodes.old ≤ nodes.new }
+    ensures listed { plan.now.scheme ≡ SHAMIR
+        → IfOk result (λ found. cols.old + least_columns (length blocks.now * plan.now.s) found.1 ≤ cols.new) }
+    ensures xor { plan.now.scheme ≡ XOR → (cols.new ≡ cols.old) × (nodes.new ≡ nodes.old) }
+{
+    let all = gather(alloc, plan, blocks, addresses, ports)?;
+    let (verdict, report) = conclude_report(alloc, way, &all.queries, &all.session, cols, nodes)?;
+    Ok((all.session, verdict, report))
 }

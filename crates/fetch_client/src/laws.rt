@@ -1,12 +1,13 @@
-//! The law of the honest servers, as a call whose contract is the law. A call changes nothing.
+//! The laws of the honest servers, each as a call whose contract is the law. A call changes nothing.
 
 ghost use Rattle.std.specs.Prelude.{ℕ, List, ◌≡◌, ◌+◌, ◌*◌, ◌<◌, length, All};
 ghost use Rattle.wire_frames.specs.declared.scheme.TheConstants.{XOR};
+ghost use Rattle.block_decoder.specs.Reported.{IsReportOn};
 ghost use Rattle.block_decoder.specs.Verdict.{IsVerdict};
-ghost use Rattle.fetch_client.specs.Honest.{FindsHonestBlock, HonestRecords, IsHonest};
+ghost use Rattle.fetch_client.specs.Honest.{FindsHonestBlock, HonestRecords, IsHonest, NamesLiarsIn};
 ghost use Rattle.fetch_client.specs.Plan.{query_coins, with_degree};
 
-use block_decoder::Verdict;
+use block_decoder::{Report, Verdict};
 use wire_frames::Session;
 
 /// Where `h` or more of the usable answers of a session are those of honest servers that hold one matrix, a verdict that
@@ -35,6 +36,33 @@ pub fn honest_block_is_found(
     requires blocks { All (λ b. b < session.now.params.r) blocks.now }
     requires verdict { IsVerdict session.now verdict.now }
     ensures { FindsHonestBlock session.now t tau coins.now blocks.now verdict.now }
+{
+    // What holds of every session is told by its calls alone.
+    session.params();
+    session.record_count();
+}
+
+/// Where `2h > k + t + tau`, for k usable answers of which `h` or more are those of honest servers that hold one matrix, or
+/// their shares of it, the report beside a listing has one agreement, on the rows that were asked for; and the servers that
+/// it leaves out, which are named as liars, are exactly those whose usable answers are not what an honest server that holds
+/// the matrix, or its share, answers to the query that it was sent. In the XOR scheme there is no report.
+///
+/// The queries are those of these coins, as for [`honest_block_is_found`].
+pub fn liars_are_named(
+    session: &Session,
+    t: u8,
+    tau: u8,
+    coins: &[u8],
+    blocks: &[u32],
+    verdict: &Verdict,
+    report: &Option<Report>,
+)
+    requires count { length blocks.now ≡ session.now.params.count }
+    requires degree { session.now.params.t ≡ t + tau }
+    requires coins { length coins.now ≡ length blocks.now * query_coins (with_degree t session.now.params) }
+    requires blocks { All (λ b. b < session.now.params.r) blocks.now }
+    requires report { IsReportOn session.now verdict.now report.now }
+    ensures { NamesLiarsIn session.now t tau coins.now blocks.now report.now }
 {
     // What holds of every session is told by its calls alone.
     session.params();

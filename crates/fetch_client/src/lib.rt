@@ -9,8 +9,8 @@
 //! answer; every server is asked, and only then is the answer of each taken; the session keeps what each one answered,
 //! or that a call on its link failed; nothing is read of a link that didn't take its whole query, and nothing is done
 //! with one after a failed call; and the verdict is that of the session. Where enough servers answer honestly from one
-//! matrix, its row is listed, and alone where the agreement is close; in the XOR scheme, where all servers answer
-//! honestly, its row is listed alone.
+//! matrix, its row is listed, and alone where the agreement is close; then a report names exactly the servers whose usable
+//! answers are wrong. In the XOR scheme, where all servers answer honestly, its row is listed alone.
 //!
 //! Not promised: that a server answers at all, that the coins are random (which is what hides the block), or anything
 //! of time.
@@ -25,5 +25,5 @@ mod queries;
 mod rounds;
 
 pub use coins::NUMBER_LEN;
-pub use fetch_once::fetch;
+pub use fetch_once::{fetch, fetch_report};
 pub use plan::{FetchFault, FetchPlan};

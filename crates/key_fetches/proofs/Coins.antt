@@ -15,7 +15,7 @@ use Rattle.pir_ports.specs.Whole.{FailsShort}
 use Rattle.pir_ports.proofs.Cells.{took-took}
 use Rattle.fetch_client.specs.declared.plan.FetchPlan.{FetchPlan}
 use Rattle.fetch_client.specs.Plan.{need}
-use Rattle.fetch_client.specs.Tossed.{Tossed, RunsOut}
+use Rattle.pir_ports.specs.Tossed.{Tossed, RunsOut}
 use Rattle.key_search.specs.Standing.{turns_of}
 use Rattle.key_fetches.specs.Rounds.{Round, TossedFor, coins_of}
 use Rattle.key_fetches.specs.LookedUp.{EndsNext, FailsNext, TooFewHeld}

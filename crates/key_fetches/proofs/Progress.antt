@@ -18,7 +18,7 @@ use Rattle.fetch_client.specs.declared.plan.FetchPlan.{FetchPlan}
 use Rattle.fetch_client.specs.declared.plan.FetchFault.{FetchFault}
 use Rattle.fetch_client.specs.declared.plan.FetchFault.TheVariants.{CoinsFault, CoinsEnded, Memory}
 use Rattle.fetch_client.specs.Plan.{IsPlan, need}
-use Rattle.fetch_client.specs.Tossed.{RunsOut, Tossed}
+use Rattle.pir_ports.specs.Tossed.{RunsOut, Tossed}
 use Rattle.fetch_client.specs.Fetched.{AsksSome, Concludes, Fetches}
 use Rattle.fetch_client.specs.Sent.{session_number}
 use Rattle.key_search.specs.Standing.{Standing, asked_row, standing_after, standing_at_start, turns_of}

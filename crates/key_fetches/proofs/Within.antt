@@ -9,7 +9,7 @@ use Rattle.fetch_client.specs.declared.plan.FetchPlan.{FetchPlan}
 use Rattle.fetch_client.specs.declared.plan.FetchFault.{FetchFault}
 use Rattle.fetch_client.specs.declared.plan.FetchFault.TheVariants.{CoinsFault, CoinsEnded, Memory}
 use Rattle.fetch_client.specs.Plan.{need}
-use Rattle.fetch_client.specs.Tossed.{Tossed}
+use Rattle.pir_ports.specs.Tossed.{Tossed}
 use Rattle.key_fetches.specs.Listed.{Ended}
 use Rattle.key_fetches.specs.Rounds.{AskEach, AskedInTurn, Round, TossedFor, coins_of}
 use Rattle.key_fetches.specs.LookedUp.{AskedInVain, EndsNext, FailsNext, Fetched, LookUpShort, LookUpUnfinished, LookUpUnread, LookedUp, LooksUp}

@@ -10,7 +10,7 @@ use Rattle.block_decoder.specs.Verdict.{IsVerdict}
 use Rattle.fetch_client.specs.declared.plan.FetchPlan.{FetchPlan}
 use Rattle.fetch_client.specs.Plan.{need, params_of}
 use Rattle.fetch_client.specs.Sent.{sent, session_number, queries_from}
-use Rattle.fetch_client.specs.Tossed.{Tossed}
+use Rattle.pir_ports.specs.Tossed.{Tossed}
 use Rattle.fetch_client.specs.Link.{LinkAsked}
 use Rattle.fetch_client.specs.Honest.{FindsHonestBlock}
 use Rattle.key_search.specs.Standing.{Standing, asked_row, standing_after}

@@ -4,7 +4,7 @@ use Rattle.pir_ports.specs.World.{Crowd, World}
 
 -- nothing is told of guests
 abbrev pub untold_crowd : Crowd
-untold_crowd = record { guests = None; since = None; gone = None }
+untold_crowd = record { guests = None; since = None; gone = None; links = None }
 
 -- no name, no byte and no start is told
 abbrev pub counts_alone : List ℕ → World

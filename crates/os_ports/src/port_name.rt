@@ -18,6 +18,7 @@ impl Display for PortName {
             Port::Guest => f.write_str("guest"),
             Port::Link(i) => write!(f, "link {i}"),
             Port::Child(i) => write!(f, "child {i}"),
+            Port::Share(i) => write!(f, "share {i}"),
         }
     }
 }

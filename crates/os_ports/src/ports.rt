@@ -16,9 +16,9 @@ use std::os::fd::AsRawFd;
 ///
 /// - `Input` is opened as standard input by the name `-`, and else as the file of that name.
 /// - `Output` is standard output.
-/// - `Database` and `Coins` are opened as files to read, `Record` as a file to write, which is made
+/// - `Database` and `Coins` are opened as files to read, `Record` and `Share(i)` as files to write, which are made
 ///   anew. Where there is no such file, it is made for its owner alone to read and write; the mode of one that is
-///   there stays. The name `-` is that of a file here.
+///   there stays. The name `-` is that of a file here. Of shares one is open at a time: opening another one closes it.
 /// - `Door` is opened by the address to listen at, a text `host:port`.
 /// - `Guest` is the TCP stream to the guest that `next_guest` let in. That call first closes the stream
 ///   to the guest before, also where no other comes in, and waits for as long as none comes. One who gave up before

@@ -35,6 +35,13 @@ struct Link<R: Net> {
     stream: TimedStream<R::Stream>,
 }
 
+// The file of a server's share.
+#[derive(Drop)]
+struct Share<R: Files> {
+    server: u8,
+    file: R::File,
+}
+
 /// The open files and streams, and the children.
 #[derive(Drop)]
 pub struct Streams<R: System> {
@@ -43,6 +50,8 @@ pub struct Streams<R: System> {
     database: Option<R::File>,
     coins: Option<R::File>,
     record: Option<R::File>,
+    // One share at a time, so that of many servers' shares no more than one file is held.
+    share: Option<Share<R>>,
     door: Option<R::Listener>,
     // Where this program is a child, once Door is open.
     parent: Option<Parent>,
@@ -56,8 +65,9 @@ fn closed() -> io::Error {
     io::Error::new(ErrorKind::NotConnected, "the port isn't open for that")
 }
 
-// Makes the file of a record anew. The block can be read off a record, so a new file is its owner's alone.
-fn make_record<R: Files>(rt: &R, name: &str) -> io::Result<R::File> {
+// Makes a file anew. A block can be read off a record, and a database off its shares, so a new file is its owner's
+// alone.
+fn make_file<R: Files>(rt: &R, name: &str) -> io::Result<R::File> {
     let mut options = OpenOptions::new();
     options.write(true).create(true).truncate(true).mode(0o600);
     options.open(rt, name)
@@ -106,6 +116,14 @@ fn link_to<R: Net>(links: &mut [Link<R>], server: u8) -> Option<&mut TimedStream
     Some(&mut link.stream)
 }
 
+// The file of the server's share, where that is open.
+fn share_of<R: Files>(share: &mut Option<Share<R>>, server: u8) -> Option<&mut R::File> {
+    match share {
+        Some(share) if share.server == server => Some(&mut share.file),
+        _ => None,
+    }
+}
+
 // Reads from what is open.
 fn read_from<S: Read>(source: Option<&mut S>, into: &mut [u8]) -> io::Result<usize>
     ensures { IfOk result (λ n. n ≤ length into.new) }
@@ -137,6 +155,7 @@ impl<R: System> Streams<R> {
             database: None,
             coins: None,
             record: None,
+            share: None,
             door: None,
             parent: None,
             guest: None,
@@ -159,11 +178,19 @@ impl<R: System> Streams<R> {
             Port::Output | Port::Guest | Port::Child(_) => return Err(closed()),
             Port::Database => self.database = Some(fs::open(&self.rt, name)?),
             Port::Coins => self.coins = Some(fs::open(&self.rt, name)?),
-            Port::Record => self.record = Some(make_record(&self.rt, name)?),
+            Port::Record => self.record = Some(make_file(&self.rt, name)?),
             Port::Door => self.listen(name)?,
             Port::Link(i) => self.connect(i, name)?,
+            Port::Share(i) => self.make_share(i, name)?,
         }
         self.explainer.note_name(p, name);
+        Ok(())
+    }
+
+    // Makes the file of the server's share anew, and closes that of the share before.
+    fn make_share(&mut self, server: u8, name: &str) -> io::Result<()> {
+        let file = make_file(&self.rt, name)?;
+        self.share = Some(Share { server, file });
         Ok(())
     }
 
@@ -251,7 +278,9 @@ impl<R: System> Streams<R> {
                 Some(link) => link.read(&self.rt, into),
                 None => Err(closed()),
             },
-            Port::Output | Port::Record | Port::Door | Port::Child(_) => Err(closed()),
+            Port::Output | Port::Record | Port::Door | Port::Child(_) | Port::Share(_) => {
+                Err(closed())
+            }
         }
     }
 
@@ -274,6 +303,7 @@ impl<R: System> Streams<R> {
         match p {
             Port::Output => io::writer(&self.rt).write(piece),
             Port::Record => write_to(self.record.as_mut(), piece),
+            Port::Share(i) => write_to(share_of(&mut self.share, i), piece),
             Port::Guest => match &mut self.guest {
                 Some(guest) => guest.write(&self.rt, piece),
                 None => Err(closed()),

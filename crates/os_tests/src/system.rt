@@ -14,11 +14,12 @@ use std::rt::{Env, Files};
 use std::test::Fail;
 use std::{env, fs, io, process};
 
-/// Whether the file takes this text as a record.
-fn records<P: Ports>(ports: &mut P, path: &str, text: &[u8]) -> bool
-    requires { 0 < length text.now }
+/// Whether the file takes this text, written as this port.
+fn takes<P: Ports>(ports: &mut P, port: Port, path: &str, text: &[u8]) -> bool
+    requires some { 0 < length text.now }
+    requires named { number port ≢ GUEST }
 {
-    ports.open(Port::Record, path).is_ok() && write_all(ports, Port::Record, text).is_ok()
+    ports.open(port, path).is_ok() && write_all(ports, port, text).is_ok()
 }
 
 /// Whether the file holds `last` and no more, read as this port.
@@ -50,9 +51,25 @@ fn a_record_is_read_back(rt: HostRuntime) -> Result<(), Fail> {
     let path = free_path(rt)?;
     let mut ports = OsPorts::new(&rt)?;
     let well = ports.open(Port::Coins, &path).is_err()
-        && records(&mut ports, &path, b"the first text")
-        && records(&mut ports, &path, b"last")
+        && takes(&mut ports, Port::Record, &path, b"the first text")
+        && takes(&mut ports, Port::Record, &path, b"last")
         && reads_last(&mut ports, Port::Coins, &path)
+        && reads_last(&mut ports, Port::Database, &path);
+    let owned = is_its_owners(&rt, &path);
+    fs::remove_file(&rt, &path)?;
+    assert!(rt; well);
+    assert!(rt; owned?);
+    Ok(())
+}
+
+// The share that is opened next closes the one before.
+#[test]
+fn a_share_is_read_back(rt: HostRuntime) -> Result<(), Fail> {
+    let path = free_path(rt)?;
+    let mut ports = OsPorts::new(&rt)?;
+    let well = takes(&mut ports, Port::Share(1), &path, b"the first text")
+        && takes(&mut ports, Port::Share(2), &path, b"last")
+        && ports.give(Port::Share(1), b"more").is_err()
         && reads_last(&mut ports, Port::Database, &path);
     let owned = is_its_owners(&rt, &path);
     fs::remove_file(&rt, &path)?;
@@ -299,8 +316,9 @@ fn none_is_opened<P: Ports>(ports: &mut P) -> bool {
 }
 
 #[rattlefmt::skip]
-const CLOSED: [Port; 8] = [
+const CLOSED: [Port; 9] = [
     Port::Input, Port::Database, Port::Coins, Port::Record, Port::Door, Port::Guest, Port::Link(1), Port::Child(1),
+    Port::Share(1),
 ];
 
 #[test]

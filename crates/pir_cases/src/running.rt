@@ -77,6 +77,7 @@ fn make_usual_rooms(alloc: Global, ports: &mut MemPorts) -> Result<(), AllocErro
     make_room(alloc, ports, Port::Record, 200_000)?;
     for i in 1..33u8 {
         make_room(alloc, ports, Port::Link(i), 4096)?;
+        make_room(alloc, ports, Port::Share(i), 4096)?;
     }
     Ok(())
 }

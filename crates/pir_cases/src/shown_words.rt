@@ -11,12 +11,13 @@ pub struct Shown<'a>(pub &'a Asked);
 impl fmt::Display for Shown<'_> {
     fn fmt<W: Write>(&self, f: &mut Formatter<W>) -> fmt::Result {
         match self.0 {
-            Asked::Replay { file } => text(f, "replay", file.as_str()),
+            Asked::Replay { file, report } => replay(f, file.as_str(), *report),
             Asked::Fetch { .. } => fetch(f, self.0),
             Asked::Serve { .. } => serve(f, self.0),
             Asked::Selfrun { .. } => selfrun(f, self.0),
             Asked::Demo { .. } => demo(f, self.0),
             Asked::Lookup { .. } => lookup(f, self.0),
+            Asked::Split { .. } => split(f, self.0),
         }
     }
 }
@@ -51,6 +52,21 @@ fn agreement<W: Write>(f: &mut Formatter<W>, degree: u8, agree: u8) -> fmt::Resu
     write!(f, " degree {degree} agree {agree}")
 }
 
+/// Writes ` report` where one is wanted.
+fn wanted<W: Write>(f: &mut Formatter<W>, report: bool) -> fmt::Result {
+    if report {
+        f.write_str(" report")
+    } else {
+        Ok(())
+    }
+}
+
+/// Writes `replay` with its values.
+fn replay<W: Write>(f: &mut Formatter<W>, file: &str, report: bool) -> fmt::Result {
+    text(f, "replay", file)?;
+    wanted(f, report)
+}
+
 /// Writes `fetch` with its values.
 fn fetch<W: Write>(f: &mut Formatter<W>, asked: &Asked) -> fmt::Result {
     let Asked::Fetch {
@@ -63,6 +79,7 @@ fn fetch<W: Write>(f: &mut Formatter<W>, asked: &Asked) -> fmt::Result {
         agree,
         coins,
         keep,
+        report,
         addresses,
     } = asked
     else {
@@ -80,6 +97,7 @@ fn fetch<W: Write>(f: &mut Formatter<W>, asked: &Asked) -> fmt::Result {
         Some(name) => text(f, " record", name.as_str())?,
         None => f.write_str(" record -")?,
     }
+    wanted(f, *report)?;
     f.write_str(" from ")?;
     for address in addresses.as_slice() {
         write!(f, "<{address}>")?;
@@ -185,4 +203,25 @@ fn lookup<W: Write>(f: &mut Formatter<W>, asked: &Asked) -> fmt::Result {
         write!(f, "<{address}>")?;
     }
     Ok(())
+}
+
+/// Writes `split` with its values.
+fn split<W: Write>(f: &mut Formatter<W>, asked: &Asked) -> fmt::Result {
+    let Asked::Split {
+        database,
+        width,
+        servers,
+        tau,
+        into,
+        coins,
+    } = asked
+    else {
+        return Ok(());
+    };
+    text(f, "split database", database.as_str())?;
+    number(f, " width", u64::from(*width))?;
+    number(f, " servers", u64::from(*servers))?;
+    number(f, " tau", u64::from(*tau))?;
+    text(f, " into", into.as_str())?;
+    text(f, " coins", coins.as_str())
 }

@@ -5,6 +5,7 @@ use Rattle.std.proofs.lemmas.List.{get_or-set_same, get_or-set_other, get_or-map
 use Rattle.std.proofs.lemmas.Option.{slice_get-get_or}
 use Rattle.pir_ports.specs.World.{everyone}
 use Rattle.pir_ports.specs.MemoryCell.{MemoryCell, empty_cell, came_in}
+use Rattle.pir_ports.specs.CellList.{CellList, with_cell, with_links}
 use Rattle.pir_ports.specs.NameLog.{names_of}
 use Rattle.pir_ports.specs.Memory.{Memory, told, held_by, cell_at, met, called, next_call, world_of}
 use Rattle.pir_ports.specs.PortsInside.{given_to, memory_of, IsSound}
@@ -25,19 +26,20 @@ gone_next guests many (n ∷ since) before lt size =
     ∙ map_push given_to (drop 1 (take many guests)) before
 
 -- what the fields are once the next guest is in
-pub next_is : (m : Inside) (calls : ℕ) (present before : MemoryCell) (since : List ℕ) → IsSound m → m.met < length m.guests.items → calls ≡ next_call m.calls → before ≡ get_or m.cells.items 6 empty_cell
-    → present ≡ came_in (get_or m.guests.items m.met empty_cell) before → since ≡ m.since.items ++ before.faults ∷ []
+pub next_is : (m : Inside) (calls : ℕ) (cells : CellList) (before : MemoryCell) (since : List ℕ) → IsSound m → m.met < length m.guests.items → calls ≡ next_call m.calls → before ≡ get_or m.cells.cells 6 empty_cell
+    → cells ≡ with_cell 6 (came_in (get_or m.guests.items m.met empty_cell)) (with_links m.cells) → since ≡ m.since.items ++ (get_or m.cells.cells 6 empty_cell).faults ∷ []
     → ◌≡◌ {A = Memory} (record {
       cut = m.cut;
       fail = m.fail.items;
       calls = calls;
-      cells = set m.cells.items 6 present;
+      cells = cells.cells;
       waiting = drop (m.met + 1) (set m.guests.items m.met before);
       gone = map given_to (drop 1 (take (m.met + 1) (set m.guests.items m.met before)));
       since = since;
+      links = cells.links;
       log = m.names;
     }) (met (called (memory_of m)))
-next_is m calls present before since sound lt call before_is present_is since_is =
+next_is m calls cells before since sound lt call before_is cells_is since_is =
     let waits : get_or m.guests.items m.met empty_cell ≡ get_or (drop m.met m.guests.items) 0 empty_cell =
     ap (λ (k : ℕ). get_or m.guests.items k empty_cell) (let e : m.met ≡ m.met + 0 = omega arith in e) ∙ sym (get_or-drop m.met m.guests.items 0 empty_cell) in
     let waiting = drop-set-lt (m.met + 1) m.guests.items m.met before (omega arith) ∙ sym (drop-drop 1 m.met m.guests.items) in
@@ -46,10 +48,11 @@ next_is m calls present before since sound lt call before_is present_is since_is
       cut = m.cut;
       fail = m.fail.items;
       calls = call i;
-      cells = set m.cells.items 6 ((present_is ∙ (λ j. came_in (waits j) (before_is j))) i);
+      cells = (ap (λ (l : CellList). l.cells) cells_is ∙ ap (λ (c : MemoryCell). set m.cells.cells 6 (came_in c (get_or m.cells.cells 6 empty_cell))) waits) i;
       waiting = waiting i;
       gone = gone i;
-      since = (since_is ∙ ap (λ (c : MemoryCell). m.since.items ++ c.faults ∷ []) before_is) i;
+      since = since_is i;
+      links = (cells_is i).links;
       log = m.names;
     }
 
@@ -66,6 +69,7 @@ meets_next m some ports =
       guests = ap (λ (l : List (List ℕ)). Some l) (sym (drop-map held_by 1 m.waiting));
       since = refl;
       gone = refl;
+      links = refl;
       accepted = ap (λ (c : MemoryCell). Some c.accepted) here;
       opened = refl;
       faults = ap (λ (c : MemoryCell). c.faults) here;

@@ -2,13 +2,15 @@
 use Rattle.std.specs.Prelude.{ℕ, ◌+◌, ◌-◌, ◌^◌, min, Contains, List, [], ◌∷◌, get_or, set, replicate, map, drop, Option, Some, ◌++◌, slice_get}
 use Rattle.std.specs.Option.{option_map, option_and_then}
 use Rattle.pir_ports.specs.declared.port.TheConstants.{PORT_COUNT}
-use Rattle.pir_ports.specs.World.{Cell, Crowd, World, everyone}
+use Rattle.pir_ports.specs.World.{Cell, Crowd, LinkThen, World, everyone}
 use Rattle.pir_ports.specs.MemoryCell.{MemoryCell, empty_cell, came_in}
+use Rattle.pir_ports.specs.CellList.{links_in}
 use Rattle.pir_ports.specs.NameLog.{NameLog, no_names, names_of, with_name, with_start}
 
 -- the most bytes that a call moves, the numbers of the calls that fail, the count of calls so far,
 -- the ports by their numbers, the guests still to come, what those that left were given, the count of Guest as
--- each so far came in, and the names that the ports were opened with, beside the words that children were started with
+-- each so far came in, what each link held then and its count, and the names that the ports were opened with, beside
+-- the words that children were started with
 pub record Memory : Type 0 where
   pub cut : ℕ
   pub fail : List ℕ
@@ -17,6 +19,7 @@ pub record Memory : Type 0 where
   pub waiting : List MemoryCell
   pub gone : List (List ℕ)
   pub since : List ℕ
+  pub links : List (List LinkThen)
   pub log : NameLog
 
 -- one port
@@ -46,7 +49,12 @@ held_by c = c.holds
 
 -- what is told of the guests: everything but their room
 abbrev pub crowd_of : Memory → Crowd
-crowd_of m = record { guests = Some (map held_by m.waiting); since = Some m.since; gone = Some m.gone }
+crowd_of m = record {
+  guests = Some (map held_by m.waiting);
+  since = Some m.since;
+  gone = Some m.gone;
+  links = Some m.links;
+}
 
 -- what ports in memory tell
 abbrev pub world_of : Memory → World
@@ -71,6 +79,7 @@ fresh cut fail names bytes = record {
   waiting = [];
   gone = [];
   since = [];
+  links = [];
   log = no_names names bytes;
 }
 
@@ -93,7 +102,7 @@ word_at starts i j = option_and_then (λ words. slice_get words j) (slice_get st
 -- the memory with one guest more to come, who has these bytes and room for n
 abbrev pub invited : List ℕ → ℕ → Memory → Memory
 invited bytes n m = record m {
-  waiting = m.waiting ++ (record { holds = bytes; accepted = []; room = n; faults = 0 }) ∷ [];
+  waiting = m.waiting ++ (record { bytes = bytes; holds = bytes; accepted = []; room = n; faults = 0 }) ∷ [];
 }
 
 -- the memory once the first of the guests still to come is in, and the one before has left
@@ -103,6 +112,7 @@ met m = record m {
   waiting = drop 1 m.waiting;
   gone = everyone m.since m.gone (cell_at m 6).accepted;
   since = m.since ++ (cell_at m 6).faults ∷ [];
+  links = m.links ++ links_in m.cells ∷ [];
 }
 
 -- the count of calls after one more

@@ -1,8 +1,10 @@
 -- One port in memory.
 use Rattle.std.specs.Prelude.{ℕ, ◌+◌, ◌-◌, ◌^◌, min, List, [], ◌++◌, length, drop}
 
--- the bytes still to come, the bytes taken, how many more can be taken, the count of failed calls
+-- the bytes that were put in all, those of them that are still to come, the bytes taken, how many more can be taken,
+-- the count of failed calls
 pub record MemoryCell : Type 0 where
+  pub bytes : List ℕ
   pub holds : List ℕ
   pub accepted : List ℕ
   pub room : ℕ
@@ -10,11 +12,11 @@ pub record MemoryCell : Type 0 where
 
 -- a port that holds nothing, took nothing and has no room
 abbrev pub empty_cell : MemoryCell
-empty_cell = record { holds = []; accepted = []; room = 0; faults = 0 }
+empty_cell = record { bytes = []; holds = []; accepted = []; room = 0; faults = 0 }
 
 -- the cell after these bytes were put behind those still to come
 abbrev pub put : List ℕ → MemoryCell → MemoryCell
-put bytes c = record c { holds = c.holds ++ bytes }
+put bytes c = record c { bytes = c.bytes ++ bytes; holds = c.holds ++ bytes }
 
 -- the cell with room for n bytes more
 abbrev pub with_room : ℕ → MemoryCell → MemoryCell

@@ -11,8 +11,9 @@ ghost use Rattle.pir_ports.specs.NameLog.{CanKeep, CanKeepStart};
 ghost use Rattle.pir_ports.specs.Memory.{Memory, world_of, cell_at, told, filled, joined_by, fresh, changed, opened, begun, word_at, invited, met, next_call, called, IsDue};
 
 use crate::cell::MemCell;
+use crate::cell_list::Cells;
 use crate::names::Names;
-use crate::{Failed, PORT_COUNT, Port, Ports};
+use crate::{Failed, Port, Ports};
 use std::alloc::{AllocError, Global};
 use std::marker::Model;
 
@@ -39,7 +40,7 @@ pub struct MemPorts {
     cut: usize,
     fail: Vec<u64>,
     calls: u64,
-    cells: Vec<MemCell>,
+    cells: Cells,
     guests: Vec<MemCell>,
     met: usize,
     since: Vec<u64>,
@@ -89,10 +90,7 @@ impl MemPorts {
     {
         let fail = fail.to_vec(alloc)?;
         let names = Names::new(alloc, names, bytes)?;
-        let mut cells = Vec::new(alloc);
-        for _i in 0..PORT_COUNT {
-            cells.push(MemCell::new(alloc))?;
-        }
+        let cells = Cells::new(alloc)?;
         Ok(MemPorts {
             cut,
             fail,
@@ -119,8 +117,7 @@ impl MemPorts {
         ensures others { Touches (number p) (world_of self.old) (world_of self.new) }
         ensures err { OnErr result (self.new ≡ self.old) }
     {
-        let cell = &mut self.cells[p.number()];
-        cell.put(bytes)
+        self.cells.put(p.number(), bytes)
     }
 
     /// Sets how many bytes more the port can take, and takes memory for them from the allocator that
@@ -136,8 +133,7 @@ impl MemPorts {
         ensures others { Touches (number p) (world_of self.old) (world_of self.new) }
         ensures err { OnErr result (self.new ≡ self.old) }
     {
-        let cell = &mut self.cells[p.number()];
-        cell.set_room(n)
+        self.cells.set_room(p.number(), n)
     }
 
     /// Adds one guest to those still to come, who has these bytes, and room for `n` bytes.
@@ -156,7 +152,9 @@ impl MemPorts {
         let mut cell = MemCell::new(alloc);
         cell.put(bytes)?;
         cell.set_room(n)?;
-        self.since.reserve(self.guests.len() + 1 - self.met)?;
+        let waiting = self.guests.len() + 1 - self.met;
+        self.since.reserve(waiting)?;
+        self.cells.set_link_room(waiting)?;
         self.guests.push(cell)?;
         Ok(())
     }
@@ -171,7 +169,7 @@ impl MemPorts {
             return None;
         }
         if i + 1 == self.met {
-            Some(self.cells[6].accepted())
+            Some(self.cells.at(6).accepted())
         } else {
             Some(self.guests[i + 1].accepted())
         }
@@ -181,8 +179,7 @@ impl MemPorts {
     pub fn seen(&self, p: Port) -> &[u8]
         ensures { ((world_of self.now).at (number p)).accepted ≡ Some result.now }
     {
-        let cell = &self.cells[p.number()];
-        cell.accepted()
+        self.cells.at(p.number()).accepted()
     }
 
     /// Name `i`, counted from 0, that the port was opened with; `None` exactly where there is none.
@@ -220,8 +217,7 @@ impl Ports for MemPorts {
         ensures counts { OnErr result (self.new ≡ changed (number p) fault (called self.old)) }
     {
         if is_due(&mut self.calls, &self.fail) || !self.names.can_keep(name) {
-            let cell = &mut self.cells[p.number()];
-            return Err(cell.fault());
+            return Err(self.cells.fault(p.number()));
         }
         self.names.push(p.number(), name);
         Ok(())
@@ -243,11 +239,10 @@ impl Ports for MemPorts {
         ensures hands { IfOk result (λ n. self.new ≡ changed (number p) (hand n) (called self.old)) }
         ensures counts { OnErr result (self.new ≡ changed (number p) fault (called self.old)) }
     {
-        let cell = &mut self.cells[p.number()];
         if is_due(&mut self.calls, &self.fail) {
-            return Err(cell.fault());
+            return Err(self.cells.fault(p.number()));
         }
-        Ok(cell.hand(self.cut, into))
+        Ok(self.cells.hand(p.number(), self.cut, into))
     }
 
     fn give(&mut self, p: Port, piece: &[u8]) -> Result<usize, Failed>
@@ -267,11 +262,10 @@ impl Ports for MemPorts {
             self.new ≡ changed (number p) (accept (take n piece.now)) (called self.old)) }
         ensures counts { OnErr result (self.new ≡ changed (number p) fault (called self.old)) }
     {
-        let cell = &mut self.cells[p.number()];
-        if is_due(&mut self.calls, &self.fail) || cell.room() == 0 {
-            return Err(cell.fault());
+        if is_due(&mut self.calls, &self.fail) || self.cells.at(p.number()).room() == 0 {
+            return Err(self.cells.fault(p.number()));
         }
-        Ok(cell.accept(self.cut, piece))
+        Ok(self.cells.accept(p.number(), self.cut, piece))
     }
 
     fn next_guest(&mut self) -> Result<(), Failed>
@@ -285,15 +279,14 @@ impl Ports for MemPorts {
         ensures counts { OnErr result (self.new ≡ changed 5 fault (called self.old)) }
     {
         if is_due(&mut self.calls, &self.fail) || self.met == self.guests.len() {
-            let door = &mut self.cells[5];
-            return Err(door.fault());
+            return Err(self.cells.fault(5));
         }
-        let present = &mut self.cells[6];
-        match self.since.push(present.faults()) {
+        match self.since.push(self.cells.at(6).faults()) {
             Ok(()) => {}
             Err(_) => unreachable!(),
         }
-        present.let_in(&mut self.guests[self.met]);
+        self.cells.keep_links();
+        self.cells.let_in(&mut self.guests[self.met]);
         self.met += 1;
         Ok(())
     }
@@ -312,8 +305,7 @@ impl Ports for MemPorts {
         ensures counts { OnErr result (self.new ≡ changed (child i) fault (called self.old)) }
     {
         if is_due(&mut self.calls, &self.fail) || !self.names.can_keep_start(words) {
-            let child = &mut self.cells[Port::Child(i).number()];
-            return Err(child.fault());
+            return Err(self.cells.fault(Port::Child(i).number()));
         }
         self.names.push_start(words);
         Ok(())

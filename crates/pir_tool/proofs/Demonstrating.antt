@@ -1,5 +1,5 @@
 -- A demonstration from its first child to the verdict.
-use Rattle.std.proofs.Common.{◌≡◌, ◌∙◌, ◌⊎◌, inl, inr, ℕ, ◌+◌, ◌<◌, ◌≤◌, List, [], ◌∷◌, length, map, refl, lit<, sym, ap, subst, arith}
+use Rattle.std.proofs.Common.{◌≡◌, ◌∙◌, ◌⊎◌, inl, inr, ℕ, ◌+◌, ◌<◌, ◌≤◌, List, [], ◌∷◌, length, map, false, refl, lit<, sym, ap, subst, arith}
 use Rattle.std.specs.Prelude.{Some, None}
 use Rattle.std.specs.List.{range_with_len}
 use Rattle.std.proofs.lemmas.List.{length-map}
@@ -11,9 +11,9 @@ use Rattle.pir_ports.specs.Number.{OUTPUT, COINS, link, child}
 use Rattle.pir_ports.specs.Moves.{Rose, gave, named}
 use Rattle.pir_ports.proofs.Ranges.{each_within}
 use Rattle.wire_frames.specs.Session.{Transcript}
-use Rattle.block_decoder.specs.Text.{text}
 use Rattle.fetch_client.specs.Plan.{need}
-use Rattle.fetch_client.specs.Tossed.{Tossed}
+use Rattle.pir_ports.specs.Tossed.{Tossed}
+use Rattle.pir_tool.specs.Said.{whole_text}
 use Rattle.pir_tool.specs.Told.{NoneRose, NoChildRose}
 use Rattle.pir_tool.specs.FetchOrder.{FetchOrder}
 use Rattle.pir_tool.specs.FetchOutcome.{InSession, FetchReported, FetchEnds, TouchesFetch}
@@ -65,12 +65,12 @@ demonstrated_as o Memory old new d = inr d
 
 -- the children were started with these words, and then a block was fetched from these addresses
 pub demonstrates : (o : DemoOrder) (addresses : List (List ℕ)) (lists : List (List (List ℕ))) (status : Status) (w v u : World) → addresses ≡ addresses_from o.port o.servers → lists ≡ words_of_children o
-    → StartsAll lists w v → FetchEnds (record { plan = plan_of o; blocks = o.block ∷ []; addresses = addresses; coins = o.coins; keep = None }) status v u → TouchesFetch o.servers v u → DemoOutcome o status w u
+    → StartsAll lists w v → FetchEnds (record { plan = plan_of o; blocks = o.block ∷ []; addresses = addresses; coins = o.coins; keep = None; report = false }) status v u → TouchesFetch o.servers v u → DemoOutcome o status w u
 demonstrates o addresses lists status w v u at words starts ends others = demonstrated_as o status w u record {
   between = v;
   starts = subst (λ l. StartsAll l w v) words starts;
   fetched = record {
-    ends = subst (λ a. FetchEnds (record { plan = plan_of o; blocks = o.block ∷ []; addresses = a; coins = o.coins; keep = None }) status v u) at ends;
+    ends = subst (λ a. FetchEnds (record { plan = plan_of o; blocks = o.block ∷ []; addresses = a; coins = o.coins; keep = None; report = false }) status v u) at ends;
     others = others;
   };
 }
@@ -91,6 +91,7 @@ module _ (o : FetchOrder) (w v z : World) (same : (q : ℕ) → q < PORT_COUNT �
   reported_before status r = record {
     session = r.session;
     verdict = r.verdict;
+    report = r.report;
     settled = record {
       coins = r.settled.coins;
       fetched = in_session_before r.settled.coins r.session r.settled.fetched;
@@ -98,9 +99,11 @@ module _ (o : FetchOrder) (w v z : World) (same : (q : ℕ) → q < PORT_COUNT �
       found = r.settled.found;
       held = r.settled.held;
     };
+    beside = r.beside;
+    liars = r.liars;
     status_is = r.status_is;
     recorded = recorded_before o.keep r.session w v z (same 4 (lit< tt)) r.recorded;
-    written = r.written ∙ ap (gave (text r.verdict)) (same 1 (lit< tt));
+    written = r.written ∙ ap (gave (whole_text r.session r.verdict r.report)) (same 1 (lit< tt));
   }
 
 -- no call failed

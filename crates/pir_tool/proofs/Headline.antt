@@ -1,5 +1,5 @@
 -- What a run says of a session that Input holds, and of the coins that Coins holds.
-use Rattle.std.proofs.Common.{◌≡◌, ◌⊎◌, inl, inr, ℕ, ◌<◌, ◌≤◌, List, length, take, ◌∙◌, refl, subst, ap, sym, arith}
+use Rattle.std.proofs.Common.{◌≡◌, ◌⊎◌, inl, inr, ℕ, ◌<◌, ◌≤◌, List, length, take, ◌∙◌, Bool, refl, subst, ap, ap₂, sym, arith}
 use Rattle.std.specs.Prelude.{Option, Some, None}
 use Rattle.std.proofs.lemmas.List.{length-take}
 use Rattle.pir_ports.specs.World.{World}
@@ -9,100 +9,108 @@ use Rattle.wire_frames.specs.Limits.{IsInRange}
 use Rattle.wire_frames.specs.Session.{Transcript, IsSession}
 use Rattle.wire_frames.proofs.OneSession.{one_session}
 use Rattle.block_decoder.specs.Verdict.{IsVerdict}
-use Rattle.block_decoder.specs.Text.{text}
+use Rattle.block_decoder.specs.Report.{Agreement}
 use Rattle.block_decoder.specs.declared.verdict.Verdict.{Verdict}
 use Rattle.block_decoder.proofs.OneVerdict.{one_verdict}
-use Rattle.replay.specs.Replayed.{Judged, NoSession, ReadsWhole}
+use Rattle.replay.specs.Replayed.{NoSession, ReadsWhole}
 use Rattle.replay.proofs.Readings.{at_told}
 use Rattle.fetch_client.specs.Plan.{need}
+use Rattle.pir_tool.proofs.Saying.{same_beside}
 use Rattle.pir_tool.specs.declared.status.Status.{Status}
 use Rattle.pir_tool.specs.declared.status.Status.TheVariants.{One, Usage, NoBlock, Several, Absent, TooFew, TooWeak, TooCostly, ReadFault, WriteFault, BadInput, DoorFault, ChildFault, Memory}
 use Rattle.pir_tool.specs.declared.status.Bad.TheVariants.{Session, EmptyFile, TooBig, CoinsEnded}
-use Rattle.pir_tool.specs.Told.{NoneRose, ToldWhole}
+use Rattle.pir_tool.specs.Said.{IsBeside, ToldWhole, whole_text}
+use Rattle.pir_tool.specs.Told.{NoneRose}
 use Rattle.pir_tool.specs.Table.{status_of}
-use Rattle.pir_tool.specs.ReplayOutcome.{ReplayEnds, ReplayPromise, Reported, Answered, streams}
+use Rattle.pir_tool.specs.ReplayOutcome.{Concluded, ReplayEnds, ReplayPromise, Reported, Answered, streams}
 use Rattle.pir_tool.specs.FetchOrder.{FetchOrder}
 use Rattle.pir_tool.specs.FetchOutcome.{FetchEnds, FetchPromise, FetchReported, Unrecorded, files_of, record_port}
 
 -- what was read whole is what Input held
-judged_by : (name : List ℕ) (old new : World) (bytes : List ℕ) (verdict : Verdict) → (old.at INPUT).holds ≡ Some bytes → ReadsWhole (Judged verdict) (named name (old.at INPUT)) (new.at INPUT) → Judged verdict bytes
-judged_by name old new bytes verdict told r = subst (Judged verdict) (at_told (λ (h : List ℕ). r.read ≡ h) (old.at INPUT).holds bytes told r.all) r.is
+pub held_by_input : (P : List ℕ → Type 0) (name : List ℕ) (old new : World) (bytes : List ℕ) → (old.at INPUT).holds ≡ Some bytes → ReadsWhole P (named name (old.at INPUT)) (new.at INPUT) → P bytes
+held_by_input P name old new bytes told r = subst P (at_told (λ (h : List ℕ). r.read ≡ h) (old.at INPUT).holds bytes told r.all) r.is
 
 -- the verdict reported is that of the session
-answered_by : (name : List ℕ) (status : Status) (old new : World) (bytes : List ℕ) (session : Transcript) → (old.at INPUT).holds ≡ Some bytes → IsSession bytes session → Reported name status old new → Answered session status old new
-answered_by name status old new bytes session told whole said =
-    let judged = judged_by name old new bytes said.verdict told said.read in
+answered_by : (name : List ℕ) (wanted : Bool) (status : Status) (old new : World) (bytes : List ℕ) (session : Transcript) → (old.at INPUT).holds ≡ Some bytes → IsSession bytes session → Reported name wanted status old new → Answered session wanted status old new
+answered_by name wanted status old new bytes session told whole said =
+    let concluded = held_by_input (Concluded wanted said.session said.verdict said.report) name old new bytes told said.read in
+    let same = one_session bytes said.session session concluded.whole whole in
     record {
       verdict = said.verdict;
-      judged = subst (λ (t : Transcript). IsVerdict t said.verdict) (one_session bytes judged.session session judged.whole whole) judged.judged;
+      report = said.report;
+      judged = subst (λ (t : Transcript). IsVerdict t said.verdict) same concluded.judged;
+      beside = subst (λ (t : Transcript). IsBeside wanted t said.verdict said.report) same concluded.beside;
       status_is = said.status_is;
-      written = said.written;
+      written = said.written ∙ ap (λ (t : Transcript). gave (whole_text t said.verdict said.report) (old.at OUTPUT)) same;
     }
 
 -- where there is a session, its verdict is reported
-pub answered : (name : List ℕ) (status : Status) (old new : World) (bytes : List ℕ) (session : Transcript) → (old.at INPUT).holds ≡ Some bytes → IsSession bytes session → NoneRose streams old new
-    → ReplayEnds name status old new → Answered session status old new ⊎ (status ≡ Memory)
-answered name One old new bytes session told whole none said = inl (answered_by name One old new bytes session told whole said)
-answered name Usage old new bytes session told whole none said = absurd said
-answered name NoBlock old new bytes session told whole none said = inl (answered_by name NoBlock old new bytes session told whole said)
-answered name Several old new bytes session told whole none said = inl (answered_by name Several old new bytes session told whole said)
-answered name Absent old new bytes session told whole none said = absurd said
-answered name (TooFew k h) old new bytes session told whole none said = inl (answered_by name (TooFew k h) old new bytes session told whole said)
-answered name (TooWeak k t h) old new bytes session told whole none said = inl (answered_by name (TooWeak k t h) old new bytes session told whole said)
-answered name (TooCostly equations) old new bytes session told whole none said = inl (answered_by name (TooCostly equations) old new bytes session told whole said)
-answered name ReadFault old new bytes session told whole none said = absurd (none.0 said.rose)
-answered name WriteFault old new bytes session told whole none said = absurd (none.1.0 said.written.rose)
-answered name (BadInput EmptyFile) old new bytes session told whole none said = absurd said
-answered name (BadInput (TooBig limit)) old new bytes session told whole none said = absurd said
-answered name DoorFault old new bytes session told whole none said = absurd said
-answered name ChildFault old new bytes session told whole none said = absurd said
-answered name (BadInput (Session place)) old new bytes session told whole none said = absurd ((at_told (NoSession place) (old.at INPUT).holds bytes told said.read.none).none session whole)
-answered name (BadInput (CoinsEnded taken)) old new bytes session told whole none said = absurd said
-answered name Memory old new bytes session told whole none said = inr refl
+pub answered : (name : List ℕ) (wanted : Bool) (status : Status) (old new : World) (bytes : List ℕ) (session : Transcript) → (old.at INPUT).holds ≡ Some bytes → IsSession bytes session → NoneRose streams old new
+    → ReplayEnds name wanted status old new → Answered session wanted status old new ⊎ (status ≡ Memory)
+answered name wanted One old new bytes session told whole none said = inl (answered_by name wanted One old new bytes session told whole said)
+answered name wanted Usage old new bytes session told whole none said = absurd said
+answered name wanted NoBlock old new bytes session told whole none said = inl (answered_by name wanted NoBlock old new bytes session told whole said)
+answered name wanted Several old new bytes session told whole none said = inl (answered_by name wanted Several old new bytes session told whole said)
+answered name wanted Absent old new bytes session told whole none said = absurd said
+answered name wanted (TooFew k h) old new bytes session told whole none said = inl (answered_by name wanted (TooFew k h) old new bytes session told whole said)
+answered name wanted (TooWeak k t h) old new bytes session told whole none said = inl (answered_by name wanted (TooWeak k t h) old new bytes session told whole said)
+answered name wanted (TooCostly equations) old new bytes session told whole none said = inl (answered_by name wanted (TooCostly equations) old new bytes session told whole said)
+answered name wanted ReadFault old new bytes session told whole none said = absurd (none.0 said.rose)
+answered name wanted WriteFault old new bytes session told whole none said = absurd (none.1.0 said.written.rose)
+answered name wanted (BadInput EmptyFile) old new bytes session told whole none said = absurd said
+answered name wanted (BadInput (TooBig limit)) old new bytes session told whole none said = absurd said
+answered name wanted DoorFault old new bytes session told whole none said = absurd said
+answered name wanted ChildFault old new bytes session told whole none said = absurd said
+answered name wanted (BadInput (Session place)) old new bytes session told whole none said = absurd ((at_told (NoSession place) (old.at INPUT).holds bytes told said.read.none).none session whole)
+answered name wanted (BadInput (CoinsEnded taken)) old new bytes session told whole none said = absurd said
+answered name wanted Memory old new bytes session told whole none said = inr refl
 
 -- nothing is reported where there is no session
-no_report : (name : List ℕ) (status : Status) (old new : World) (bytes : List ℕ) → (old.at INPUT).holds ≡ Some bytes → ((session : Transcript) → IsSession bytes session → ⊥) → Reported name status old new → ⊥
-no_report name status old new bytes told nothing said =
-    let judged = judged_by name old new bytes said.verdict told said.read in nothing judged.session judged.whole
+no_report : (name : List ℕ) (wanted : Bool) (status : Status) (old new : World) (bytes : List ℕ) → (old.at INPUT).holds ≡ Some bytes → ((session : Transcript) → IsSession bytes session → ⊥) → Reported name wanted status old new → ⊥
+no_report name wanted status old new bytes told nothing said =
+    nothing said.session (held_by_input (Concluded wanted said.session said.verdict said.report) name old new bytes told said.read).whole
 
 -- where there is no session, that is said
-refused : (name : List ℕ) (status : Status) (old new : World) (bytes : List ℕ) → (old.at INPUT).holds ≡ Some bytes → ((session : Transcript) → IsSession bytes session → ⊥) → NoneRose streams old new
-    → ReplayEnds name status old new → ((place : ℕ) × (status ≡ BadInput (Session place)) × NoSession place bytes) ⊎ (status ≡ Memory)
-refused name One old new bytes told nothing none said = absurd (no_report name One old new bytes told nothing said)
-refused name Usage old new bytes told nothing none said = absurd said
-refused name NoBlock old new bytes told nothing none said = absurd (no_report name NoBlock old new bytes told nothing said)
-refused name Several old new bytes told nothing none said = absurd (no_report name Several old new bytes told nothing said)
-refused name Absent old new bytes told nothing none said = absurd said
-refused name (TooFew k h) old new bytes told nothing none said = absurd (no_report name (TooFew k h) old new bytes told nothing said)
-refused name (TooWeak k t h) old new bytes told nothing none said = absurd (no_report name (TooWeak k t h) old new bytes told nothing said)
-refused name (TooCostly equations) old new bytes told nothing none said = absurd (no_report name (TooCostly equations) old new bytes told nothing said)
-refused name ReadFault old new bytes told nothing none said = absurd (none.0 said.rose)
-refused name WriteFault old new bytes told nothing none said = absurd (none.1.0 said.written.rose)
-refused name (BadInput EmptyFile) old new bytes told nothing none said = absurd said
-refused name (BadInput (TooBig limit)) old new bytes told nothing none said = absurd said
-refused name DoorFault old new bytes told nothing none said = absurd said
-refused name ChildFault old new bytes told nothing none said = absurd said
-refused name (BadInput (Session place)) old new bytes told nothing none said = inl (place, refl, at_told (NoSession place) (old.at INPUT).holds bytes told said.read.none)
-refused name (BadInput (CoinsEnded taken)) old new bytes told nothing none said = absurd said
-refused name Memory old new bytes told nothing none said = inr refl
+refused : (name : List ℕ) (wanted : Bool) (status : Status) (old new : World) (bytes : List ℕ) → (old.at INPUT).holds ≡ Some bytes → ((session : Transcript) → IsSession bytes session → ⊥) → NoneRose streams old new
+    → ReplayEnds name wanted status old new → ((place : ℕ) × (status ≡ BadInput (Session place)) × NoSession place bytes) ⊎ (status ≡ Memory)
+refused name wanted One old new bytes told nothing none said = absurd (no_report name wanted One old new bytes told nothing said)
+refused name wanted Usage old new bytes told nothing none said = absurd said
+refused name wanted NoBlock old new bytes told nothing none said = absurd (no_report name wanted NoBlock old new bytes told nothing said)
+refused name wanted Several old new bytes told nothing none said = absurd (no_report name wanted Several old new bytes told nothing said)
+refused name wanted Absent old new bytes told nothing none said = absurd said
+refused name wanted (TooFew k h) old new bytes told nothing none said = absurd (no_report name wanted (TooFew k h) old new bytes told nothing said)
+refused name wanted (TooWeak k t h) old new bytes told nothing none said = absurd (no_report name wanted (TooWeak k t h) old new bytes told nothing said)
+refused name wanted (TooCostly equations) old new bytes told nothing none said = absurd (no_report name wanted (TooCostly equations) old new bytes told nothing said)
+refused name wanted ReadFault old new bytes told nothing none said = absurd (none.0 said.rose)
+refused name wanted WriteFault old new bytes told nothing none said = absurd (none.1.0 said.written.rose)
+refused name wanted (BadInput EmptyFile) old new bytes told nothing none said = absurd said
+refused name wanted (BadInput (TooBig limit)) old new bytes told nothing none said = absurd said
+refused name wanted DoorFault old new bytes told nothing none said = absurd said
+refused name wanted ChildFault old new bytes told nothing none said = absurd said
+refused name wanted (BadInput (Session place)) old new bytes told nothing none said = inl (place, refl, at_told (NoSession place) (old.at INPUT).holds bytes told said.read.none)
+refused name wanted (BadInput (CoinsEnded taken)) old new bytes told nothing none said = absurd said
+refused name wanted Memory old new bytes told nothing none said = inr refl
 
--- where there is a session, the text of its verdict is written, whichever verdict that is
-told_by : (status : Status) (old new : World) (session : Transcript) (verdict : Verdict) → IsInRange session.params → IsVerdict session verdict → Answered session status old new → ToldWhole verdict status old new
-told_by status old new session verdict range judged said =
+-- where there is a session, the text of its verdict and of its report is written, whichever these are
+told_by : (wanted : Bool) (status : Status) (old new : World) (session : Transcript) (verdict : Verdict) (report : Option (List Agreement)) → IsInRange session.params → IsVerdict session verdict → IsBeside wanted session verdict report
+    → Answered session wanted status old new → ToldWhole session verdict report status old new
+told_by wanted status old new session verdict report range judged beside said =
     let same : said.verdict ≡ verdict = one_verdict session said.verdict verdict range said.judged judged in
+    let own = subst (λ (v : Verdict). IsBeside wanted session v said.report) same said.beside in
+    let one : said.report ≡ report = same_beside session verdict range.scheme wanted said.report report own beside in
     record {
       status_is = said.status_is ∙ ap status_of same;
-      written = said.written ∙ ap (λ (v : Verdict). gave (text v) (old.at OUTPUT)) same;
+      written = said.written ∙ ap₂ (λ (v : Verdict) (r : Option (List Agreement)). gave (whole_text session v r) (old.at OUTPUT)) same one;
     }
 
 -- what is promised of `replay`
-pub replay_promised : (name : List ℕ) (status : Status) (old new : World) → ReplayEnds name status old new → ReplayPromise status old new
-replay_promised name status old new said = record {
-  told = λ bytes session verdict told whole judged none. elim (answered name status old new bytes session told whole none said) [
-    | inl a ↦ inl (told_by status old new session verdict whole.range judged a)
+pub replay_promised : (name : List ℕ) (wanted : Bool) (status : Status) (old new : World) → ReplayEnds name wanted status old new → ReplayPromise wanted status old new
+replay_promised name wanted status old new said = record {
+  told = λ bytes session verdict report told whole judged beside none. elim (answered name wanted status old new bytes session told whole none said) [
+    | inl a ↦ inl (told_by wanted status old new session verdict report whole.range judged beside a)
     | inr m ↦ inr m
   ];
-  refused = λ bytes told nothing none. refused name status old new bytes told nothing none said;
+  refused = λ bytes told nothing none. refused name wanted status old new bytes told nothing none said;
 }
 
 -- a record that can't be written rose

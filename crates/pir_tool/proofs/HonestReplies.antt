@@ -26,8 +26,10 @@ use Rattle.fetch_client.specs.Sent.{frame_len, header_to, payload_for, payload_i
 use Rattle.fetch_client.specs.Honest.{answer_by, answer_in, honest_answer, honest_frame}
 use Rattle.fetch_client.proofs.Schemes.{length-payload_for, length-payload_to}
 use Rattle.fetch_client.proofs.Ranges.{range_of}
-use Rattle.serve_core.specs.Service.{Service, payload_len_for, vector_len_for}
-use Rattle.serve_core.specs.Reply.{IsShaped, Suits, RefusedByHeader, Replies, answer, answer_frame, answers, asked_of, payload, sets_unused, some_sets_unused}
+use Rattle.serve_core.specs.Terms.{payload_len_for, vector_len_for}
+use Rattle.serve_core.specs.Service.{Service, terms_of}
+use Rattle.serve_core.specs.Case.{IsShaped, Suits, RefusedByHeader, asked_of, payload, sets_unused, some_sets_unused}
+use Rattle.serve_core.specs.Reply.{Replies, answer, answer_frame, answers}
 use Rattle.serve_core.specs.declared.met.Met.{Met}
 use Rattle.serve_core.specs.declared.met.Met.TheVariants.{Served, Refused, Gone, GuestFault}
 use Rattle.pir_tool.specs.HonestReply.{service_with, frame_of, RepliesHonestly}
@@ -78,7 +80,7 @@ module _ (p : FetchPlan) (blocks : List ℕ) (are : AreBlocks p blocks) (coins :
   is_header : IsQueryHeader (query_header header) header
   is_header = record { range = is_query; spelled = refl }
 
-  suits : Suits service (sent p blocks coins i)
+  suits : Suits (terms_of service) (sent p blocks coins i)
   suits = record {
     query = header;
     asks = record { whole = omega (arith, size); header = record { range = is_query; spelled = front } };
@@ -90,38 +92,38 @@ module _ (p : FetchPlan) (blocks : List ℕ) (are : AreBlocks p blocks) (coins :
   asked : asked_of (sent p blocks coins i) ≡ length blocks
   asked = ap blocks_in front ∙ blocks_in_query (query_header header) header is_header
 
-  vector_is : vector_len_for service ≡ vector_len
+  vector_is : vector_len_for (terms_of service) ≡ vector_len
   vector_is = ap (payload_len (scheme_of p.scheme)) is.rows
 
-  size_is : payload_len_for service (asked_of (sent p blocks coins i)) ≡ length blocks * vector_len
+  size_is : payload_len_for (terms_of service) (asked_of (sent p blocks coins i)) ≡ length blocks * vector_len
   size_is = ap₂ (λ (n m : ℕ). n * m) asked vector_is
 
-  query_is : payload service (sent p blocks coins i) ≡ asked_for
+  query_is : payload (terms_of service) (sent p blocks coins i) ≡ asked_for
   query_is = ap₂ take size_is rest ∙ take_all (length blocks * vector_len) asked_for (let n = length-payload_for params own blocks i in omega (arith, n))
 
   -- it has the vectors of the blocks
-  vectors_are : (v : ℕ) → v < length blocks → piece (vector_len_for service) v asked_for ≡ vector_at params own blocks i v
+  vectors_are : (v : ℕ) → v < length blocks → piece (vector_len_for (terms_of service)) v asked_for ≡ vector_at params own blocks i v
   vectors_are v low = ap (λ (n : ℕ). piece n v asked_for) vector_is
       ∙ piece-in_turn (length blocks) vector_len v (vector_at params own blocks i) (λ k _. length-payload_to params (piece (query_coins params) k own) (get_or blocks k 0) i) low
 
   -- which set no unused bit, of which only bitmaps have some
-  trim_vector : (v : ℕ) → v < length blocks → sets_unused (scheme_of service.scheme) service.database (vector_at params own blocks i v) ≡ false
+  trim_vector : (v : ℕ) → v < length blocks → sets_unused (scheme_of service.scheme) (length service.database.rows) (vector_at params own blocks i v) ≡ false
   unfolding payload_to
   trim_vector v low = by_scheme (scheme_of p.scheme)
     where
-      by_scheme : (s : Scheme) → sets_unused s service.database (payload_in s params (piece (query_coins params) v own) (get_or blocks v 0) i) ≡ false
+      by_scheme : (s : Scheme) → sets_unused s (length service.database.rows) (payload_in s params (piece (query_coins params) v own) (get_or blocks v 0) i) ≡ false
       by_scheme Shamir = refl
       by_scheme Xor = ap (λ (r : ℕ). has_unused r (bitmap (piece (query_coins params) v own) p.n p.r (get_or blocks v 0) i)) is.rows
           ∙ none_unused (piece (query_coins params) v own) p.n p.r (get_or blocks v 0) i (are.each v 0 low)
 
-  trim_first : (n : ℕ) → n ≤ length blocks → some_sets_unused service n asked_for ≡ false
+  trim_first : (n : ℕ) → n ≤ length blocks → some_sets_unused (terms_of service) n asked_for ≡ false
   unfolding some_sets_unused
   trim_first zero few = refl
   trim_first (suc n) few = ap₂ (λ (x y : Bool). x || y) (trim_first n (omega (arith, few)))
-      (ap (sets_unused (scheme_of p.scheme) service.database) (vectors_are n (omega (arith, few))) ∙ trim_vector n (omega (arith, few)))
+      (ap (sets_unused (scheme_of p.scheme) (length service.database.rows)) (vectors_are n (omega (arith, few))) ∙ trim_vector n (omega (arith, few)))
 
-  trim : some_sets_unused service (asked_of (sent p blocks coins i)) (payload service (sent p blocks coins i)) ≡ false
-  trim = ap₂ (some_sets_unused service) asked query_is ∙ trim_first (length blocks) (omega arith)
+  trim : some_sets_unused (terms_of service) (asked_of (sent p blocks coins i)) (payload (terms_of service) (sent p blocks coins i)) ≡ false
+  trim = ap₂ (some_sets_unused (terms_of service)) asked query_is ∙ trim_first (length blocks) (omega arith)
 
   -- the server's answer to a vector is the honest one
   answer_is : (vector : List ℕ) → answer (scheme_of service.scheme) service.database vector ≡ honest_answer params matrix vector
@@ -136,17 +138,17 @@ module _ (p : FetchPlan) (blocks : List ℕ) (are : AreBlocks p blocks) (coins :
   answers_are = ap (λ (n : ℕ). answers service n asked_for) (blocks_in_query (query_header header) header is_header)
       ∙ in_turn-same (length blocks) _ _ (λ v low. ap (answer (scheme_of p.scheme) service.database) (vectors_are v low) ∙ answer_is (vector_at params own blocks i v))
 
-  frame_is : answer_frame service (take FRAME_HEADER_LEN (sent p blocks coins i)) (payload service (sent p blocks coins i)) ≡ frame_of p blocks coins matrix i
+  frame_is : answer_frame service (take FRAME_HEADER_LEN (sent p blocks coins i)) (payload (terms_of service) (sent p blocks coins i)) ≡ frame_of p blocks coins matrix i
   unfolding honest_frame
   frame_is = ap₂ (answer_frame service) front query_is ∙ ap₂ (λ (h l : List ℕ). h ++ l) (answer_to_query header 0 is_query.blocks.some_version is_query.blocks.two_versions) answers_are
 
   -- another header has the same bytes, but is of another query: there is none
-  no_other : (other : QueryHeader) → IsQueryHeader (take FRAME_HEADER_LEN (sent p blocks coins i)) other → (other.scheme ≡ p.scheme) × IsShaped service other
+  no_other : (other : QueryHeader) → IsQueryHeader (take FRAME_HEADER_LEN (sent p blocks coins i)) other → (other.scheme ≡ p.scheme) × IsShaped (terms_of service) other
   no_other other h =
       let same : query_header other ≡ query_header header = sym h.spelled ∙ front in
       (same_scheme other header h.range is_query same, record { rows = same_rows other header h.range is_query same ∙ sym is.rows; width = same_width other header h.range is_query same })
 
-  never_refused : (status : ℕ) → RefusedByHeader service (sent p blocks coins i) status → ⊥
+  never_refused : (status : ℕ) → RefusedByHeader (terms_of service) (sent p blocks coins i) status → ⊥
   never_refused status (inl bad) = bad.1.none header (record { range = is_query; spelled = front })
   never_refused status (inr (inl other)) = other.1.other (no_other other.1.query other.1.asks.header).0
   never_refused status (inr (inr other)) = other.1.other (no_other other.1.query other.1.asks.header).1

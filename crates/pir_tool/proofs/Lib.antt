@@ -1,3 +1,5 @@
+mod Saying
+mod Replaying
 pub mod Headline
 mod Children
 mod Demonstrating
@@ -14,3 +16,5 @@ mod AskedRow
 mod LookingUp
 mod SameLookUps
 mod SelfrunHeadline
+mod Splitting
+mod SplitHeadline

@@ -1,5 +1,5 @@
 -- A look-up from its first port to its last.
-use Rattle.std.proofs.Common.{◌≡◌, ◌≢◌, ◌∙◌, ◌⊎◌, inl, inr, ℕ, ◌+◌, ◌*◌, ◌%◌, ◌<◌, ◌≤◌, List, [], ◌∷◌, length, take, map, get_or, refl, lit<, sym, ap, ap₂, subst, arith}
+use Rattle.std.proofs.Common.{◌≡◌, ◌≢◌, ◌∙◌, ◌⊎◌, inl, inr, ℕ, ◌+◌, ◌*◌, ◌%◌, ◌<◌, ◌≤◌, List, [], ◌∷◌, length, take, refl, lit<, sym, ap, ap₂, subst, arith}
 use Rattle.std.specs.Prelude.{Err, Ok, Option, Some, None, Result, slice_get, slice_index}
 use Rattle.std.proofs.lemmas.List.{length-take}
 use Rattle.std.proofs.lemmas.Option.{slice_get-get_or}
@@ -21,7 +21,7 @@ use Rattle.fetch_client.specs.Plan.{IsPlan, need}
 use Rattle.fetch_client.specs.Fetched.{TouchesLinks}
 use Rattle.fetch_client.specs.Held.{block_of}
 use Rattle.fetch_client.proofs.Ranges.{one_block}
-use Rattle.key_search.specs.Standing.{Standing, standing_after, turns_of}
+use Rattle.key_search.specs.Standing.{Standing, standing_after}
 use Rattle.key_fetches.specs.Listed.{Ended, only_block}
 use Rattle.key_fetches.specs.Text.{end_text}
 use Rattle.key_fetches.specs.Rounds.{AreJudged, IsJudged, ListRowsAsked, Round, coins_of}
@@ -32,7 +32,7 @@ use Rattle.pir_tool.specs.LookUpOrder.{LookUpOrder}
 use Rattle.pir_tool.specs.LookUpOutcome.{EndTold, EnoughReplyInEach, LookUpEnds, LookUpPromise, LookUpReported, LookUpSettled, coins_needed, opened_coins, read_and_written}
 use Rattle.pir_tool.specs.Faults.{of_fetch}
 use Rattle.pir_tool.specs.Outcome.{look_up_by}
-use Rattle.pir_tool.specs.Table.{status_by_end, status_of, status_of_end}
+use Rattle.pir_tool.specs.Table.{status_by_end}
 use Rattle.pir_tool.specs.Told.{NoneRose}
 use Rattle.pir_tool.proofs.HeldRow.{held_row}
 use Rattle.pir_tool.specs.declared.status.Status.{Status}

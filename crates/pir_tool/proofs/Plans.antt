@@ -1,5 +1,5 @@
 -- The plan of a fetch by the words that ask for it.
-use Rattle.std.proofs.Common.{◌≡◌, ℕ, ◌+◌, add-zero, sym, subst, arith}
+use Rattle.std.proofs.Common.{ℕ, add-zero, sym, subst, arith}
 use Rattle.wire_frames.specs.declared.scheme.TheConstants.{SHAMIR}
 use Rattle.pir_words.specs.FetchForm.{IsSharedFetch}
 use Rattle.pir_words.specs.Ranges.{FitsSession}

@@ -1,5 +1,5 @@
 -- What the words of `demo` order.
-use Rattle.std.specs.Prelude.{ℕ, ◌+◌, List, [], ◌∷◌, ◌++◌, map, codes, decimal, None}
+use Rattle.std.specs.Prelude.{ℕ, ◌+◌, List, [], ◌∷◌, ◌++◌, map, codes, decimal, None, false}
 use Rattle.std.specs.List.{range_with_len}
 use Rattle.wire_frames.specs.declared.scheme.TheConstants.{SHAMIR}
 use Rattle.fetch_client.specs.declared.plan.FetchPlan.{FetchPlan}
@@ -59,7 +59,7 @@ words_to_serve database width address =
 abbrev pub words_of_children : DemoOrder → List (List (List ℕ))
 words_of_children o = map (λ i. words_to_serve o.database o.width (address_from o.port i)) (range_with_len 1 o.servers)
 
--- the fetch from the children, which isn't recorded
+-- the fetch from the children, which isn't recorded, and of which no report is wanted
 abbrev pub fetch_from_children : DemoOrder → FetchOrder
 fetch_from_children o = record {
   plan = plan_of o;
@@ -67,4 +67,5 @@ fetch_from_children o = record {
   addresses = addresses_from o.port o.servers;
   coins = o.coins;
   keep = None;
+  report = false;
 }

@@ -9,8 +9,11 @@ use Rattle.pir_words.specs.declared.asked.WordsFault.{WordsFault}
 use Rattle.pir_words.specs.declared.asked.WordsFault.TheVariants.{Usage as Formless, Memory as NoMemoryForWords}
 use Rattle.replay.specs.declared.ReplayFault.{ReplayFault}
 use Rattle.replay.specs.declared.ReplayFault.TheVariants.{ReadFault as Unreadable, BadSession, Memory as Unfinished}
+use Rattle.share_files.specs.declared.fault.SplitFault.{SplitFault}
+use Rattle.share_files.specs.declared.fault.SplitFault.TheVariants.{CoinsFault as NoCoins, CoinsEnded as FewCoins}
+use Rattle.share_files.specs.declared.fault.SplitFault.TheVariants.{ShareFault, Memory as NoMemoryToSplit}
 use Rattle.pir_tool.specs.declared.status.Status.{Status}
-use Rattle.pir_tool.specs.declared.status.Status.TheVariants.{Usage, ReadFault, BadInput, Memory}
+use Rattle.pir_tool.specs.declared.status.Status.TheVariants.{Usage, ReadFault, WriteFault, BadInput, Memory}
 use Rattle.pir_tool.specs.declared.status.Bad.TheVariants.{Session, EmptyFile, TooBig, CoinsEnded}
 
 -- of the words
@@ -36,3 +39,10 @@ abbrev pub of_replay : ReplayFault → Status
 of_replay Unreadable = ReadFault
 of_replay (BadSession place) = BadInput (Session place)
 of_replay Unfinished = Memory
+
+-- of a splitting
+abbrev pub of_split : SplitFault → Status
+of_split NoCoins = ReadFault
+of_split (FewCoins taken) = BadInput (CoinsEnded taken)
+of_split ShareFault = WriteFault
+of_split NoMemoryToSplit = Memory

@@ -1,23 +1,27 @@
 -- What `fetch` does to the outside, by the status that it ends with.
-use Rattle.std.specs.Prelude.{◌≡◌, ◌⊎◌, ℕ, ◌<◌, ◌≤◌, List, [], ◌∷◌, length, Option, Some, None, Result, Ok, Err}
+use Rattle.std.specs.Prelude.{◌≡◌, ◌⊎◌, ℕ, ◌<◌, ◌≤◌, Bool, List, [], ◌∷◌, length, Option, Some, None, Result, Ok, Err}
 use Rattle.pir_ports.specs.World.{World}
 use Rattle.pir_ports.specs.Number.{OUTPUT, COINS, RECORD, link}
 use Rattle.pir_ports.specs.Moves.{Touches, gave, named}
 use Rattle.pir_ports.specs.Whole.{FailsWithin}
 use Rattle.pir_ports.specs.Touched.{One, From, TouchesOnly}
+use Rattle.pir_ports.specs.Files.{Unread, Unwritten}
+use Rattle.pir_ports.specs.Tossed.{Tossed, RunsOut}
 use Rattle.wire_frames.specs.Session.{Transcript, IsSession, session_bytes}
+use Rattle.block_decoder.specs.Report.{Agreement}
 use Rattle.block_decoder.specs.Verdict.{IsVerdict}
-use Rattle.block_decoder.specs.Text.{text}
 use Rattle.block_decoder.specs.declared.verdict.Verdict.{Verdict}
+use Rattle.fetch_client.specs.declared.plan.FetchFault.{FetchFault}
+use Rattle.fetch_client.specs.declared.plan.FetchPlan.{FetchPlan}
 use Rattle.fetch_client.specs.Plan.{need}
 use Rattle.fetch_client.specs.Sent.{queries_from}
-use Rattle.fetch_client.specs.Tossed.{Tossed, RunsOut}
-use Rattle.fetch_client.specs.Honest.{FindsHonestBlock}
-use Rattle.fetch_client.specs.Fetched.{AsksAll}
+use Rattle.fetch_client.specs.Honest.{FindsHonestBlock, NamesLiarsIn}
+use Rattle.fetch_client.specs.Fetched.{AsksAll, Concludes, FetchesTo}
 use Rattle.pir_tool.specs.HeldRow.{FindsHeldRow}
 use Rattle.pir_tool.specs.Table.{status_of}
 use Rattle.pir_ports.specs.declared.port.Failed.{Failed}
-use Rattle.pir_tool.specs.Told.{NoneRose, Told, Unread, Unwritten}
+use Rattle.pir_tool.specs.Said.{IsBeside, ToldAs, whole_text}
+use Rattle.pir_tool.specs.Told.{NoneRose}
 use Rattle.pir_tool.specs.FetchOrder.{FetchOrder}
 use Rattle.pir_tool.specs.declared.status.Status.{Status}
 use Rattle.pir_tool.specs.declared.status.Status.TheVariants.{Usage, Absent, ReadFault, WriteFault, BadInput, DoorFault, ChildFault, Memory}
@@ -52,23 +56,29 @@ abbrev pub Unrecorded : Option (List ℕ) → Transcript → World → World →
 Unrecorded None session old new = ⊥
 Unrecorded (Some name) session old new = Unwritten RECORD name (session_bytes session) old new
 
--- the verdict on the session is written whole, after the record of the session
+-- the verdict on the session is written whole, after the record of the session, and behind it, where one is wanted, the
+-- report, which names those who lied
 pub record FetchReported (o : FetchOrder) (status : Status) (old new : World) : Type 0 where
   pub session : Transcript
   pub verdict : Verdict
+  pub report : Option (List Agreement)
   pub settled : Settled o session verdict old new
+  pub beside : IsBeside o.report session verdict report
+  pub liars : NamesLiarsIn session o.plan.t o.plan.tau (queries_from settled.coins) o.blocks report
   pub status_is : status ≡ status_of verdict
   pub recorded : Recorded o.keep session old new
-  pub written : new.at OUTPUT ≡ gave (text verdict) (old.at OUTPUT)
+  pub written : new.at OUTPUT ≡ gave (whole_text session verdict report) (old.at OUTPUT)
 
 -- the session can't be recorded, and Output is left alone; or it is, and Output has taken a proper front of the
--- verdict's text
+-- verdict's text, or of that and of the report's behind it, where one is wanted
 pub record FetchCutShort (o : FetchOrder) (old new : World) : Type 0 where
   pub session : Transcript
   pub verdict : Verdict
+  pub report : Option (List Agreement)
   pub settled : Settled o session verdict old new
+  pub beside : IsBeside o.report session verdict report
   pub cut : (Unrecorded o.keep session old new × (new.at OUTPUT ≡ old.at OUTPUT))
-      ⊎ (Recorded o.keep session old new × FailsWithin OUTPUT (text verdict) old new)
+      ⊎ (Recorded o.keep session old new × FailsWithin OUTPUT (whole_text session verdict report) old new)
 
 -- the coins can't be read, and no server was asked
 pub record FetchUnreadable (o : FetchOrder) (old new : World) : Type 0 where
@@ -125,10 +135,30 @@ Keeps keep session (Err _) old new = Unrecorded keep session old new
 abbrev pub TouchesFiles : World → World → Type 0
 TouchesFiles old new = TouchesOnly (One OUTPUT ∷ One RECORD ∷ []) old new
 
--- the session is recorded and its verdict written; or one of them was cut short, and nothing was written after it
-abbrev pub Reports : Option (List ℕ) → Transcript → Verdict → Status → World → World → Type 0
-Reports keep session verdict status old new = (Recorded keep session old new × Told verdict status old new)
+-- the session is recorded, and its verdict written with the report behind it, where there is one; or one of them was cut
+-- short, and nothing was written after it
+abbrev pub Reports : Option (List ℕ) → Transcript → Verdict → Option (List Agreement) → Status → World → World → Type 0
+Reports keep session verdict report status old new =
+    (Recorded keep session old new × ToldAs (whole_text session verdict report) verdict status old new)
     ⊎ (Unrecorded keep session old new × (status ≡ WriteFault) × (new.at OUTPUT ≡ old.at OUTPUT))
+
+-- every server was asked, with some coins, in this session; this is its verdict, and this the report beside it, where one is
+-- wanted, which names those who lied
+pub record ConcludesBeside (wanted : Bool) (p : FetchPlan) (blocks : List ℕ) (addresses : List (List ℕ))
+    (found : Transcript × Verdict × Option (List Agreement)) (old new : World) : Type 0 where
+  pub concludes : Concludes p blocks addresses found.0 found.1 old new
+  pub beside : IsBeside wanted found.0 found.1 found.2
+  pub liars : NamesLiarsIn found.0 p.t p.tau (queries_from concludes.coins) blocks found.2
+
+-- what the fetch of an order answers, and what it did then
+abbrev pub FetchesBeside : FetchOrder → Result (Transcript × Verdict × Option (List Agreement)) FetchFault
+    → World → World → Type 0
+FetchesBeside o = FetchesTo (ConcludesBeside o.report o.plan o.blocks o.addresses) o.plan o.blocks o.addresses
+
+-- what a fetch answered, with no report
+abbrev pub with_none : Result (Transcript × Verdict) FetchFault → Result (Transcript × Verdict × Option (List Agreement)) FetchFault
+with_none (Ok both) = Ok (both.0, both.1, None)
+with_none (Err fault) = Err fault
 
 -- the port of a record, where one is kept
 abbrev pub record_port : Option (List ℕ) → List ℕ

@@ -1,5 +1,6 @@
 pub mod Table
 pub mod Told
+pub mod Said
 pub mod Faults
 pub mod ReplayOutcome
 pub mod FetchOrder
@@ -11,6 +12,9 @@ pub mod LookUpOutcome
 pub mod ServeOrder
 pub mod ServeSteps
 pub mod ServeOutcome
+pub mod SplitOrder
+pub mod SplitSteps
+pub mod SplitOutcome
 pub mod HonestReply
 pub mod HeldRow
 pub mod Privacy

@@ -1,9 +1,9 @@
 -- What a run does to the outside, by the command that the words ask for and the status that it ends with.
-use Rattle.std.specs.Prelude.{◌≡◌, ◌⊎◌, ℕ, List, length, Option, Some, None}
+use Rattle.std.specs.Prelude.{◌≡◌, ◌⊎◌, ℕ, Bool, List, length, Option, Some, None}
 use Rattle.pir_ports.specs.World.{World}
 use Rattle.pir_words.specs.Form.{asked_of}
 use Rattle.pir_words.specs.declared.asked.Asked.{Asked}
-use Rattle.pir_words.specs.declared.asked.Asked.TheVariants.{Replay, Fetch, Serve, Selfrun, Demo, Lookup}
+use Rattle.pir_words.specs.declared.asked.Asked.TheVariants.{Replay, Fetch, Serve, Selfrun, Demo, Lookup, Split}
 use Rattle.pir_tool.specs.FetchOrder.{FetchOrder}
 use Rattle.wire_frames.specs.declared.scheme.TheConstants.{SHAMIR}
 use Rattle.pir_tool.specs.LookUpOrder.{LookUpOrder}
@@ -13,17 +13,20 @@ use Rattle.pir_tool.specs.FetchOutcome.{FetchOutcome}
 use Rattle.pir_tool.specs.ServeOutcome.{ServeOutcome}
 use Rattle.pir_tool.specs.SelfrunOutcome.{SelfrunOutcome}
 use Rattle.pir_tool.specs.DemoOutcome.{DemoOutcome}
+use Rattle.pir_tool.specs.SplitOutcome.{SplitOutcome}
 use Rattle.pir_tool.specs.declared.status.Status.{Status}
 use Rattle.pir_tool.specs.declared.status.Status.TheVariants.{Usage, Memory}
 
 -- what the words of `fetch` order
-abbrev pub order_of : ℕ → ℕ → ℕ → List ℕ → ℕ → ℕ → ℕ → List ℕ → Option (List ℕ) → List (List ℕ) → FetchOrder
-order_of scheme rows width blocks degree tau agree coins keep addresses = record {
+abbrev pub order_of : ℕ → ℕ → ℕ → List ℕ → ℕ → ℕ → ℕ → List ℕ → Option (List ℕ) → Bool → List (List ℕ)
+    → FetchOrder
+order_of scheme rows width blocks degree tau agree coins keep report addresses = record {
   plan = record { scheme = scheme; t = degree; tau = tau; h = agree; n = length addresses; r = rows; s = width };
   blocks = blocks;
   addresses = addresses;
   coins = coins;
   keep = keep;
+  report = report;
 }
 
 -- what the words of `lookup` order
@@ -37,9 +40,9 @@ look_up_by rows width key degree agree coins addresses = record {
 
 -- what the command did, by its status
 abbrev pub Outcome : Asked → Status → World → World → Type 0
-Outcome (Replay file) status old new = ReplayOutcome file status old new
-Outcome (Fetch scheme rows width blocks degree tau agree coins keep addresses) status old new =
-    FetchOutcome (order_of scheme rows width blocks degree tau agree coins keep addresses) status old new
+Outcome (Replay file report) status old new = ReplayOutcome file report status old new
+Outcome (Fetch scheme rows width blocks degree tau agree coins keep report addresses) status old new =
+    FetchOutcome (order_of scheme rows width blocks degree tau agree coins keep report addresses) status old new
 Outcome (Serve scheme database width guests listen workers) status old new = ServeOutcome (record {
   scheme = scheme;
   database = database;
@@ -70,6 +73,14 @@ Outcome (Demo port database rows width block servers degree agree coins) status 
 }) status old new
 Outcome (Lookup rows width key degree agree coins addresses) status old new =
     LookUpOutcome (look_up_by rows width key degree agree coins addresses) status old new
+Outcome (Split database width servers tau into coins) status old new = SplitOutcome (record {
+  database = database;
+  width = width;
+  servers = servers;
+  tau = tau;
+  into = into;
+  coins = coins;
+}) status old new
 
 -- memory ran out before the command, which nothing was touched for; or this is what the command did
 abbrev pub Runs : Asked → Status → World → World → Type 0

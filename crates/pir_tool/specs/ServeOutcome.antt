@@ -5,9 +5,10 @@ use Rattle.pir_ports.specs.Number.{OUTPUT, DATABASE, DOOR, GUEST}
 use Rattle.pir_ports.specs.Moves.{Fails, Touches, gave, named, counted}
 use Rattle.pir_ports.specs.Whole.{FailsWithin}
 use Rattle.pir_ports.specs.Touched.{One, Crowd, TouchesOnly}
+use Rattle.pir_ports.specs.Files.{Unread}
 use Rattle.block_matrix.specs.Database.{Database, limit}
 use Rattle.block_matrix.specs.Loading.{asked_for}
-use Rattle.pir_tool.specs.Told.{DidRise, NoneRose, Unread}
+use Rattle.pir_tool.specs.Told.{DidRise, NoneRose}
 use Rattle.pir_tool.specs.ServeOrder.{ServeOrder, service_of}
 use Rattle.pir_tool.specs.ServeSteps.{ready, Loaded, HasNoBytes, HasTooMany, HasBegun, AttendsInTurn, ServesGuests, RepliesToGuests}
 use Rattle.pir_tool.specs.declared.status.Status.{Status}

@@ -5,13 +5,14 @@ use Rattle.pir_ports.specs.Number.{OUTPUT, DATABASE, DOOR, GUEST}
 use Rattle.pir_ports.specs.Moves.{Fails, Touches, gave, named, counted}
 use Rattle.pir_ports.specs.Whole.{FailsWithin}
 use Rattle.pir_ports.specs.Touched.{One, Crowd, TouchesOnly}
+use Rattle.pir_ports.specs.Files.{Unread}
 use Rattle.pir_ports.specs.Serving.{Served}
 use Rattle.block_matrix.specs.Database.{Database, limit}
 use Rattle.block_matrix.specs.Loading.{Holds, HoldsMore, HoldsNone, Stopped, asked_for}
 use Rattle.serve_core.specs.Service.{Service}
 use Rattle.serve_core.specs.Attended.{AttendsNext, HasReply, IsServed}
 use Rattle.serve_core.specs.declared.met.Met.{Met}
-use Rattle.pir_tool.specs.Told.{DidRise, Unread}
+use Rattle.pir_tool.specs.Told.{DidRise}
 use Rattle.pir_tool.specs.ServeOrder.{ServeOrder}
 use Rattle.pir_tool.specs.declared.status.Status.{Status}
 use Rattle.pir_tool.specs.declared.status.Status.TheVariants.{ReadFault, WriteFault, BadInput, DoorFault, Memory}

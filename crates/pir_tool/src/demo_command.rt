@@ -145,6 +145,7 @@ pub(crate) fn demonstrate<P: Ports>(alloc: Global, order: &Demonstration, ports:
         addresses: &addresses,
         coins: order.coins,
         record_name: None,
+        report: false,
     };
     fetch_block(alloc, &fetching, ports)
 }

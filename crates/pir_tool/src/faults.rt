@@ -5,6 +5,7 @@ use block_matrix::LoadFault;
 use fetch_client::FetchFault;
 use pir_words::WordsFault;
 use replay::ReplayFault;
+use share_files::SplitFault;
 use std::alloc::AllocError;
 
 impl From<AllocError> for Status {
@@ -74,6 +75,22 @@ impl From<ReplayFault> for Status {
             ReplayFault::ReadFault => Status::ReadFault,
             ReplayFault::BadSession { place } => Status::BadInput(Bad::Session { place }),
             ReplayFault::Memory => Status::Memory,
+        }
+    }
+}
+
+impl From<SplitFault> for Status {
+    ghost use Rattle.std.specs.Prelude.{◌≡◌};
+    ghost use Rattle.pir_tool.specs.Faults.{of_split};
+
+    ghost from_gives = { λ fault status. status ≡ of_split fault };
+
+    fn from(fault: SplitFault) -> Status {
+        match fault {
+            SplitFault::CoinsFault => Status::ReadFault,
+            SplitFault::CoinsEnded { taken } => Status::BadInput(Bad::CoinsEnded { taken }),
+            SplitFault::ShareFault => Status::WriteFault,
+            SplitFault::Memory => Status::Memory,
         }
     }
 }

@@ -12,6 +12,7 @@ mod replay_command;
 mod report;
 mod selfrun_command;
 mod serve_command;
+mod split_command;
 mod status;
 mod top;
 

@@ -8,10 +8,11 @@ ghost use Rattle.pir_tool.specs.Outcome.{Outcome};
 use crate::demo_command::demonstrate;
 use crate::fetch_command::fetch_block;
 use crate::lookup_command::look_up_row;
-use crate::orders::{Demonstration, Fetching, LookingUp, Serving};
+use crate::orders::{Demonstration, Fetching, LookingUp, Serving, Splitting};
 use crate::replay_command::replay_file;
 use crate::selfrun_command::run_workload;
 use crate::serve_command::serve_file;
+use crate::split_command::split_file;
 use crate::status::Status;
 use drawn_workload::{Workload, WorkloadOrder};
 use fetch_client::FetchPlan;
@@ -39,13 +40,13 @@ pub(crate) fn obey<R: Threads + Sync, P: Ports>(rt: &R, alloc: Global, asked: &A
     ensures { Outcome asked.now result (P.world ports.old) (P.world ports.new) }
 {
     match asked {
-        Asked::Replay { file } => replay_file(alloc, file.as_str(), ports),
-        Asked::Fetch { scheme, rows, width, blocks, degree, tau, agree, coins, keep, addresses } => {
-            let addresses = addresses.as_slice();
+        Asked::Replay { file, report } => replay_file(alloc, file.as_str(), *report, ports),
+        Asked::Fetch { scheme, rows, width, blocks, degree, tau, agree, coins, keep, report, addresses } => {
+            let (report, addresses) = (*report, addresses.as_slice());
             let (scheme, t, tau, h, n) = (*scheme, *degree, *tau, *agree, addresses.len() as u8);
             let plan = FetchPlan { scheme, t, tau, h, n, r: *rows, s: *width };
             let (blocks, coins, record_name) = (blocks.as_slice(), coins.as_str(), text_of(keep));
-            let order = Fetching { plan, blocks, addresses, coins, record_name };
+            let order = Fetching { plan, blocks, addresses, coins, record_name, report };
             fetch_block(alloc, &order, ports)
         }
         Asked::Serve { scheme, database, width, conns, listen, workers } => {
@@ -71,6 +72,11 @@ pub(crate) fn obey<R: Threads + Sync, P: Ports>(rt: &R, alloc: Global, asked: &A
             let (t, h, n) = (*degree, *agree, addresses.len() as u8);
             let plan = FetchPlan { scheme: SHAMIR, t, tau: 0, h, n, r: *rows, s: *width };
             look_up_row(alloc, &LookingUp { plan, key, addresses, coins }, ports)
+        }
+        Asked::Split { database, width, servers, tau, into, coins } => {
+            let (database, into, coins) = (database.as_str(), into.as_str(), coins.as_str());
+            let (width, servers, tau) = (*width, *servers, *tau);
+            split_file(alloc, &Splitting { database, width, servers, tau, into, coins }, ports)
         }
     }
 }

@@ -7,7 +7,8 @@ use std::marker::Model;
 /// TCP has so many ports, from 0 on.
 pub(crate) const TCP_PORTS: u32 = 65536;
 
-/// Which blocks are fetched, and how, from which servers, with which coins, and in which file the session is recorded, if it is.
+/// Which blocks are fetched, and how, from which servers, with which coins, in which file the session is recorded, if it is,
+/// and whether a report is wanted.
 #[derive(Drop)]
 pub(crate) struct Fetching<'a, 'b> {
     pub(crate) plan: FetchPlan,
@@ -15,6 +16,7 @@ pub(crate) struct Fetching<'a, 'b> {
     pub(crate) addresses: &'a [String],
     pub(crate) coins: &'b str,
     pub(crate) record_name: Option<&'b str>,
+    pub(crate) report: bool,
 }
 
 impl<'a, 'b> Model for Fetching<'a, 'b> {
@@ -31,6 +33,7 @@ impl<'a, 'b> Model for Fetching<'a, 'b> {
       addresses = map string_bytes f.addresses.now;
       coins = f.coins.now;
       keep = option_copied f.record_name;
+      report = f.report;
     } };
 
     ghost invariant = { λ f. IsPlan f.plan × AreBlocks f.plan f.blocks.now
@@ -95,6 +98,36 @@ impl<'a> Model for Serving<'a> {
 
     ghost invariant = { λ s. ((s.scheme ≡ SHAMIR) ⊎ (s.scheme ≡ XOR)) × (1 ≤ s.width)
         × (s.width ≤ MOST_WIDTH) × (1 ≤ s.workers) × (s.workers ≤ MOST_WORKERS) };
+}
+
+/// Which database is split, how, into which files, and with which coins.
+#[derive(Drop)]
+pub(crate) struct Splitting<'a> {
+    pub(crate) database: &'a str,
+    pub(crate) width: u32,
+    pub(crate) servers: u8,
+    pub(crate) tau: u8,
+    pub(crate) into: &'a str,
+    pub(crate) coins: &'a str,
+}
+
+impl<'a> Model for Splitting<'a> {
+    ghost use Rattle.std.specs.Prelude.{◌<◌, ◌≤◌};
+    ghost use Rattle.wire_frames.specs.declared.TheConstants.{MOST_WIDTH};
+    ghost use Rattle.pir_tool.specs.SplitOrder.{SplitOrder};
+
+    ghost Value = { SplitOrder };
+
+    ghost view = { λ s. record {
+      database = s.database.now;
+      width = s.width;
+      servers = s.servers;
+      tau = s.tau;
+      into = s.into.now;
+      coins = s.coins.now;
+    } };
+
+    ghost invariant = { λ s. (1 ≤ s.width) × (s.width ≤ MOST_WIDTH) × (1 ≤ s.tau) × (s.tau < s.servers) };
 }
 
 /// What is fetched, from which children, and with which coins.

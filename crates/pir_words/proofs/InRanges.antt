@@ -1,5 +1,5 @@
 -- The values of a command are in their ranges.
-use Rattle.std.proofs.Common.{◌≡◌, inr, ℕ, ◌+◌, ◌≤◌, ◌-◌, ◌&&◌, List, length, Some, None, Bool, true, false, codes, refl, sym, lit<, subst, arith, unwrap_or, ◌/◌, ap}
+use Rattle.std.proofs.Common.{◌≡◌, inr, ℕ, ◌+◌, ◌<◌, ◌≤◌, ◌-◌, ◌&&◌, List, length, Some, None, Bool, true, false, codes, refl, sym, lit<, subst, arith, unwrap_or, ◌/◌, ap}
 use Rattle.std.specs.Prelude.{if◌then◌else◌, is_none, nat_le, nat_lt}
 use Rattle.std.specs.Str.{bytes_eq}
 use Rattle.std.proofs.lemmas.Bool.{and_parts, leb-true, ltb-true}
@@ -14,7 +14,7 @@ use Rattle.wire_frames.specs.declared.scheme.Scheme.{Scheme}
 use Rattle.wire_frames.specs.declared.scheme.Scheme.TheVariants.{Shamir, Xor}
 use Rattle.wire_frames.specs.declared.scheme.TheConstants.{XOR}
 use Rattle.wire_frames.specs.Scheme.{number_of}
-use Rattle.pir_words.specs.Numbers.{limited, number, number_in}
+use Rattle.pir_words.specs.Numbers.{flag_in, limited, number, number_in}
 use Rattle.pir_words.specs.Ranges.{FitsSession, block_in, scheme_in, servers_in, sharing_in, sizes_in, workers_in}
 use Rattle.pir_words.specs.ReplayForm.{replay_of}
 use Rattle.pir_words.specs.FetchForm.{IsSharedFetch, addresses_in, blocks_in, fetch_of, fetch_sharing_in, tau_in, xor_sharing_in}
@@ -22,6 +22,7 @@ use Rattle.pir_words.specs.ServeForm.{serve_of}
 use Rattle.pir_words.specs.SelfrunForm.{selfrun_of}
 use Rattle.pir_words.specs.DemoForm.{demo_of}
 use Rattle.pir_words.specs.LookUpForm.{key_in, key_named, lookup_of}
+use Rattle.pir_words.specs.SplitForm.{split_of, tau_among}
 use Rattle.hex.specs.Hex.{decode_of}
 use Rattle.hex.proofs.HexLemmas.{decode_of-ok}
 use Rattle.key_search.specs.Spelled.{spells_bytes}
@@ -103,7 +104,7 @@ replay_range : (m : List Row) (asked : Asked) → replay_of m ≡ Some asked →
 unfolding replay_of
 replay_range m asked e =
     let file = value_of (first_of (codes "file") m) _ asked e in
-    subst InRange (some_is (Replay file.0) asked file.2) (tt {0})
+    subst InRange (some_is (Replay file.0 (flag_in (codes "report") m)) asked file.2) (tt {0})
 
 -- the values of `fetch`
 fetch_range : (m : List Row) (asked : Asked) → fetch_of m ≡ Some asked → InRange asked
@@ -219,27 +220,57 @@ lookup_range m asked e =
       short_key = size.1;
     })
 
+-- the degree is at least 1, and less than the number of servers
+tau_range : (n : ℕ) (m : List Row) (tau : ℕ) → tau_among n m ≡ Some tau → (1 ≤ tau) × (tau < n)
+unfolding tau_among
+tau_range n m tau e =
+    let given = value_of (number_in (codes "tau") m) _ tau e in
+    let tested = test_of (nat_le 1 given.0 && nat_lt given.0 n) _ tau given.2 in
+    let both = and_parts (nat_le 1 given.0) (nat_lt given.0 n) tested.0 in
+    subst (λ k. (1 ≤ k) × (k < n)) (some_is given.0 tau tested.1) (leb-true _ _ both.0, ltb-true _ _ both.1)
+
+-- the values of `split`
+split_range : (m : List Row) (asked : Asked) → split_of m ≡ Some asked → InRange asked
+unfolding split_of
+split_range m asked e =
+    let width = value_of (limited (codes "width") 1 MOST_WIDTH m) _ asked e in
+    let servers = value_of (servers_in m) _ asked width.2 in
+    let tau = value_of (tau_among servers.0 m) _ asked servers.2 in
+    let database = value_of (first_of (codes "database") m) _ asked tau.2 in
+    let into = value_of (first_of (codes "into") m) _ asked database.2 in
+    let s = limited_range _ _ _ m _ width.1 in
+    let u = tau_range servers.0 m tau.0 tau.1 in
+    subst InRange (some_is _ asked into.2) (record {
+      some_bytes = s.0;
+      few_bytes = s.1;
+      few_servers = (servers_range m servers.0 servers.1).1;
+      some_tau = u.0;
+      few_tau = u.1;
+    })
+
 -- the values of a command by its name
 named_range : (name : Text) (m : List Row) (asked : Asked) → asked_by name m ≡ Some asked → InRange asked
 unfolding asked_by
 named_range name m asked e =
-    by_name (bytes_eq name (codes "replay")) (bytes_eq name (codes "fetch")) (bytes_eq name (codes "serve")) (bytes_eq name (codes "selfrun")) (bytes_eq name (codes "demo")) (bytes_eq name (codes "lookup")) e
+    by_name (bytes_eq name (codes "replay")) (bytes_eq name (codes "fetch")) (bytes_eq name (codes "serve")) (bytes_eq name (codes "selfrun")) (bytes_eq name (codes "demo")) (bytes_eq name (codes "lookup")) (bytes_eq name (codes "split")) e
   where
-    by_name : (is_replay is_fetch is_serve is_selfrun is_demo is_lookup : Bool)
+    by_name : (is_replay is_fetch is_serve is_selfrun is_demo is_lookup is_split : Bool)
         → (if is_replay then replay_of m
         else (if is_fetch then fetch_of m
         else (if is_serve then serve_of m
         else (if is_selfrun then selfrun_of m
         else (if is_demo then demo_of m
-        else (if is_lookup then lookup_of m else None)))))) ≡ Some asked
+        else (if is_lookup then lookup_of m
+        else (if is_split then split_of m else None))))))) ≡ Some asked
         → InRange asked
-    by_name true is_fetch is_serve is_selfrun is_demo is_lookup h = replay_range m asked h
-    by_name false true is_serve is_selfrun is_demo is_lookup h = fetch_range m asked h
-    by_name false false true is_selfrun is_demo is_lookup h = serve_range m asked h
-    by_name false false false true is_demo is_lookup h = selfrun_range m asked h
-    by_name false false false false true is_lookup h = demo_range m asked h
-    by_name false false false false false true h = lookup_range m asked h
-    by_name false false false false false false h = cc
+    by_name true is_fetch is_serve is_selfrun is_demo is_lookup is_split h = replay_range m asked h
+    by_name false true is_serve is_selfrun is_demo is_lookup is_split h = fetch_range m asked h
+    by_name false false true is_selfrun is_demo is_lookup is_split h = serve_range m asked h
+    by_name false false false true is_demo is_lookup is_split h = selfrun_range m asked h
+    by_name false false false false true is_lookup is_split h = demo_range m asked h
+    by_name false false false false false true is_split h = lookup_range m asked h
+    by_name false false false false false false true h = split_range m asked h
+    by_name false false false false false false false h = cc
 
 -- the values of the command that words ask for
 pub asked_range : (words : List Text) (asked : Asked) → asked_of words ≡ Some asked → InRange asked

@@ -31,11 +31,13 @@ operand_rule name = record (new_rule name) { required = true; action = Some Set 
 abbrev pub operands_rule : Text → Rule
 operands_rule name = record (new_rule name) { required = true; action = Some Append }
 
--- `replay FILE`
+-- `replay FILE --report`
 unfoldable pub replay_app : App
-replay_app = with_rule (new_app (codes "replay")) (operand_rule (codes "file"))
+replay_app =
+    let reported = with_flag (new_app (codes "replay")) (codes "report") in
+    with_rule reported (operand_rule (codes "file"))
 
--- `fetch --rows R --width S --block B --more B,.. --degree T --tau U --agree H ADDRESS..`
+-- `fetch --rows R --width S --block B --more B,.. --degree T --tau U --agree H --report ADDRESS..`
 unfoldable pub fetch_app : App
 fetch_app =
     let rows = with_option (new_app (codes "fetch")) (codes "rows") true in
@@ -48,7 +50,8 @@ fetch_app =
     let agree = with_option tau (codes "agree") false in
     let coins = with_option agree (codes "coins") false in
     let recorded = with_option coins (codes "record") false in
-    with_rule recorded (operands_rule (codes "addresses"))
+    let reported = with_flag recorded (codes "report") in
+    with_rule reported (operands_rule (codes "addresses"))
 
 -- `serve --database FILE --width S --conns N --listen ADDR`
 unfoldable pub serve_app : App
@@ -97,6 +100,16 @@ lookup_app =
     let coins = with_option agree (codes "coins") false in
     with_rule coins (operands_rule (codes "addresses"))
 
+-- `split --database FILE --width S --servers N --tau U --into NAME`
+unfoldable pub split_app : App
+split_app =
+    let database = with_option (new_app (codes "split")) (codes "database") true in
+    let width = with_option database (codes "width") true in
+    let servers = with_option width (codes "servers") true in
+    let tau = with_option servers (codes "tau") true in
+    let into = with_option tau (codes "into") true in
+    with_option into (codes "coins") false
+
 -- `pir` with no command, whose words begin after the program's name
 abbrev pub bare : App
 bare = let a = new_app (codes "pir") in record a { top = record a.top { no_binary_name = true } }
@@ -109,4 +122,5 @@ pir =
     let serve = with_subcommand fetch serve_app.top in
     let selfrun = with_subcommand serve selfrun_app.top in
     let demo = with_subcommand selfrun demo_app.top in
-    with_subcommand demo lookup_app.top
+    let lookup = with_subcommand demo lookup_app.top in
+    with_subcommand lookup split_app.top

@@ -9,7 +9,7 @@ use Rattle.wire_frames.specs.declared.scheme.Scheme.{Scheme}
 use Rattle.wire_frames.specs.declared.scheme.Scheme.TheVariants.{Shamir, Xor}
 use Rattle.wire_frames.specs.Scheme.{number_of}
 use Rattle.pir_words.specs.Chain.{◌>>=◌, ◌>>◌}
-use Rattle.pir_words.specs.Numbers.{number}
+use Rattle.pir_words.specs.Numbers.{flag_in, number}
 use Rattle.pir_words.specs.Ranges.{FitsSession, block_in, coins_in, row_named, scheme_in, sharing_in, sizes_in}
 use Rattle.pir_words.specs.declared.TheConstants.{MOST_TAU}
 use Rattle.pir_words.specs.declared.ranges.Sizes.{Sizes}
@@ -91,7 +91,7 @@ fetch_of m = do
   (sharing : Sharing) ← fetch_sharing_in scheme (length addresses) m
   tau ← tau_in scheme sharing m
   Some (Fetch (number_of scheme) sizes.rows sizes.width blocks sharing.degree tau sharing.agree
-      (coins_in m) (first_of (codes "record") m) addresses)
+      (coins_in m) (first_of (codes "record") m) (flag_in (codes "report") m) addresses)
 
 -- these are blocks that may be asked for at once: some, each one of r rows, and all of them of few bytes
 pub record AreAtOnce (r s : ℕ) (blocks : List ℕ) : Type 0 where

@@ -14,8 +14,9 @@ use Rattle.pir_words.specs.ServeForm.{IsServe, serve_of}
 use Rattle.pir_words.specs.SelfrunForm.{IsSelfrun, selfrun_of}
 use Rattle.pir_words.specs.DemoForm.{IsDemo, demo_of}
 use Rattle.pir_words.specs.LookUpForm.{FitsLookUp, lookup_of}
+use Rattle.pir_words.specs.SplitForm.{IsSplit, split_of}
 use Rattle.pir_words.specs.declared.asked.Asked.{Asked}
-use Rattle.pir_words.specs.declared.asked.Asked.TheVariants.{Replay, Fetch, Serve, Selfrun, Demo, Lookup}
+use Rattle.pir_words.specs.declared.asked.Asked.TheVariants.{Replay, Fetch, Serve, Selfrun, Demo, Lookup, Split}
 use Rattle.pir_words.specs.declared.asked.WordsFault.{WordsFault}
 use Rattle.pir_words.specs.declared.asked.WordsFault.TheVariants.{Usage, Memory}
 
@@ -38,7 +39,8 @@ asked_by name m =
     else (if bytes_eq name (codes "serve") then serve_of m
     else (if bytes_eq name (codes "selfrun") then selfrun_of m
     else (if bytes_eq name (codes "demo") then demo_of m
-    else (if bytes_eq name (codes "lookup") then lookup_of m else None)))))
+    else (if bytes_eq name (codes "lookup") then lookup_of m
+    else (if bytes_eq name (codes "split") then split_of m else None))))))
 
 -- the command that a parse entered
 unfoldable pub asked_in : Option (Text × List Row) → Option Asked
@@ -64,10 +66,11 @@ IsReadAs wanted (Err Memory) = Unit {0}
 
 -- the values of a command are in their ranges
 abbrev pub InRange : Asked → Type 0
-InRange (Replay file) = Unit {0}
-InRange (Fetch scheme r s blocks t tau h coins keep addresses) =
+InRange (Replay file report) = Unit {0}
+InRange (Fetch scheme r s blocks t tau h coins keep report addresses) =
     IsFetch scheme r s blocks t tau h (length addresses)
 InRange (Serve scheme database s guests listen workers) = IsServe scheme s guests workers
 InRange (Selfrun seed r s n t h v workers slow) = IsSelfrun seed r s n t h v workers
 InRange (Demo port database r s b n t h coins) = IsDemo port r s b t h n
 InRange (Lookup r s key t h coins addresses) = FitsLookUp r s key t h (length addresses)
+InRange (Split database s n tau into coins) = IsSplit s n tau

@@ -8,4 +8,5 @@ pub mod ServeForm
 pub mod SelfrunForm
 pub mod DemoForm
 pub mod LookUpForm
+pub mod SplitForm
 pub mod Form

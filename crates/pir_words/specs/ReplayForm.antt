@@ -2,11 +2,12 @@
 use Rattle.std.specs.Prelude.{List, Option, Some, codes}
 use Rattle.clap.specs.Words.{Row, first_of}
 use Rattle.pir_words.specs.Chain.{◌>>=◌}
+use Rattle.pir_words.specs.Numbers.{flag_in}
 use Rattle.pir_words.specs.declared.asked.Asked.{Asked}
 use Rattle.pir_words.specs.declared.asked.Asked.TheVariants.{Replay}
 
--- `replay` with its file
+-- `replay` with its file, and whether a report is wanted
 unfoldable pub replay_of : List Row → Option Asked
 replay_of m = do
   file ← first_of (codes "file") m
-  Some (Replay file)
+  Some (Replay file (flag_in (codes "report") m))

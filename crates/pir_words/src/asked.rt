@@ -14,6 +14,8 @@ pub enum Asked {
     Replay {
         /// The file's name; `-` is standard input.
         file: Text,
+        /// Whether it is said who agrees, and who lied.
+        report: bool,
     },
     /// Fetch a block of a database that several servers hold, or several in one query.
     Fetch {
@@ -36,6 +38,8 @@ pub enum Asked {
         coins: Text,
         /// The file in which the session is kept, if it is.
         keep: Option<Text>,
+        /// Whether it is said who agrees, and who lied.
+        report: bool,
         /// The address of each server.
         addresses: Texts,
     },
@@ -112,6 +116,21 @@ pub enum Asked {
         coins: Text,
         /// The address of each server.
         addresses: Texts,
+    },
+    /// Split a database into a share for each server, in a file of its own.
+    Split {
+        /// The file of the database.
+        database: Text,
+        /// How many bytes a row has.
+        width: u32,
+        /// How many servers there are.
+        servers: u8,
+        /// So many servers together can't read the database.
+        tau: u8,
+        /// What the names of the shares' files begin with: a dot follows, and the index of the server, from 1 on.
+        into: Text,
+        /// The file that random bytes come from.
+        coins: Text,
     },
 }
 

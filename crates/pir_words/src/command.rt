@@ -4,7 +4,7 @@ ghost use Rattle.std.specs.Prelude.{◌≡◌, Bool, false, IfOk};
 ghost use Rattle.clap.specs.Words.{app_of};
 ghost use Rattle.clap.specs.declared.builder.command.Command.TheViews.{out-Command};
 ghost use Rattle.pir_words.specs.Command.{with_flag, with_option};
-ghost use Rattle.pir_words.specs.Command.{replay_app, fetch_app, serve_app, selfrun_app, demo_app, lookup_app, pir};
+ghost use Rattle.pir_words.specs.Command.{replay_app, fetch_app, serve_app, selfrun_app, demo_app, lookup_app, split_app, pir};
 
 use clap::{Arg, ArgAction, Command};
 use std::alloc::{AllocError, Global};
@@ -47,10 +47,12 @@ fn replay_command<'a>(alloc: Global) -> Result<Command<'a>, AllocError>
     ensures app { IfOk result (λ c. app_of c ≡ replay_app) }
     ensures local { IfOk result (λ c. (out-Command c).has_globals ≡ false) }
 {
+    let start = Command::new(alloc, "replay");
+    let reported = with_flag(alloc, start, "report")?;
     let file = Arg::new(alloc, "file")
         .required(true)
         .action(ArgAction::Set);
-    Command::new(alloc, "replay").arg(file)
+    reported.arg(file)
 }
 
 /// `fetch`.
@@ -69,10 +71,11 @@ fn fetch_command<'a>(alloc: Global) -> Result<Command<'a>, AllocError>
     let agree = with_option(alloc, tau, "agree", false)?;
     let coins = with_option(alloc, agree, "coins", false)?;
     let recorded = with_option(alloc, coins, "record", false)?;
+    let reported = with_flag(alloc, recorded, "report")?;
     let addresses = Arg::new(alloc, "addresses")
         .required(true)
         .action(ArgAction::Append);
-    recorded.arg(addresses)
+    reported.arg(addresses)
 }
 
 /// `serve`.
@@ -141,6 +144,20 @@ fn lookup_command<'a>(alloc: Global) -> Result<Command<'a>, AllocError>
     coins.arg(addresses)
 }
 
+/// `split`.
+fn split_command<'a>(alloc: Global) -> Result<Command<'a>, AllocError>
+    ensures app { IfOk result (λ c. app_of c ≡ split_app) }
+    ensures local { IfOk result (λ c. (out-Command c).has_globals ≡ false) }
+{
+    let start = Command::new(alloc, "split");
+    let database = with_option(alloc, start, "database", true)?;
+    let width = with_option(alloc, database, "width", true)?;
+    let servers = with_option(alloc, width, "servers", true)?;
+    let tau = with_option(alloc, servers, "tau", true)?;
+    let into = with_option(alloc, tau, "into", true)?;
+    with_option(alloc, into, "coins", false)
+}
+
 /// `pir` with its commands. The words come without the program's name.
 pub fn pir_command<'a>(alloc: Global) -> Result<Command<'a>, AllocError>
     ensures { IfOk result (λ c. app_of c ≡ pir) }
@@ -157,5 +174,7 @@ pub fn pir_command<'a>(alloc: Global) -> Result<Command<'a>, AllocError>
     let demo = demo_command(alloc)?;
     let with_demo = with_selfrun.subcommand(demo)?;
     let lookup = lookup_command(alloc)?;
-    with_demo.subcommand(lookup)
+    let with_lookup = with_demo.subcommand(lookup)?;
+    let split = split_command(alloc)?;
+    with_lookup.subcommand(split)
 }

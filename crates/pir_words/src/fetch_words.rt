@@ -11,7 +11,7 @@ use crate::asked::{Asked, WordsFault};
 use crate::blocks::blocks_at;
 use crate::ranges::{Sharing, coins_at, scheme_at, sharing_at, sizes_at};
 use crate::text::Texts;
-use crate::values::{number_of, owned, owned_if_given, text_at, texts_at};
+use crate::values::{flag_at, number_of, owned, owned_if_given, text_at, texts_at};
 use clap::ArgMatches;
 use std::alloc::Global;
 use wire_frames::{LEAST_SERVERS, MOST_SERVERS, Scheme};
@@ -108,6 +108,7 @@ pub fn read_fetch(alloc: Global, matches: &ArgMatches) -> Result<Asked, WordsFau
         agree: sharing.agree,
         coins,
         keep,
+        report: flag_at(matches, "report"),
         addresses,
     })
 }

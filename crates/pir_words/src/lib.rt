@@ -29,6 +29,7 @@ mod ranges;
 mod replay_words;
 mod selfrun_words;
 mod serve_words;
+mod split_words;
 mod text;
 mod values;
 
@@ -42,6 +43,7 @@ use lookup_words::read_lookup;
 use replay_words::read_replay;
 use selfrun_words::read_selfrun;
 use serve_words::read_serve;
+use split_words::read_split;
 use std::alloc::Global;
 pub use text::{Text, Texts};
 use wire_frames::MOST_DEGREE;
@@ -80,6 +82,7 @@ fn read_command(alloc: Global, name: &str, matches: &ArgMatches) -> Result<Asked
         "selfrun" => read_selfrun(matches).ok_or(WordsFault::Usage),
         "demo" => read_demo(alloc, matches),
         "lookup" => read_lookup(alloc, matches),
+        "split" => read_split(alloc, matches),
         _ => Err(WordsFault::Usage),
     }
 }
@@ -98,16 +101,17 @@ fn read_matches(alloc: Global, matches: &ArgMatches) -> Result<Asked, WordsFault
 ///
 /// | Command | Required | May be left out |
 /// |---|---|---|
-/// | `replay` | FILE | |
-/// | `fetch` | `--rows R --width S --block B --degree T --agree H`, two addresses or more | `--more B,B,..`, `--scheme shamir`, `--tau U` (0), `--coins FILE` (`/dev/urandom`), `--record FILE` |
-/// | `fetch` | `--scheme xor --rows R --width S --block B`, two addresses or more | `--more B,B,..`, `--coins FILE` (`/dev/urandom`), `--record FILE` |
+/// | `replay` | FILE | `--report` |
+/// | `fetch` | `--rows R --width S --block B --degree T --agree H`, two addresses or more | `--more B,B,..`, `--scheme shamir`, `--tau U` (0), `--coins FILE` (`/dev/urandom`), `--record FILE`, `--report` |
+/// | `fetch` | `--scheme xor --rows R --width S --block B`, two addresses or more | `--more B,B,..`, `--coins FILE` (`/dev/urandom`), `--record FILE`, `--report` |
 /// | `serve` | `--database FILE --width S --conns GUESTS --listen ADDR` | `--scheme shamir` or `--scheme xor` (`shamir`), `--workers W` (1) |
 /// | `selfrun` | `--seed SEED --rows R --width S --servers N --degree T --agree H --liars V` | `--workers W` (1), `--slow` |
 /// | `demo` | `--port P --database FILE --rows R --width S --block B --servers N --degree T --agree H` | `--coins FILE` (`/dev/urandom`) |
 /// | `lookup` | `--rows R --width S --key HEX --degree T --agree H`, two addresses or more | `--coins FILE` (`/dev/urandom`) |
+/// | `split` | `--database FILE --width S --servers N --tau U --into NAME` | `--coins FILE` (`/dev/urandom`) |
 ///
 /// Options come in any order, each once, as `--rows 2` or `--rows=2`, and addresses may stand between them; `--slow`
-/// takes no value. What follows the word `--` is no option. A value that begins with `-` is written `--coins=-x`; `-`
+/// and `--report` take no value. What follows the word `--` is no option. A value that begins with `-` is written `--coins=-x`; `-`
 /// alone is a value.
 ///
 /// A number is one or more ASCII decimal digits, of a value below `2^64`: `002` is good, and `+2`
@@ -121,8 +125,8 @@ fn read_matches(alloc: Global, matches: &ArgMatches) -> Result<Asked, WordsFault
 /// [`LEAST_SERVERS`](wire_frames::LEAST_SERVERS) servers and at most
 /// [`MOST_SERVERS`](wire_frames::MOST_SERVERS), as many as `--servers` says or addresses stand.
 /// Degree and agreement of N servers have `1 <= T < H <= N`, and T is at most
-/// [`MOST_DEGREE`](wire_frames::MOST_DEGREE). The degree U in which the database is shared is at most
-/// [`MOST_TAU`], with `T + U < H`. In the XOR scheme none of the three may stand, not even as 0: the
+/// [`MOST_DEGREE`](wire_frames::MOST_DEGREE). The degree U in which the database of `fetch` is shared is at most
+/// [`MOST_TAU`], with `T + U < H`; that in which `split` shares one is at least 1 and below N. In the XOR scheme none of the three may stand, not even as 0: the
 /// agreement is N, and the degree one less. At most all servers are liars. The number of guests is at least 1 and
 /// at most [`MOST_GUESTS`](wire_frames::MOST_GUESTS), the number W of workers at least 1 and at
 /// most [`MOST_WORKERS`](wire_frames::MOST_WORKERS), and the port P at least [`LEAST_PORT`] and at
@@ -134,10 +138,11 @@ fn read_matches(alloc: Global, matches: &ArgMatches) -> Result<Asked, WordsFault
 ///
 /// ```
 /// // The words are `replay -`.
-/// let Ok(Asked::Replay { file }) = read_words(alloc, &words) else {
+/// let Ok(Asked::Replay { file, report }) = read_words(alloc, &words) else {
 ///     return Err("no replay".into());
 /// };
 /// assert_eq!(file.as_str(), "-");
+/// assert!(!report);
 /// ```
 pub fn read_words(alloc: Global, words: &[String]) -> Result<Asked, WordsFault>
     ensures form { IsReadAs (asked_of (map string_bytes words.now)) result }

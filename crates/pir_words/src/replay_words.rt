@@ -5,16 +5,17 @@ ghost use Rattle.pir_words.specs.ReplayForm.{replay_of};
 ghost use Rattle.pir_words.specs.Form.{IsReadAs};
 
 use crate::asked::{Asked, WordsFault};
-use crate::values::{owned, text_at};
+use crate::values::{flag_at, owned, text_at};
 use clap::ArgMatches;
 use std::alloc::Global;
 
-/// `replay` with its file.
+/// `replay` with its file, and whether a report is wanted.
 #[tactic(auto, unfolding(crate::specs::ReplayForm::replay_of))]
 pub fn read_replay(alloc: Global, matches: &ArgMatches) -> Result<Asked, WordsFault>
     ensures { IsReadAs (replay_of (given matches.now)) result }
 {
     let file = text_at(matches, "file").ok_or(WordsFault::Usage)?;
     let file = owned(alloc, file)?;
-    Ok(Asked::Replay { file })
+    let report = flag_at(matches, "report");
+    Ok(Asked::Replay { file, report })
 }

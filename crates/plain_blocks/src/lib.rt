@@ -93,7 +93,7 @@ impl<'a> Search<'a> {
             return Ok(());
         }
         if numbers.len() == self.width {
-            return listing.insert(alloc, &constants(alloc, numbers)?);
+            return listing.insert(constants(alloc, numbers)?);
         }
         for number in 0..256u64.pow(self.degree + 1) {
             numbers.push(number)?;

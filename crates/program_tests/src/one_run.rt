@@ -34,7 +34,9 @@ fn a_session_is_replayed(rt: HostRuntime) -> Result<(), Fail> {
 fn words_ask_for_a_replay(rt: HostRuntime) -> Result<(), Fail> {
     let words = replay_words(rt.alloc())?;
     let asked = read_words(rt.alloc(), &words);
-    assert!(rt; matches!(&asked, Ok(Asked::Replay { file }) if file.as_str() == "-"));
+    assert!(rt;
+        matches!(&asked, Ok(Asked::Replay { file, report: false }) if file.as_str() == "-")
+    );
     Ok(())
 }
 

@@ -9,6 +9,8 @@ use Rattle.wire_frames.specs.declared.sizes.TheConstants.{SESSION_HEADER_LEN}
 use Rattle.wire_frames.specs.Session.{Transcript, IsSession}
 use Rattle.wire_frames.specs.Beginning.{Begins, IsPlace}
 use Rattle.wire_frames.specs.Answer.{answers, block_len}
+use Rattle.block_decoder.specs.Report.{Agreement}
+use Rattle.block_decoder.specs.Reported.{IsReportOn}
 use Rattle.block_decoder.specs.Verdict.{IsVerdict, least_columns}
 use Rattle.block_decoder.specs.declared.verdict.Verdict.{Verdict}
 use Rattle.replay.specs.declared.TheConstants.{PIECE_LEN}
@@ -28,6 +30,12 @@ pub record Judged (verdict : Verdict) (bytes : List ℕ) : Type 0 where
   pub session : Transcript
   pub whole : IsSession bytes session
   pub judged : IsVerdict session verdict
+
+-- the bytes are this session, which has this verdict, and this report beside it
+pub record JudgedWhole (found : Transcript × Verdict × Option (List Agreement)) (bytes : List ℕ) : Type 0 where
+  pub whole : IsSession bytes found.0
+  pub judged : IsVerdict found.0 found.1
+  pub report : IsReportOn found.0 found.1 found.2
 
 -- the bytes are no session: they stop to begin one at this place
 pub record NoSession (place : ℕ) (bytes : List ℕ) : Type 0 where
@@ -91,8 +99,8 @@ CountsListed held before now verdict = (bytes : List ℕ) (session : Transcript)
     → session.params.scheme ≡ SHAMIR → before + least_columns (block_len session.params) verdict ≤ now
 
 -- where nothing is judged no step is counted
-abbrev pub CountsNone : Result Verdict ReplayFault → ℕ → ℕ → Type 0
-CountsNone (Ok verdict) before now = Unit {0}
+abbrev pub CountsNone : {T : Type 0} → Result T ReplayFault → ℕ → ℕ → Type 0
+CountsNone (Ok found) before now = Unit {0}
 CountsNone (Err (BadSession place)) before now = now ≡ before
 CountsNone (Err ReadFault) before now = now ≡ before
 CountsNone (Err Memory) before now = Unit {0}

@@ -12,9 +12,9 @@ ghost use Rattle.std.specs.Prelude.{◌≡◌, ◌≤◌, length, vec_len, IfOk}
 ghost use Rattle.pir_ports.specs.Number.{INPUT};
 ghost use Rattle.pir_ports.specs.Moves.{Touches};
 ghost use Rattle.block_decoder.specs.Numbers.{most_columns, most_nodes};
-ghost use Rattle.replay.specs.Replayed.{ReadTo, Judged, Spells, ReplayCounts, CountsListed, CountsNone};
+ghost use Rattle.replay.specs.Replayed.{ReadTo, Judged, JudgedWhole, Spells, ReplayCounts, CountsListed, CountsNone};
 
-use block_decoder::{Verdict, judge};
+use block_decoder::{Report, Verdict, judge, judge_report};
 use gs_interpolate::Interpolate;
 use pir_ports::{Failed, Port, Ports};
 use std::alloc::{AllocError, Global};
@@ -138,4 +138,33 @@ pub fn replay<I: Interpolate, C: Ledger, N: Ledger, P: Ports>(
     let mut buffer = piece_buffer(alloc)?;
     let session = read_pieces(alloc, ports, &mut buffer)?;
     Ok(judge(alloc, way, &session, cols, nodes)?)
+}
+
+/// The same, with the session that was read, and beside the verdict who agrees, as [`judge_report`] has it: `None` exactly in
+/// the XOR scheme, or where the verdict isn't a listing. The steps are those of [`replay`].
+///
+/// # Errors
+///
+/// As [`replay`].
+pub fn replay_report<I: Interpolate, C: Ledger, N: Ledger, P: Ports>(
+    alloc: Global,
+    way: &I,
+    ports: &mut P,
+    cols: &mut Steps<C>,
+    nodes: &mut Steps<N>,
+) -> Result<(Session, Verdict, Option<Report>), ReplayFault>
+    ensures replayed { ReadTo JudgedWhole result (P.world ports.old) (P.world ports.new) }
+    ensures all { IfOk result (λ found. length found.0.records ≡ found.0.params.n) }
+    ensures others { Touches INPUT (P.world ports.old) (P.world ports.new) }
+    ensures cols { ReplayCounts most_columns ((P.world ports.old).at INPUT).holds cols.old cols.new }
+    ensures nodes { ReplayCounts most_nodes ((P.world ports.old).at INPUT).holds nodes.old nodes.new }
+    ensures unjudged { CountsNone result cols.old cols.new × CountsNone result nodes.old nodes.new }
+    ensures least { cols.old ≤ cols.new }
+    ensures least_nodes { nodes.old ≤ nodes.new }
+    ensures listed { IfOk result (λ found. CountsListed ((P.world ports.old).at INPUT).holds cols.old cols.new found.1) }
+{
+    let mut buffer = piece_buffer(alloc)?;
+    let session = read_pieces(alloc, ports, &mut buffer)?;
+    let (verdict, report) = judge_report(alloc, way, &session, cols, nodes)?;
+    Ok((session, verdict, report))
 }

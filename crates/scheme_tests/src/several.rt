@@ -131,6 +131,8 @@ fn each_is_as_alone(rt: HostRuntime) -> Result<(), Fail> {
         (301, 45, 16, 4),
         (40, 4099, 16, 1),
         (3, 5000, 2, 16),
+        (4099, 2, 11, 1),
+        (4099, 2050, 9, 1),
     ] {
         let alone = each_is_alone(&rt, rt.alloc(), rows, width, count, workers)?;
         assert!(rt;

@@ -1,7 +1,8 @@
 mod Frame
 mod Written
-mod RoomFor
+pub mod RoomFor
 pub mod OneReply
+mod Taking
 mod Replying
 pub mod ServingOne
 pub mod ServingNext

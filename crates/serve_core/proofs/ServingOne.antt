@@ -6,9 +6,10 @@ use Rattle.pir_ports.specs.World.{Cell, World}
 use Rattle.pir_ports.specs.Number.{GUEST}
 use Rattle.pir_ports.specs.Serving.{ServesOne}
 use Rattle.wire_frames.specs.declared.sizes.TheConstants.{FRAME_HEADER_LEN}
-use Rattle.serve_core.specs.Service.{Service}
-use Rattle.serve_core.specs.Reply.{ReplyTakes, Suits, query_len_of}
-use Rattle.serve_core.specs.Attended.{IsReply, Replied, IsFrontOfReply, IsShort, IsBroken, Broke, Attends, HasReply, IsServed}
+use Rattle.serve_core.specs.Service.{Service, terms_of}
+use Rattle.serve_core.specs.Case.{ReplyTakes, Suits, query_len_of}
+use Rattle.serve_core.specs.Taking.{IsShort}
+use Rattle.serve_core.specs.Attended.{IsReply, Replied, IsFrontOfReply, IsBroken, Broke, Attends, HasReply, IsServed}
 use Rattle.serve_core.specs.declared.met.Met.{Met}
 use Rattle.serve_core.specs.declared.met.Met.TheVariants.{Served, Refused, Gone, GuestFault}
 
@@ -39,21 +40,21 @@ front_of service n given bytes (inr short) = inr (record {
 
 -- no more was taken than a header, and the payload of one that suits
 pub takes_at_most : (service : Service) (n : ℕ) (given bytes : List ℕ) → IsBroken service n given bytes
-    → (n ≤ FRAME_HEADER_LEN) ⊎ (Suits service bytes × (n ≤ query_len_of service bytes))
+    → (n ≤ FRAME_HEADER_LEN) ⊎ (Suits (terms_of service) bytes × (n ≤ query_len_of (terms_of service) bytes))
 takes_at_most service n given bytes (inl short) = by_short short.short
   where
-    by_short : IsShort service n bytes → (n ≤ FRAME_HEADER_LEN) ⊎ (Suits service bytes × (n ≤ query_len_of service bytes))
+    by_short : IsShort (terms_of service) n bytes → (n ≤ FRAME_HEADER_LEN) ⊎ (Suits (terms_of service) bytes × (n ≤ query_len_of (terms_of service) bytes))
     by_short (inl fewer) = inl (omega (arith, fewer))
     by_short (inr (suits, fewer)) = inr (suits, omega (arith, fewer))
 takes_at_most service n given bytes (inr short) = by_met short.met short.reply
   where
     by_met : (met : Met) → IsReply service met n short.frame bytes
-        → (n ≤ FRAME_HEADER_LEN) ⊎ (Suits service bytes × (n ≤ query_len_of service bytes))
+        → (n ≤ FRAME_HEADER_LEN) ⊎ (Suits (terms_of service) bytes × (n ≤ query_len_of (terms_of service) bytes))
     by_met Served reply = inr (reply.replies.0.whole.suits, omega (arith, reply.takes))
     by_met (Refused status) reply = by_refusal reply.takes
       where
-        by_refusal : ReplyTakes service bytes (Refused status) n
-            → (n ≤ FRAME_HEADER_LEN) ⊎ (Suits service bytes × (n ≤ query_len_of service bytes))
+        by_refusal : ReplyTakes (terms_of service) bytes (Refused status) n
+            → (n ≤ FRAME_HEADER_LEN) ⊎ (Suits (terms_of service) bytes × (n ≤ query_len_of (terms_of service) bytes))
         by_refusal (inl (refused, all)) = inl (omega (arith, all))
         by_refusal (inr (refused, all)) = inr (refused.1.whole.suits, omega (arith, all))
     by_met Gone reply = absurd (omega (arith, short.proper, ap length reply.replies.1))

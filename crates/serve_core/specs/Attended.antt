@@ -4,16 +4,17 @@ use Rattle.pir_ports.specs.World.{World}
 use Rattle.pir_ports.specs.Number.{GUEST}
 use Rattle.pir_ports.specs.Guests.{Meets}
 use Rattle.pir_ports.specs.Moves.{Rose, Touches, took, gave, counted}
-use Rattle.wire_frames.specs.declared.sizes.TheConstants.{FRAME_HEADER_LEN}
-use Rattle.serve_core.specs.Service.{Service}
-use Rattle.serve_core.specs.Reply.{Replies, ReplyTakes, Suits, query_len_of}
+use Rattle.serve_core.specs.Service.{Service, terms_of}
+use Rattle.serve_core.specs.Case.{ReplyTakes}
+use Rattle.serve_core.specs.Reply.{Replies}
+use Rattle.serve_core.specs.Taking.{TakesShort}
 use Rattle.serve_core.specs.declared.met.Met.{Met}
 use Rattle.serve_core.specs.declared.met.Met.TheVariants.{GuestFault}
 
 -- the reply to these bytes takes so many of them and is this frame
 pub record IsReply (service : Service) (met : Met) (n : ℕ) (frame bytes : List ℕ) : Type 0 where
   pub replies : Replies service bytes met frame
-  pub takes : ReplyTakes service bytes met n
+  pub takes : ReplyTakes (terms_of service) bytes met n
   pub there : n ≤ length bytes
 
 -- the guest was given the whole reply, and its stream lost the n bytes that the reply takes
@@ -32,17 +33,6 @@ pub record IsFrontOfReply (service : Service) (front bytes : List ℕ) : Type 0 
   pub proper : n < length frame
   pub front_is : front ≡ take n frame
 
--- fewer than the bytes of a header, or of a query whose header suits
-abbrev pub IsShort : Service → ℕ → List ℕ → Type 0
-IsShort service n bytes = (n < FRAME_HEADER_LEN)
-    ⊎ (Suits service bytes × (n < query_len_of service bytes))
-
--- taking failed: not all that the reply takes was taken, and nothing was given
-pub record TakesShort (service : Service) (n : ℕ) (given bytes : List ℕ) : Type 0 where
-  pub short : IsShort service n bytes
-  pub there : n ≤ length bytes
-  pub nothing : given ≡ []
-
 -- giving failed: all that the reply takes was taken, and a proper front of its frame was given
 pub record GivesShort (service : Service) (n : ℕ) (given bytes : List ℕ) : Type 0 where
   pub met : Met
@@ -54,7 +44,7 @@ pub record GivesShort (service : Service) (n : ℕ) (given bytes : List ℕ) : T
 
 -- what was taken and given before a call on the guest failed
 abbrev pub IsBroken : Service → ℕ → List ℕ → List ℕ → Type 0
-IsBroken service n given bytes = TakesShort service n given bytes
+IsBroken service n given bytes = TakesShort (terms_of service) n given bytes
     ⊎ GivesShort service n given bytes
 
 -- a call on the guest failed, once its stream had lost n bytes and it was given these

@@ -1,7 +1,10 @@
+pub mod Terms
 pub mod Service
 pub mod Servable
 pub mod Room
 pub mod Refusal
+pub mod Case
 pub mod Reply
+pub mod Taking
 pub mod Attended
 pub mod Stages

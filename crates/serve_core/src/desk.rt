@@ -4,12 +4,10 @@ ghost use Rattle.pir_ports.specs.Number.{GUEST};
 ghost use Rattle.pir_ports.specs.Moves.{Touches};
 ghost use Rattle.wire_frames.specs.declared.scheme.TheConstants.{SHAMIR, XOR};
 ghost use Rattle.wire_frames.specs.declared.TheConstants.{MOST_WORKERS};
-ghost use Rattle.serve_core.specs.Stages.{IsGood, HandlesPayload, Judges};
+ghost use Rattle.serve_core.specs.Attended.{Attends};
 
-use crate::answer::answer_query;
-use crate::header::judge_header;
+use crate::attend::attend;
 use crate::met::Met;
-use crate::refusal::Refusal;
 use crate::room::Room;
 use crate::service::Service;
 use block_matrix::Matrix;
@@ -18,7 +16,6 @@ use server_product::Gate;
 use std::alloc::{AllocError, Global};
 use std::marker::Model;
 use std::thread::Threads;
-use wire_frames::FRAME_HEADER_LEN;
 
 /// A database with all that it takes to serve it: room for the payload of a query, for the sums of
 /// each worker and for the frame of an answer. Contracts see the database, the scheme and the
@@ -72,41 +69,17 @@ impl Desk {
         Ok(Desk { service, room })
     }
 
-    /// For how many blocks the query with this header asks, where it suits.
-    ///
-    /// # Errors
-    ///
-    /// Why it is refused.
-    pub(crate) fn judge(&self, header: &[u8; FRAME_HEADER_LEN]) -> Result<u8, Refusal>
-        ensures { Judges self.now header.now result }
-    {
-        judge_header(&self.service, header)
-    }
-
-    /// Takes the payload of a query with this header, which suits and asks for so many blocks, and
-    /// gives the guest the answer, or refuses the payload.
-    pub(crate) fn answer<R: Threads + Sync, G: Gate + Sync, P: Ports>(
+    /// Takes the query of the guest that is in, and gives the guest the answer, or refuses the query.
+    pub(crate) fn attend<R: Threads + Sync, G: Gate + Sync, P: Ports>(
         &mut self,
         rt: &R,
-        header: &[u8; FRAME_HEADER_LEN],
-        count: u8,
         ports: &mut P,
         gate: &G,
     ) -> Met
-        requires { IsGood self.old header.now count }
-        ensures handles { HandlesPayload self.old header.now result
-            (P.world ports.old) (P.world ports.new) }
+        ensures attends { Attends self.old result (P.world ports.old) (P.world ports.new) }
         ensures others { Touches GUEST (P.world ports.old) (P.world ports.new) }
         ensures kept { self.new ≡ self.old }
     {
-        answer_query(
-            rt,
-            &self.service,
-            &mut self.room,
-            header,
-            count,
-            ports,
-            gate,
-        )
+        attend(rt, &self.service, &mut self.room, ports, gate)
     }
 }

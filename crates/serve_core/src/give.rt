@@ -2,13 +2,12 @@
 ghost use Rattle.std.specs.Prelude.{◌<◌, length};
 ghost use Rattle.pir_ports.specs.Number.{GUEST};
 ghost use Rattle.pir_ports.specs.Moves.{Touches};
-ghost use Rattle.wire_frames.specs.Header.{answer_to};
 ghost use Rattle.serve_core.specs.Refusal.{refusal_status};
-ghost use Rattle.serve_core.specs.Stages.{Gives};
-ghost use Rattle.serve_core.specs.declared.met.Met.TheVariants.{Refused};
+ghost use Rattle.serve_core.specs.Stages.{Gives, GivesRefusal};
 
 use crate::met::Met;
 use crate::refusal::Refusal;
+use crate::taken::Taken;
 use pir_ports::{Failed, Port, Ports, write_all};
 use wire_frames::{FRAME_HEADER_LEN, write_answer_header};
 
@@ -29,14 +28,16 @@ pub(crate) fn refuse<P: Ports>(
     ports: &mut P,
     header: &[u8; FRAME_HEADER_LEN],
     refusal: Refusal,
-) -> Met
-    ensures gives { Gives (Refused (refusal_status refusal))
-        (answer_to header.now (refusal_status refusal))
-        result (P.world ports.old) (P.world ports.new) }
+) -> Taken
+    ensures gives { GivesRefusal header.now (refusal_status refusal) result
+        (P.world ports.old) (P.world ports.new) }
     ensures others { Touches GUEST (P.world ports.old) (P.world ports.new) }
 {
     let status = refusal.status();
     let mut frame = [0; FRAME_HEADER_LEN];
     write_answer_header(header, status, &mut frame);
-    give(ports, &frame, Met::Refused(status))
+    match write_all(ports, Port::Guest, &frame) {
+        Ok(()) => Taken::Refused(status),
+        Err(Failed) => Taken::GuestFault,
+    }
 }

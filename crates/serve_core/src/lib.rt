@@ -13,16 +13,23 @@
 #![tactic(auto)]
 
 mod answer;
+mod attend;
 mod desk;
 mod give;
 mod header;
 pub mod laws;
 mod met;
+mod payload;
 mod refusal;
 mod room;
 mod serve;
 mod service;
+mod take;
+mod taken;
+mod terms;
 
 pub use desk::Desk;
 pub use met::Met;
 pub use serve::serve_one;
+pub use take::take_query;
+pub use taken::Taken;

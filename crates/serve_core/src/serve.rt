@@ -5,12 +5,10 @@ ghost use Rattle.pir_ports.specs.Moves.{Touches};
 ghost use Rattle.serve_core.specs.Attended.{Attends};
 
 use crate::desk::Desk;
-use crate::give::refuse;
 use crate::met::Met;
-use pir_ports::{Filled, Port, Ports, read_exactly};
+use pir_ports::Ports;
 use server_product::Gate;
 use std::thread::Threads;
-use wire_frames::FRAME_HEADER_LEN;
 
 /// Serves the guest that is in, and says how it was met.
 ///
@@ -39,14 +37,5 @@ pub fn serve_one<R: Threads + Sync, G: Gate + Sync, P: Ports>(
     ensures others { Touches GUEST (P.world ports.old) (P.world ports.new) }
     ensures kept { desk.new ≡ desk.old }
 {
-    let mut header = [0; FRAME_HEADER_LEN];
-    match read_exactly(ports, Port::Guest, &mut header) {
-        Filled::Full => {}
-        Filled::Ended(_) => return Met::Gone,
-        Filled::Failed => return Met::GuestFault,
-    }
-    match desk.judge(&header) {
-        Ok(count) => desk.answer(rt, &header, count, ports, gate),
-        Err(refusal) => refuse(ports, &header, refusal),
-    }
+    desk.attend(rt, ports, gate)
 }

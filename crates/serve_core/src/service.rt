@@ -1,19 +1,15 @@
 //! What is served.
-ghost use Rattle.std.specs.Prelude.{◌≡◌, ◌≤◌, ◌⊎◌, length};
-ghost use Rattle.wire_frames.specs.declared.TheConstants.{MOST_ROWS};
+ghost use Rattle.std.specs.Prelude.{◌≡◌, ◌≤◌, ◌⊎◌};
 ghost use Rattle.wire_frames.specs.declared.scheme.TheConstants.{SHAMIR, XOR};
 ghost use Rattle.wire_frames.specs.Scheme.{scheme_of};
 ghost use Rattle.wire_frames.specs.declared.TheConstants.{MOST_BLOCKS, MOST_WORKERS};
-ghost use Rattle.serve_core.specs.Service.{
-  most_blocks_for,
-  payload_len_for,
-  sums_len_for,
-  vector_len_for,
-};
+ghost use Rattle.serve_core.specs.Terms.{most_blocks_for, payload_len_for};
+ghost use Rattle.serve_core.specs.Service.{sums_len_for, terms_of};
 
+use crate::terms::Terms;
 use block_matrix::Matrix;
 use std::marker::Model;
-use wire_frames::{MOST_BLOCKS, MOST_WIDTH, Scheme};
+use wire_frames::Scheme;
 
 /// A database, the number of the scheme in which it is served, and how many workers sum the rows.
 #[derive(Drop)]
@@ -81,31 +77,31 @@ impl Service {
         self.workers
     }
 
-    /// How many bytes a query has for each block.
-    pub(crate) fn vector_len(&self) -> usize
-        ensures is { result ≡ vector_len_for self.now }
-        ensures some { 1 ≤ result }
-        ensures few { result ≤ MOST_ROWS }
+    /// Which queries are taken.
+    pub(crate) fn terms(&self) -> Terms
+        ensures is { result ≡ terms_of self.now }
+        ensures some { 1 ≤ result.width }
     {
-        self.scheme().payload_len(self.matrix.rows())
+        Terms {
+            scheme: self.scheme,
+            rows: self.matrix.rows(),
+            width: self.matrix.width(),
+        }
     }
 
     /// How many bytes the payload of a query for so many blocks has.
     pub(crate) fn payload_len(&self, count: u8) -> usize
-        ensures is { result ≡ payload_len_for self.now count }
-        ensures some { 1 ≤ count → 1 ≤ result }
+        ensures { result ≡ payload_len_for (terms_of self.now) count }
     {
-        usize::from(count) * self.vector_len()
+        self.terms().payload_len(count)
     }
 
     /// The most blocks that a query asks for.
-    #[tactic(auto, unfolding(crate::specs::Service::most_blocks_for))]
     pub(crate) fn most_blocks(&self) -> u8
-        ensures is { result ≡ most_blocks_for self.now }
+        ensures is { result ≡ most_blocks_for (terms_of self.now) }
         ensures few { result ≤ MOST_BLOCKS }
     {
-        let fit = MOST_WIDTH / self.matrix.width();
-        u32::from(MOST_BLOCKS).min(fit) as u8
+        self.terms().most_blocks()
     }
 
     /// How many bytes the sums of the workers have for so many blocks, a row for each.

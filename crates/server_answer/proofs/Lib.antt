@@ -1,2 +1,4 @@
 pub mod AnswerSums
 pub mod MaskSums
+pub mod PatternSums
+pub mod WaitingSums

@@ -9,10 +9,15 @@ ghost use Rattle.chor_xor.specs.Chosen.{given};
 ghost use Rattle.server_answer.specs.Asked.{asked};
 ghost use Rattle.server_answer.specs.declared.group.TheConstants.{MOST_LANES};
 
+use crate::gather::sum_in_eights;
 use crate::group::{MOST_LANES, sum_group};
+use crate::sets::{MOST_NARROW, sum_set};
 use block_matrix::Matrix;
 use chor_xor::add_chosen_rows;
 use gf256::rows::clear;
+
+/// From how many bytes on the rows of a pattern go eight at once.
+const LEAST_WIDE: u32 = 1024;
 
 /// How many bytes the sums of so many bitmaps have.
 pub fn places_of(matrix: &Matrix, count: u8) -> usize
@@ -32,10 +37,57 @@ pub fn sum_bitmaps(matrix: &Matrix, bitmaps: &[u8], count: u8, from: u32, to: u3
     ensures { (p : ℕ) → p < count * matrix.now.width → slice_index sums.new p
         ≡ run_sum (asked bitmaps.now matrix.now.rows matrix.now.width p) from to }
 {
-    if is_group(count, matrix.width()) {
+    if goes_in_sets(count, matrix.width(), to - from) {
+        sum_in_sets(matrix, bitmaps, count as usize, from, to, sums);
+    } else if is_group(count, matrix.width()) {
         sum_group(matrix, bitmaps, count as usize, from, to, sums);
     } else {
         sum_each(matrix, bitmaps, count, from, to, sums);
+    }
+}
+
+/// Whether so many bitmaps go in sets where there are so many rows of so many bytes. Fewer rows cost
+/// less than the sums of their patterns, or than those that wait at the end.
+fn goes_in_sets(count: u8, width: u32, rows: u32) -> bool {
+    count > 1 && (width <= MOST_NARROW || width >= LEAST_WIDE) && rows >= 4096
+}
+
+/// The same, by one pass over the rows for each set of eight bitmaps.
+fn sum_in_sets(matrix: &Matrix, bitmaps: &[u8], count: usize, from: u32, to: u32, sums: &mut [u8])
+    requires few { count ≤ MOST_BLOCKS }
+    requires order { from ≤ to }
+    requires within { to ≤ length matrix.now.rows }
+    requires bitmaps { length bitmaps.now ≡ count * size_of (length matrix.now.rows) }
+    requires room { length sums.old ≡ count * matrix.now.width }
+    ensures { (p : ℕ) → p < count * matrix.now.width → slice_index sums.new p
+        ≡ run_sum (asked bitmaps.now matrix.now.rows matrix.now.width p) from to }
+{
+    let size = matrix.rows().div_ceil(8) as usize;
+    let width = matrix.width() as usize;
+    let mut done = 0;
+    'sets: while done < count {
+        let end = count.min(done + 8);
+        let set = &bitmaps[done * size..end * size];
+        let own = &mut sums[done * width..end * width];
+        sum_of_set(matrix, set, end - done, from, to, own);
+        done = end;
+    }
+}
+
+/// The same for one set: narrow rows by the sums of their patterns, others eight at once.
+fn sum_of_set(matrix: &Matrix, bitmaps: &[u8], count: usize, from: u32, to: u32, sums: &mut [u8])
+    requires few { count ≤ 8 }
+    requires order { from ≤ to }
+    requires within { to ≤ length matrix.now.rows }
+    requires bitmaps { length bitmaps.now ≡ count * size_of (length matrix.now.rows) }
+    requires room { length sums.old ≡ count * matrix.now.width }
+    ensures { (p : ℕ) → p < count * matrix.now.width → slice_index sums.new p
+        ≡ run_sum (asked bitmaps.now matrix.now.rows matrix.now.width p) from to }
+{
+    if matrix.width() <= MOST_NARROW {
+        sum_set(matrix, bitmaps, count, from, to, sums);
+    } else {
+        sum_in_eights(matrix, bitmaps, count, from, to, sums);
     }
 }
 

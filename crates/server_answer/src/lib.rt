@@ -11,7 +11,9 @@
 
 mod bitmaps;
 mod four_rows;
+mod gather;
 mod group;
+mod sets;
 mod whole;
 
 pub use whole::answers_into;

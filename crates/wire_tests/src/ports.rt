@@ -98,6 +98,8 @@ fn ports_have_their_numbers(rt: HostRuntime) {
         (Port::Link(255), 511),
         (Port::Child(0), 512),
         (Port::Child(255), 767),
+        (Port::Share(0), 768),
+        (Port::Share(255), 1023),
     ] {
         assert!(rt; port.number() == number, "number {number}");
     }

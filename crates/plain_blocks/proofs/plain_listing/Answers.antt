@@ -3,7 +3,7 @@ use Rattle.wire_frames.specs.Answer.{Answer}
 use Rattle.block_decoder.specs.Agreed.{answers_of, Filled, Heavy}
 use Rattle.block_decoder.specs.Gains.{Gains}
 use Rattle.block_decoder.specs.Numbered.{Continues}
-use Rattle.block_decoder.proofs.Agreement.{filled-answers_of}
+use Rattle.block_decoder.proofs.Agreed.{filled-answers_of}
 use Rattle.block_decoder.proofs.Continued.{continues-Heavy}
 use Rattle.block_decoder.proofs.Continues.{Gains-same, Lists-Gains}
 use Rattle.plain_blocks.proofs.plain_listing.Goals as goal

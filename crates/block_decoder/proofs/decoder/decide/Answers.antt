@@ -4,7 +4,7 @@ use Rattle.wire_frames.specs.Answer.{Answer}
 use Rattle.block_decoder.specs.Agreed.{answers_of, HasColumns}
 use Rattle.block_decoder.specs.Numbers.{bound_of, most_columns, most_nodes}
 use Rattle.block_decoder.specs.Verdict.{IsDecided, IsUnlisted, ListsNoMoreThan}
-use Rattle.block_decoder.proofs.Agreement.{length-answers_of}
+use Rattle.block_decoder.proofs.Agreed.{length-answers_of}
 use Rattle.block_decoder.proofs.Columns.{indices-answers_of, columns-answers_of}
 use Rattle.block_decoder.proofs.decoder.decide.Goals as goal
 
@@ -22,9 +22,24 @@ decide_among-requires-clause-few g c =
     let n = ap length (c.in_ok-answers.ensures ∙ c.new.ensures) ∙ length-answers_of c.args.s c.args.indices.now c.args.bytes.now in
     omega (arith, n, c.requires.few)
 
+pub returns-in_err-verdict-clause-cols : goal.returns-in_err-verdict-clause-cols
+returns-in_err-verdict-clause-cols g c =
+    let n = ap length (c.in_ok-answers.ensures ∙ c.new.ensures) ∙ length-answers_of c.args.s c.args.indices.now c.args.bytes.now in
+    subst (λ (k : ℕ). c.decide_among.new.cols ≤ c.args.cols.now + most_columns k c.args.t c.args.h c.args.s) n c.decide_among.ensures.cols
+
+pub returns-in_err-verdict-clause-nodes : goal.returns-in_err-verdict-clause-nodes
+returns-in_err-verdict-clause-nodes g c =
+    let n = ap length (c.in_ok-answers.ensures ∙ c.new.ensures) ∙ length-answers_of c.args.s c.args.indices.now c.args.bytes.now in
+    subst (λ (k : ℕ). c.decide_among.new.nodes ≤ c.args.nodes.now + most_nodes k c.args.t c.args.h c.args.s) n c.decide_among.ensures.nodes
+
+pub returns-in_err-verdict-clause-unlisted : goal.returns-in_err-verdict-clause-unlisted
+returns-in_err-verdict-clause-unlisted g c = λ unlisted.
+    let n = ap length (c.in_ok-answers.ensures ∙ c.new.ensures) ∙ length-answers_of c.args.s c.args.indices.now c.args.bytes.now in
+    c.decide_among.ensures.unlisted (subst (λ (k : ℕ). IsUnlisted k c.args.t c.args.h) (sym n) unlisted)
+
 pub returns-clause-verdict : goal.returns-clause-verdict
 returns-clause-verdict g c =
-    subst (λ (all : List Answer). IfOk c.decide_among.result (IsDecided all c.args.s c.args.t c.args.h)) (c.in_ok-answers.ensures ∙ c.new.ensures) c.decide_among.ensures.verdict
+    subst (λ (all : List Answer). IsDecided all c.args.s c.args.t c.args.h c.in_ok-verdict.verdict) (c.in_ok-answers.ensures ∙ c.new.ensures) c.in_ok-verdict.ensures.verdict
 
 pub returns-clause-cols : goal.returns-clause-cols
 returns-clause-cols g c =
@@ -44,4 +59,4 @@ returns-clause-unlisted g c = λ unlisted.
 pub returns-clause-few : goal.returns-clause-few
 returns-clause-few g c =
     let n = ap length (c.in_ok-answers.ensures ∙ c.new.ensures) ∙ length-answers_of c.args.s c.args.indices.now c.args.bytes.now in
-    subst (λ (k : ℕ). IfOk c.decide_among.result (ListsNoMoreThan (bound_of k c.args.t c.args.h))) n c.decide_among.ensures.few
+    subst (λ (k : ℕ). ListsNoMoreThan (bound_of k c.args.t c.args.h) c.in_ok-verdict.verdict) n c.in_ok-verdict.ensures.few

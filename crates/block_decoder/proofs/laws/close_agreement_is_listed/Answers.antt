@@ -1,7 +1,7 @@
 use Rattle.std.proofs.Common.{arith}
 use Rattle.uni_poly.proofs.Coefficients.{bytes_from_get_or}
 use Rattle.block_decoder.specs.Agreed.{answers_of}
-use Rattle.block_decoder.proofs.Agreement.{length-answers_of}
+use Rattle.block_decoder.proofs.Agreed.{length-answers_of}
 use Rattle.block_decoder.proofs.Columns.{columns-answers_of}
 use Rattle.block_decoder.proofs.OneBlock.{close_is_listed}
 use Rattle.block_decoder.proofs.laws.close_agreement_is_listed.Goals as goal

@@ -1,7 +1,7 @@
 use Rattle.std.proofs.Common.{arith}
 use Rattle.uni_poly.proofs.Coefficients.{bytes_from_get_or}
 use Rattle.block_decoder.specs.Agreed.{answers_of}
-use Rattle.block_decoder.proofs.Agreement.{length-answers_of}
+use Rattle.block_decoder.proofs.Agreed.{length-answers_of}
 use Rattle.block_decoder.proofs.Columns.{columns-answers_of}
 use Rattle.block_decoder.proofs.OneBlock.{one_block}
 use Rattle.block_decoder.proofs.laws.one_block_where_agreement_is_close.Goals as goal

@@ -1,10 +1,10 @@
-use Rattle.std.proofs.Common.{◌≡◌, ◌+◌, ◌*◌, ℕ, List, length, sym, ap, ap₂, subst, ◌∙◌}
+use Rattle.std.proofs.Common.{◌≡◌, ◌+◌, ◌*◌, ℕ, List, length, sym, ap, subst, ◌∙◌}
 use Rattle.wire_frames.specs.declared.session.SessionParams.{SessionParams}
 use Rattle.fetch_client.specs.declared.plan.FetchPlan.{FetchPlan}
 use Rattle.fetch_client.specs.Plan.{query_coins, with_degree}
 use Rattle.fetch_client.specs.Sent.{queries_from, session_number}
 use Rattle.fetch_client.specs.Honest.{FindsHonestBlock}
-use Rattle.fetch_client.proofs.Schemes.{coins_of_session}
+use Rattle.fetch_client.proofs.Schemes.{coins_in_session}
 use Rattle.fetch_client.proofs.fetch_once.conclude.Goals as goal
 
 pub honest_block_is_found-requires-clause-count : goal.honest_block_is_found-requires-clause-count
@@ -26,7 +26,7 @@ pub honest_block_is_found-requires-clause-coins : goal.honest_block_is_found-req
 honest_block_is_found-requires-clause-coins g c =
     let q = c.args.queries.now in
     let t : c.plan-t.result.t ≡ q.plan.t = ap (λ (p : FetchPlan). p.t) c.plan-t.ensures.is in
-    let own = sym (coins_of_session q.plan (length q.blocks) (session_number q.coins)) ∙ ap query_coins (sym (ap₂ with_degree t c.requires.params)) in
+    let own = coins_in_session q.plan (length q.blocks) (session_number q.coins) _ _ c.requires.params t in
     ap length c.query_coins.ensures.is ∙ c.query_coins.ensures.size
     ∙ ap (λ (n : ℕ). length q.blocks * n) own
     ∙ ap (λ (l : List ℕ). length l * query_coins (with_degree c.plan-t.result.t c.args.session.now.params)) (sym c.blocks-2.ensures.is)

@@ -1,4 +1,4 @@
-use Rattle.std.proofs.Common.{[], ◌∷◌, ◌∙◌, ap, map, string_bytes, subst, sym, arith}
+use Rattle.std.proofs.Common.{[], ◌∷◌, ◌∙◌, ap, map, string_bytes, false, subst, sym, arith}
 use Rattle.std.specs.Prelude.{None}
 use Rattle.fetch_client.specs.declared.plan.FetchPlan.{FetchPlan}
 use Rattle.fetch_client.proofs.Ranges.{one_block}
@@ -53,7 +53,7 @@ returns g c =
     } in
     let words = words_are string_bytes (λ w. map string_bytes w.items) o.database.now o.width o.port o.servers c.in-Ok.addresses.items c.deref.result.now c.in-Ok-words_of_children.lists.items c.deref-2.result.now c.in-Ok.ensures c.deref.ensures.value c.in-Ok-words_of_children.ensures c.deref-2.ensures.value in
     let plan = c.plan.ensures.plan ∙ ap plan_of (sym c.order.view_is) in
-    let ends = subst (λ (p : FetchPlan). FetchEnds (record { plan = p; blocks = o.block ∷ []; addresses = map string_bytes c.deref-3.result.now; coins = o.coins.now; keep = None }) c.fetch_block.result mid end) plan c.fetch_block.ensures.ends in
+    let ends = subst (λ (p : FetchPlan). FetchEnds (record { plan = p; blocks = o.block ∷ []; addresses = map string_bytes c.deref-3.result.now; coins = o.coins.now; keep = None; report = false }) c.fetch_block.result mid end) plan c.fetch_block.ensures.ends in
     let others = subst (λ (p : FetchPlan). TouchesFetch p.n mid end) plan c.fetch_block.ensures.others in
     subst (λ (d : DemoOrder). DemoOutcome d c.fetch_block.result start end) c.order.view_is
     (demonstrates view (map string_bytes c.deref-3.result.now) _ c.fetch_block.result start mid end (ap (map string_bytes) c.deref-3.ensures.value ∙ c.in-Ok.ensures) words c.in-Ok-start_children.ensures.ok ends others)

@@ -8,22 +8,23 @@ use Rattle.pir_tool.proofs.ServeHeadline.{serve_promised}
 use Rattle.pir_tool.proofs.Fetching.{one_command, order_is}
 use Rattle.pir_tool.specs.LookUpOutcome.{LookUpOutcome}
 use Rattle.pir_tool.proofs.LookingUp.{look_up_is, look_up_promised}
+use Rattle.pir_tool.proofs.SplitHeadline.{split_promised}
 use Rattle.pir_words.specs.Form.{InRange}
 use Rattle.pir_tool.proofs.top.run.Goals as goal
 
 pub returns-in-Ok-clause-headline : goal.returns-in-Ok-clause-headline
-returns-in-Ok-clause-headline g c = λ file bytes session command told whole none.
+returns-in-Ok-clause-headline g c = λ file bytes wanted session command told whole none.
     let old = g.P.Ports.world c.args.ports.now in
     let new = g.P.Ports.world c.obey.new.ports in
     let outcome = subst (λ a. Outcome a c.obey.result old new) (one_command _ _ _ c.in-Ok.ensures.form command) c.obey.ensures in
-    answered file c.obey.result old new bytes session told whole none outcome.ends
+    answered file wanted c.obey.result old new bytes session told whole none outcome.ends
 
 pub returns-in-Ok-clause-replay : goal.returns-in-Ok-clause-replay
-returns-in-Ok-clause-replay g c = λ file command.
+returns-in-Ok-clause-replay g c = λ file wanted command.
     let old = g.P.Ports.world c.args.ports.now in
     let new = g.P.Ports.world c.obey.new.ports in
     let outcome = subst (λ a. Outcome a c.obey.result old new) (one_command _ _ _ c.in-Ok.ensures.form command) c.obey.ensures in
-    replay_promised file c.obey.result old new outcome.ends
+    replay_promised file wanted c.obey.result old new outcome.ends
 
 pub returns-in-Ok-clause-fetch : goal.returns-in-Ok-clause-fetch
 returns-in-Ok-clause-fetch g c = λ order orders.
@@ -61,3 +62,12 @@ returns-in-Ok-clause-lookup g c = λ order orders.
     let outcome = subst (λ a. Outcome a c.obey.result old new) (one_command _ _ _ c.in-Ok.ensures.form orders.command) c.obey.ensures in
     look_up_promised order c.obey.result old new
     (subst (λ o. LookUpOutcome o c.obey.result old new) (look_up_is order orders.scheme orders.whole orders.servers) outcome).ends
+
+pub returns-in-Ok-clause-split : goal.returns-in-Ok-clause-split
+returns-in-Ok-clause-split g c = λ order command.
+    let old = g.P.Ports.world c.args.ports.now in
+    let new = g.P.Ports.world c.obey.new.ports in
+    let same = one_command _ _ _ c.in-Ok.ensures.form command in
+    let ranges = subst InRange same c.in-Ok.ensures.ranges in
+    let outcome = subst (λ a. Outcome a c.obey.result old new) same c.obey.ensures in
+    split_promised order c.obey.result old new (omega (arith, ranges.some_bytes)) outcome.ends

@@ -16,5 +16,6 @@ returns c =
     let serve_is = c.in_ok-with_serve.ensures.shape c.in_ok-serve.ensures.local ∙ ap₂ with_subcommand fetch_is (ap above c.in_ok-serve.ensures.app) in
     let selfrun_is = c.in_ok-with_selfrun.ensures.shape c.in_ok-selfrun.ensures.local ∙ ap₂ with_subcommand serve_is (ap above c.in_ok-selfrun.ensures.app) in
     let demo_is = c.in_ok-with_demo.ensures.shape c.in_ok-demo.ensures.local ∙ ap₂ with_subcommand selfrun_is (ap above c.in_ok-demo.ensures.app) in
-    IfOk-weaker c.subcommand-6.result _ _ (λ r h. h.shape c.in_ok-lookup.ensures.local
-    ∙ ap₂ with_subcommand demo_is (ap above c.in_ok-lookup.ensures.app)) c.subcommand-6.ensures
+    let lookup_is = c.in_ok-with_lookup.ensures.shape c.in_ok-lookup.ensures.local ∙ ap₂ with_subcommand demo_is (ap above c.in_ok-lookup.ensures.app) in
+    IfOk-weaker c.subcommand-7.result _ _ (λ r h. h.shape c.in_ok-split.ensures.local
+    ∙ ap₂ with_subcommand lookup_is (ap above c.in_ok-split.ensures.app)) c.subcommand-7.ensures

@@ -3,7 +3,7 @@ use Rattle.std.proofs.Math.Nat.{pow-le-pow_right}
 use Rattle.std.proofs.Math.Seq.{take-append_seam}
 use Rattle.std.proofs.lemmas.List.{length-append}
 use Rattle.std.proofs.lemmas.Result.{on_ok_weaker}
-use Rattle.block_decoder.specs.Agreed.{weight}
+use Rattle.block_decoder.specs.Agreed.{constants_of, weight}
 use Rattle.block_decoder.specs.Gains.{Gains}
 use Rattle.block_decoder.specs.Numbered.{all_numbered, Continues, ContinuesBelow}
 use Rattle.block_decoder.proofs.Continued.{continues-light}
@@ -22,18 +22,17 @@ returns-then-weight-self-clause-exact t c =
     let s = c.args.self.now in
     let w = rw c.deref.ensures.value at c.weight.ensures in
     Gains-none (Continues s.answers s.width s.degree s.agreement c.args.numbers.now.items) c.args.listing.now
-    (continues-light s.answers s.width s.degree s.agreement (all_numbered s.degree c.args.numbers.now.items) (omega (arith, w, c.if-weight-self.true)))
+    (continues-light constants_of s.answers s.width s.degree s.agreement (all_numbered s.degree c.args.numbers.now.items) (omega (arith, w, c.if-weight-self.true)))
 
 pub returns-then-len-self-clause-exact : goal.returns-then-len-self-clause-exact
 returns-then-len-self-clause-exact t c =
     let s = c.args.self.now in
     let numbers = c.args.numbers.now.items in
     let w = rw c.deref.ensures.value at c.weight.ensures in
-    let constants = rw c.deref-then-len-self.ensures.value at c.in_ok-constants.ensures in
-    let block = rw constants at c.deref-then-len-self-2.ensures.value in
+    let block = rw c.deref-then-len-self.ensures.value at c.in_ok-constants.ensures in
     let whole : length numbers ≡ s.width = sym c.args.numbers.now.ok.0 ∙ sym c.len.ensures ∙ c.if-len-self.true in
     let enough : s.agreement ≤ weight (all_numbered s.degree numbers) s.answers = omega (arith, w, c.if-weight-self.false) in
-    let IsBlock : List ℕ → Type 0 = λ b. b ≡ c.deref-then-len-self-2.result.now in
+    let IsBlock : List ℕ → Type 0 = λ b. b ≡ c.in_ok-constants.field-0.items in
     on_ok_weaker c.insert.result
     (Gains-same IsBlock (Continues s.answers s.width s.degree s.agreement numbers) c.args.listing.now c.insert.new.self
     (λ b. let alone = Continues-whole s.answers s.width s.degree s.agreement numbers whole enough b in

@@ -1,5 +1,5 @@
 use Rattle.std.proofs.Common.{length, ap, sym, ◌∙◌}
-use Rattle.block_decoder.proofs.Agreement.{length-answers_of}
+use Rattle.block_decoder.proofs.Agreed.{length-answers_of}
 use Rattle.block_decoder.proofs.answers.PackedAnswers.len.Goals as goal
 
 pub returns : goal.returns

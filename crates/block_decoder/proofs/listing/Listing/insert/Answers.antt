@@ -10,19 +10,19 @@ returns-in-Ok-clause-ok c = λ b. (
   λ either. elim either [
     | inl old ↦ old
     | inr new ↦
-        let place = c.in-Ok.ensures in
-        let old = Contains-map (λ b. b.items) c.args.block.now c.deref.result.now c.in-Ok.field-0 place.range (λ d. same_bytes _ _ (place.place d)) in
-        subst (Contains c.args.self.now) (sym new) (subst (λ l. Contains l c.args.block.now) (ap (map (λ b. b.items)) c.deref.ensures.value ∙ c.self.view_is) old)
+        let place = rw c.deref-2.ensures.value at c.in-Ok.ensures in
+        let old = Contains-map (λ b. b.items) c.args.block.items c.deref.result.now c.in-Ok.field-0 place.range (λ d. same_bytes _ _ (place.place d)) in
+        subst (Contains c.args.self.now) (sym new) (subst (λ l. Contains l c.args.block.items) (ap (map (λ b. b.items)) c.deref.ensures.value ∙ c.self.view_is) old)
   ],
 )
 
 pub invariant_of-self-in-Err : goal.invariant_of-self-in-Err
 invariant_of-self-in-Err c =
     let blocks = c.self.inside.blocks.items in
-    let place = rw c.deref.ensures.value at c.in-Err.ensures.place in
-    let gap = place (comparisons_rise nat_list_cmp_total (λ b. b.items) blocks c.args.block.now c.self.invariant) in
-    let gap_of_copy = rw (← c.in_ok-copy-in-Err.ensures.items) at gap in
-    sorted_after nat_list_cmp_total (λ b. b.items) blocks c.insert.new.self.items c.in_ok-copy-in-Err.copy c.in-Err.place (is_ok c.insert.result) c.insert.ensures.items c.self.invariant (rw c.deref.ensures.value at c.in-Err.ensures.range) gap_of_copy.0 gap_of_copy.1
+    let is = rw c.deref-2.ensures.value at c.in-Err.ensures in
+    let place = rw c.deref.ensures.value at is.place in
+    let gap = place (comparisons_rise nat_list_cmp_total (λ b. b.items) blocks c.args.block.items c.self.invariant) in
+    sorted_after nat_list_cmp_total (λ b. b.items) blocks c.insert.new.self.items c.args.block c.in-Err.place (is_ok c.insert.result) c.insert.ensures.items c.self.invariant (rw c.deref.ensures.value at is.range) gap.0 gap.1
 
 pub returns-in_ok-insert-in-Err-clause-ascending : goal.returns-in_ok-insert-in-Err-clause-ascending
 returns-in_ok-insert-in-Err-clause-ascending c = invariant_of-self-in-Err c
@@ -30,5 +30,5 @@ returns-in_ok-insert-in-Err-clause-ascending c = invariant_of-self-in-Err c
 pub returns-in_ok-insert-in-Err-clause-ok : goal.returns-in_ok-insert-in-Err-clause-ok
 returns-in_ok-insert-in-Err-clause-ok c = λ b.
     let blocks = c.self.inside.blocks.items in
-    let is = ap (map (λ b. b.items)) c.in_ok-insert-in-Err.ensures.items ∙ map-insert (λ b. b.items) blocks c.in-Err.place c.in_ok-copy-in-Err.copy in
-    rw is (rw (← c.self.view_is, ← c.in_ok-copy-in-Err.ensures.items) (Contains-insert (map (λ b. b.items) blocks) c.in-Err.place c.in_ok-copy-in-Err.copy.items b))
+    let is = ap (map (λ b. b.items)) c.in_ok-insert-in-Err.ensures.items ∙ map-insert (λ b. b.items) blocks c.in-Err.place c.args.block in
+    rw is (rw (← c.self.view_is) (Contains-insert (map (λ b. b.items) blocks) c.in-Err.place c.args.block.items b))

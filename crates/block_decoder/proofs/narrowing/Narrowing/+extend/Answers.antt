@@ -7,8 +7,9 @@ use Rattle.std.proofs.lemmas.Result.{on_ok_weaker}
 use Rattle.column_lists.specs.Agreement.{ListsAgreeing}
 use Rattle.block_decoder.specs.Agreed.{holds_first}
 use Rattle.block_decoder.specs.Gains.{Gains}
-use Rattle.block_decoder.specs.Narrowing.{meets, points_of, IsCandidate, IsPart, ContinuesFrom, ContinuesBy}
+use Rattle.block_decoder.specs.Narrowing.{agreement_on, meets, points_of, IsCandidate, IsPart, ContinuesFrom, ContinuesBy}
 use Rattle.block_decoder.specs.Numbers.{column_nodes}
+use Rattle.block_decoder.specs.Report.{Agreement, indices_of}
 use Rattle.block_decoder.proofs.Candidates.{apart_after, counts-next, item_is, not_before, run-fits, after, exact-end, counts-end, exact-below, counts-below, with_next, fewer}
 use Rattle.block_decoder.proofs.Continued.{continues-by_none, continues-by_more}
 use Rattle.block_decoder.proofs.Kept.{part-All}
@@ -29,11 +30,12 @@ returns-then-next-self-clause-exact g t c =
     let new = c.decode.new.block in
     let size = c.in_ok-next.ensures.size ∙ c.requires.width in
     let end : c.args.column + c.in_ok-next.field-0 ≡ s.width = omega (arith, c.if-next-self.true) in
+    let IsMade : Agreement → Type 0 = λ a. a ≡ record { block = new; indices = indices_of c.args.kept.now } in
     on_ok_weaker {Q = (d : IsCandidate s.answers s.degree s.agreement c.args.kept.now c.args.column c.args.block.now)
-    → Gains (ContinuesFrom s.answers s.width s.degree s.agreement d.polynomials) c.args.listing.now c.insert.new.self} c.insert.result
-    (λ (gains : Gains (λ b. b ≡ new) c.args.listing.now c.insert.new.self) d. Gains-same (λ b. b ≡ new) (ContinuesFrom s.answers s.width s.degree s.agreement d.polynomials) c.args.listing.now c.insert.new.self
+    → Gains (ContinuesFrom (agreement_on s.answers) s.answers s.width s.degree s.agreement d.polynomials) c.args.report.now c.add.new.self} c.add.result
+    (λ (gains : Gains IsMade c.args.report.now c.add.new.self) d. Gains-same IsMade (ContinuesFrom (agreement_on s.answers) s.answers s.width s.degree s.agreement d.polynomials) c.args.report.now c.add.new.self
     (exact-end s.answers s.width s.degree s.agreement s.columns s.redundant.1 c.args.kept.now c.args.column c.in_ok-next.field-0 c.args.block.now new c.requires.column size c.in_ok-next.ensures.kept c.in_ok-next.ensures.run end d) gains)
-    c.insert.ensures.ok
+    c.add.ensures.ok
 
 pub returns-then-next-self-clause-counts : goal.returns-then-next-self-clause-counts
 returns-then-next-self-clause-counts g t c d =
@@ -59,13 +61,13 @@ returns-in_err-list-clause-counts g t c d =
 pub loop-polynomial-init : goal.loop-polynomial-init
 loop-polynomial-init g t c =
     let s = c.args.self.now in
-    let listing = c.args.listing.now in
+    let listing = c.args.report.now in
     let next = c.args.column + c.in_ok-next.field-0 in
     record {
       size = refl;
       kept = refl;
       ascending = c.requires.ascending;
-      gains = λ d. Gains-none (ContinuesBy [] s.answers s.width s.degree s.agreement d.polynomials) listing (continues-by_none s.answers s.width s.degree s.agreement d.polynomials);
+      gains = λ d. Gains-none (ContinuesBy (agreement_on s.answers) [] s.answers s.width s.degree s.agreement d.polynomials) listing (continues-by_none (agreement_on s.answers) s.answers s.width s.degree s.agreement d.polynomials);
       counts = λ d. counts-none s.answers s.width s.degree s.agreement (column_nodes (length s.answers) s.degree s.agreement) d.polynomials c.list.new.cols c.list.new.nodes;
       found = inl refl;
       rises = (omega arith, omega arith);
@@ -252,11 +254,11 @@ loop-polynomial-preserved g t c =
       kept = sym (take-take next (next + 1) c.extend.new.block up) ∙ ap (take next) after.kept ∙ take-take next (next + 1) stored up
           ∙ take-set c.loop-polynomial.block next c.index.result.now ∙ before.kept;
       ascending = after.ascending;
-      gains = λ d. Gains-both (ContinuesBy (take i list) s.answers s.width s.degree s.agreement d.polynomials) (ContinuesFrom s.answers s.width s.degree s.agreement (d.polynomials ++ p ∷ []))
-          (ContinuesBy (take (i + 1) list) s.answers s.width s.degree s.agreement d.polynomials) c.args.listing.now c.loop-polynomial.listing c.extend.new.listing (before.gains d)
+      gains = λ d. Gains-both (ContinuesBy (agreement_on s.answers) (take i list) s.answers s.width s.degree s.agreement d.polynomials) (ContinuesFrom (agreement_on s.answers) s.answers s.width s.degree s.agreement (d.polynomials ++ p ∷ []))
+          (ContinuesBy (agreement_on s.answers) (take (i + 1) list) s.answers s.width s.degree s.agreement d.polynomials) c.args.report.now c.loop-polynomial.report c.extend.new.report (before.gains d)
           (after.exact (with_next s.answers s.width s.degree s.agreement s.columns c.args.kept.now next list p short lists listed c.decode.new.block c.loop-polynomial.block c.index.result.now part part_is x_is d same room))
-          (λ b. subst (λ (nexts : List (List ℕ)). ContinuesBy nexts s.answers s.width s.degree s.agreement d.polynomials b ↔ (ContinuesBy (take i list) s.answers s.width s.degree s.agreement d.polynomials b
-          ⊎ ContinuesFrom s.answers s.width s.degree s.agreement (d.polynomials ++ p ∷ []) b)) (sym grown) (continues-by_more s.answers s.width s.degree s.agreement d.polynomials (take i list) p b));
+          (λ b. subst (λ (nexts : List (List ℕ)). ContinuesBy (agreement_on s.answers) nexts s.answers s.width s.degree s.agreement d.polynomials b ↔ (ContinuesBy (agreement_on s.answers) (take i list) s.answers s.width s.degree s.agreement d.polynomials b
+          ⊎ ContinuesFrom (agreement_on s.answers) s.answers s.width s.degree s.agreement (d.polynomials ++ p ∷ []) b)) (sym grown) (continues-by_more (agreement_on s.answers) s.answers s.width s.degree s.agreement d.polynomials (take i list) p b));
       counts = λ d. subst (λ (nexts : List (List ℕ)). CountsBy nexts s.answers s.width s.degree s.agreement most d.polynomials c.list.new.cols c.extend.new.cols c.list.new.nodes c.extend.new.nodes) (sym grown)
           (counts-next s.answers s.width s.degree s.agreement s.columns c.args.kept.now next list p short lists listed apart c.decode.new.block d i most c.list.new.cols c.loop-polynomial.cols c.extend.new.cols c.list.new.nodes c.loop-polynomial.nodes c.extend.new.nodes new
           (before.counts d) (after.counts (with_next s.answers s.width s.degree s.agreement s.columns c.args.kept.now next list p short lists listed c.decode.new.block c.loop-polynomial.block c.index.result.now part part_is x_is d same room)));
@@ -293,8 +295,8 @@ returns-clause-exact g t c d =
     let count = length-map vectors (λ (v : Vec ℕ Global). v.items) in
     let whole : take i list ≡ list = take_all i list (omega (arith, count, c.loop-polynomial-test.false)) in
     let a = after s.answers s.width s.degree s.agreement s.columns s.redundant.1 c.args.kept.now c.args.column n c.args.block.now c.decode.new.block c.requires.column size c.in_ok-next.ensures.kept c.in_ok-next.ensures.run d in
-    exact-below s.answers s.width s.degree s.agreement s.columns s.redundant.1 c.args.kept.now c.args.column n c.args.block.now c.decode.new.block c.requires.column size c.in_ok-next.ensures.kept c.in_ok-next.ensures.run short list lists d c.args.listing.now c.loop-polynomial.listing
-    (subst (λ (nexts : List (List ℕ)). Gains (ContinuesBy nexts s.answers s.width s.degree s.agreement a.polynomials) c.args.listing.now c.loop-polynomial.listing) whole (c.loop-polynomial.invariant.gains a))
+    exact-below s.answers s.width s.degree s.agreement s.columns s.redundant.1 c.args.kept.now c.args.column n c.args.block.now c.decode.new.block c.requires.column size c.in_ok-next.ensures.kept c.in_ok-next.ensures.run short list lists d c.args.report.now c.loop-polynomial.report
+    (subst (λ (nexts : List (List ℕ)). Gains (ContinuesBy (agreement_on s.answers) nexts s.answers s.width s.degree s.agreement a.polynomials) c.args.report.now c.loop-polynomial.report) whole (c.loop-polynomial.invariant.gains a))
 
 pub returns-clause-counts : goal.returns-clause-counts
 returns-clause-counts g t c d =

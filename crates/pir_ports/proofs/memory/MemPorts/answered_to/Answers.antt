@@ -11,10 +11,10 @@ use Rattle.pir_ports.proofs.memory.MemPorts.answered_to.Goals as goal
 pub returns-else-i-self-2 : goal.returns-else-i-self-2
 returns-else-i-self-2 c =
     let m = c.self.inside in
-    let inner = c.index-else-i-self-2.result.now in
+    let inner = c.index.result.now in
     let place = c.args.i + 1 in
     let present = (cell_at (memory_of m) 6).accepted in
-    let seen : inner ≡ get_or m.guests.items place empty_cell = get_or_read m.guests.items place inner (omega (arith, c.if-i-self.false, c.if-i-self-2.false, c.self.invariant.guests)) c.index-else-i-self-2.ensures empty_cell in
+    let seen : inner ≡ get_or m.guests.items place empty_cell = get_or_read m.guests.items place inner (omega (arith, c.if-i-self.false, c.if-i-self-2.false, c.self.invariant.guests)) c.index.ensures empty_cell in
     ap (λ (l : List ℕ). Some l) (c.accepted-else-i-self-2.ensures ∙ ap (λ (x : MemoryCell). x.accepted) seen)
     ∙ sym (answer_before m.guests.items m.met c.args.i m.since.items present c.self.invariant.guests c.self.invariant.since (omega (arith, c.if-i-self.false, c.if-i-self-2.false)))
     ∙ ap (λ (old : Memory). slice_get (everyone old.since old.gone (cell_at old 6).accepted) c.args.i) c.self.view_is

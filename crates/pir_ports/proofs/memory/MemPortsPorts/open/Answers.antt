@@ -22,8 +22,8 @@ returns-clause-ok c =
     let p = number c.args.p in
     let name = c.args.name.now in
     let log : c.push.new.self ≡ with_name p name m.names = c.push.ensures ∙ ap (λ (k : ℕ). with_name k name m.names) c.number-2.ensures.is in
-    ap (λ (l : NameLog). (world_from m.cells.items l crowd).at p) log
-    ∙ told_name m.cells.items m.names crowd p name
+    ap (λ (l : NameLog). (world_from m.cells.cells l crowd).at p) log
+    ∙ told_name m.cells.cells m.names crowd p name
     ∙ ap (λ (old : Memory). named name ((world_of old).at p)) c.self.view_is
 
 pub returns-clause-others : goal.returns-clause-others
@@ -33,6 +33,6 @@ returns-clause-others c =
     let p = number c.args.p in
     let name = c.args.name.now in
     let log : c.push.new.self ≡ with_name p name m.names = c.push.ensures ∙ ap (λ (k : ℕ). with_name k name m.names) c.number-2.ensures.is in
-    subst (λ (old : Memory). Touches p (world_of old) (world_from m.cells.items c.push.new.self crowd)) c.self.view_is
-    (subst (λ (l : NameLog). Touches p (world_from m.cells.items m.names crowd) (world_from m.cells.items l crowd)) (sym log)
-    (touches_name m.cells.items m.names crowd p name))
+    subst (λ (old : Memory). Touches p (world_of old) (world_from m.cells.cells c.push.new.self crowd)) c.self.view_is
+    (subst (λ (l : NameLog). Touches p (world_from m.cells.cells m.names crowd) (world_from m.cells.cells l crowd)) (sym log)
+    (touches_name m.cells.cells m.names crowd p name))

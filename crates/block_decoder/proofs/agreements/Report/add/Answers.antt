@@ -1,0 +1,6 @@
+use Rattle.std.proofs.Common.{subst}
+use Rattle.block_decoder.specs.Report.{Agreement}
+use Rattle.block_decoder.proofs.agreements.Report.add.Goals as goal
+
+pub returns-clause-ok : goal.returns-clause-ok
+returns-clause-ok c = rw c.in_ok-new.ensures at c.insert.ensures.ok

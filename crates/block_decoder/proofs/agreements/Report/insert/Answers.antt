@@ -1,0 +1,33 @@
+use Rattle.std.proofs.Common.{◌≡◌, List, Contains, refl, sym, ap, subst, ◌∙◌, inl, inr}
+use Rattle.std.specs.List.Sorted.{IsStrictlySortedBy}
+use Rattle.std.specs.Result.{is_ok}
+use Rattle.block_decoder.specs.Report.{Agreement, agreement_cmp}
+use Rattle.block_decoder.proofs.Ascending.{Contains-insert}
+use Rattle.block_decoder.proofs.Reported.{agreement_cmp_total, same_agreements, Contains-at, rise, put_in}
+use Rattle.block_decoder.proofs.agreements.Report.insert.Goals as goal
+
+pub returns-in-Ok-clause-ok : goal.returns-in-Ok-clause-ok
+returns-in-Ok-clause-ok c = λ b. (
+  inl,
+  λ either. elim either [
+    | inl old ↦ old
+    | inr new ↦
+        let place = rw c.deref.ensures.value at c.in-Ok.ensures in
+        subst (Contains c.args.self.now) (sym new) (subst (λ l. Contains l c.args.agreement) c.self.view_is (Contains-at c.args.agreement c.self.inside.agreements.items c.in-Ok.field-0 place.range (λ d. same_agreements _ _ (place.place d))))
+  ],
+)
+
+pub invariant_of-self-in-Err : goal.invariant_of-self-in-Err
+invariant_of-self-in-Err c =
+    let agreements = c.self.inside.agreements.items in
+    let is = rw c.deref.ensures.value at c.in-Err.ensures in
+    let gap = is.place (rise agreements c.args.agreement c.self.invariant) in
+    put_in agreements c.insert.new.self.items c.args.agreement c.in-Err.place (is_ok c.insert.result) c.insert.ensures.items c.self.invariant is.range gap.0 gap.1
+
+pub returns-in_ok-insert-in-Err-clause-ok : goal.returns-in_ok-insert-in-Err-clause-ok
+returns-in_ok-insert-in-Err-clause-ok c = λ b.
+    let agreements = c.self.inside.agreements.items in
+    rw c.in_ok-insert-in-Err.ensures.items (rw (← c.self.view_is) (Contains-insert agreements c.in-Err.place c.args.agreement b))
+
+pub returns-in_ok-insert-in-Err-clause-ascending : goal.returns-in_ok-insert-in-Err-clause-ascending
+returns-in_ok-insert-in-Err-clause-ascending c = invariant_of-self-in-Err c

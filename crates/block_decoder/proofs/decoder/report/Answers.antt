@@ -1,0 +1,78 @@
+use Rattle.std.proofs.Common.{◌≡◌, ◌≢◌, ◌+◌, ◌*◌, ◌<◌, ◌≤◌, ℕ, List, All, length, IfOk, sym, subst, ap, ◌∙◌, arith}
+use Rattle.std.proofs.lemmas.Result.{IfOk-weaker}
+use Rattle.uni_poly.proofs.Coefficients.{bytes_from_get_or}
+use Rattle.wire_frames.specs.Answer.{Answer}
+use Rattle.column_lists.specs.declared.TheConstants.{MOST_COST}
+use Rattle.column_lists.specs.Numbers.{cost}
+use Rattle.block_decoder.specs.Agreed.{answers_of, HasColumns, Lists}
+use Rattle.block_decoder.specs.Numbers.{bound_of, most_columns, most_nodes}
+use Rattle.block_decoder.specs.Report.{Agreement, HasBlocks, IsReport}
+use Rattle.block_decoder.proofs.Agreed.{length-answers_of}
+use Rattle.block_decoder.proofs.Columns.{indices-answers_of, columns-answers_of}
+use Rattle.block_decoder.proofs.FewBlocks.{few_agreements}
+use Rattle.block_decoder.proofs.Reported.{listed-reported}
+use Rattle.block_decoder.proofs.decoder.report.Goals as goal
+
+pub find_agreements-requires-clause-columns : goal.find_agreements-requires-clause-columns
+find_agreements-requires-clause-columns g c =
+    subst (HasColumns c.args.s) (sym (c.in_ok-answers.ensures ∙ c.new.ensures)) (columns-answers_of c.args.s c.args.indices.now c.args.bytes.now c.requires.ascending c.requires.fit
+    (bytes_from_get_or c.args.indices.now (λ k. (c.type_inv.indices k).fits)) (bytes_from_get_or c.args.bytes.now (λ k. (c.type_inv.bytes k).fits)))
+
+pub find_agreements-requires-clause-nonzero : goal.find_agreements-requires-clause-nonzero
+find_agreements-requires-clause-nonzero g c =
+    subst (All (λ (a : Answer). a.index ≢ 0)) (sym (c.in_ok-answers.ensures ∙ c.new.ensures)) (indices-answers_of (λ i. i ≢ 0) c.args.s c.args.indices.now c.args.bytes.now c.requires.nonzero)
+
+pub find_agreements-requires-clause-few : goal.find_agreements-requires-clause-few
+find_agreements-requires-clause-few g c =
+    let n = ap length (c.in_ok-answers.ensures ∙ c.new.ensures) ∙ length-answers_of c.args.s c.args.indices.now c.args.bytes.now in
+    omega (arith, n, c.requires.few)
+
+pub find_agreements-requires-clause-agreement : goal.find_agreements-requires-clause-agreement
+find_agreements-requires-clause-agreement g c =
+    let n = ap length (c.in_ok-answers.ensures ∙ c.new.ensures) ∙ length-answers_of c.args.s c.args.indices.now c.args.bytes.now in
+    omega (arith, n, c.requires.enough)
+
+pub find_agreements-requires-clause-strong : goal.find_agreements-requires-clause-strong
+find_agreements-requires-clause-strong g c =
+    let n = ap length (c.in_ok-answers.ensures ∙ c.new.ensures) ∙ length-answers_of c.args.s c.args.indices.now c.args.bytes.now in
+    subst (λ (k : ℕ). k * c.args.t < c.args.h * c.args.h) (sym n) c.requires.strong
+
+pub find_agreements-requires-clause-cheap : goal.find_agreements-requires-clause-cheap
+find_agreements-requires-clause-cheap g c =
+    let n = ap length (c.in_ok-answers.ensures ∙ c.new.ensures) ∙ length-answers_of c.args.s c.args.indices.now c.args.bytes.now in
+    subst (λ (k : ℕ). cost k c.args.t c.args.h ≤ MOST_COST) (sym n) c.requires.cheap
+
+pub returns-clause-report : goal.returns-clause-report
+returns-clause-report g c =
+    subst (λ (all : List Answer). IfOk c.find_agreements.result (IsReport all c.args.s c.args.t c.args.h)) (c.in_ok-answers.ensures ∙ c.new.ensures) c.find_agreements.ensures.report
+
+pub returns-clause-blocks : goal.returns-clause-blocks
+returns-clause-blocks g c =
+    let answers = answers_of c.args.s c.args.indices.now c.args.bytes.now in
+    let columns = columns-answers_of c.args.s c.args.indices.now c.args.bytes.now c.requires.ascending c.requires.fit
+    (bytes_from_get_or c.args.indices.now (λ k. (c.type_inv.indices k).fits)) (bytes_from_get_or c.args.bytes.now (λ k. (c.type_inv.bytes k).fits)) in
+    IfOk-weaker c.find_agreements.result (IsReport answers c.args.s c.args.t c.args.h)
+    (λ (agreements : List Agreement). (blocks : List (List ℕ)) → Lists blocks answers c.args.s c.args.t c.args.h → HasBlocks blocks agreements)
+    (λ agreements is blocks lists. listed-reported answers c.args.s c.args.t c.args.h columns.filled agreements blocks is lists) (returns-clause-report g c)
+
+pub returns-clause-cols : goal.returns-clause-cols
+returns-clause-cols g c =
+    let n = ap length (c.in_ok-answers.ensures ∙ c.new.ensures) ∙ length-answers_of c.args.s c.args.indices.now c.args.bytes.now in
+    subst (λ (k : ℕ). c.find_agreements.new.cols ≤ c.args.cols.now + most_columns k c.args.t c.args.h c.args.s) n c.find_agreements.ensures.cols
+
+pub returns-clause-nodes : goal.returns-clause-nodes
+returns-clause-nodes g c =
+    let n = ap length (c.in_ok-answers.ensures ∙ c.new.ensures) ∙ length-answers_of c.args.s c.args.indices.now c.args.bytes.now in
+    subst (λ (k : ℕ). c.find_agreements.new.nodes ≤ c.args.nodes.now + most_nodes k c.args.t c.args.h c.args.s) n c.find_agreements.ensures.nodes
+
+pub returns-clause-few : goal.returns-clause-few
+returns-clause-few g c =
+    let answers = answers_of c.args.s c.args.indices.now c.args.bytes.now in
+    let columns = columns-answers_of c.args.s c.args.indices.now c.args.bytes.now c.requires.ascending c.requires.fit
+    (bytes_from_get_or c.args.indices.now (λ k. (c.type_inv.indices k).fits)) (bytes_from_get_or c.args.bytes.now (λ k. (c.type_inv.bytes k).fits)) in
+    let n = length-answers_of c.args.s c.args.indices.now c.args.bytes.now in
+    IfOk-weaker c.find_agreements.result (IsReport answers c.args.s c.args.t c.args.h)
+    (λ (agreements : List Agreement). length agreements ≤ bound_of (length c.args.indices.now) c.args.t c.args.h)
+    (λ agreements is. subst (λ (k : ℕ). length agreements ≤ bound_of k c.args.t c.args.h) n
+    (few_agreements answers columns.indices columns.different c.args.s c.args.t c.args.h agreements columns.filled c.requires.agreement.1
+    (subst (λ (k : ℕ). k * c.args.t < c.args.h * c.args.h) (sym n) c.requires.strong) is)) (returns-clause-report g c)

@@ -1,0 +1,34 @@
+-- The form of `split`.
+use Rattle.std.specs.Prelude.{ℕ, ◌<◌, ◌≤◌, ◌&&◌, List, Option, Some, codes, nat_le, nat_lt}
+use Rattle.clap.specs.Words.{Row, first_of}
+use Rattle.wire_frames.specs.declared.TheConstants.{MOST_SERVERS, MOST_WIDTH}
+use Rattle.pir_words.specs.Chain.{◌>>=◌, ◌>>◌}
+use Rattle.pir_words.specs.Numbers.{limited, number_in}
+use Rattle.pir_words.specs.Ranges.{coins_in, servers_in}
+use Rattle.pir_words.specs.declared.asked.Asked.{Asked}
+use Rattle.pir_words.specs.declared.asked.Asked.TheVariants.{Split}
+
+-- the degree in which a database is shared among n servers, at least 1 and less than n
+unfoldable pub tau_among : ℕ → List Row → Option ℕ
+tau_among n m = do
+  tau ← number_in (codes "tau") m
+  nat_le 1 tau && nat_lt tau n
+  Some tau
+
+-- `split` with its values, each in its range
+unfoldable pub split_of : List Row → Option Asked
+split_of m = do
+  width ← limited (codes "width") 1 MOST_WIDTH m
+  servers ← servers_in m
+  tau ← tau_among servers m
+  database ← first_of (codes "database") m
+  into ← first_of (codes "into") m
+  Some (Split database width servers tau into (coins_in m))
+
+-- the ranges of the values of `split`: rows of s bytes, shared in the degree tau among n servers
+pub record IsSplit (s n tau : ℕ) : Type 0 where
+  pub some_bytes : 1 ≤ s
+  pub few_bytes : s ≤ MOST_WIDTH
+  pub few_servers : n ≤ MOST_SERVERS
+  pub some_tau : 1 ≤ tau
+  pub few_tau : tau < n

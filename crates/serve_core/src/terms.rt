@@ -1,0 +1,47 @@
+//! Which queries are taken.
+ghost use Rattle.std.specs.Prelude.{◌≡◌, ◌≤◌, ◌*◌};
+ghost use Rattle.wire_frames.specs.declared.TheConstants.{MOST_BLOCKS};
+ghost use Rattle.serve_core.specs.Terms.{most_blocks_for, payload_len_for, vector_len_for};
+
+use wire_frames::{MOST_BLOCKS, MOST_WIDTH, Scheme};
+
+/// Which queries are taken: those of a scheme, for a database of a shape.
+#[derive(Clone, Copy, Debug, PartialEq, Eq)]
+pub struct Terms {
+    /// The number of the scheme.
+    pub scheme: u8,
+    /// How many rows the database has.
+    pub rows: u32,
+    /// How many bytes a row has.
+    pub width: u32,
+}
+
+impl Terms {
+    /// How many bytes a query has for each block.
+    pub(crate) fn vector_len(self) -> usize
+        ensures is { result ≡ vector_len_for self }
+        ensures some { 1 ≤ self.rows → 1 ≤ result }
+        ensures few { result ≤ self.rows }
+    {
+        Scheme::of(self.scheme).payload_len(self.rows)
+    }
+
+    /// How many bytes the payload of a query for so many blocks has.
+    pub(crate) fn payload_len(self, count: u8) -> usize
+        ensures is { result ≡ payload_len_for self count }
+        ensures some { 1 ≤ count → 1 ≤ self.rows → 1 ≤ result }
+    {
+        usize::from(count) * self.vector_len()
+    }
+
+    /// The most blocks that a query asks for.
+    #[tactic(auto, unfolding(crate::specs::Terms::most_blocks_for))]
+    pub(crate) fn most_blocks(self) -> u8
+        requires { 1 ≤ self.width }
+        ensures is { result ≡ most_blocks_for self }
+        ensures few { result ≤ MOST_BLOCKS }
+    {
+        let fit = MOST_WIDTH / self.width;
+        u32::from(MOST_BLOCKS).min(fit) as u8
+    }
+}

@@ -1,0 +1,14 @@
+use Rattle.std.proofs.Common.{arith}
+use Rattle.server_answer.specs.Waiting.{few_sum}
+use Rattle.server_answer.proofs.WaitingSums.{sum-with, row-with}
+use Rattle.server_answer.proofs.gather.with.Goals as goal
+
+pub returns-clause-rows : goal.returns-clause-rows
+returns-clause-rows c = λ n are small. record {
+  most = omega (arith);
+  rows = row-with c.args.few.rows c.args.few.count c.args.j n (omega arith) small are.rows;
+}
+
+pub returns-clause-sum : goal.returns-clause-sum
+unfolding few_sum
+returns-clause-sum c = λ rows k. sum-with rows c.args.few.rows c.args.few.count c.args.j k (omega arith)

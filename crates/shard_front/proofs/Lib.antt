@@ -1,0 +1,9 @@
+mod Spreads
+mod Usable
+mod Rooms
+mod Parting
+mod Linking
+mod Sharding
+mod Summing
+mod Fronting
+mod Telling

@@ -1,0 +1,109 @@
+-- The sum of the payloads of shards, one after the other.
+use Rattle.std.proofs.Common.{◌≡◌, ◌∙◌, inr, ℕ, suc, ◌+◌, ◌<◌, List, [], ◌∷◌, ◌++◌, length, get_or, refl, sym, ap, ap₂, subst, arith, length-append}
+use Rattle.std.proofs.lemmas.List.{ext_get_or, get_or_append_left}
+use Rattle.std.proofs.Math.Seq.{get_or-append_seam}
+use Rattle.std.proofs.lemmas.List.FromFn.{length-map-range_with_len, get_or-map-range_with_len}
+use Rattle.gf256.specs.Field.{◌⊕◌}
+use Rattle.gf256.specs.Sums.{sum_to}
+use Rattle.gf256.proofs.Sums.{sum_to-same}
+use Rattle.pir_ports.specs.declared.port.TheConstants.{PORT_COUNT}
+use Rattle.pir_ports.specs.World.{Cell, World}
+use Rattle.pir_ports.specs.Number.{link}
+use Rattle.pir_ports.specs.Moves.{Touches}
+use Rattle.pir_ports.specs.Each.{Each}
+use Rattle.pir_ports.proofs.Ranges.{each_as, each_more, each_none, range_more, range_none, range_still}
+use Rattle.chor_xor.specs.Chosen.{combined, combined_at}
+use Rattle.wire_frames.specs.declared.header.QueryHeader.{QueryHeader}
+use Rattle.shard_front.specs.declared.spread.Spread.{Spread}
+use Rattle.shard_front.specs.Spread.{shards}
+use Rattle.shard_front.specs.Shard.{AddsPayload, ShardAnswers, ShardIsLost}
+use Rattle.shard_front.specs.Asked.{FirstLost, SumsFirst}
+
+-- one payload more
+combined_more : (payloads : List (List ℕ)) (payload : List ℕ) (k : ℕ)
+    → combined_at (payloads ++ payload ∷ []) k ≡ combined_at payloads k ⊕ get_or payload k 0
+unfolding combined_at sum_to
+combined_more payloads payload k =
+    let all = payloads ++ payload ∷ [] in
+    let f : ℕ → ℕ = λ i. get_or (get_or all i []) k 0 in
+    let more : length all ≡ suc (length payloads) = omega (arith, length-append payloads (payload ∷ [])) in
+    ap (sum_to f) more
+    ∙ ap₂ ◌⊕◌
+    (sum_to-same f (λ i. get_or (get_or payloads i []) k 0) (length payloads)
+    (λ i l. ap (λ (row : List ℕ). get_or row k 0) (get_or_append_left payloads (payload ∷ []) [] i l)))
+    (ap (λ (row : List ℕ). get_or row k 0) (get_or-append_seam payloads payload [] []))
+
+-- none
+combined_none : (k : ℕ) → combined_at [] k ≡ 0
+unfolding combined_at sum_to
+combined_none k = refl
+
+-- bytes that are the sum in each place are the sum
+pub combined_is : (width : ℕ) (payloads : List (List ℕ)) (sum : List ℕ) → length sum ≡ width
+    → ((k : ℕ) → get_or sum k 0 ≡ combined_at payloads k) → sum ≡ combined width payloads
+unfolding combined
+combined_is width payloads sum long each =
+    ext_get_or 0 sum _ (long ∙ sym (length-map-range_with_len (combined_at payloads) 0 width))
+    (λ k l. each k ∙ sym (get_or-map-range_with_len (combined_at payloads) 0 width k k 0 (omega (arith, l, long)) (omega arith)))
+
+module _ (spread : Spread) (query : QueryHeader) (vectors : List ℕ) (addresses : List (List ℕ)) where
+  abbrev Answers : List (List ℕ) → ℕ → Cell → Cell → Type 0
+  Answers payloads i old new = ShardAnswers spread query vectors i (get_or addresses i []) (get_or payloads i []) old new
+
+  -- before the first shard
+  pub sums_none : (sum : List ℕ) (w : World) → ((k : ℕ) → get_or sum k 0 ≡ 0) → SumsFirst spread query vectors addresses 0 sum w w
+  sums_none sum w zeros = record {
+    payloads = [];
+    answer = record { count = refl; each = each_none (Answers []) (link 1) w w };
+    sum_is = λ k. zeros k ∙ sym (combined_none k);
+    others = range_none (link 1) w;
+  }
+
+  -- one shard more
+  pub sums_more : (n : ℕ) (before after address : List ℕ) (w v u : World) → link 1 + n < PORT_COUNT → address ≡ get_or addresses n []
+      → SumsFirst spread query vectors addresses n before w v
+      → AddsPayload spread query vectors n address before after (v.at (link 1 + n)) (u.at (link 1 + n)) → Touches (link 1 + n) v u
+      → SumsFirst spread query vectors addresses (n + 1) after w u
+  sums_more n before after address w v u fits at s adds touch =
+      let all = s.payloads ++ adds.payload ∷ [] in
+      let count = s.answer.count in
+      let kept : Each (Answers all) (link 1) n w v =
+      each_as (Answers s.payloads) (Answers all) (link 1) n w v
+      (λ i l c d a. subst (λ (p : List ℕ). ShardAnswers spread query vectors i (get_or addresses i []) p c d)
+      (sym (get_or_append_left s.payloads (adds.payload ∷ []) [] i (omega (arith, l, count)))) a) s.answer.each in
+      let here : adds.payload ≡ get_or all n [] = sym (get_or-append_seam s.payloads adds.payload [] []) ∙ ap (λ (k : ℕ). get_or all k []) count in
+      let last : Answers all n (v.at (link 1 + n)) (u.at (link 1 + n)) =
+      subst (λ (p : List ℕ). ShardAnswers spread query vectors n (get_or addresses n []) p (v.at (link 1 + n)) (u.at (link 1 + n))) here
+      (subst (λ (a : List ℕ). ShardAnswers spread query vectors n a adds.payload (v.at (link 1 + n)) (u.at (link 1 + n))) at adds.answers) in
+      record {
+        payloads = all;
+        answer = record {
+          count = length-append s.payloads (adds.payload ∷ []) ∙ ap (λ (k : ℕ). k + 1) count;
+          each = each_more (Answers all) (link 1) n w v u fits kept s.others touch last;
+        };
+        sum_is = λ k. adds.sum k ∙ ap (λ (b : ℕ). b ⊕ get_or adds.payload k 0) (s.sum_is k) ∙ sym (combined_more s.payloads adds.payload k);
+        others = range_more (link 1) n w v u s.others touch;
+      }
+
+  -- and the next one is lost
+  pub lost_next : (n number : ℕ) (sum address : List ℕ) (w v u : World) → link 1 + n < PORT_COUNT → n < shards spread → number ≡ n + 1
+      → address ≡ get_or addresses n [] → SumsFirst spread query vectors addresses n sum w v
+      → ShardIsLost spread query vectors n address (v.at (link 1 + n)) (u.at (link 1 + n)) → Touches (link 1 + n) v u
+      → FirstLost spread query vectors addresses number w u
+  lost_next n number sum address w v u fits there is at s lost touch =
+      let still : v.at (link 1 + n) ≡ w.at (link 1 + n) = range_still (link 1) n (link 1 + n) w v s.others fits (inr (omega arith)) in
+      record {
+        place = n;
+        number_is = is;
+        there = there;
+        payloads = s.payloads;
+        before = record {
+          count = s.answer.count;
+          each = record {
+            each = λ i l. subst (λ (d : Cell). Answers s.payloads i (w.at (link 1 + i)) d)
+                (sym (touch.others (link 1 + i) (omega (arith, l, fits)) (λ e. omega (arith, l, e)))) (s.answer.each.each i l);
+          };
+        };
+        lost = subst (λ (c : Cell). ShardIsLost spread query vectors n (get_or addresses n []) c (u.at (link 1 + n))) still
+            (subst (λ (a : List ℕ). ShardIsLost spread query vectors n a (v.at (link 1 + n)) (u.at (link 1 + n))) at lost);
+      }

@@ -1,0 +1,40 @@
+use Rattle.std.proofs.Common.{◌≡◌, ◌∙◌, ℕ, suc, ◌+◌, ◌-◌, ◌*◌, ◌≤◌, List, ◌++◌, length, take, refl, sym, ap, arith, suc-mul, zero-mul}
+use Rattle.wire_frames.specs.Turns.{in_turn}
+use Rattle.wire_frames.proofs.Turns.{in_turn-more, piece_between, piece_fits, turn_keeps, turn_written}
+use Rattle.shard_front.specs.Spread.{rows_in}
+use Rattle.shard_front.specs.Parts.{slice_at, slice_for}
+use Rattle.shard_front.proofs.parts.write_slices.Goals as goal
+
+pub loop-v-init : goal.loop-v-init
+unfolding in_turn
+loop-v-init c = record {
+  written = ap (λ (n : ℕ). take n c.args.out.now) (zero-mul (rows_in c.args.spread c.args.place));
+  size = c.requires.room;
+}
+
+pub loop-v-preserved : goal.loop-v-preserved
+loop-v-preserved c =
+    let spread = c.args.spread in
+    let place = c.args.place in
+    let v = c.loop-v.v in
+    let out = c.loop-v.out in
+    let row = c.write_slice.new.out in
+    let size = rows_in spread place in
+    let given = c.rows_in-size.result in
+    let slices = slice_at spread place c.args.vectors.now in
+    let so_far = c.loop-v.invariant in
+    let wide : given ≡ size = c.rows_in-size.ensures.is in
+    let start : v * given ≡ v * size = ap (λ (w : ℕ). v * w) wide in
+    let end : (v + 1) * given ≡ (v + 1) * size = ap (λ (w : ℕ). (v + 1) * w) wide in
+    let next : v + 1 ≡ suc v = omega arith in
+    let step : (v + 1) * size ≡ v * size + size = ap (λ (k : ℕ). k * size) next ∙ suc-mul v size in
+    let fits : (v + 1) * size ≤ c.args.count * size = piece_fits v c.args.count size (omega (arith, c.loop-v-test.true, c.from-v-end.ensures)) in
+    let is : row ≡ slices v = c.write_slice.ensures ∙ ap (slice_for spread place) (piece_between v spread.rows spread.rows c.args.vectors.now refl) in
+    let long : length row ≡ size = omega (arith, c.write_slice.auto.out, start, end, step, fits, so_far.size) in
+    record {
+      written = turn_written out row (in_turn v slices) (v * given) v (v + 1) ((v + 1) * given - v * given) size start refl
+          (omega (arith, fits, so_far.size)) long so_far.written
+          ∙ ap (λ (l : List ℕ). in_turn v slices ++ l) is
+          ∙ sym (in_turn-more v (v + 1) slices refl);
+      size = turn_keeps out row (v * given) ((v + 1) * given - v * given) (omega (arith, start, end, step, fits, so_far.size)) (omega (arith, long, start, end, step)) ∙ so_far.size;
+    }

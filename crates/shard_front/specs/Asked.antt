@@ -1,0 +1,75 @@
+-- What the shards make of a query, in their order.
+use Rattle.std.specs.Prelude.{ℕ, ◌≡◌, ◌+◌, ◌*◌, ◌<◌, List, [], ◌∷◌, ◌++◌, length, Option, Some, None, slice_index, slice_index_or}
+use Rattle.pir_ports.specs.World.{World}
+use Rattle.pir_ports.specs.Number.{link}
+use Rattle.pir_ports.specs.Each.{Each, TouchesRange}
+use Rattle.chor_xor.specs.Chosen.{combined, combined_at}
+use Rattle.wire_frames.specs.declared.header.QueryHeader.{QueryHeader}
+use Rattle.wire_frames.specs.Header.{answer_header}
+use Rattle.shard_front.specs.declared.TheConstants.{LOST}
+use Rattle.shard_front.specs.declared.spread.Spread.{Spread}
+use Rattle.shard_front.specs.declared.relayed.Relayed.{Relayed}
+use Rattle.shard_front.specs.declared.relayed.Relayed.TheVariants.{Served, Refused, Gone, GuestFault, ShardLost}
+use Rattle.shard_front.specs.Spread.{shards}
+use Rattle.shard_front.specs.Shard.{ShardAnswers, ShardIsLost}
+
+-- each of the first n shards was asked, by its address, and answered: these are their payloads
+pub record FirstAnswer (spread : Spread) (query : QueryHeader) (vectors : List ℕ) (addresses : List (List ℕ)) (n : ℕ)
+    (payloads : List (List ℕ)) (old new : World) : Type 0 where
+  pub count : length payloads ≡ n
+  pub each : Each (λ i. ShardAnswers spread query vectors i (slice_index_or addresses i []) (slice_index_or payloads i []))
+      (link 1) n old new
+
+-- the first n shards answered, their payloads have this sum so far, and no link behind theirs was touched
+pub record SumsFirst (spread : Spread) (query : QueryHeader) (vectors : List ℕ) (addresses : List (List ℕ)) (n : ℕ)
+    (sum : List ℕ) (old new : World) : Type 0 where
+  pub payloads : List (List ℕ)
+  pub answer : FirstAnswer spread query vectors addresses n payloads old new
+  pub sum_is : (k : ℕ) → slice_index sum k ≡ combined_at payloads k
+  pub others : TouchesRange (link 1) n old new
+
+-- all shards were asked, and answered, and the frame for the guest has the sum of their payloads
+pub record AllAnswer (spread : Spread) (query : QueryHeader) (vectors : List ℕ) (addresses : List (List ℕ))
+    (frame : List ℕ) (old new : World) : Type 0 where
+  pub payloads : List (List ℕ)
+  pub answer : FirstAnswer spread query vectors addresses (shards spread) payloads old new
+  pub frame_is : frame ≡ answer_header query 0 ++ combined (query.count * spread.width) payloads
+
+-- the shard with this number is the first that is lost: those before it answered
+pub record FirstLost (spread : Spread) (query : QueryHeader) (vectors : List ℕ) (addresses : List (List ℕ))
+    (number : ℕ) (old new : World) : Type 0 where
+  pub place : ℕ
+  pub number_is : number ≡ place + 1
+  pub there : place < shards spread
+  pub payloads : List (List ℕ)
+  pub before : FirstAnswer spread query vectors addresses place payloads old new
+  pub lost : ShardIsLost spread query vectors place (slice_index_or addresses place [])
+      (old.at (link 1 + place)) (new.at (link 1 + place))
+
+-- what asking the shards does, by the number of the lost one, if one is: none behind it is asked
+abbrev pub AsksShards : Spread → QueryHeader → List ℕ → List (List ℕ) → Option ℕ → List ℕ → World → World → Type 0
+AsksShards spread query vectors addresses None sum old new =
+    SumsFirst spread query vectors addresses (shards spread) sum old new
+AsksShards spread query vectors addresses (Some number) sum old new =
+    FirstLost spread query vectors addresses number old new × TouchesRange (link 1) number old new
+
+-- the frame that names a lost shard: the header of its status, and the number
+abbrev pub lost_frame : QueryHeader → ℕ → List ℕ
+lost_frame query number = answer_header query LOST ++ number ∷ []
+
+-- what the shards make of a query: what its guest is met with, and the frame for it
+abbrev pub Asks : Spread → QueryHeader → List ℕ → List (List ℕ) → Relayed → List ℕ → World → World → Type 0
+Asks spread query vectors addresses Served frame old new = AllAnswer spread query vectors addresses frame old new
+Asks spread query vectors addresses (ShardLost number) frame old new =
+    FirstLost spread query vectors addresses number old new × (frame ≡ lost_frame query number)
+Asks spread query vectors addresses (Refused status) frame old new = ⊥
+Asks spread query vectors addresses Gone frame old new = ⊥
+Asks spread query vectors addresses GuestFault frame old new = ⊥
+
+-- how many shards were asked, by what the guest is met with
+abbrev pub asked_for : Spread → Relayed → ℕ
+asked_for spread Served = shards spread
+asked_for spread (ShardLost number) = number
+asked_for spread (Refused status) = 0
+asked_for spread Gone = 0
+asked_for spread GuestFault = 0

@@ -1,0 +1,10 @@
+pub mod Spread
+pub mod Parts
+pub mod Link
+pub mod Shard
+pub mod Asked
+pub mod Room
+pub mod Stages
+pub mod Fronted
+pub mod Relay
+pub mod FrontInside

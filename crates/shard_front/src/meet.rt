@@ -1,0 +1,201 @@
+//! Serves the guest that is in, by asking the shards.
+ghost use Rattle.std.specs.Prelude.{◌≡◌, ◌*◌, ◌<◌, ◌≤◌, length, map, string_bytes};
+ghost use Rattle.pir_ports.specs.Number.{GUEST};
+ghost use Rattle.pir_ports.specs.Moves.{Touches};
+ghost use Rattle.wire_frames.specs.Header.{answer_header};
+ghost use Rattle.wire_frames.specs.Limits.{IsQuery};
+ghost use Rattle.wire_frames.specs.Sizes.{answer_len, query_len};
+ghost use Rattle.wire_frames.specs.declared.scheme.Scheme.TheVariants.{Shamir};
+ghost use Rattle.serve_core.specs.Taking.{IsGood, front_payload};
+ghost use Rattle.serve_core.specs.Terms.{most_blocks_for, payload_len_for};
+ghost use Rattle.shard_front.specs.Spread.{IsSpread, shards, terms_of};
+ghost use Rattle.shard_front.specs.Room.{Fits};
+ghost use Rattle.shard_front.specs.Asked.{lost_frame};
+ghost use Rattle.shard_front.specs.Stages.{Gives, RelaysQuery};
+ghost use Rattle.shard_front.specs.declared.relayed.Relayed.TheVariants.{ShardLost};
+ghost use Rattle.shard_front.specs.Fronted.{Fronts};
+ghost use Rattle.shard_front.specs.Relay.{FrontsTold};
+
+use crate::LOST;
+use crate::front::Front;
+use crate::relay::ask_shards;
+use crate::relayed::Relayed;
+use crate::room::Room;
+use crate::spread::Spread;
+use pir_ports::{Failed, Port, Ports, write_all};
+use serve_core::{Taken, take_query};
+use wire_frames::{
+    FRAME_HEADER_LEN, QueryHeader, SHAMIR, answer_len, write_answer_header, write_query_header,
+};
+
+/// Writes the header of the answer with this status to a query.
+fn write_header(asked: &QueryHeader, status: u8, out: &mut [u8; FRAME_HEADER_LEN])
+    requires { IsQuery asked.now }
+    ensures { out.new ≡ answer_header asked.now status }
+{
+    let mut query = [0; FRAME_HEADER_LEN];
+    write_query_header(asked, &mut query);
+    write_answer_header(&query, status, out);
+}
+
+/// Gives the guest a frame, and says that it is met so, or that a call on it failed.
+fn give<P: Ports>(ports: &mut P, frame: &[u8], met: Relayed) -> Relayed
+    requires { 0 < length frame.now }
+    ensures gives { Gives met frame.now result (P.world ports.old) (P.world ports.new) }
+    ensures others { Touches GUEST (P.world ports.old) (P.world ports.new) }
+{
+    match write_all(ports, Port::Guest, frame) {
+        Ok(()) => met,
+        Err(Failed) => Relayed::GuestFault,
+    }
+}
+
+/// Gives the guest the frame that names a lost shard.
+fn give_lost<P: Ports>(ports: &mut P, asked: &QueryHeader, number: u8) -> Relayed
+    requires { IsQuery asked.now }
+    ensures gives { Gives (ShardLost number) (lost_frame asked.now number) result
+        (P.world ports.old) (P.world ports.new) }
+    ensures others { Touches GUEST (P.world ports.old) (P.world ports.new) }
+{
+    let mut header = [0; FRAME_HEADER_LEN];
+    write_header(asked, LOST, &mut header);
+    let mut frame = [number; FRAME_HEADER_LEN + 1];
+    frame[..FRAME_HEADER_LEN].copy_from_slice(&header);
+    give(ports, &frame, Relayed::ShardLost(number))
+}
+
+/// Asks the shards for a query that was taken, and gives the guest their sum, or the frame that names a
+/// lost shard. The room is as long as the query takes.
+fn relay_in<P: Ports>(
+    spread: Spread,
+    asked: &QueryHeader,
+    vectors: &[u8],
+    addresses: &[String],
+    part: &mut [u8],
+    answer: &mut [u8],
+    frame: &mut [u8],
+    ports: &mut P,
+) -> Relayed
+    requires spread { IsSpread spread }
+    requires good { IsGood (terms_of spread) asked.now }
+    requires vectors { length vectors.now ≡ asked.now.count * spread.rows }
+    requires addresses { length addresses.now ≡ shards spread }
+    requires part { query_len Shamir asked.now.count spread.shard ≤ length part.old }
+    requires answer { length answer.old ≡ answer_len asked.now.count spread.width }
+    requires frame { length frame.old ≡ answer_len asked.now.count spread.width }
+    ensures relays { RelaysQuery spread asked.now vectors.now (map string_bytes addresses.now) result
+        (P.world ports.old) (P.world ports.new) }
+{
+    let Some((header, sum)) = frame.split_first_chunk_mut() else {
+        unreachable!()
+    };
+    write_header(asked, 0, header);
+    match ask_shards(spread, asked, vectors, addresses, part, answer, sum, ports) {
+        None => give(ports, frame, Relayed::Served),
+        Some(number) => give_lost(ports, asked, number),
+    }
+}
+
+/// The same in the front of room for the most blocks that a query asks for.
+fn relay_query<P: Ports>(
+    spread: Spread,
+    asked: &QueryHeader,
+    query: &[u8],
+    addresses: &[String],
+    part: &mut [u8],
+    answer: &mut [u8],
+    frame: &mut [u8],
+    ports: &mut P,
+) -> Relayed
+    requires spread { IsSpread spread }
+    requires good { IsGood (terms_of spread) asked.now }
+    requires query { payload_len_for (terms_of spread) asked.now.count ≤ length query.now }
+    requires addresses { length addresses.now ≡ shards spread }
+    requires part { length part.old ≡ query_len Shamir (most_blocks_for (terms_of spread)) spread.shard }
+    requires answer { length answer.old ≡ answer_len (most_blocks_for (terms_of spread)) spread.width }
+    requires frame { length frame.old ≡ answer_len (most_blocks_for (terms_of spread)) spread.width }
+    ensures relays { RelaysQuery spread asked.now (front_payload (terms_of spread) asked.now query.now)
+        (map string_bytes addresses.now) result (P.world ports.old) (P.world ports.new) }
+{
+    let size = answer_len(asked.count, spread.width);
+    let vectors = &query[..usize::from(asked.count) * spread.rows as usize];
+    let answer = &mut answer[..size];
+    let frame = &mut frame[..size];
+    relay_in(
+        spread, asked, vectors, addresses, part, answer, frame, ports,
+    )
+}
+
+/// Takes the query of the guest that is in, and asks the shards for it, or refuses it.
+fn front_in<P: Ports>(
+    spread: Spread,
+    query: &mut [u8],
+    part: &mut [u8],
+    answer: &mut [u8],
+    frame: &mut [u8],
+    addresses: &[String],
+    ports: &mut P,
+) -> Relayed
+    requires spread { IsSpread spread }
+    requires query { length query.old ≡ payload_len_for (terms_of spread) (most_blocks_for (terms_of spread)) }
+    requires part { length part.old ≡ query_len Shamir (most_blocks_for (terms_of spread)) spread.shard }
+    requires answer { length answer.old ≡ answer_len (most_blocks_for (terms_of spread)) spread.width }
+    requires frame { length frame.old ≡ answer_len (most_blocks_for (terms_of spread)) spread.width }
+    requires addresses { length addresses.now ≡ shards spread }
+    ensures fronts { Fronts spread (map string_bytes addresses.now) result
+        (P.world ports.old) (P.world ports.new) }
+{
+    match take_query(SHAMIR, spread.rows, spread.width, query, ports) {
+        Taken::Query(asked) => relay_query(
+            spread, &asked, query, addresses, part, answer, frame, ports,
+        ),
+        Taken::Refused(status) => Relayed::Refused(status),
+        Taken::Gone => Relayed::Gone,
+        Taken::GuestFault => Relayed::GuestFault,
+    }
+}
+
+/// The same with the room of a front.
+pub(crate) fn front_within<P: Ports>(
+    spread: Spread,
+    room: &mut Room,
+    addresses: &[String],
+    ports: &mut P,
+) -> Relayed
+    requires spread { IsSpread spread }
+    requires fits { Fits spread room.old }
+    requires addresses { length addresses.now ≡ shards spread }
+    ensures fits { Fits spread room.new }
+    ensures fronts { Fronts spread (map string_bytes addresses.now) result
+        (P.world ports.old) (P.world ports.new) }
+    ensures told { FrontsTold spread result (P.world ports.old) (P.world ports.new) }
+{
+    let query = room.query.as_mut_slice();
+    let part = room.part.as_mut_slice();
+    let answer = room.answer.as_mut_slice();
+    let frame = room.frame.as_mut_slice();
+    front_in(spread, query, part, answer, frame, addresses, ports)
+}
+
+/// Serves the guest that is in, by asking the shards, of which there is one address each, in their order,
+/// and says how the guest was met.
+///
+/// Its query is taken, refused or found cut as [`serve_one`](serve_core::serve_one) does it at a server
+/// of all rows in Shamir's scheme, and no shard is asked before it is whole and good. Then the shards are
+/// asked one after the other: the link with the shard's number is opened by its address and given the
+/// query for its rows, and as many bytes as a whole answer has are taken of it.
+///
+/// The first shard whose link fails, or whose bytes are no usable answer, is lost: no link behind it is
+/// touched, and the guest is given the frame of status 4, with that number behind the header. Where none is,
+/// it is given the frame of status 0 with the sum of the answers. Where a call on the guest fails, it was
+/// given nothing unless all that the reply takes was taken, and then a proper front of its frame. The front
+/// is the same after every guest. No memory is taken.
+pub fn front_one<P: Ports>(front: &mut Front, addresses: &[String], ports: &mut P) -> Relayed
+    requires { length addresses.now ≡ shards front.old }
+    ensures fronts { Fronts front.old (map string_bytes addresses.now) result
+        (P.world ports.old) (P.world ports.new) }
+    ensures told { FrontsTold front.old result (P.world ports.old) (P.world ports.new) }
+    ensures kept { front.new ≡ front.old }
+{
+    front.meet(addresses, ports)
+}

@@ -1,0 +1,4 @@
+pub mod Carried
+pub mod Limits
+pub mod NamesInTurn
+pub mod Shares

@@ -1,0 +1,3 @@
+pub mod SplitPlan
+pub mod Limit
+pub mod Splits

@@ -1,0 +1,124 @@
+//! One splitting.
+
+ghost use Rattle.std.specs.Prelude.{◌≡◌, ◌≢◌, ◌+◌, ◌*◌, ◌<◌, ◌≤◌, length, map, string_bytes, OnOk, OnErr};
+ghost use Rattle.std.specs.List.{concat};
+ghost use Rattle.pir_ports.specs.Number.{share_file};
+ghost use Rattle.pir_ports.specs.Moves.{Touches, gave, named};
+ghost use Rattle.pir_ports.specs.Each.{TouchesRange};
+ghost use Rattle.pir_ports.specs.Files.{Unwritten};
+ghost use Rattle.share_files.specs.SplitPlan.{share_names};
+ghost use Rattle.share_files.specs.Splits.{Splits, TouchesShares, WritesShares};
+
+use crate::coins::take_coins;
+use crate::fault::SplitFault;
+use crate::names::names_of_shares;
+use crate::plan::SplitPlan;
+use block_matrix::Matrix;
+use pir_ports::{Failed, Port, Ports, write_all};
+use share_db::share_into;
+use std::alloc::Global;
+
+/// Writes one share to the file of this name.
+///
+/// # Errors
+///
+/// `Failed` if a call on the file failed.
+fn write_share<P: Ports>(ports: &mut P, index: u8, name: &str, bytes: &[u8]) -> Result<(), Failed>
+    requires { 0 < length bytes.now }
+    ensures ok { OnOk result ((P.world ports.new).at (share_file index)
+        ≡ gave bytes.now (named name.now ((P.world ports.old).at (share_file index)))) }
+    ensures failed { OnErr result (Unwritten (share_file index) name.now bytes.now (P.world ports.old) (P.world ports.new)) }
+    ensures others { Touches (share_file index) (P.world ports.old) (P.world ports.new) }
+{
+    let Ok(()) = ports.open(Port::Share(index), name) else {
+        return Err(Failed);
+    };
+    write_all(ports, Port::Share(index), bytes)
+}
+
+/// Writes the share of each server to its file, one after the other.
+///
+/// # Errors
+///
+/// `Failed` if a call on a file failed.
+fn write_shares<P: Ports>(
+    bytes: &[u8],
+    coins: &[u8],
+    tau: u8,
+    names: &[String],
+    ports: &mut P,
+    share: &mut [u8],
+) -> Result<(), Failed>
+    requires some { 0 < length bytes.now }
+    requires few { length names.now < 256 }
+    requires degree { (1 ≤ tau) × (tau ≤ 254) }
+    requires coins { length coins.now ≡ length bytes.now * tau }
+    requires room { length share.old ≡ length bytes.now }
+    ensures written { WritesShares (map string_bytes names.now) bytes.now coins.now tau result
+        (P.world ports.old) (P.world ports.new) }
+    ensures others { TouchesRange (share_file 1) (length names.now) (P.world ports.old) (P.world ports.new) }
+{
+    let mut index = 0u8;
+    'shares: for name in names {
+        index += 1;
+        share_into(bytes, coins, u32::from(tau), index, share);
+        let Ok(()) = write_share(ports, index, name, share) else {
+            return Err(Failed);
+        };
+    }
+    Ok(())
+}
+
+/// Takes the coins, and writes the share of each server.
+///
+/// # Errors
+///
+/// As [`split`], but for want of memory.
+fn split_bytes<P: Ports>(
+    bytes: &[u8],
+    plan: &SplitPlan,
+    names: &[String],
+    ports: &mut P,
+    coins: &mut [u8],
+    share: &mut [u8],
+) -> Result<(), SplitFault>
+    requires names { map string_bytes names.now ≡ share_names plan.now.into plan.now.servers }
+    requires count { length names.now ≡ plan.now.servers }
+    requires some { 0 < length bytes.now }
+    requires coins { length coins.old ≡ length bytes.now * plan.now.tau }
+    requires room { length share.old ≡ length bytes.now }
+    ensures splits { Splits plan.now bytes.now result (P.world ports.old) (P.world ports.new) }
+    ensures others { TouchesShares plan.now.servers (P.world ports.old) (P.world ports.new) }
+{
+    take_coins(ports, plan.coins, coins)?;
+    match write_shares(bytes, coins, plan.tau, names, ports, share) {
+        Ok(()) => Ok(()),
+        Err(Failed) => Err(SplitFault::ShareFault),
+    }
+}
+
+/// Splits a database into a share for each server, each in a file of its own: takes the coins, `tau` for each byte of the
+/// rows, and then writes the files one after the other. All memory is taken first: for the coins, for one share and for
+/// the names.
+///
+/// # Errors
+///
+/// `Memory` for want of memory, and then nothing was touched; `CoinsFault` only where the count of Coins rose, and
+/// `CoinsEnded` exactly where it has fewer coins, with their number, and then no file was opened; `ShareFault` only where
+/// the count of a share's file rose: the files before it are whole, it has a front of its share, and later ones were left
+/// alone.
+pub fn split<P: Ports>(
+    alloc: Global,
+    matrix: &Matrix,
+    plan: &SplitPlan,
+    ports: &mut P,
+) -> Result<(), SplitFault>
+    ensures splits { Splits plan.now (concat matrix.now.rows) result (P.world ports.old) (P.world ports.new) }
+    ensures others { TouchesShares plan.now.servers (P.world ports.old) (P.world ports.new) }
+{
+    let names = names_of_shares(alloc, plan.into, plan.servers)?;
+    let bytes = matrix.bytes();
+    let mut coins = vec![in alloc; 0; bytes.len() * usize::from(plan.tau)]?;
+    let mut share = vec![in alloc; 0; bytes.len()]?;
+    split_bytes(bytes, plan, &names, ports, &mut coins, &mut share)
+}
