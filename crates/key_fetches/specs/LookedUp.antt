@@ -31,7 +31,8 @@ pub record Fetched (p : FetchPlan) (key : List ℕ) (addresses : List (List ℕ)
 
 -- a fetch was made in each turn, and this is what they came to. Where the verdicts list the rows that were asked for, of
 -- rows that ascend by their keys, it is the row with the key
-pub record LookedUp (p : FetchPlan) (key : List ℕ) (addresses : List (List ℕ)) (ended : Ended) (first : Cell) (old new : World) : Type 0 where
+pub record LookedUp (p : FetchPlan) (key : List ℕ) (addresses : List (List ℕ)) (ended : Ended) (first : Cell)
+    (old new : World) : Type 0 where
   pub rounds : List Round
   pub verdicts : List Verdict
   pub turns : length rounds ≡ turns_of p.r
@@ -69,7 +70,8 @@ pub record TooFewHeld (p : FetchPlan) (taken : ℕ) (held : List ℕ) : Type 0 w
   pub rest : taken ≡ length held % need p 1
 
 -- fewer fetches were made than there are turns, when Coins ended
-pub record LookUpShort (p : FetchPlan) (key : List ℕ) (addresses : List (List ℕ)) (taken : ℕ) (first : Cell) (old new : World) : Type 0 where
+pub record LookUpShort (p : FetchPlan) (key : List ℕ) (addresses : List (List ℕ)) (taken : ℕ) (first : Cell)
+    (old new : World) : Type 0 where
   pub rounds : List Round
   pub verdicts : List Verdict
   pub fewer : length rounds < turns_of p.r
