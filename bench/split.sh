@@ -1,7 +1,7 @@
 #!/usr/bin/env bash
 # Splits a database of SIZE bytes into shares, beside only reading as many coins from the same place and writing as many files
-# of that size, in turns. It prints the best time of each, their ratio, and the greatest memory of the splitting as a ratio to
-# what it may keep: the database, its coins and one share.
+# of that size, in turns. It prints the best time of each, the ratio, and the same of the processor's time, which other work
+# on the machine disturbs less; and the greatest memory of the splitting as a ratio to the database and its coins.
 # usage: bench/split.sh [SIZE [TAU [SERVERS [RUNS [PROGRAM]]]]]
 set -eu
 top=$(cd "$(dirname "$0")/.." && pwd)
@@ -32,11 +32,11 @@ def split():
     run.returncode = os.waitstatus_to_exitcode(status)
     if line != said or run.returncode:
         sys.exit(f"it says {line!r} with status {run.returncode}, and not {said!r}")
-    return spent, used.ru_maxrss * 1024
+    return spent, used.ru_utime + used.ru_stime, used.ru_maxrss * 1024
 # Python's own buffer for the coins is fresh each time, and a file is written in one call as far as the system takes it.
 def plain():
     clear()
-    start = time.perf_counter()
+    start, busy = time.perf_counter(), time.process_time()
     with open(coins, "rb", buffering=0) as it:
         room = memoryview(bytearray(size * tau))
         taken = 0
@@ -47,13 +47,14 @@ def plain():
             done = 0
             while done < size:
                 done += it.write(room[done:size])
-    return time.perf_counter() - start
+    return time.perf_counter() - start, time.process_time() - busy
 splits, plains = [], []
 for _ in range(runs):
     splits.append(split())
     plains.append(plain())
-best, beside, memory = min(splits)[0], min(plains), max(peak for _, peak in splits)
-may = size * (2 + tau)
-print(f"split {best * 1000:.1f} ms, coins read and files written {beside * 1000:.1f} ms, ratio {best / beside:.2f}")
-print(f"memory {memory / may:.3f} of the {may} bytes of database, coins and one share, at most {memory - may} bytes more")
+for text, which in ("by the clock", 0), ("of the processor", 1):
+    best, beside = min(it[which] for it in splits), min(it[which] for it in plains)
+    print(f"{text}: split {best * 1000:.1f} ms, coins read and files written {beside * 1000:.1f} ms, ratio {best / beside:.2f}")
+memory, may = max(it[2] for it in splits), size * (1 + tau)
+print(f"memory {memory / may:.3f} of the {may} bytes of database and coins, {memory - may} bytes more")
 PY

@@ -5,7 +5,7 @@
 #[cfg(test)]
 mod field;
 #[cfg(test)]
-mod interpolation;
+mod interpolants;
 #[cfg(test)]
 mod lists;
 #[cfg(test)]

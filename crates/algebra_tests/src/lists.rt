@@ -3,7 +3,8 @@ ghost use Rattle.std.specs.Prelude.{◌≢◌, ◌≡◌, ◌<◌, All, AllPairs
 
 use crate::rows::are;
 use column_lists::{MOST_COST, MOST_POINTS, column_list, plan};
-use gs_interpolate::{Elimination, Interpolate, Koetter};
+use gs_interpolate::{Elimination, Koetter};
+use interpolation::Interpolate;
 use std::alloc::{AllocError, Global};
 use std::marker::Brand;
 use std::sync::ledger::{Blank, Ledger};

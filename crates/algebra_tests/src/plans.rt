@@ -1,9 +1,9 @@
 // The numbers of list decoding.
 ghost use Rattle.std.specs.Prelude.{◌≡◌, ◌*◌, ◌<◌, ◌≤◌};
-ghost use Rattle.gs_interpolate.specs.Monomials.{monomials};
+ghost use Rattle.interpolation.specs.Monomials.{monomials};
 
 use column_lists::{MOST_POINTS, plan};
-use gs_interpolate::MOST_WEIGHTED_DEGREE;
+use interpolation::MOST_WEIGHTED_DEGREE;
 
 /// Whether the plan for `k` points, degree `t` and `h` that agree has these numbers.
 fn has_plan(k: u32, t: u32, h: u32, m: u32, d: u32, cost: u64) -> bool
@@ -40,7 +40,7 @@ fn plans_of_many_points_have_their_numbers(rt: HostRuntime) {
 }
 
 /// How many monomials `x^i * y^j` have `i + t*j <= d`, by the definition that contracts cite.
-#[tactic(auto, unfolding(gs_interpolate::specs::Monomials::monomials_below))]
+#[tactic(auto, unfolding(interpolation::specs::Monomials::monomials_below))]
 fn count_monomials(t: u32, d: u32) -> u64
     requires { d < MOST_WEIGHTED_DEGREE }
     ensures { result ≡ monomials t d }

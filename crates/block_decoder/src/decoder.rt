@@ -18,7 +18,7 @@ use crate::answers::PackedAnswers;
 use crate::narrowing::find_agreements;
 use crate::verdict::Verdict;
 use column_lists::{MOST_COST, plan};
-use gs_interpolate::Interpolate;
+use interpolation::Interpolate;
 use std::alloc::{AllocError, Global};
 use std::sync::ledger::Ledger;
 use uni_poly::steps::Steps;

@@ -15,7 +15,7 @@ use crate::combining::combine_all;
 use crate::decoder::decide_among;
 use crate::usable::usable_payload;
 use crate::verdict::Verdict;
-use gs_interpolate::Interpolate;
+use interpolation::Interpolate;
 use std::alloc::{AllocError, Global};
 use std::sync::ledger::Ledger;
 use uni_poly::steps::Steps;

@@ -16,7 +16,7 @@ ghost use Rattle.block_decoder.specs.Numbers.{column_nodes, most_columns, most_n
 use crate::agreements::Report;
 use crate::answer_set::AnswerSet;
 use column_lists::{column_list, decode_run};
-use gs_interpolate::Interpolate;
+use interpolation::Interpolate;
 use std::alloc::{AllocError, Global};
 use std::sync::ledger::Ledger;
 use uni_poly::steps::Steps;

@@ -1,6 +1,6 @@
 //! The limits of the program, by their names.
 
-use pir_words::{LEAST_PORT, MOST_PORT};
+use pir_words::{LEAST_PORT, MOST_PORT, MOST_SHARDS};
 use std::alloc::{AllocError, Global};
 use std::fmt::Write;
 use wire_frames::{
@@ -21,6 +21,7 @@ fn limit(name: &str) -> Option<u64> {
         "MOST_GUESTS" => Some(u64::from(MOST_GUESTS)),
         "LEAST_PORT" => Some(u64::from(LEAST_PORT)),
         "MOST_PORT" => Some(u64::from(MOST_PORT)),
+        "MOST_SHARDS" => Some(u64::from(MOST_SHARDS)),
         _ => None,
     }
 }

@@ -18,7 +18,7 @@ use Rattle.bi_poly.specs.Substitution.{IsAtPoly}
 use Rattle.bi_poly.proofs.Composition.{at_poly_coef-series}
 use Rattle.bi_poly.proofs.Zeros.{VanishesAt-from_zero, at_list, coef-at_list}
 use Rattle.rr_roots.specs.Roots.{IsYRoot}
-use Rattle.gs_interpolate.specs.Interpolant.{IsInterpolant}
+use Rattle.interpolation.specs.Interpolant.{IsInterpolant}
 use Rattle.column_runs.proofs.OnOne.{AllPairs-firsts}
 use Rattle.column_lists.specs.Agreement.{agreements}
 use Rattle.column_lists.proofs.ComposedDegree.{at_series-degree, at_series-bytes, IsLighterThan}

@@ -2,7 +2,7 @@
 -- and Sudan 1999).
 use Rattle.std.proofs.Common.{◌≡◌, ℕ, zero, suc, ◌+◌, ◌*◌, ◌^◌, ◌-◌, ◌/◌, ◌<◌, ◌≤◌, sym, ap, subst, arith, inl, inr, refl, mul-le-mul_left}
 use Rattle.std.proofs.lemmas.Bool.{cases_lt}
-use Rattle.gs_interpolate.specs.Monomials.{monomials, monomials_below, conditions}
+use Rattle.interpolation.specs.Monomials.{monomials, monomials_below, conditions}
 use Rattle.column_lists.specs.Numbers.{mult, cost}
 use Rattle.column_lists.specs.declared.TheConstants.{MOST_COST, MOST_POINTS}
 

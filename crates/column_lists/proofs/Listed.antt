@@ -8,7 +8,7 @@ use Rattle.std.proofs.lemmas.List.Elements.{All-contains, All-contains_itself, A
 use Rattle.std.proofs.lemmas.List.Kept.{IsStrictlySortedBy-filter}
 use Rattle.bi_poly.specs.Rows.{cell, AreBytes}
 use Rattle.rr_roots.specs.Roots.{ListsYRoots, HasDegreeInYAtMost}
-use Rattle.gs_interpolate.specs.Interpolant.{IsInterpolant}
+use Rattle.interpolation.specs.Interpolant.{IsInterpolant}
 use Rattle.column_lists.specs.Numbers.{mult, degree_of}
 use Rattle.column_lists.specs.Agreement.{agreements, ListsAgreeing}
 use Rattle.column_lists.proofs.Kept.{Contains-filter}

@@ -1,7 +1,7 @@
 -- The numbers of a list decoding, for k points of which h agree with polynomials of degree at most t (Guruswami and Sudan
 -- 1999).
 use Rattle.std.specs.Prelude.{ℕ, ◌+◌, ◌-◌, ◌*◌, ◌/◌}
-use Rattle.gs_interpolate.specs.Monomials.{conditions}
+use Rattle.interpolation.specs.Monomials.{conditions}
 
 -- the multiplicity with which the interpolated polynomial is 0 at each point, where h * h is more than k * t
 unfoldable pub mult : ℕ → ℕ → ℕ → ℕ

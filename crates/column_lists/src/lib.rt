@@ -16,7 +16,7 @@ mod agreement;
 mod numbers;
 
 ghost use Rattle.std.specs.Prelude.{◌≡◌, ◌≢◌, ◌+◌, ◌*◌, ◌/◌, ◌<◌, ◌≤◌, length, map, All, AllPairs, IfOk};
-ghost use Rattle.gs_interpolate.specs.Monomials.{monomials};
+ghost use Rattle.interpolation.specs.Monomials.{monomials};
 ghost use Rattle.column_lists.specs.Numbers.{mult, cost, degree_of};
 ghost use Rattle.column_runs.specs.OnOne.{LieOnOne};
 ghost use Rattle.column_lists.specs.Agreement.{ListsAgreeing};
@@ -25,7 +25,7 @@ use crate::agreement::{keep_agreeing, places_are_bytes};
 use bi_poly::laws::coefficients_are_bytes;
 pub use column_runs::decode_run;
 use column_runs::one_polynomial::{lie_on, through_first};
-use gs_interpolate::Interpolate;
+use interpolation::Interpolate;
 pub use numbers::Plan;
 use rr_roots::y_roots;
 use std::alloc::{AllocError, Global};
@@ -36,7 +36,7 @@ use uni_poly::steps::Steps;
 pub const MOST_POINTS: u32 = 255;
 
 /// The most equations that a list decoding takes, as many as an
-/// [interpolation](gs_interpolate::MOST_EQUATIONS) takes. With so many the multiplicity and the degree of [`plan`] are
+/// [interpolation](interpolation::MOST_EQUATIONS) takes. With so many the multiplicity and the degree of [`plan`] are
 /// in the ranges that the interpolation has for them.
 pub const MOST_COST: u64 = 1 << 15;
 

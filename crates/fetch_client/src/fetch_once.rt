@@ -18,7 +18,7 @@ use crate::plan::{FetchFault, FetchPlan};
 use crate::queries::Queries;
 use crate::rounds::{ask_all, take_all};
 use block_decoder::{Report, Verdict, judge, judge_report};
-use gs_interpolate::Interpolate;
+use interpolation::Interpolate;
 use pir_ports::Ports;
 use std::alloc::{AllocError, Global};
 use std::sync::ledger::Ledger;

@@ -12,7 +12,7 @@ use Rattle.bi_poly.specs.Hasse.{binomial_parity, hasse}
 use Rattle.linear_solve.specs.Matrix.{Matrix, entry}
 use Rattle.linear_solve.specs.Kernel.{component, inner, IsKernelVector}
 use Rattle.gs_interpolate.specs.Conditions.{derivative_of, AreConditions}
-use Rattle.gs_interpolate.specs.Interpolant.{IsInterpolant}
+use Rattle.interpolation.specs.Interpolant.{IsInterpolant}
 use Rattle.gs_interpolate.specs.Layout.{start, IsLayout, IsEquation, IsCut}
 use Rattle.gs_interpolate.specs.declared.condition.Condition.{Condition}
 use Rattle.gs_interpolate.proofs.Layouts.{start-next, start-within, located}

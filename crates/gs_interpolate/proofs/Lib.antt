@@ -1,6 +1,4 @@
-pub mod Counting
 pub mod Layouts
-pub mod Promise
 pub mod RowLengths
 pub mod Conditions
 pub mod Interpolants

@@ -6,8 +6,8 @@ use Rattle.std.proofs.lemmas.List.{get_or_past}
 use Rattle.gf256.specs.Polynomial.{coef}
 use Rattle.bi_poly.specs.Rows.{row, cell}
 use Rattle.bi_poly.specs.Hasse.{HasZero}
-use Rattle.gs_interpolate.specs.Monomials.{conditions}
-use Rattle.gs_interpolate.specs.Interpolant.{IsInterpolant}
+use Rattle.interpolation.specs.Monomials.{conditions}
+use Rattle.interpolation.specs.Interpolant.{IsInterpolant}
 use Rattle.gs_interpolate.specs.Layout.{IsLayout}
 use Rattle.gs_interpolate.specs.Family.{member}
 use Rattle.gs_interpolate.specs.Basis.{IsBasis, IsLightest}

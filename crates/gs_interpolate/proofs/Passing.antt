@@ -2,7 +2,7 @@
 use Rattle.std.proofs.Common.{◌≡◌, ◌⊎◌, ℕ, zero, suc, ◌+◌, ◌-◌, ◌*◌, ◌/◌, ◌<◌, ◌≤◌, List, length, sum, refl, ap, ◌∙◌, arith, inl, inr}
 use Rattle.std.proofs.lemmas.Bool.{cases_lt, cases_eq}
 use Rattle.bi_poly.specs.Hasse.{hasse, HasZero}
-use Rattle.gs_interpolate.specs.Monomials.{conditions}
+use Rattle.interpolation.specs.Monomials.{conditions}
 use Rattle.gs_interpolate.specs.Family.{member}
 use Rattle.gs_interpolate.specs.Basis.{values, IsBasis, IsMeeting, IsPassing}
 use Rattle.gs_interpolate.proofs.Meeting.{met-size, met-basis, met-kept, met-gained, met-rise}

@@ -1,10 +1,11 @@
 -- Filling the rows of a polynomial, each as long as it can be, until it has enough coefficients.
-use Rattle.std.proofs.Common.{◌≡◌, ℕ, zero, suc, ◌+◌, ◌-◌, ◌*◌, ◌/◌, ◌<◌, ◌≤◌, min, List, [], ◌∷◌, ◌++◌, length, get_or, sum, refl, ap, subst, ◌∙◌, arith, inl, inr}
+use Rattle.std.proofs.Common.{◌≡◌, ℕ, ◌+◌, ◌-◌, ◌*◌, ◌/◌, ◌<◌, ◌≤◌, min, List, [], ◌∷◌, ◌++◌, length, get_or, sum, ap, subst, arith, inl, inr}
 use Rattle.std.proofs.lemmas.Bool.{cases_lt}
 use Rattle.std.proofs.lemmas.Nat.{le-div}
 use Rattle.std.proofs.lemmas.List.{get_or_append_left, get_or_push, length_push}
 use Rattle.std.proofs.lemmas.List.Sums.{sum_by_push}
-use Rattle.gs_interpolate.specs.Monomials.{monomials, monomials_below}
+use Rattle.interpolation.specs.Monomials.{monomials, monomials_below}
+use Rattle.interpolation.proofs.Counting.{monomials_below-none, monomials_below-row, monomials_below-no_rows}
 use Rattle.gs_interpolate.specs.Layout.{IsLayout}
 
 -- the rows so far, what is missing, and how long the next row can be
@@ -14,25 +15,6 @@ pub record IsFilled (ns : List ℕ) (missing longest size t d : ℕ) : Type 0 wh
   pub enough : missing ≤ monomials_below (d + 1 - length ns) t longest
   pub rows : length ns ≤ d / t + 1
   pub within : (j : ℕ) → j < length ns → get_or ns j 0 + t * j ≤ d + 1
-
--- there are no monomials below weighted degree 0
-monomials_below-none : (rows t : ℕ) → monomials_below rows t 0 ≡ 0
-unfolding monomials_below
-monomials_below-none zero t = refl
-monomials_below-none (suc rows) t =
-    let e : 0 - t ≡ 0 = omega arith in
-    let ih = ap (monomials_below rows t) e ∙ monomials_below-none rows t in
-    omega arith
-
--- the monomials of one row, and those of the others
-monomials_below-row : (rows t n f : ℕ) → rows ≡ suc f → monomials_below rows t n ≡ n + monomials_below f t (n - t)
-unfolding monomials_below
-monomials_below-row rows t n f e = ap (λ r. monomials_below r t n) e
-
--- there are none in no rows
-monomials_below-no_rows : (rows t n : ℕ) → rows ≡ 0 → monomials_below rows t n ≡ 0
-unfolding monomials_below
-monomials_below-no_rows rows t n e = ap (λ r. monomials_below r t n) e
 
 -- at first there are no rows
 pub filled-none : (size t d : ℕ) → size ≤ monomials t d → IsFilled [] size (d + 1) size t d

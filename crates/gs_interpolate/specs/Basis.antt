@@ -6,7 +6,7 @@ use Rattle.gf256.specs.Field.{◌⊕◌, ◌⊗◌, inverse}
 use Rattle.bi_poly.specs.Rows.{row, cell, AreBytes}
 use Rattle.bi_poly.specs.Hasse.{hasse, HasZero}
 use Rattle.gs_interpolate.specs.Family.{member}
-use Rattle.gs_interpolate.specs.Monomials.{conditions}
+use Rattle.interpolation.specs.Monomials.{conditions}
 
 -- x ^ i * y ^ j stands before x ^ k * y ^ l in the (1, t)-weighted order: its weight is less, or it is the same and the
 -- degree in y is less

@@ -2,7 +2,7 @@
 use Rattle.std.specs.Prelude.{◌≡◌, ℕ, ◌+◌, ◌-◌, ◌<◌, List, length, All, Contains}
 use Rattle.gf256.specs.Field.{◌⊗◌, power}
 use Rattle.bi_poly.specs.Hasse.{binomial_parity}
-use Rattle.gs_interpolate.specs.Monomials.{conditions}
+use Rattle.interpolation.specs.Monomials.{conditions}
 use Rattle.gs_interpolate.specs.declared.condition.Condition.{Condition}
 
 -- the Hasse derivative of the condition's order, at its point, of x ^ i * y ^ j

@@ -1,5 +1,3 @@
-pub mod Monomials
-pub mod Interpolant
 pub mod Conditions
 pub mod Layout
 pub mod Tables

@@ -3,7 +3,7 @@
 ghost use Rattle.std.specs.Prelude.{◌≡◌, ◌≢◌, ℕ, ◌+◌, ◌*◌, ◌<◌, ◌≤◌, length, map, sum, slice_index, slice_set, IfOk, MatchOption};
 ghost use Rattle.gs_interpolate.specs.Family.{member, multiplier, IsFamilyStep};
 ghost use Rattle.gs_interpolate.specs.Window.{IsWindow};
-ghost use Rattle.gs_interpolate.specs.Monomials.{conditions};
+ghost use Rattle.interpolation.specs.Monomials.{conditions};
 ghost use Rattle.gs_interpolate.specs.Basis.{values, factor, IsBasis, IsPivot, IsFirstNonzero, IsMeeting, IsPassing, IsLightest, IsPowerRow};
 
 use crate::family::{Tables, coefficients, step_rows};

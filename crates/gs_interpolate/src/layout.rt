@@ -1,7 +1,7 @@
 //! The places of a polynomial's coefficients in a vector: row after row.
 
 ghost use Rattle.std.specs.Prelude.{◌≤◌, length, map, sum, IfOk};
-ghost use Rattle.gs_interpolate.specs.Monomials.{monomials};
+ghost use Rattle.interpolation.specs.Monomials.{monomials};
 ghost use Rattle.gs_interpolate.specs.Layout.{IsLayout, IsCut};
 
 use crate::MOST_WEIGHTED_DEGREE;

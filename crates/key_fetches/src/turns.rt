@@ -13,7 +13,7 @@ ghost use Rattle.key_fetches.specs.LookedUp.{LooksUp};
 use crate::looked_up::{LookUp, only_block};
 use block_decoder::Verdict;
 use fetch_client::{FetchFault, FetchPlan, fetch};
-use gs_interpolate::Interpolate;
+use interpolation::Interpolate;
 use key_search::{Key, Search};
 use pir_ports::Ports;
 use std::alloc::Global;

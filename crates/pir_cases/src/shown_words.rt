@@ -18,6 +18,7 @@ impl fmt::Display for Shown<'_> {
             Asked::Demo { .. } => demo(f, self.0),
             Asked::Lookup { .. } => lookup(f, self.0),
             Asked::Split { .. } => split(f, self.0),
+            Asked::Front { .. } => front(f, self.0),
         }
     }
 }
@@ -224,4 +225,29 @@ fn split<W: Write>(f: &mut Formatter<W>, asked: &Asked) -> fmt::Result {
     number(f, " tau", u64::from(*tau))?;
     text(f, " into", into.as_str())?;
     text(f, " coins", coins.as_str())
+}
+
+/// Writes `front` with its values.
+fn front<W: Write>(f: &mut Formatter<W>, asked: &Asked) -> fmt::Result {
+    let Asked::Front {
+        rows,
+        width,
+        shard,
+        conns,
+        listen,
+        addresses,
+    } = asked
+    else {
+        return Ok(());
+    };
+    f.write_str("front")?;
+    shape(f, *rows, *width)?;
+    number(f, " shard", u64::from(*shard))?;
+    number(f, " conns", u64::from(*conns))?;
+    text(f, " listen", listen.as_str())?;
+    f.write_str(" over ")?;
+    for address in addresses.as_slice() {
+        write!(f, "<{address}>")?;
+    }
+    Ok(())
 }

@@ -49,7 +49,8 @@ refusal_words status =
     if status == 1 then codes "refused, status 1: bad query"
     else (if status == 2 then codes "refused, status 2: other rows or width"
     else (if status == 3 then codes "refused, status 3: other scheme"
-    else codes "refused, with an unknown status"))
+    else (if status == 4 then codes "refused, status 4: a shard is lost"
+    else codes "refused, with an unknown status")))
 
 -- what is said of an answer
 abbrev pub cause_words : Cause → List ℕ

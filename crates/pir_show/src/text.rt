@@ -58,8 +58,8 @@ fn field_words(field: AnswerField) -> &'static str
     }
 }
 
-/// What is said of a refusal with this status, which stands in it only where it is one that a server of this version
-/// gives.
+/// What is said of a refusal with this status, which stands in it only where it is one that a server of this version, or
+/// a front over shards, gives.
 #[tactic(auto, unfolding(crate::specs::Text::refusal_words))]
 fn refusal_words(status: u8) -> &'static str
     ensures { result.now ≡ refusal_words status }
@@ -68,6 +68,7 @@ fn refusal_words(status: u8) -> &'static str
         1 => "refused, status 1: bad query",
         2 => "refused, status 2: other rows or width",
         3 => "refused, status 3: other scheme",
+        4 => "refused, status 4: a shard is lost",
         _ => "refused, with an unknown status",
     }
 }

@@ -17,4 +17,6 @@ mod LookingUp
 mod SameLookUps
 mod SelfrunHeadline
 mod Splitting
+mod FrontAnswers
+mod Fronting
 mod SplitHeadline

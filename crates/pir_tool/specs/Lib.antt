@@ -15,6 +15,10 @@ pub mod ServeOutcome
 pub mod SplitOrder
 pub mod SplitSteps
 pub mod SplitOutcome
+pub mod FrontOrder
+pub mod FrontAnswers
+pub mod FrontSteps
+pub mod FrontOutcome
 pub mod HonestReply
 pub mod HeldRow
 pub mod Privacy

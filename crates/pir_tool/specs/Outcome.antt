@@ -3,7 +3,7 @@ use Rattle.std.specs.Prelude.{◌≡◌, ◌⊎◌, ℕ, Bool, List, length, Opt
 use Rattle.pir_ports.specs.World.{World}
 use Rattle.pir_words.specs.Form.{asked_of}
 use Rattle.pir_words.specs.declared.asked.Asked.{Asked}
-use Rattle.pir_words.specs.declared.asked.Asked.TheVariants.{Replay, Fetch, Serve, Selfrun, Demo, Lookup, Split}
+use Rattle.pir_words.specs.declared.asked.Asked.TheVariants.{Replay, Fetch, Serve, Selfrun, Demo, Lookup, Split, Front}
 use Rattle.pir_tool.specs.FetchOrder.{FetchOrder}
 use Rattle.wire_frames.specs.declared.scheme.TheConstants.{SHAMIR}
 use Rattle.pir_tool.specs.LookUpOrder.{LookUpOrder}
@@ -14,6 +14,7 @@ use Rattle.pir_tool.specs.ServeOutcome.{ServeOutcome}
 use Rattle.pir_tool.specs.SelfrunOutcome.{SelfrunOutcome}
 use Rattle.pir_tool.specs.DemoOutcome.{DemoOutcome}
 use Rattle.pir_tool.specs.SplitOutcome.{SplitOutcome}
+use Rattle.pir_tool.specs.FrontOutcome.{FrontOutcome}
 use Rattle.pir_tool.specs.declared.status.Status.{Status}
 use Rattle.pir_tool.specs.declared.status.Status.TheVariants.{Usage, Memory}
 
@@ -80,6 +81,12 @@ Outcome (Split database width servers tau into coins) status old new = SplitOutc
   tau = tau;
   into = into;
   coins = coins;
+}) status old new
+Outcome (Front rows width shard guests listen addresses) status old new = FrontOutcome (record {
+  spread = record { rows = rows; width = width; shard = shard };
+  guests = guests;
+  listen = listen;
+  addresses = addresses;
 }) status old new
 
 -- memory ran out before the command, which nothing was touched for; or this is what the command did

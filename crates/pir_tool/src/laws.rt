@@ -53,10 +53,10 @@ pub fn coalition_is_sent_the_same_in_each_fetch(plan: &FetchPlan, coalition: &[u
     ensures { LookUpLooksTheSame plan.now coalition.now others.now }
 {}
 
-/// In the XOR scheme the same as [`coalition_is_sent_the_same`] holds of all servers but one, whichever that is: what they together are sent for some
-/// blocks, they are sent for as many others from other coins, byte for byte, the session's number included; and a
-/// bijection of all coins takes the one to the other (Chor, Goldreich, Kushilevitz and Sudan 1995). `left_out` is the
-/// index of the one.
+/// In the XOR scheme the same as [`coalition_is_sent_the_same`] holds of all servers but one, whichever that is: what they
+/// together are sent for some blocks, they are sent for as many others from other coins, byte for byte, the session's
+/// number included; and a bijection of all coins takes the one to the other (Chor, Goldreich, Kushilevitz and Sudan 1995).
+/// `left_out` is the index of the one.
 pub fn all_but_one_are_sent_the_same(plan: &FetchPlan, left_out: u8, blocks: &[u32], others: &[u32])
     requires as_many { length others.now ≡ length blocks.now }
     requires scheme { plan.now.scheme ≡ XOR }

@@ -4,6 +4,7 @@
 mod demo_command;
 mod faults;
 mod fetch_command;
+mod front_command;
 pub mod laws;
 mod lookup_command;
 mod obey;

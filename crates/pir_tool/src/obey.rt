@@ -7,8 +7,9 @@ ghost use Rattle.pir_tool.specs.Outcome.{Outcome};
 
 use crate::demo_command::demonstrate;
 use crate::fetch_command::fetch_block;
+use crate::front_command::relay_shards;
 use crate::lookup_command::look_up_row;
-use crate::orders::{Demonstration, Fetching, LookingUp, Serving, Splitting};
+use crate::orders::{Demonstration, Fetching, Fronting, LookingUp, Serving, Splitting};
 use crate::replay_command::replay_file;
 use crate::selfrun_command::run_workload;
 use crate::serve_command::serve_file;
@@ -77,6 +78,11 @@ pub(crate) fn obey<R: Threads + Sync, P: Ports>(rt: &R, alloc: Global, asked: &A
             let (database, into, coins) = (database.as_str(), into.as_str(), coins.as_str());
             let (width, servers, tau) = (*width, *servers, *tau);
             split_file(alloc, &Splitting { database, width, servers, tau, into, coins }, ports)
+        }
+        Asked::Front { rows, width, shard, conns, listen, addresses } => {
+            let (listen, addresses) = (listen.as_str(), addresses.as_slice());
+            let (rows, width, shard, guests) = (*rows, *width, *shard, *conns);
+            relay_shards(alloc, &Fronting { rows, width, shard, guests, listen, addresses }, ports)
         }
     }
 }

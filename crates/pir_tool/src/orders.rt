@@ -130,6 +130,35 @@ impl<'a> Model for Splitting<'a> {
     ghost invariant = { λ s. (1 ≤ s.width) × (s.width ≤ MOST_WIDTH) × (1 ≤ s.tau) × (s.tau < s.servers) };
 }
 
+/// How many rows of how many bytes are spread, so many on each shard, where guests come in, how many are met, and the address
+/// of each shard.
+#[derive(Drop)]
+pub(crate) struct Fronting<'a> {
+    pub(crate) rows: u32,
+    pub(crate) width: u32,
+    pub(crate) shard: u32,
+    pub(crate) guests: u32,
+    pub(crate) listen: &'a str,
+    pub(crate) addresses: &'a [String],
+}
+
+impl<'a> Model for Fronting<'a> {
+    ghost use Rattle.std.specs.Prelude.{length, map, string_bytes};
+    ghost use Rattle.pir_words.specs.FrontForm.{IsFront};
+    ghost use Rattle.pir_tool.specs.FrontOrder.{FrontOrder};
+
+    ghost Value = { FrontOrder };
+
+    ghost view = { λ f. record {
+      spread = record { rows = f.rows; width = f.width; shard = f.shard };
+      guests = f.guests;
+      listen = f.listen.now;
+      addresses = map string_bytes f.addresses.now;
+    } };
+
+    ghost invariant = { λ f. IsFront f.rows f.width f.shard f.guests (length f.addresses.now) };
+}
+
 /// What is fetched, from which children, and with which coins.
 #[derive(Drop)]
 pub(crate) struct Demonstration<'a> {

@@ -38,7 +38,7 @@ fn open_desk<P: Ports>(alloc: Global, order: &Serving, ports: &mut P) -> Result<
 /// # Errors
 ///
 /// The status that the run ends with.
-fn listen<P: Ports>(address: &str, ports: &mut P) -> Result<(), Status>
+pub(crate) fn listen<P: Ports>(address: &str, ports: &mut P) -> Result<(), Status>
     ensures listens { Listens address.now result (P.world ports.old) (P.world ports.new) }
     ensures others { TouchesDoor (P.world ports.old) (P.world ports.new) }
 {

@@ -19,6 +19,8 @@ ghost use Rattle.pir_tool.specs.LookUpOrder.{LookUpOrder, OrdersLookUp};
 ghost use Rattle.pir_tool.specs.LookUpOutcome.{LookUpPromise};
 ghost use Rattle.pir_tool.specs.SplitOrder.{SplitOrder, asked_to_split};
 ghost use Rattle.pir_tool.specs.SplitOutcome.{SplitPromise};
+ghost use Rattle.pir_tool.specs.FrontOrder.{FrontOrder, asked_to_front};
+ghost use Rattle.pir_tool.specs.FrontOutcome.{FrontPromise};
 
 use crate::obey::obey;
 use crate::status::Status;
@@ -38,10 +40,12 @@ use std::thread::Threads;
 /// fetches a block from them. `lookup` reads coins, fetches a row in each turn of a binary search among rows that
 /// ascend by their first bytes, and writes the row with a key, or that there is none. `split` loads a database, reads
 /// coins, writes the share of each server to a file of its own, and then the numbers of servers, rows and their bytes.
+/// `front` opens Door, writes `ready` to Output, and meets its guests one after the other, by asking for each the servers
+/// over which the rows are spread.
 ///
 /// The first three know both schemes: Shamir's sharing (Goldberg 2007), in which servers that lie or are silent can be
 /// outvoted, and the XOR scheme (Chor, Goldreich, Kushilevitz and Sudan 1995), in which all servers have to answer, and
-/// a lie isn't noticed. `selfrun`, `demo` and `lookup` take Shamir's, by which `split` shares a database too.
+/// a lie isn't noticed. `selfrun`, `demo`, `lookup` and `front` take Shamir's, by which `split` shares a database too.
 pub fn run<R: Threads + Sync, P: Ports>(
     rt: &R,
     alloc: Global,
@@ -77,6 +81,8 @@ pub fn run<R: Threads + Sync, P: Ports>(
         → LookUpPromise order result (P.world ports.old) (P.world ports.new) }
     ensures split { (order : SplitOrder) → AskFor (map string_bytes words.now) (asked_to_split order)
         → SplitPromise order result (P.world ports.old) (P.world ports.new) }
+    ensures front { (order : FrontOrder) → AskFor (map string_bytes words.now) (asked_to_front order)
+        → FrontPromise order result (P.world ports.old) (P.world ports.new) }
 {
     match read_words(alloc, words) {
         Ok(asked) => obey(rt, alloc, &asked, ports),

@@ -1,8 +1,9 @@
 -- The values of a command are in their ranges.
-use Rattle.std.proofs.Common.{◌≡◌, inr, ℕ, ◌+◌, ◌<◌, ◌≤◌, ◌-◌, ◌&&◌, List, length, Some, None, Bool, true, false, codes, refl, sym, lit<, subst, arith, unwrap_or, ◌/◌, ap}
+use Rattle.std.proofs.Common.{◌≡◌, inr, ℕ, ◌+◌, ◌<◌, ◌≤◌, ◌-◌, ◌==◌, ◌&&◌, List, length, Some, None, Bool, true, false, codes, refl, sym, lit<, subst, arith, unwrap_or, ◌/◌, ap}
 use Rattle.std.specs.Prelude.{if◌then◌else◌, is_none, nat_le, nat_lt}
 use Rattle.std.specs.Str.{bytes_eq}
-use Rattle.std.proofs.lemmas.Bool.{and_parts, leb-true, ltb-true}
+use Rattle.std.specs.Int.{div_ceil}
+use Rattle.std.proofs.lemmas.Bool.{and_parts, eqb-true, leb-true, ltb-true}
 use Rattle.std.specs.Result.{result_ok}
 use Rattle.std.specs.Prelude.{Result, Ok, Err}
 use Rattle.hex.specs.declared.FromHexError.{FromHexError}
@@ -23,12 +24,13 @@ use Rattle.pir_words.specs.SelfrunForm.{selfrun_of}
 use Rattle.pir_words.specs.DemoForm.{demo_of}
 use Rattle.pir_words.specs.LookUpForm.{key_in, key_named, lookup_of}
 use Rattle.pir_words.specs.SplitForm.{split_of, tau_among}
+use Rattle.pir_words.specs.FrontForm.{front_of, shard_addresses_in}
 use Rattle.hex.specs.Hex.{decode_of}
 use Rattle.hex.proofs.HexLemmas.{decode_of-ok}
 use Rattle.key_search.specs.Spelled.{spells_bytes}
 use Rattle.pir_words.specs.Form.{InRange, are_taken, asked_by, asked_in, asked_of}
 use Rattle.pir_words.specs.Command.{pir}
-use Rattle.pir_words.specs.declared.TheConstants.{LEAST_PORT, MOST_PORT, MOST_TAU}
+use Rattle.pir_words.specs.declared.TheConstants.{LEAST_PORT, MOST_PORT, MOST_SHARDS, MOST_TAU}
 use Rattle.pir_words.specs.declared.ranges.Sharing.{Sharing}
 use Rattle.pir_words.specs.declared.asked.Asked.{Asked}
 use Rattle.pir_words.specs.declared.asked.Asked.TheVariants.{Replay}
@@ -248,29 +250,64 @@ split_range m asked e =
       few_tau = u.1;
     })
 
+-- there is one address for each shard, and no more of them than a front asks
+shard_addresses_range : (r k : ℕ) (m : List Row) (addresses : List Text) → shard_addresses_in r k m ≡ Some addresses
+    → (length addresses ≡ div_ceil r k) × (length addresses ≤ MOST_SHARDS)
+unfolding shard_addresses_in
+shard_addresses_range r k m addresses e =
+    let given = value_of (all_of (codes "addresses") m) _ addresses e in
+    let tested = test_of ((length given.0 == div_ceil r k) && nat_le (length given.0) MOST_SHARDS) _ addresses given.2 in
+    let both = and_parts (length given.0 == div_ceil r k) (nat_le (length given.0) MOST_SHARDS) tested.0 in
+    subst (λ (xs : List Text). (length xs ≡ div_ceil r k) × (length xs ≤ MOST_SHARDS)) (some_is _ addresses tested.1)
+    (eqb-true _ _ both.0, leb-true _ _ both.1)
+
+-- the values of `front`
+front_range : (m : List Row) (asked : Asked) → front_of m ≡ Some asked → InRange asked
+unfolding front_of
+front_range m asked e =
+    let sizes = value_of (sizes_in m) _ asked e in
+    let shard = value_of (limited (codes "shard") 1 sizes.0.rows m) _ asked sizes.2 in
+    let guests = value_of (limited (codes "conns") 1 MOST_GUESTS m) _ asked shard.2 in
+    let addresses = value_of (shard_addresses_in sizes.0.rows shard.0 m) _ asked guests.2 in
+    let listen = value_of (first_of (codes "listen") m) _ asked addresses.2 in
+    let k = limited_range _ _ _ m _ shard.1 in
+    let n = limited_range _ _ _ m _ guests.1 in
+    let each = shard_addresses_range _ _ m addresses.0 addresses.1 in
+    subst InRange (some_is _ asked listen.2) (record {
+      shape = sizes_range m sizes.0 sizes.1;
+      some_on_each = k.0;
+      within = k.1;
+      one_for_each = each.0;
+      few_shards = each.1;
+      some_guests = n.0;
+      few_guests = n.1;
+    })
+
 -- the values of a command by its name
 named_range : (name : Text) (m : List Row) (asked : Asked) → asked_by name m ≡ Some asked → InRange asked
 unfolding asked_by
 named_range name m asked e =
-    by_name (bytes_eq name (codes "replay")) (bytes_eq name (codes "fetch")) (bytes_eq name (codes "serve")) (bytes_eq name (codes "selfrun")) (bytes_eq name (codes "demo")) (bytes_eq name (codes "lookup")) (bytes_eq name (codes "split")) e
+    by_name (bytes_eq name (codes "replay")) (bytes_eq name (codes "fetch")) (bytes_eq name (codes "serve")) (bytes_eq name (codes "selfrun")) (bytes_eq name (codes "demo")) (bytes_eq name (codes "lookup")) (bytes_eq name (codes "split")) (bytes_eq name (codes "front")) e
   where
-    by_name : (is_replay is_fetch is_serve is_selfrun is_demo is_lookup is_split : Bool)
+    by_name : (is_replay is_fetch is_serve is_selfrun is_demo is_lookup is_split is_front : Bool)
         → (if is_replay then replay_of m
         else (if is_fetch then fetch_of m
         else (if is_serve then serve_of m
         else (if is_selfrun then selfrun_of m
         else (if is_demo then demo_of m
         else (if is_lookup then lookup_of m
-        else (if is_split then split_of m else None))))))) ≡ Some asked
+        else (if is_split then split_of m
+        else (if is_front then front_of m else None)))))))) ≡ Some asked
         → InRange asked
-    by_name true is_fetch is_serve is_selfrun is_demo is_lookup is_split h = replay_range m asked h
-    by_name false true is_serve is_selfrun is_demo is_lookup is_split h = fetch_range m asked h
-    by_name false false true is_selfrun is_demo is_lookup is_split h = serve_range m asked h
-    by_name false false false true is_demo is_lookup is_split h = selfrun_range m asked h
-    by_name false false false false true is_lookup is_split h = demo_range m asked h
-    by_name false false false false false true is_split h = lookup_range m asked h
-    by_name false false false false false false true h = split_range m asked h
-    by_name false false false false false false false h = cc
+    by_name true is_fetch is_serve is_selfrun is_demo is_lookup is_split is_front h = replay_range m asked h
+    by_name false true is_serve is_selfrun is_demo is_lookup is_split is_front h = fetch_range m asked h
+    by_name false false true is_selfrun is_demo is_lookup is_split is_front h = serve_range m asked h
+    by_name false false false true is_demo is_lookup is_split is_front h = selfrun_range m asked h
+    by_name false false false false true is_lookup is_split is_front h = demo_range m asked h
+    by_name false false false false false true is_split is_front h = lookup_range m asked h
+    by_name false false false false false false true is_front h = split_range m asked h
+    by_name false false false false false false false true h = front_range m asked h
+    by_name false false false false false false false false h = cc
 
 -- the values of the command that words ask for
 pub asked_range : (words : List Text) (asked : Asked) → asked_of words ≡ Some asked → InRange asked

@@ -110,6 +110,16 @@ split_app =
     let into = with_option tau (codes "into") true in
     with_option into (codes "coins") false
 
+-- `front --rows R --width S --shard K --conns N --listen ADDR ADDRESS..`
+unfoldable pub front_app : App
+front_app =
+    let rows = with_option (new_app (codes "front")) (codes "rows") true in
+    let width = with_option rows (codes "width") true in
+    let shard = with_option width (codes "shard") true in
+    let guests = with_option shard (codes "conns") true in
+    let listen = with_option guests (codes "listen") true in
+    with_rule listen (operands_rule (codes "addresses"))
+
 -- `pir` with no command, whose words begin after the program's name
 abbrev pub bare : App
 bare = let a = new_app (codes "pir") in record a { top = record a.top { no_binary_name = true } }
@@ -123,4 +133,5 @@ pir =
     let selfrun = with_subcommand serve selfrun_app.top in
     let demo = with_subcommand selfrun demo_app.top in
     let lookup = with_subcommand demo lookup_app.top in
-    with_subcommand lookup split_app.top
+    let split = with_subcommand lookup split_app.top in
+    with_subcommand split front_app.top

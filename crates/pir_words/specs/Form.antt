@@ -15,8 +15,9 @@ use Rattle.pir_words.specs.SelfrunForm.{IsSelfrun, selfrun_of}
 use Rattle.pir_words.specs.DemoForm.{IsDemo, demo_of}
 use Rattle.pir_words.specs.LookUpForm.{FitsLookUp, lookup_of}
 use Rattle.pir_words.specs.SplitForm.{IsSplit, split_of}
+use Rattle.pir_words.specs.FrontForm.{IsFront, front_of}
 use Rattle.pir_words.specs.declared.asked.Asked.{Asked}
-use Rattle.pir_words.specs.declared.asked.Asked.TheVariants.{Replay, Fetch, Serve, Selfrun, Demo, Lookup, Split}
+use Rattle.pir_words.specs.declared.asked.Asked.TheVariants.{Replay, Fetch, Serve, Selfrun, Demo, Lookup, Split, Front}
 use Rattle.pir_words.specs.declared.asked.WordsFault.{WordsFault}
 use Rattle.pir_words.specs.declared.asked.WordsFault.TheVariants.{Usage, Memory}
 
@@ -40,7 +41,8 @@ asked_by name m =
     else (if bytes_eq name (codes "selfrun") then selfrun_of m
     else (if bytes_eq name (codes "demo") then demo_of m
     else (if bytes_eq name (codes "lookup") then lookup_of m
-    else (if bytes_eq name (codes "split") then split_of m else None))))))
+    else (if bytes_eq name (codes "split") then split_of m
+    else (if bytes_eq name (codes "front") then front_of m else None)))))))
 
 -- the command that a parse entered
 unfoldable pub asked_in : Option (Text × List Row) → Option Asked
@@ -74,3 +76,4 @@ InRange (Selfrun seed r s n t h v workers slow) = IsSelfrun seed r s n t h v wor
 InRange (Demo port database r s b n t h coins) = IsDemo port r s b t h n
 InRange (Lookup r s key t h coins addresses) = FitsLookUp r s key t h (length addresses)
 InRange (Split database s n tau into coins) = IsSplit s n tau
+InRange (Front r s k guests listen addresses) = IsFront r s k guests (length addresses)

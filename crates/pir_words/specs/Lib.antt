@@ -9,4 +9,5 @@ pub mod SelfrunForm
 pub mod DemoForm
 pub mod LookUpForm
 pub mod SplitForm
+pub mod FrontForm
 pub mod Form

@@ -132,6 +132,21 @@ pub enum Asked {
         /// The file that random bytes come from.
         coins: Text,
     },
+    /// Serve a database whose rows lie on several servers, its shards, to guests, one after the other, in Shamir's scheme.
+    Front {
+        /// How many rows the database has.
+        rows: u32,
+        /// How many bytes a row has.
+        width: u32,
+        /// How many rows lie on each shard but the last, on which the rest lie.
+        shard: u32,
+        /// After so many guests the front ends.
+        conns: u32,
+        /// The address that guests come to.
+        listen: Text,
+        /// The address of each shard.
+        addresses: Texts,
+    },
 }
 
 /// Why words give no command.

@@ -4,7 +4,7 @@ ghost use Rattle.std.specs.Prelude.{◌≡◌, Bool, false, IfOk};
 ghost use Rattle.clap.specs.Words.{app_of};
 ghost use Rattle.clap.specs.declared.builder.command.Command.TheViews.{out-Command};
 ghost use Rattle.pir_words.specs.Command.{with_flag, with_option};
-ghost use Rattle.pir_words.specs.Command.{replay_app, fetch_app, serve_app, selfrun_app, demo_app, lookup_app, split_app, pir};
+ghost use Rattle.pir_words.specs.Command.{replay_app, fetch_app, serve_app, selfrun_app, demo_app, lookup_app, split_app, front_app, pir};
 
 use clap::{Arg, ArgAction, Command};
 use std::alloc::{AllocError, Global};
@@ -158,6 +158,23 @@ fn split_command<'a>(alloc: Global) -> Result<Command<'a>, AllocError>
     with_option(alloc, into, "coins", false)
 }
 
+/// `front`.
+fn front_command<'a>(alloc: Global) -> Result<Command<'a>, AllocError>
+    ensures app { IfOk result (λ c. app_of c ≡ front_app) }
+    ensures local { IfOk result (λ c. (out-Command c).has_globals ≡ false) }
+{
+    let start = Command::new(alloc, "front");
+    let rows = with_option(alloc, start, "rows", true)?;
+    let width = with_option(alloc, rows, "width", true)?;
+    let shard = with_option(alloc, width, "shard", true)?;
+    let guests = with_option(alloc, shard, "conns", true)?;
+    let listen = with_option(alloc, guests, "listen", true)?;
+    let addresses = Arg::new(alloc, "addresses")
+        .required(true)
+        .action(ArgAction::Append);
+    listen.arg(addresses)
+}
+
 /// `pir` with its commands. The words come without the program's name.
 pub fn pir_command<'a>(alloc: Global) -> Result<Command<'a>, AllocError>
     ensures { IfOk result (λ c. app_of c ≡ pir) }
@@ -176,5 +193,7 @@ pub fn pir_command<'a>(alloc: Global) -> Result<Command<'a>, AllocError>
     let lookup = lookup_command(alloc)?;
     let with_lookup = with_demo.subcommand(lookup)?;
     let split = split_command(alloc)?;
-    with_lookup.subcommand(split)
+    let with_split = with_lookup.subcommand(split)?;
+    let front = front_command(alloc)?;
+    with_split.subcommand(front)
 }

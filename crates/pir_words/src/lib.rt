@@ -24,6 +24,7 @@ mod blocks;
 mod command;
 mod demo_words;
 mod fetch_words;
+mod front_words;
 mod lookup_words;
 mod ranges;
 mod replay_words;
@@ -39,6 +40,7 @@ use clap::ArgMatches;
 use command::pir_command;
 use demo_words::read_demo;
 use fetch_words::read_fetch;
+use front_words::read_front;
 use lookup_words::read_lookup;
 use replay_words::read_replay;
 use selfrun_words::read_selfrun;
@@ -53,6 +55,9 @@ pub const LEAST_PORT: u16 = 1024;
 
 /// The greatest port of a demonstration.
 pub const MOST_PORT: u16 = 65000;
+
+/// The most shards of a front.
+pub const MOST_SHARDS: u8 = 32;
 
 /// The greatest degree in which the database of `fetch` may be shared: with queries of degree 1 it is the greatest degree of
 /// a session.
@@ -83,6 +88,7 @@ fn read_command(alloc: Global, name: &str, matches: &ArgMatches) -> Result<Asked
         "demo" => read_demo(alloc, matches),
         "lookup" => read_lookup(alloc, matches),
         "split" => read_split(alloc, matches),
+        "front" => read_front(alloc, matches),
         _ => Err(WordsFault::Usage),
     }
 }
@@ -109,6 +115,7 @@ fn read_matches(alloc: Global, matches: &ArgMatches) -> Result<Asked, WordsFault
 /// | `demo` | `--port P --database FILE --rows R --width S --block B --servers N --degree T --agree H` | `--coins FILE` (`/dev/urandom`) |
 /// | `lookup` | `--rows R --width S --key HEX --degree T --agree H`, two addresses or more | `--coins FILE` (`/dev/urandom`) |
 /// | `split` | `--database FILE --width S --servers N --tau U --into NAME` | `--coins FILE` (`/dev/urandom`) |
+/// | `front` | `--rows R --width S --shard K --conns GUESTS --listen ADDR`, an address for each shard | |
 ///
 /// Options come in any order, each once, as `--rows 2` or `--rows=2`, and addresses may stand between them; `--slow`
 /// and `--report` take no value. What follows the word `--` is no option. A value that begins with `-` is written `--coins=-x`; `-`
@@ -124,6 +131,8 @@ fn read_matches(alloc: Global, matches: &ArgMatches) -> Result<Asked, WordsFault
 /// digits of either case, two for each of its bytes, of which there are 1 to S. There are at least
 /// [`LEAST_SERVERS`](wire_frames::LEAST_SERVERS) servers and at most
 /// [`MOST_SERVERS`](wire_frames::MOST_SERVERS), as many as `--servers` says or addresses stand.
+/// The rows of a shard are at least 1 and at most R, and each shard has one address, of the R/K shards, rounded up,
+/// that there are: at most [`MOST_SHARDS`].
 /// Degree and agreement of N servers have `1 <= T < H <= N`, and T is at most
 /// [`MOST_DEGREE`](wire_frames::MOST_DEGREE). The degree U in which the database of `fetch` is shared is at most
 /// [`MOST_TAU`], with `T + U < H`; that in which `split` shares one is at least 1 and below N. In the XOR scheme none of the three may stand, not even as 0: the

@@ -4,7 +4,8 @@ ghost use Rattle.std.specs.Prelude.{◌≡◌, ◌+◌, ◌<◌, ◌≤◌, IfOk
 
 use bi_poly::BiPoly;
 use block_decoder::{Verdict, decide};
-use gs_interpolate::{Elimination, Interpolate};
+use gs_interpolate::Elimination;
+use interpolation::Interpolate;
 use std::alloc::{AllocError, Global};
 use std::cell::Cell;
 use std::marker::Brand;

@@ -15,7 +15,7 @@ ghost use Rattle.block_decoder.specs.Numbers.{most_columns, most_nodes};
 ghost use Rattle.replay.specs.Replayed.{ReadTo, Judged, JudgedWhole, Spells, ReplayCounts, CountsListed, CountsNone};
 
 use block_decoder::{Report, Verdict, judge, judge_report};
-use gs_interpolate::Interpolate;
+use interpolation::Interpolate;
 use pir_ports::{Failed, Port, Ports};
 use std::alloc::{AllocError, Global};
 use std::sync::ledger::Ledger;

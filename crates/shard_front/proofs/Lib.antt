@@ -7,3 +7,6 @@ mod Sharding
 mod Summing
 mod Fronting
 mod Telling
+mod ShardProducts
+mod HonestParts
+mod HonestShards

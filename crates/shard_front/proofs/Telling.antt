@@ -10,7 +10,7 @@ use Rattle.pir_ports.specs.Moves.{Touches}
 use Rattle.wire_frames.specs.declared.header.QueryHeader.{QueryHeader}
 use Rattle.wire_frames.specs.Answer.{usable}
 use Rattle.wire_frames.specs.Sizes.{answer_len}
-use Rattle.serve_core.specs.Taking.{BreaksTaking, Dismisses, IsBrokenTaking, IsDismissal, IsQueryOf}
+use Rattle.serve_core.specs.Taking.{BreaksTaking, Dismisses, IsBrokenTaking, IsDismissal, IsGood, IsQueryOf}
 use Rattle.serve_core.specs.declared.met.Met.TheVariants.{Refused as IsRefused, Gone as IsGone}
 use Rattle.shard_front.specs.declared.spread.Spread.{Spread}
 use Rattle.shard_front.specs.declared.relayed.Relayed.{Relayed}
@@ -77,7 +77,8 @@ module _ (spread : Spread) (is : IsSpread spread) (guest : List ℕ) (held : ℕ
   none_failed : ((i : ℕ) → i < shards spread → u.at (link 1 + i) ≡ w.at (link 1 + i)) → AreLinks spread (record { held = held; failed = λ i. false }) w u
   none_failed still = record { held = told; failed = λ i l. ap (λ (c : Cell). c.faults) (still i l) }
 
-  module _ (query : QueryHeader) (vectors : List ℕ) (addresses : List (List ℕ)) (asks : IsQueryOf (terms_of spread) query vectors guest) where
+  module _ (query : QueryHeader) (vectors : List ℕ) (addresses : List (List ℕ)) (good : IsGood (terms_of spread) query)
+      (asks : IsQueryOf (terms_of spread) query vectors guest) where
     -- the payloads of shards that answered
     gives_first : (n : ℕ) (payloads : List (List ℕ)) (failed : ℕ → Bool) → n ≤ shards spread → ((i : ℕ) → i < n → failed i ≡ false)
         → FirstAnswer spread query vectors addresses n payloads w u → GivePayloads spread query (record { held = held; failed = failed }) n payloads
@@ -102,6 +103,7 @@ module _ (spread : Spread) (is : IsSpread spread) (guest : List ℕ) (held : ℕ
       relay = record {
         query = query;
         vectors = vectors;
+        good = good;
         asks = asks;
         payloads = a.payloads;
         give = gives_first (shards spread) a.payloads (λ i. false) (omega arith) (λ i l. refl) a.answer;
@@ -137,6 +139,7 @@ module _ (spread : Spread) (is : IsSpread spread) (guest : List ℕ) (held : ℕ
           relay = record {
             query = query;
             vectors = vectors;
+            good = good;
             asks = asks;
             place = p;
             number_is = a.number_is;
@@ -157,10 +160,10 @@ module _ (spread : Spread) (is : IsSpread spread) (guest : List ℕ) (held : ℕ
         asks = of_told (IsQueryOf (terms_of spread) r.query r.vectors) (w.at GUEST).holds guest holds r.told
 
         by : (met : Relayed) → Asks spread r.query r.vectors addresses met frame w u → TouchesFirst (asked_for spread met) w u → LinksRelay spread guest held met frame w u
-        by Served a touches = all_relay r.query r.vectors addresses asks frame a
+        by Served a touches = all_relay r.query r.vectors addresses r.good asks frame a
         by (ShardLost number) (a, frame_is) touches =
             let few = is.few in
-            loss_relays r.query r.vectors addresses asks number frame a frame_is
+            loss_relays r.query r.vectors addresses r.good asks number frame a frame_is
             (λ i l past. touches.others (link 1 + i) (omega (arith, few, l)) (λ e. omega (arith, e)) (λ low high. omega (arith, high, past)))
         by (Refused status) a touches = absurd a
         by Gone a touches = absurd a

@@ -7,4 +7,5 @@ pub mod Room
 pub mod Stages
 pub mod Fronted
 pub mod Relay
+pub mod Honest
 pub mod FrontInside

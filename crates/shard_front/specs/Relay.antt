@@ -9,7 +9,7 @@ use Rattle.wire_frames.specs.Answer.{usable}
 use Rattle.wire_frames.specs.Header.{answer_header, answer_to}
 use Rattle.wire_frames.specs.Sizes.{answer_len}
 use Rattle.serve_core.specs.Case.{IsCut, Refuses, header_of}
-use Rattle.serve_core.specs.Taking.{IsQueryOf}
+use Rattle.serve_core.specs.Taking.{IsGood, IsQueryOf}
 use Rattle.shard_front.specs.declared.spread.Spread.{Spread}
 use Rattle.shard_front.specs.declared.relayed.Relayed.{Relayed}
 use Rattle.shard_front.specs.declared.relayed.Relayed.TheVariants.{Served, Refused, Gone, GuestFault, ShardLost}
@@ -41,6 +41,7 @@ pub record GivePayloads (spread : Spread) (query : QueryHeader) (links : Links) 
 pub record RelaysSum (spread : Spread) (guest : List ℕ) (links : Links) (frame : List ℕ) : Type 0 where
   pub query : QueryHeader
   pub vectors : List ℕ
+  pub good : IsGood (terms_of spread) query
   pub asks : IsQueryOf (terms_of spread) query vectors guest
   pub payloads : List (List ℕ)
   pub give : GivePayloads spread query links (shards spread) payloads
@@ -50,6 +51,7 @@ pub record RelaysSum (spread : Spread) (guest : List ℕ) (links : Links) (frame
 pub record RelaysLoss (spread : Spread) (guest : List ℕ) (links : Links) (number : ℕ) (frame : List ℕ) : Type 0 where
   pub query : QueryHeader
   pub vectors : List ℕ
+  pub good : IsGood (terms_of spread) query
   pub asks : IsQueryOf (terms_of spread) query vectors guest
   pub place : ℕ
   pub number_is : number ≡ place + 1

@@ -3,6 +3,7 @@ ghost use Rattle.std.specs.Prelude.{◌≡◌, IfOk, length, map, string_bytes};
 ghost use Rattle.shard_front.specs.Spread.{IsSpread, shards};
 ghost use Rattle.shard_front.specs.Fronted.{Fronts};
 ghost use Rattle.shard_front.specs.Relay.{FrontsTold};
+ghost use Rattle.shard_front.specs.Honest.{HonestTold};
 
 use crate::meet::front_within;
 use crate::relayed::Relayed;
@@ -64,6 +65,7 @@ impl Front {
         ensures fronts { Fronts self.old (map string_bytes addresses.now) result
             (P.world ports.old) (P.world ports.new) }
         ensures told { FrontsTold self.old result (P.world ports.old) (P.world ports.new) }
+        ensures honest { HonestTold self.old result (P.world ports.old) (P.world ports.new) }
         ensures kept { self.new ≡ self.old }
     {
         front_within(self.spread, &mut self.room, addresses, ports)

@@ -15,6 +15,7 @@ ghost use Rattle.shard_front.specs.Stages.{Gives, RelaysQuery};
 ghost use Rattle.shard_front.specs.declared.relayed.Relayed.TheVariants.{ShardLost};
 ghost use Rattle.shard_front.specs.Fronted.{Fronts};
 ghost use Rattle.shard_front.specs.Relay.{FrontsTold};
+ghost use Rattle.shard_front.specs.Honest.{HonestTold};
 
 use crate::LOST;
 use crate::front::Front;
@@ -169,6 +170,7 @@ pub(crate) fn front_within<P: Ports>(
     ensures fronts { Fronts spread (map string_bytes addresses.now) result
         (P.world ports.old) (P.world ports.new) }
     ensures told { FrontsTold spread result (P.world ports.old) (P.world ports.new) }
+    ensures honest { HonestTold spread result (P.world ports.old) (P.world ports.new) }
 {
     let query = room.query.as_mut_slice();
     let part = room.part.as_mut_slice();
@@ -187,14 +189,16 @@ pub(crate) fn front_within<P: Ports>(
 ///
 /// The first shard whose link fails, or whose bytes are no usable answer, is lost: no link behind it is
 /// touched, and the guest is given the frame of status 4, with that number behind the header. Where none is,
-/// it is given the frame of status 0 with the sum of the answers. Where a call on the guest fails, it was
-/// given nothing unless all that the reply takes was taken, and then a proper front of its frame. The front
-/// is the same after every guest. No memory is taken.
+/// it is given the frame of status 0 with the sum of the answers. Where each link gives what an honest server
+/// of its shard's rows replies, and no call fails, that is the reply of one server of all rows. Where a call on
+/// the guest fails, it was given nothing unless all that the reply takes was taken, and then a proper front of
+/// its frame. The front is the same after every guest. No memory is taken.
 pub fn front_one<P: Ports>(front: &mut Front, addresses: &[String], ports: &mut P) -> Relayed
     requires { length addresses.now ≡ shards front.old }
     ensures fronts { Fronts front.old (map string_bytes addresses.now) result
         (P.world ports.old) (P.world ports.new) }
     ensures told { FrontsTold front.old result (P.world ports.old) (P.world ports.new) }
+    ensures honest { HonestTold front.old result (P.world ports.old) (P.world ports.new) }
     ensures kept { front.new ≡ front.old }
 {
     front.meet(addresses, ports)

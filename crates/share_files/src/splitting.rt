@@ -5,7 +5,9 @@ ghost use Rattle.std.specs.List.{concat};
 ghost use Rattle.pir_ports.specs.Number.{share_file};
 ghost use Rattle.pir_ports.specs.Moves.{Touches, gave, named};
 ghost use Rattle.pir_ports.specs.Each.{TouchesRange};
+ghost use Rattle.pir_ports.specs.Whole.{FailsWithin};
 ghost use Rattle.pir_ports.specs.Files.{Unwritten};
+ghost use Rattle.share_db.specs.Share.{share};
 ghost use Rattle.share_files.specs.SplitPlan.{share_names};
 ghost use Rattle.share_files.specs.Splits.{Splits, TouchesShares, WritesShares};
 
@@ -18,22 +20,81 @@ use pir_ports::{Failed, Port, Ports, write_all};
 use share_db::share_into;
 use std::alloc::Global;
 
-/// Writes one share to the file of this name.
+/// How many positions of a share are made at once, at most: a piece still lies in the processor's nearest caches when it
+/// is written. Of 16 KB to 1 MB these take the least time: longer writes take the system longer, and shorter are more.
+const PIECE: usize = 1 << 16;
+
+/// Gives a server's share to its open file piece by piece: each is made in `room`, fills it unless it is the last, and is
+/// written before the next one is made.
+///
+/// # Errors
+///
+/// `Failed` if a call on the file failed; it took a proper front of the share.
+fn give_share<P: Ports>(
+    ports: &mut P,
+    index: u8,
+    bytes: &[u8],
+    coins: &[u8],
+    tau: u8,
+    room: &mut [u8],
+) -> Result<(), Failed>
+    requires index { index ≢ 0 }
+    requires degree { (1 ≤ tau) × (tau ≤ 254) }
+    requires coins { length coins.now ≡ length bytes.now * tau }
+    requires room { 0 < length room.old }
+    ensures ok { OnOk result ((P.world ports.new).at (share_file index)
+        ≡ gave (share bytes.now coins.now tau index) ((P.world ports.old).at (share_file index))) }
+    ensures failed { OnErr result
+        (FailsWithin (share_file index) (share bytes.now coins.now tau index) (P.world ports.old) (P.world ports.new)) }
+    ensures others { Touches (share_file index) (P.world ports.old) (P.world ports.new) }
+{
+    let each = usize::from(tau);
+    let mut at = 0;
+    'pieces: while at < bytes.len() {
+        let end = at + room.len().min(bytes.len() - at);
+        let piece = &mut room[..end - at];
+        share_into(
+            &bytes[at..end],
+            &coins[at * each..end * each],
+            u32::from(tau),
+            index,
+            piece,
+        );
+        write_all(ports, Port::Share(index), piece)?;
+        at = end;
+    }
+    Ok(())
+}
+
+/// Writes the share of one server to the file of this name.
 ///
 /// # Errors
 ///
 /// `Failed` if a call on the file failed.
-fn write_share<P: Ports>(ports: &mut P, index: u8, name: &str, bytes: &[u8]) -> Result<(), Failed>
-    requires { 0 < length bytes.now }
+fn write_share<P: Ports>(
+    ports: &mut P,
+    index: u8,
+    name: &str,
+    bytes: &[u8],
+    coins: &[u8],
+    tau: u8,
+    room: &mut [u8],
+) -> Result<(), Failed>
+    requires some { 0 < length bytes.now }
+    requires index { index ≢ 0 }
+    requires degree { (1 ≤ tau) × (tau ≤ 254) }
+    requires coins { length coins.now ≡ length bytes.now * tau }
+    requires room { 0 < length room.old }
     ensures ok { OnOk result ((P.world ports.new).at (share_file index)
-        ≡ gave bytes.now (named name.now ((P.world ports.old).at (share_file index)))) }
-    ensures failed { OnErr result (Unwritten (share_file index) name.now bytes.now (P.world ports.old) (P.world ports.new)) }
+        ≡ gave (share bytes.now coins.now tau index) (named name.now ((P.world ports.old).at (share_file index)))) }
+    ensures failed { OnErr result (Unwritten (share_file index) name.now
+        (share bytes.now coins.now tau index) (P.world ports.old) (P.world ports.new)) }
     ensures others { Touches (share_file index) (P.world ports.old) (P.world ports.new) }
 {
     let Ok(()) = ports.open(Port::Share(index), name) else {
         return Err(Failed);
     };
-    write_all(ports, Port::Share(index), bytes)
+    give_share(ports, index, bytes, coins, tau, room)
 }
 
 /// Writes the share of each server to its file, one after the other.
@@ -47,13 +108,13 @@ fn write_shares<P: Ports>(
     tau: u8,
     names: &[String],
     ports: &mut P,
-    share: &mut [u8],
+    room: &mut [u8],
 ) -> Result<(), Failed>
     requires some { 0 < length bytes.now }
     requires few { length names.now < 256 }
     requires degree { (1 ≤ tau) × (tau ≤ 254) }
     requires coins { length coins.now ≡ length bytes.now * tau }
-    requires room { length share.old ≡ length bytes.now }
+    requires room { 0 < length room.old }
     ensures written { WritesShares (map string_bytes names.now) bytes.now coins.now tau result
         (P.world ports.old) (P.world ports.new) }
     ensures others { TouchesRange (share_file 1) (length names.now) (P.world ports.old) (P.world ports.new) }
@@ -61,8 +122,7 @@ fn write_shares<P: Ports>(
     let mut index = 0u8;
     'shares: for name in names {
         index += 1;
-        share_into(bytes, coins, u32::from(tau), index, share);
-        let Ok(()) = write_share(ports, index, name, share) else {
+        let Ok(()) = write_share(ports, index, name, bytes, coins, tau, room) else {
             return Err(Failed);
         };
     }
@@ -80,26 +140,26 @@ fn split_bytes<P: Ports>(
     names: &[String],
     ports: &mut P,
     coins: &mut [u8],
-    share: &mut [u8],
+    room: &mut [u8],
 ) -> Result<(), SplitFault>
     requires names { map string_bytes names.now ≡ share_names plan.now.into plan.now.servers }
     requires count { length names.now ≡ plan.now.servers }
     requires some { 0 < length bytes.now }
     requires coins { length coins.old ≡ length bytes.now * plan.now.tau }
-    requires room { length share.old ≡ length bytes.now }
+    requires room { 0 < length room.old }
     ensures splits { Splits plan.now bytes.now result (P.world ports.old) (P.world ports.new) }
     ensures others { TouchesShares plan.now.servers (P.world ports.old) (P.world ports.new) }
 {
     take_coins(ports, plan.coins, coins)?;
-    match write_shares(bytes, coins, plan.tau, names, ports, share) {
+    match write_shares(bytes, coins, plan.tau, names, ports, room) {
         Ok(()) => Ok(()),
         Err(Failed) => Err(SplitFault::ShareFault),
     }
 }
 
 /// Splits a database into a share for each server, each in a file of its own: takes the coins, `tau` for each byte of the
-/// rows, and then writes the files one after the other. All memory is taken first: for the coins, for one share and for
-/// the names.
+/// rows, and then writes the files one after the other. All memory is taken first: for the coins, for one piece of a
+/// share and for the names.
 ///
 /// # Errors
 ///
@@ -119,6 +179,6 @@ pub fn split<P: Ports>(
     let names = names_of_shares(alloc, plan.into, plan.servers)?;
     let bytes = matrix.bytes();
     let mut coins = vec![in alloc; 0; bytes.len() * usize::from(plan.tau)]?;
-    let mut share = vec![in alloc; 0; bytes.len()]?;
-    split_bytes(bytes, plan, &names, ports, &mut coins, &mut share)
+    let mut room = vec![in alloc; 0; bytes.len().min(PIECE)]?;
+    split_bytes(bytes, plan, &names, ports, &mut coins, &mut room)
 }

@@ -1,5 +1,5 @@
 use Rattle.std.proofs.Common.{◌≡◌, ◌+◌, ◌*◌, ◌-◌, ◌/◌, ℕ, refl, sym, ap₂, subst, ◌<◌, ◌≤◌, arith}
-use Rattle.gs_interpolate.specs.Monomials.{monomials}
+use Rattle.interpolation.specs.Monomials.{monomials}
 use Rattle.column_lists.specs.Numbers.{mult}
 use Rattle.column_lists.proofs.Counting.{enough_monomials}
 use Rattle.column_lists.proofs.plan.Goals as goal

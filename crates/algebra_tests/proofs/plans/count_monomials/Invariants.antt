@@ -1,6 +1,6 @@
 use Rattle.std.proofs.Common.{◌≡◌, ◌+◌, ◌-◌, ◌*◌, ◌≤◌}
-use Rattle.gs_interpolate.specs.declared.TheConstants.{MOST_WEIGHTED_DEGREE}
-use Rattle.gs_interpolate.specs.Monomials.{monomials, monomials_below}
+use Rattle.interpolation.specs.declared.TheConstants.{MOST_WEIGHTED_DEGREE}
+use Rattle.interpolation.specs.Monomials.{monomials, monomials_below}
 use Rattle.algebra_tests.proofs.plans.count_monomials.Given as goal
 
 abbrev pub invariant-loop-row : goal.invariant-loop-row

@@ -9,6 +9,7 @@ use Rattle.pir_tool.proofs.Fetching.{one_command, order_is}
 use Rattle.pir_tool.specs.LookUpOutcome.{LookUpOutcome}
 use Rattle.pir_tool.proofs.LookingUp.{look_up_is, look_up_promised}
 use Rattle.pir_tool.proofs.SplitHeadline.{split_promised}
+use Rattle.pir_tool.proofs.Fronting.{front_promised}
 use Rattle.pir_words.specs.Form.{InRange}
 use Rattle.pir_tool.proofs.top.run.Goals as goal
 
@@ -71,3 +72,10 @@ returns-in-Ok-clause-split g c = λ order command.
     let ranges = subst InRange same c.in-Ok.ensures.ranges in
     let outcome = subst (λ a. Outcome a c.obey.result old new) same c.obey.ensures in
     split_promised order c.obey.result old new (omega (arith, ranges.some_bytes)) outcome.ends
+
+pub returns-in-Ok-clause-front : goal.returns-in-Ok-clause-front
+returns-in-Ok-clause-front g c = λ order command.
+    let old = g.P.Ports.world c.args.ports.now in
+    let new = g.P.Ports.world c.obey.new.ports in
+    let outcome = subst (λ a. Outcome a c.obey.result old new) (one_command _ _ _ c.in-Ok.ensures.form command) c.obey.ensures in
+    front_promised order c.obey.result old new outcome.ends

@@ -17,5 +17,6 @@ returns c =
     let selfrun_is = c.in_ok-with_selfrun.ensures.shape c.in_ok-selfrun.ensures.local ∙ ap₂ with_subcommand serve_is (ap above c.in_ok-selfrun.ensures.app) in
     let demo_is = c.in_ok-with_demo.ensures.shape c.in_ok-demo.ensures.local ∙ ap₂ with_subcommand selfrun_is (ap above c.in_ok-demo.ensures.app) in
     let lookup_is = c.in_ok-with_lookup.ensures.shape c.in_ok-lookup.ensures.local ∙ ap₂ with_subcommand demo_is (ap above c.in_ok-lookup.ensures.app) in
-    IfOk-weaker c.subcommand-7.result _ _ (λ r h. h.shape c.in_ok-split.ensures.local
-    ∙ ap₂ with_subcommand lookup_is (ap above c.in_ok-split.ensures.app)) c.subcommand-7.ensures
+    let split_is = c.in_ok-with_split.ensures.shape c.in_ok-split.ensures.local ∙ ap₂ with_subcommand lookup_is (ap above c.in_ok-split.ensures.app) in
+    IfOk-weaker c.subcommand-8.result _ _ (λ r h. h.shape c.in_ok-front.ensures.local
+    ∙ ap₂ with_subcommand split_is (ap above c.in_ok-front.ensures.app)) c.subcommand-8.ensures

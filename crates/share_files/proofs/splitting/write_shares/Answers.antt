@@ -19,12 +19,11 @@ shares-preserved g c =
     let fewer : i < length names = omega (arith, c.shares-test.true, length-map c.args.names.now string_bytes) in
     let few : length names < 256 = omega (arith, c.requires.few, length-map c.args.names.now string_bytes) in
     let next_index : c.shares.index + 1 ≡ i + 1 = omega (arith, number) in
-    let out_is : c.share_into.new.out ≡ share bytes coins c.args.tau (i + 1) = c.share_into.ensures ∙ ap₂ (λ (t k : ℕ). share bytes coins t k) c.from.ensures next_index in
     let name_is : c.deref.result.now ≡ slice_index_or names i [] = c.deref.ensures ∙ ap string_bytes c.name-item.is
     ∙ sym (get_or-map string_bytes c.args.names.now i _ [] c.shares-test.true) in
     let p = share_file (c.shares.index + 1) in
     let last : after.at p ≡ gave (share bytes coins c.args.tau (i + 1)) (named (slice_index_or names i []) (before.at p)) =
-    c.in-Ok.ensures.ok ∙ ap₂ (λ (b n : List ℕ). gave b (named n (before.at p))) out_is name_is in
+    c.in-Ok.ensures.ok ∙ ap₂ (λ (k : ℕ) (n : List ℕ). gave (share bytes coins c.args.tau k) (named n (before.at p))) next_index name_is in
     let next = shares_more names bytes coins c.args.tau i p start before after fewer few (omega (arith, number)) c.shares.invariant.so_far c.shares.invariant.others last c.write_share.ensures.others in
     record {
       number = search rules;

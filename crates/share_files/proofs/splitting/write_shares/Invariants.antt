@@ -1,4 +1,4 @@
-use Rattle.std.proofs.Common.{◌≡◌, length, map, string_bytes}
+use Rattle.std.proofs.Common.{◌≡◌, ◌<◌, length, map, string_bytes}
 use Rattle.pir_ports.specs.Number.{share_file}
 use Rattle.pir_ports.specs.Each.{TouchesRange}
 use Rattle.share_files.specs.Splits.{SharesEach}
@@ -8,7 +8,7 @@ use Rattle.share_files.proofs.splitting.write_shares.Given as goal
 abbrev pub invariant-shares : goal.invariant-shares
 invariant-shares g l = record {
   number : l.index ≡ l.name-index;
-  size : length l.share ≡ length l.bytes;
+  size : 0 < length l.room;
   so_far : SharesEach (map string_bytes l.names) l.bytes l.coins l.tau l.name-index (g.P.Ports.world l.initial.ports) (g.P.Ports.world l.ports);
   others : TouchesRange (share_file 1) l.name-index (g.P.Ports.world l.initial.ports) (g.P.Ports.world l.ports);
 }

@@ -4,7 +4,7 @@ use Rattle.std.proofs.lemmas.List.{get_or_default, length-map}
 use Rattle.std.proofs.lemmas.Result.{IfOk-weaker}
 use Rattle.bi_poly.specs.Hasse.{HasZero}
 use Rattle.gs_interpolate.specs.Family.{member}
-use Rattle.gs_interpolate.specs.Monomials.{conditions}
+use Rattle.interpolation.specs.Monomials.{conditions}
 use Rattle.gs_interpolate.specs.Basis.{IsBasis}
 use Rattle.gs_interpolate.proofs.Passing.{conditions-next}
 use Rattle.gs_interpolate.proofs.Lightest.{lightest_interpolates}

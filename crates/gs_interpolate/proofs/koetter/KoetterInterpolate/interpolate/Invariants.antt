@@ -1,7 +1,7 @@
 use Rattle.std.proofs.Common.{◌≡◌, ℕ, ◌<◌, ◌≤◌, length, map, sum, get_or}
 use Rattle.bi_poly.specs.Hasse.{HasZero}
 use Rattle.gs_interpolate.specs.Family.{member}
-use Rattle.gs_interpolate.specs.Monomials.{conditions}
+use Rattle.interpolation.specs.Monomials.{conditions}
 use Rattle.gs_interpolate.specs.Basis.{IsBasis}
 use Rattle.gs_interpolate.proofs.koetter.KoetterInterpolate.interpolate.Given as goal
 

@@ -1,9 +1,10 @@
 // Interpolation with multiplicities.
 ghost use Rattle.std.specs.Prelude.{◌≢◌, ◌<◌, ◌≤◌, length, AllPairs, IsTrue};
-ghost use Rattle.gs_interpolate.specs.Monomials.{monomials, conditions};
+ghost use Rattle.interpolation.specs.Monomials.{monomials, conditions};
 
 use bi_poly::BiPoly;
-use gs_interpolate::{Elimination, Interpolate, Koetter, MOST_EQUATIONS, MOST_WEIGHTED_DEGREE};
+use gs_interpolate::{Elimination, Koetter};
+use interpolation::{Interpolate, MOST_EQUATIONS, MOST_WEIGHTED_DEGREE};
 use std::alloc::{AllocError, Global};
 
 /// Whether the first members ascend.
@@ -32,7 +33,7 @@ fn has_zero(q: &BiPoly, point: (u8, u8), m: u32) -> bool {
 }
 
 /// Whether `way` gives a polynomial, not 0, of weighted degree at most `d` with these zeros, and of bounded size.
-#[tactic(auto, using(gs_interpolate::proofs::Promise::within_limits))]
+#[tactic(auto, using(interpolation::proofs::Promise::within_limits))]
 fn is_interpolated<I: Interpolate>(
     alloc: Global,
     way: &I,
@@ -98,7 +99,7 @@ fn eight(state: &mut u32) -> [(u8, u8); 8] {
 
 // Five points on two lines, of which each has three: a product of the two lines is among what may come out.
 #[test]
-#[tactic(auto, unfolding(gs_interpolate::specs::Monomials::monomials_below))]
+#[tactic(auto, unfolding(interpolation::specs::Monomials::monomials_below))]
 fn through_two_lines(rt: HostRuntime) -> Result<(), AllocError> {
     let points = [(1, 0x10), (2, 0x10), (3, 0x10), (4, 0x17), (5, 0x16)];
     assert!(rt; is_ascending(&points));
@@ -107,7 +108,7 @@ fn through_two_lines(rt: HostRuntime) -> Result<(), AllocError> {
 }
 
 #[test]
-#[tactic(auto, unfolding(gs_interpolate::specs::Monomials::monomials_below))]
+#[tactic(auto, unfolding(interpolation::specs::Monomials::monomials_below))]
 fn with_multiplicity_two(rt: HostRuntime) -> Result<(), AllocError> {
     let points = [(1, 0x10), (2, 0x10), (3, 0x10), (4, 0x17), (5, 0x16)];
     assert!(rt; is_ascending(&points));
@@ -117,7 +118,7 @@ fn with_multiplicity_two(rt: HostRuntime) -> Result<(), AllocError> {
 
 // Eight points on one constant, of which three decide: 168 conditions, and 171 monomials.
 #[test]
-#[tactic(auto, unfolding(gs_interpolate::specs::Monomials::monomials_below))]
+#[tactic(auto, unfolding(interpolation::specs::Monomials::monomials_below))]
 fn with_multiplicity_six(rt: HostRuntime) -> Result<(), AllocError> {
     let points = [
         (1, 0x43),
@@ -136,7 +137,7 @@ fn with_multiplicity_six(rt: HostRuntime) -> Result<(), AllocError> {
 
 // Random points, at each multiplicity, weight and degree with more monomials than conditions, by few.
 #[test]
-#[tactic(auto, unfolding(gs_interpolate::specs::Monomials::monomials_below))]
+#[tactic(auto, unfolding(interpolation::specs::Monomials::monomials_below))]
 fn through_random_points(rt: HostRuntime) -> Result<(), AllocError> {
     let mut state = 1u32;
     for _ in 0..4 {

@@ -3,7 +3,26 @@ use Rattle.std.proofs.Common.{◌≡◌, ◌≢◌, ℕ, zero, suc, ◌+◌, ◌
 use Rattle.std.proofs.lemmas.Bool.{cases_lt}
 use Rattle.std.proofs.lemmas.List.Elements.{All-nil, All-cons, All-append, Contains-append_left, Contains-append_right}
 use Rattle.std.proofs.lemmas.List.Kept.{AllPairs-cons}
-use Rattle.gs_interpolate.specs.Monomials.{monomials, monomials_below, ArePairs}
+use Rattle.interpolation.specs.Monomials.{monomials, monomials_below, ArePairs}
+
+-- there are no monomials below weighted degree 0
+pub monomials_below-none : (rows t : ℕ) → monomials_below rows t 0 ≡ 0
+unfolding monomials_below
+monomials_below-none zero t = refl
+monomials_below-none (suc rows) t =
+    let e : 0 - t ≡ 0 = omega arith in
+    let ih = ap (monomials_below rows t) e ∙ monomials_below-none rows t in
+    omega arith
+
+-- the monomials of one row, and those of the others
+pub monomials_below-row : (rows t n f : ℕ) → rows ≡ suc f → monomials_below rows t n ≡ n + monomials_below f t (n - t)
+unfolding monomials_below
+monomials_below-row rows t n f e = ap (λ r. monomials_below r t n) e
+
+-- there are none in no rows
+pub monomials_below-no_rows : (rows t n : ℕ) → rows ≡ 0 → monomials_below rows t n ≡ 0
+unfolding monomials_below
+monomials_below-no_rows rows t n e = ap (λ r. monomials_below r t n) e
 
 -- each element of the first list has R to each of the second, and no two of one list break it
 AllPairs-append : (R : ℕ × ℕ → ℕ × ℕ → Type 0) (xs ys : List (ℕ × ℕ)) → AllPairs R xs → AllPairs R ys → All (λ x. All (R x) ys) xs → AllPairs R (xs ++ ys)

@@ -1,5 +1,0 @@
-use Rattle.gs_interpolate.proofs.Counting.{pairs, are_pairs, length-pairs}
-use Rattle.gs_interpolate.proofs.laws.monomials_are_pairs.Goals as goal
-
-pub returns : goal.returns
-returns c = (pairs c.args.t c.args.d, are_pairs c.args.t c.args.d c.requires, length-pairs c.args.t c.args.d)

@@ -1,0 +1,55 @@
+-- What the guests of `front` are given, by what they and the links held as each came in.
+use Rattle.std.specs.Prelude.{◌≡◌, ℕ, ◌+◌, ◌<◌, ◌≤◌, Bool, List, [], ◌∷◌, ◌++◌, length, drop, get_or, Some, None}
+use Rattle.pir_ports.specs.World.{LinkThen, World, answered, links_now}
+use Rattle.pir_ports.specs.Number.{GUEST}
+use Rattle.shard_front.specs.declared.spread.Spread.{Spread}
+use Rattle.shard_front.specs.declared.relayed.Relayed.{Relayed}
+use Rattle.shard_front.specs.Spread.{shards}
+use Rattle.shard_front.specs.Relay.{Counts, GivesRelay}
+
+-- what is told of the link with this number
+abbrev pub of_link : List LinkThen → ℕ → LinkThen
+of_link links number = get_or links number (record { holds = None; faults = 0 })
+
+-- a guest with these bytes was given some, by what the link to each shard held as it came in, and by whether the count of
+-- that link rose from then to the guest's end
+pub record GivenByLinks (spread : Spread) (held : ℕ → List ℕ) (guest out : List ℕ) (before after : ℕ) (thens ends : List LinkThen)
+    : Type 0 where
+  pub met : Relayed
+  pub failed : ℕ → Bool
+  pub rose : (i : ℕ) → i < shards spread → Counts (failed i) (of_link thens (1 + i)).faults (of_link ends (1 + i)).faults
+  pub gives : GivesRelay spread guest (record { held = held; failed = failed }) met out before after
+
+-- the same where it is told what the links held
+abbrev pub IsFronted : Spread → List ℕ → List ℕ → ℕ → ℕ → List LinkThen → List LinkThen → Type 0
+IsFronted spread guest out before after thens ends = (held : ℕ → List ℕ)
+    → ((i : ℕ) → i < shards spread → (of_link thens (1 + i)).holds ≡ Some (held i))
+    → GivenByLinks spread held guest out before after thens ends
+
+-- of the guests gs the first j were met, after guests that were given other answers, came in at other counts and found other
+-- links. A guest ends at the counts at which the next came in, and the last at the present ones
+pub record Fronting (spread : Spread) (gs others : List (List ℕ)) (earlier : List ℕ) (found : List (List LinkThen)) (j : ℕ) (w : World)
+    : Type 0 where
+  pub outs : List (List ℕ)
+  pub counts : List ℕ
+  pub thens : List (List LinkThen)
+  pub present : List ℕ
+  pub there : j ≤ length gs
+  pub guests : w.crowd.guests ≡ Some (drop j gs)
+  pub answers : answered w ≡ Some (others ++ outs)
+  pub since : w.crowd.since ≡ Some (earlier ++ counts)
+  pub links : w.crowd.links ≡ Some (found ++ thens)
+  pub accepted : (w.at GUEST).accepted ≡ Some present
+  pub outs_size : length outs ≡ j
+  pub counts_size : length counts ≡ j
+  pub thens_size : length thens ≡ j
+  pub each : (i : ℕ) → i < j → IsFronted spread (get_or gs i []) (get_or outs i [])
+      (get_or counts i 0) (get_or (counts ++ (w.at GUEST).faults ∷ []) (i + 1) 0)
+      (get_or thens i []) (get_or (thens ++ links_now w ∷ []) (i + 1) [])
+
+-- j guests were met, where the guests are told
+pub record FrontsGuests (spread : Spread) (j : ℕ) (old new : World) : Type 0 where
+  pub told : (gs others : List (List ℕ)) (earlier before : List ℕ) (found : List (List LinkThen))
+      → old.crowd.guests ≡ Some gs → answered old ≡ Some others → old.crowd.since ≡ Some earlier
+      → (old.at GUEST).accepted ≡ Some before → old.crowd.links ≡ Some found
+      → Fronting spread gs others earlier found j new

@@ -1,0 +1,40 @@
+-- The form of `front`.
+use Rattle.std.specs.Prelude.{ℕ, ◌≡◌, ◌≤◌, ◌==◌, ◌&&◌, List, length, Option, Some, codes, nat_le}
+use Rattle.std.specs.Int.{div_ceil}
+use Rattle.clap.specs.Words.{Row, Text, all_of, first_of}
+use Rattle.wire_frames.specs.Limits.{IsShape}
+use Rattle.wire_frames.specs.declared.TheConstants.{MOST_GUESTS}
+use Rattle.pir_words.specs.Chain.{◌>>=◌, ◌>>◌}
+use Rattle.pir_words.specs.Numbers.{limited}
+use Rattle.pir_words.specs.Ranges.{sizes_in}
+use Rattle.pir_words.specs.declared.TheConstants.{MOST_SHARDS}
+use Rattle.pir_words.specs.declared.ranges.Sizes.{Sizes}
+use Rattle.pir_words.specs.declared.asked.Asked.{Asked}
+use Rattle.pir_words.specs.declared.asked.Asked.TheVariants.{Front}
+
+-- the addresses: one for each shard of the rows, of which a front asks no more than so many
+unfoldable pub shard_addresses_in : ℕ → ℕ → List Row → Option (List Text)
+shard_addresses_in rows shard m = do
+  addresses ← all_of (codes "addresses") m
+  (length addresses == div_ceil rows shard) && nat_le (length addresses) MOST_SHARDS
+  Some addresses
+
+-- `front` with its values, each in its range
+unfoldable pub front_of : List Row → Option Asked
+front_of m = do
+  (sizes : Sizes) ← sizes_in m
+  shard ← limited (codes "shard") 1 sizes.rows m
+  guests ← limited (codes "conns") 1 MOST_GUESTS m
+  addresses ← shard_addresses_in sizes.rows shard m
+  listen ← first_of (codes "listen") m
+  Some (Front sizes.rows sizes.width shard guests listen addresses)
+
+-- the ranges of the values of `front`: r rows of s bytes, of which k lie on each shard but the last, and n addresses
+pub record IsFront (r s k guests n : ℕ) : Type 0 where
+  pub shape : IsShape r s
+  pub some_on_each : 1 ≤ k
+  pub within : k ≤ r
+  pub one_for_each : n ≡ div_ceil r k
+  pub few_shards : n ≤ MOST_SHARDS
+  pub some_guests : 1 ≤ guests
+  pub few_guests : guests ≤ MOST_GUESTS

@@ -1,0 +1,56 @@
+//! The words of `front`.
+
+ghost use Rattle.std.specs.Prelude.{◌≡◌, ◌≤◌, map, option_map};
+ghost use Rattle.pir_words.specs.Numbers.{given};
+ghost use Rattle.pir_words.specs.FrontForm.{front_of, shard_addresses_in};
+ghost use Rattle.pir_words.specs.Form.{IsReadAs};
+
+use crate::MOST_SHARDS;
+use crate::asked::{Asked, WordsFault};
+use crate::ranges::sizes_at;
+use crate::text::Texts;
+use crate::values::{limited_at, owned, text_at, texts_at};
+use clap::ArgMatches;
+use std::alloc::Global;
+use wire_frames::MOST_GUESTS;
+
+/// The addresses, one for each shard of the rows, of which `shard` lie on each but the last.
+#[tactic(auto, unfolding(crate::specs::FrontForm::shard_addresses_in))]
+fn shard_addresses_at<'a, 'b>(
+    matches: &'b ArgMatches<'a>,
+    rows: u32,
+    shard: u32,
+) -> Option<&'b [&'a str]>
+    requires { 1 ≤ shard }
+    ensures { option_map (λ s. map (λ v. v.now) s.now) result ≡ shard_addresses_in rows shard (given matches.now) }
+{
+    let addresses = texts_at(matches, "addresses")?;
+    let shards = rows.div_ceil(shard) as usize;
+    if addresses.len() == shards && addresses.len() <= usize::from(MOST_SHARDS) {
+        Some(addresses)
+    } else {
+        None
+    }
+}
+
+/// `front` with its values, each in its range.
+#[tactic(auto, unfolding(crate::specs::FrontForm::front_of))]
+pub fn read_front(alloc: Global, matches: &ArgMatches) -> Result<Asked, WordsFault>
+    ensures { IsReadAs (front_of (given matches.now)) result }
+{
+    let sizes = sizes_at(matches).ok_or(WordsFault::Usage)?;
+    let shard = limited_at(matches, "shard", 1, u64::from(sizes.rows)).ok_or(WordsFault::Usage)?;
+    let guests = limited_at(matches, "conns", 1, u64::from(MOST_GUESTS)).ok_or(WordsFault::Usage)?;
+    let addresses = shard_addresses_at(matches, sizes.rows, shard as u32).ok_or(WordsFault::Usage)?;
+    let listen = text_at(matches, "listen").ok_or(WordsFault::Usage)?;
+    let listen = owned(alloc, listen)?;
+    let addresses = Texts::new(alloc, addresses)?;
+    Ok(Asked::Front {
+        rows: sizes.rows,
+        width: sizes.width,
+        shard: shard as u32,
+        conns: guests as u32,
+        listen,
+        addresses,
+    })
+}
