@@ -5,7 +5,7 @@
 ghost use Rattle.std.specs.Prelude.{◌≡◌, ◌*◌, ◌≤◌, length};
 
 use anyhow::{Context, Result};
-use share_db::share_into;
+use share_bytes::share_into;
 use std::env;
 use std::rt::Clock;
 use std::simd::prelude::*;

@@ -1,5 +1,5 @@
 -- The verdict and the report that some agreements make.
-use Rattle.std.proofs.Common.{◌≡◌, ℕ, ◌+◌, ◌*◌, ◌<◌, ◌≤◌, Bool, true, false, if◌then◌else◌, List, [], ◌∷◌, length, map, Option, Some, None, Contains, refl, sym, ap, subst, ◌∙◌, arith}
+use Rattle.std.proofs.Common.{◌≡◌, ℕ, ◌+◌, ◌*◌, ◌<◌, ◌≤◌, Bool, true, false, List, [], ◌∷◌, length, Option, Some, None, refl, sym, ap, subst, ◌∙◌, arith}
 use Rattle.std.proofs.lemmas.List.{length-map}
 use Rattle.wire_frames.specs.Answer.{Answer}
 use Rattle.column_lists.specs.Numbers.{cost}
@@ -8,7 +8,7 @@ use Rattle.block_decoder.specs.Agreed.{HasColumns}
 use Rattle.block_decoder.specs.Numbers.{bound_of}
 use Rattle.block_decoder.specs.Report.{Agreement, IsReport}
 use Rattle.block_decoder.specs.Reported.{ListsBlocksOf, IsListedFrom, IsReportBeside, ReportsNoMoreThan}
-use Rattle.block_decoder.specs.Verdict.{IsDecided, least_columns}
+use Rattle.block_decoder.specs.Verdict.{IsDecided, IsRefusal, ListsNoMoreThan, least_columns}
 use Rattle.block_decoder.specs.declared.verdict.Verdict.{Verdict}
 use Rattle.block_decoder.specs.declared.verdict.Verdict.TheVariants.{Listed, TooFew, TooWeak, TooCostly}
 use Rattle.block_decoder.proofs.FewBlocks.{few_agreements}
@@ -64,3 +64,11 @@ least_listed agreements width c0 c1 (Listed (block ∷ blocks)) lists tried foun
 least_listed agreements width c0 c1 (TooFew k agree) lists tried found = absurd lists
 least_listed agreements width c0 c1 (TooWeak k degree agree) lists tried found = absurd lists
 least_listed agreements width c0 c1 (TooCostly equations) lists tried found = absurd lists
+
+-- where nothing is listed no column is taken, and there is no report
+pub refused : (answers : List Answer) (width t h most : ℕ) (verdict : Verdict) → IsRefusal (length answers) t h verdict
+    → IsDecided answers width t h verdict × (least_columns width verdict ≡ 0) × ListsNoMoreThan most verdict × IsReportBeside answers width t h verdict None
+refused answers width t h most (TooFew k agree) is = (is, refl, tt, refl)
+refused answers width t h most (TooWeak k degree agree) is = (is, refl, tt, refl)
+refused answers width t h most (TooCostly equations) is = (is, refl, tt, refl)
+refused answers width t h most (Listed blocks) is = absurd is

@@ -5,10 +5,9 @@ use Rattle.std.specs.List.{filter}
 use Rattle.std.specs.List.Sorted.{IsStrictlySortedBy}
 use Rattle.std.specs.Ordering.{nat_cmp}
 use Rattle.std.specs.declared.cmp.Ordering.TheVariants.{Less}
-use Rattle.std.proofs.Math.ListN.{set}
 use Rattle.std.proofs.lemmas.Bool.{cases_lt}
 use Rattle.std.proofs.lemmas.Cmp.{nat_list_cmp_total}
-use Rattle.std.proofs.lemmas.List.{length-append, length-drop, map-append, take_all, take_more_set, get_or-take, length-take-le, take-append-drop, get_or_default, get_or-map}
+use Rattle.std.proofs.lemmas.List.{length-append, length-drop, map-append, take_all, get_or-take, length-take-le, take-append-drop, get_or_default, get_or-map}
 use Rattle.std.proofs.lemmas.List.Elements.{All-nil, All-cons, All-append, All-map, Contains-append_left}
 use Rattle.std.proofs.lemmas.List.Sums.{length-filter}
 use Rattle.std.proofs.lemmas.Map.Keys.{Less-from_sorted}
@@ -152,23 +151,23 @@ module _ (answers : List Answer) (width t h : ℕ) (columns : HasColumns width a
       let held = ap length (ap (filter (meets p column)) c.held ∙ sym (holding-more answers width column c.polynomials p columns.filled c.one_a_column short)) in
       omega (arith, many, heavy, points, size, held)
 
-  pub next_constants : (old block : List ℕ) (c : IsCandidate answers t h kept column old)
-      → take column block ≡ take column old → column < length block
-      → take (column + 1) (set block column (get_or p 0 0)) ≡ constants_of (c.polynomials ++ p ∷ [])
+  pub next_constants : (old block stored : List ℕ) (c : IsCandidate answers t h kept column old)
+      → take column block ≡ take column old → take (column + 1) stored ≡ take column block ++ get_or p 0 0 ∷ []
+      → take (column + 1) stored ≡ constants_of (c.polynomials ++ p ∷ [])
   unfolding coef
-  next_constants old block c same within =
-      take_more_set block column (get_or p 0 0) within ∙ ap (λ (bs : List ℕ). bs ++ get_or p 0 0 ∷ []) (same ∙ c.constants) ∙ sym (map-append (λ p. coef p 0) c.polynomials (p ∷ []))
+  next_constants old block stored c same put =
+      put ∙ ap (λ (bs : List ℕ). bs ++ get_or p 0 0 ∷ []) (same ∙ c.constants) ∙ sym (map-append (λ p. coef p 0) c.polynomials (p ∷ []))
 
-  abbrev pub with_next : (old block : List ℕ) (x : ℕ) (part : List Answer) → part ≡ filter (meets p column) kept
-      → x ≡ get_or p 0 0 → (c : IsCandidate answers t h kept column old) → take column block ≡ take column old
-      → column < length block → IsCandidate answers t h part (column + 1) (set block column x)
-  with_next old block x part part_is x_is c same within = record {
+  abbrev pub with_next : (old block stored : List ℕ) (part : List Answer) → part ≡ filter (meets p column) kept
+      → (c : IsCandidate answers t h kept column old) → take column block ≡ take column old
+      → take (column + 1) stored ≡ take column block ++ get_or p 0 0 ∷ [] → IsCandidate answers t h part (column + 1) stored
+  with_next old block stored part part_is c same put = record {
     polynomials = c.polynomials ++ p ∷ [];
     one_a_column = length-append c.polynomials (p ∷ []) ∙ ap (λ m. m + 1) c.one_a_column;
     degree = All-append (IsPolynomial t) c.polynomials (p ∷ []) c.degree (All-cons (IsPolynomial t) p [] ((lists.exact p).0 listed).0 (All-nil (IsPolynomial t)));
     held = part_is ∙ ap (filter (meets p column)) c.held ∙ sym (holding-more answers width column c.polynomials p columns.filled c.one_a_column short);
     enough = subst (λ (l : List Answer). h ≤ length l) (sym part_is) (next_enough old c);
-    constants = ap (λ (y : ℕ). take (column + 1) (set block column y)) x_is ∙ next_constants old block c same within;
+    constants = next_constants old block stored c same put;
   }
 
   -- where the points lie on no one polynomial, fewer are kept

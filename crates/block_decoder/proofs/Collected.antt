@@ -3,7 +3,8 @@ use Rattle.std.proofs.Common.{◌≡◌, ℕ, suc, ◌+◌, ◌-◌, ◌*◌, �
 use Rattle.std.proofs.Math.Seq.{drop-cons}
 use Rattle.std.proofs.lemmas.List.{append_assoc, append-nil, drop_all}
 use Rattle.wire_frames.specs.declared.header.QueryHeader.{QueryHeader}
-use Rattle.wire_frames.specs.Answer.{Answer, answers, answers_from, usable, with_answer}
+use Rattle.wire_frames.specs.declared.session.SessionParams.{SessionParams}
+use Rattle.wire_frames.specs.Answer.{Answer, answers, answers_from, asked, usable, with_answer}
 use Rattle.wire_frames.specs.Session.{Transcript}
 use Rattle.block_decoder.specs.Usable.{payload_of}
 use Rattle.block_decoder.proofs.UsableAnswers.{usable_size, answers_from-cons}
@@ -14,6 +15,14 @@ use Rattle.block_decoder.proofs.UsableAnswers.{usable_size, answers_from-cons}
 pub size_if_some : (x : Option (List ℕ)) (payload : List ℕ) (q : QueryHeader) → option_and_then (λ bytes. usable bytes q) x ≡ Some payload → length payload ≡ q.count * q.s
 size_if_some None payload q e = absurd (cc)
 size_if_some (Some bytes) payload q e = usable_size bytes payload q e
+
+-- the payload of a server's answer is that of its record
+pub payload_is_of : (session : Transcript) (i j : ℕ) (bytes : List ℕ) (p : SessionParams) (q : QueryHeader) (payload : Option (List ℕ)) → j ≡ i
+    → Some bytes ≡ get_or session.records (j - 1) None → p ≡ session.params → q ≡ asked p i → payload ≡ usable bytes q
+    → payload ≡ payload_of session i
+payload_is_of session i j bytes p q payload same record_is params_are header_is usable_is =
+    usable_is ∙ ap (usable bytes) (header_is ∙ ap (λ (p : SessionParams). asked p i) params_are)
+    ∙ ap (option_and_then (λ (bytes : List ℕ). usable bytes (asked session.params i))) (record_is ∙ ap (λ (k : ℕ). get_or session.records (k - 1) None) same)
 
 -- the usable answers from the next server on
 unfoldable pub rest_of : Transcript → ℕ → List Answer

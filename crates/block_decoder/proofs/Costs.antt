@@ -1,9 +1,12 @@
 -- Fewer points cost no more.
-use Rattle.std.proofs.Common.{ℕ, ◌+◌, ◌*◌, ◌-◌, ◌/◌, ◌<◌, ◌≤◌, arith, mul-le-mul_left}
+use Rattle.std.proofs.Common.{◌≢◌, ℕ, ◌+◌, ◌*◌, ◌-◌, ◌/◌, ◌<◌, ◌≤◌, List, length, arith, mul-le-mul_left}
 use Rattle.std.proofs.Math.Nat.{mul-le-mul_right, div-mul-le_self}
 use Rattle.std.proofs.lemmas.Nat.{le-div}
 use Rattle.column_lists.specs.Numbers.{mult, cost, degree_of}
+use Rattle.wire_frames.specs.Answer.{Answer}
+use Rattle.block_decoder.specs.Narrowing.{CanBeListed, IsPart}
 use Rattle.block_decoder.specs.Numbers.{column_nodes}
+use Rattle.block_decoder.proofs.Kept.{part-few, part-All, part-different}
 
 -- a smaller number has no greater quotient by a greater divisor
 quotients : (x y c d : ℕ) → 0 < d → d ≤ c → x ≤ y → x / c ≤ y / d
@@ -43,3 +46,31 @@ equations-le j k m n few small =
 -- and cost no more
 pub cost-le : (j k t h : ℕ) → j ≤ k → k * t < h * h → cost j t h ≤ cost k t h
 cost-le j k t h l strong = equations-le j k (mult j t h) (mult k t h) l (mult-le j k t h l strong)
+
+-- ---- some of the answers
+
+module _ (answers part : List Answer) (t h : ℕ) (is : IsPart answers part) (all : CanBeListed answers t h) where
+  -- their columns can be list decoded where those of all can
+  pub part-listed : CanBeListed part t h
+  part-listed =
+      let few = part-few answers part is in
+      let most = all.few in
+      let product = mul-le-mul_right t few in
+      let strong = all.strong in
+      let cost = cost-le (length part) (length answers) t h few strong in
+      let cheap = all.cheap in
+      record {
+        different = part-different answers part is all.different;
+        nonzero = part-All answers part is (λ a. a.index ≢ 0) all.nonzero;
+        few = omega (arith, few, most);
+        some = all.some;
+        redundant = all.redundant;
+        strong = omega (arith, product, strong);
+        cheap = omega (arith, cost, cheap);
+      }
+
+  -- and take no more nodes
+  pub part-nodes : (old new : ℕ) → new ≤ old + column_nodes (length part) t h → new ≤ old + column_nodes (length answers) t h
+  part-nodes old new l =
+      let most = nodes-le (length part) (length answers) t h (part-few answers part is) all.some all.strong in
+      omega (arith, l, most)

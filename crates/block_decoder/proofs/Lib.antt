@@ -30,6 +30,7 @@ pub mod FewBlocks
 pub mod HeavyByLength
 mod Leaves
 mod Candidates
+mod Turns
 pub mod Reported
 pub mod OneReport
 mod Beside

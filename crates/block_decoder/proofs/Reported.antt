@@ -1,19 +1,19 @@
 -- Who agrees: the order of agreements, and what a report has.
-use Rattle.std.proofs.Common.{◌≡◌, ◌≢◌, ◌↔◌, ℕ, ◌+◌, ◌*◌, ◌<◌, ◌≤◌, ◌∷◌, ◌++◌, List, [], length, map, get_or, filter, All, AllPairs, take, ◌⊎◌, Contains, Bool, bytes_eq, cond, refl, sym, ap, ap₂, subst, ◌∙◌, inl, inr, arith}
+use Rattle.std.proofs.Common.{◌≡◌, ◌↔◌, ℕ, ◌<◌, ◌≤◌, ◌∷◌, ◌++◌, List, [], length, map, get_or, filter, ◌⊎◌, Contains, Bool, bytes_eq, cond, refl, sym, ap, ap₂, subst, ◌∙◌, inl, inr, arith}
 use Rattle.std.specs.Cmp.{IsTotalOrder}
 use Rattle.std.specs.Cmp.Lexicographic.{slice_cmp}
 use Rattle.std.specs.List.{AllWithin, HoldsAt, insert}
 use Rattle.std.specs.List.Sorted.{IsStrictlySortedBy, IsNonDecreasingBy}
-use Rattle.std.specs.Ordering.{nat_cmp, ordering_index, ordering_then, on, then_cmp}
+use Rattle.std.specs.Ordering.{nat_cmp, ordering_index, ordering_then}
 use Rattle.std.specs.declared.cmp.Ordering.{Ordering}
 use Rattle.std.specs.declared.cmp.Ordering.TheVariants.{Less, Equal, Greater}
 use Rattle.std.proofs.lemmas.Cmp.{nat_list_cmp_total, on_total, then_total}
-use Rattle.std.proofs.lemmas.List.{take_all, map-append, map-id, take_more, length-map, get_or-map, get_or_default}
+use Rattle.std.proofs.lemmas.List.{take_all, map-append, map-id, length-map, get_or-map, get_or_default}
 use Rattle.std.proofs.lemmas.List.Elements.{All-head, All-tail, Contains-append_left, Contains-append_right, Contains-append_cases}
 use Rattle.std.proofs.lemmas.List.Sums.{length-filter}
 use Rattle.gf256.specs.Polynomial.{val}
 use Rattle.wire_frames.specs.Answer.{Answer}
-use Rattle.block_decoder.specs.Agreed.{constants_of, weight, holds_first, Agreed, Filled, Heavy, HasColumns, Lists}
+use Rattle.block_decoder.specs.Agreed.{weight, holds_first, Filled, Heavy, Lists}
 use Rattle.block_decoder.specs.Gains.{Gains}
 use Rattle.block_decoder.specs.Narrowing.{agreement_on, holding, ContinuesFrom}
 use Rattle.block_decoder.specs.Report.{Agreement, agreement_cmp, holds, indices_of, HasBlocks, IsAgreement, IsReport}

@@ -1,5 +1,5 @@
 -- What a growing list has come to hold.
-use Rattle.std.specs.Prelude.{ℕ, ◌↔◌, ◌⊎◌, List, Contains}
+use Rattle.std.specs.Prelude.{◌↔◌, ◌⊎◌, List, Contains}
 
 -- its elements are the old ones and those of which P holds
 abbrev pub Gains : {X : Type 0} → (X → Type 0) → List X → List X → Type 0

@@ -1,10 +1,15 @@
 -- The narrowing of answers to those that may agree, column by column.
-use Rattle.std.specs.Prelude.{◌≡◌, ℕ, ◌+◌, ◌<◌, ◌≤◌, List, [], ◌∷◌, ◌++◌, length, map, take, slice_index, All, AllPairs, Contains, ◌≢◌, ◌==◌, Bool}
+use Rattle.std.specs.Prelude.{◌≡◌, ℕ, ◌+◌, ◌-◌, ◌*◌, ◌<◌, ◌≤◌, ◌⊎◌, List, [], ◌∷◌, ◌++◌, length, map, take, slice_index, All, AllPairs, Contains, ◌≢◌, ◌==◌, Bool}
 use Rattle.std.specs.List.{filter}
 use Rattle.gf256.specs.Polynomial.{val, IsPolynomial}
+use Rattle.column_lists.specs.declared.TheConstants.{MOST_COST}
+use Rattle.column_lists.specs.Numbers.{cost}
 use Rattle.wire_frames.specs.Answer.{Answer}
+use Rattle.wire_frames.specs.declared.TheConstants.{MOST_SERVERS}
 use Rattle.block_decoder.specs.Agreed.{holds_first, weight, constants_of}
+use Rattle.block_decoder.specs.Gains.{Gains}
 use Rattle.block_decoder.specs.Leaves.{NodesFrom}
+use Rattle.block_decoder.specs.Numbers.{column_nodes}
 use Rattle.block_decoder.specs.Report.{Agreement, indices_of}
 use Rattle.block_decoder.specs.Vectors.{IsHeavyVector}
 
@@ -29,6 +34,16 @@ meets polynomial column answer = val polynomial answer.index == slice_index answ
 pub record IsPart (answers part : List Answer) : Type 0 where
   pub test : Answer → Bool
   pub is : part ≡ filter test answers
+
+-- answers of different servers whose points of a column can be list decoded, at no great cost
+pub record CanBeListed (answers : List Answer) (t h : ℕ) : Type 0 where
+  pub different : AllPairs (λ a b. a.index ≢ b.index) answers
+  pub nonzero : All (λ a. a.index ≢ 0) answers
+  pub few : length answers ≤ MOST_SERVERS
+  pub some : 1 ≤ t
+  pub redundant : t < h
+  pub strong : length answers * t < h * h
+  pub cheap : cost (length answers) t h ≤ MOST_COST
 
 -- polynomials of degree at most t, one for each of the first columns, whose constants begin the block, with the answers at
 -- which they hold, of which there are h
@@ -77,3 +92,21 @@ pub record CountsFrom (answers : List Answer) (width t h most : ℕ)
   pub are : AreVisited answers width t h polynomials visited
   pub cols : new_cols ≤ old_cols + length visited
   pub nodes : NodesFrom answers t h most polynomials old_nodes new_nodes
+
+-- whatever came of it: what narrowing a candidate counted
+pub record IsCounted (answers : List Answer) (width t h : ℕ) (kept : List Answer) (column : ℕ) (block : List ℕ)
+    (old_cols new_cols old_nodes new_nodes : ℕ) : Type 0 where
+  pub counts : (c : IsCandidate answers t h kept column block)
+      → CountsFrom answers width t h (column_nodes (length answers) t h) c.polynomials old_cols new_cols old_nodes new_nodes
+  pub cols : old_cols ≤ new_cols
+  pub nodes : old_nodes ≤ new_nodes
+
+-- a candidate was narrowed to the end: all agreements to which it can be continued were reported, its part of the block is as
+-- it was, a column was decoded where one was left, and all that were left where an agreement was new
+pub record IsExtended (answers : List Answer) (width t h : ℕ) (kept : List Answer) (column : ℕ) (old_block new_block : List ℕ)
+    (old_report new_report : List Agreement) (old_cols new_cols : ℕ) : Type 0 where
+  pub block : take column new_block ≡ take column old_block
+  pub exact : (c : IsCandidate answers t h kept column old_block)
+      → Gains (ContinuesFrom (agreement_on answers) answers width t h c.polynomials) old_report new_report
+  pub some : column < width → old_cols < new_cols
+  pub found : (new_report ≡ old_report) ⊎ (old_cols + (width - column) ≤ new_cols)

@@ -41,6 +41,14 @@ pub record IsVerdict (session : Transcript) (verdict : Verdict) : Type 0 where
 abbrev pub IsUnlisted : ℕ → ℕ → ℕ → Type 0
 IsUnlisted k t h = (k < h) ⊎ (h * h ≤ k * t) ⊎ (MOST_COST < cost k t h)
 
+-- the verdict on k answers where nothing is listed
+abbrev pub IsRefusal : ℕ → ℕ → ℕ → Verdict → Type 0
+IsRefusal k t h (TooFew n agree) = (n ≡ k) × (agree ≡ h) × (k < h)
+IsRefusal k t h (TooWeak n degree agree) = (n ≡ k) × (degree ≡ t) × (agree ≡ h) × (h ≤ k) × (h * h ≤ k * t)
+IsRefusal k t h (TooCostly equations) =
+    (equations ≡ cost k t h) × (h ≤ k) × (k * t < h * h) × (MOST_COST < cost k t h)
+IsRefusal k t h (Listed blocks) = ⊥
+
 -- how many columns are interpolated at least: one for a listing, and all where it has a block
 abbrev pub least_columns : ℕ → Verdict → ℕ
 least_columns width (TooFew k agree) = 0

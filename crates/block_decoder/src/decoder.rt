@@ -1,6 +1,6 @@
 //! The verdict on answers, and how many blocks can be agreed on.
 
-ghost use Rattle.std.specs.Prelude.{◌≡◌, ◌≢◌, ◌+◌, ◌*◌, ◌^◌, ◌<◌, ◌≤◌, ◌⊎◌, ℕ, true, List, length, All, IfOk, OnOk};
+ghost use Rattle.std.specs.Prelude.{◌≡◌, ◌≢◌, ◌+◌, ◌*◌, ◌^◌, ◌<◌, ◌≤◌, ◌⊎◌, ℕ, true, List, length, All, IfNone, IfOk, IfSome, OnOk};
 ghost use Rattle.std.specs.List.Sorted.{IsStrictlyIncreasing};
 ghost use Rattle.wire_frames.specs.declared.TheConstants.{MOST_SERVERS};
 ghost use Rattle.column_lists.specs.declared.TheConstants.{MOST_COST};
@@ -10,7 +10,7 @@ ghost use Rattle.block_decoder.specs.Numbers.{bound_of, most_columns, most_nodes
 ghost use Rattle.block_decoder.specs.Report.{HasBlocks, IsReport};
 ghost use Rattle.block_decoder.specs.Reported.{IsListedFrom, IsReportBeside, ReportsNoMoreThan};
 ghost use Rattle.block_decoder.specs.Vectors.{HeavyVectorsAreFew};
-ghost use Rattle.block_decoder.specs.Verdict.{IsDecided, IsUnlisted, ListsNoMoreThan, least_columns};
+ghost use Rattle.block_decoder.specs.Verdict.{IsDecided, IsRefusal, IsUnlisted, ListsNoMoreThan, least_columns};
 
 use crate::agreements::Report;
 use crate::answer_set::AnswerSet;
@@ -164,19 +164,31 @@ pub(crate) fn decide_among<I: Interpolate, C: Ledger, N: Ledger>(
     ensures few { IfOk result (λ found. ListsNoMoreThan (bound_of (length answers.entry) t h) found.0) }
     ensures few_agree { IfOk result (λ found. ReportsNoMoreThan (bound_of (length answers.entry) t h) found.1) }
 {
-    let k = answers.len() as u32;
-    if k < h {
-        return Ok((Verdict::TooFew { k, h }, None));
-    }
-    if h * h <= k * t {
-        return Ok((Verdict::TooWeak { k, t, h }, None));
-    }
-    let cost = plan(k, t, h).cost;
-    if cost > MOST_COST {
-        return Ok((Verdict::TooCostly { cost }, None));
+    if let Some(verdict) = refusal(answers.len() as u32, t, h) {
+        return Ok((verdict, None));
     }
     let report = find_agreements(alloc, way, answers, s as usize, t, h, cols, nodes)?;
     listed(alloc, report, wanted)
+}
+
+/// The verdict on `k` answers where nothing is listed, whatever they are.
+fn refusal(k: u32, t: u32, h: u32) -> Option<Verdict>
+    requires few { k ≤ MOST_SERVERS }
+    requires agreement { (1 ≤ t) × (t < h) }
+    ensures refused { IfSome result (IsRefusal k t h) }
+    ensures listed { IfNone result ((h ≤ k) × (k * t < h * h) × (cost k t h ≤ MOST_COST)) }
+{
+    if k < h {
+        return Some(Verdict::TooFew { k, h });
+    }
+    if h * h <= k * t {
+        return Some(Verdict::TooWeak { k, t, h });
+    }
+    let cost = plan(k, t, h).cost;
+    if cost > MOST_COST {
+        return Some(Verdict::TooCostly { cost });
+    }
+    None
 }
 
 /// The listing of what was found, and the report itself where it is wanted; else no block is copied.

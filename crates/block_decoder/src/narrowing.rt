@@ -1,6 +1,7 @@
 //! Narrows the answers to those that agree, column by column.
 
-ghost use Rattle.std.specs.Prelude.{◌≡◌, ◌≢◌, ◌+◌, ◌-◌, ◌*◌, ◌<◌, ◌≤◌, ◌⊎◌, ℕ, List, length, map, take, drop, All, AllPairs, IfOk, OnOk, MatchResult};
+ghost use Rattle.std.specs.Prelude.{◌≡◌, ◌≢◌, ◌+◌, ◌*◌, ◌<◌, ◌≤◌, [], ◌∷◌, ◌++◌, length, map, take, drop, slice_index, All, AllPairs, IfOk, OnOk, MatchResult};
+ghost use Rattle.std.specs.List.{filter};
 ghost use Rattle.std.specs.List.Sorted.{IsStrictlySortedBy};
 ghost use Rattle.column_lists.specs.declared.TheConstants.{MOST_COST};
 ghost use Rattle.column_lists.specs.Agreement.{ListsAgreeing};
@@ -8,8 +9,7 @@ ghost use Rattle.column_lists.specs.Numbers.{cost};
 ghost use Rattle.column_runs.specs.Run.{IsRun};
 ghost use Rattle.wire_frames.specs.declared.TheConstants.{MOST_SERVERS};
 ghost use Rattle.block_decoder.specs.Agreed.{HasColumns};
-ghost use Rattle.block_decoder.specs.Gains.{Gains};
-ghost use Rattle.block_decoder.specs.Narrowing.{agreement_on, points_of as points_in, CountsFrom, ContinuesFrom, IsCandidate, IsPart};
+ghost use Rattle.block_decoder.specs.Narrowing.{meets, points_of as points_in, CanBeListed, IsCandidate, IsCounted, IsExtended};
 ghost use Rattle.block_decoder.specs.Report.{agreement_cmp, IsReport};
 ghost use Rattle.block_decoder.specs.Numbers.{column_nodes, most_columns, most_nodes};
 
@@ -31,11 +31,7 @@ pub struct Narrowing<'a, I: Interpolate> {
     agreement: u32,
     width: usize,
     ghost columns: { HasColumns width answers },
-    ghost nonzero: { All (λ a. a.index ≢ 0) answers },
-    ghost few: { length answers ≤ MOST_SERVERS },
-    ghost redundant: { (1 ≤ degree) × (degree < agreement) },
-    ghost strong: { length answers * degree < agreement * agreement },
-    ghost cheap: { cost (length answers) degree agreement ≤ MOST_COST },
+    ghost listed: { CanBeListed answers degree agreement },
 }
 
 /// The blocks on which `h` or more of the answers agree, with polynomials of degree at most `t`, and which answers they are.
@@ -106,93 +102,117 @@ impl<'a, I: Interpolate> Narrowing<'a, I> {
         requires candidate { IsCandidate self.now.answers self.now.degree self.now.agreement kept.now column block.old }
         requires ascending { IsStrictlySortedBy agreement_cmp report.old }
         ensures size { length block.new ≡ length block.old }
-        ensures kept { OnOk result (take column block.new ≡ take column block.old) }
         ensures ascending { IsStrictlySortedBy agreement_cmp report.new }
-        ensures exact { OnOk result ((c : IsCandidate self.now.answers self.now.degree self.now.agreement kept.now column block.old)
-            → Gains (ContinuesFrom (agreement_on self.now.answers) self.now.answers self.now.width self.now.degree
-            self.now.agreement c.polynomials) report.old report.new) }
-        ensures counts { (c : IsCandidate self.now.answers self.now.degree self.now.agreement kept.now column block.old)
-            → CountsFrom self.now.answers self.now.width self.now.degree self.now.agreement
-            (column_nodes (length self.now.answers) self.now.degree self.now.agreement) c.polynomials
-            cols.old cols.new nodes.old nodes.new }
-        ensures some { OnOk result (column < self.now.width → cols.old < cols.new) }
-        ensures found { OnOk result ((report.new ≡ report.old) ⊎ (cols.old + (self.now.width - column) ≤ cols.new)) }
-        ensures rises { (cols.old ≤ cols.new) × (nodes.old ≤ nodes.new) }
+        ensures counted { IsCounted self.now.answers self.now.width self.now.degree self.now.agreement kept.now column
+            block.old cols.old cols.new nodes.old nodes.new }
+        ensures extended { OnOk result (IsExtended self.now.answers self.now.width self.now.degree self.now.agreement
+            kept.now column block.old block.new report.old report.new cols.old cols.new) }
     {
-        let next = column + self.decode(alloc, kept, column, block, cols)?;
+        let next = column + decode(alloc, kept, self.degree, column, block, cols)?;
         if next == self.width {
             return report.add(alloc, block, kept);
         }
-        let list = self.list(alloc, kept, next, cols, nodes)?;
-        for polynomial in &list {
-            block[next] = polynomial[0];
-            let fewer = kept.meeting(alloc, polynomial, next)?;
-            self.extend(alloc, &fewer, next + 1, block, report, cols, nodes)?;
-        }
-        Ok(())
-    }
-
-    /// Decodes the columns from `column` on, as long as all answers lie on one polynomial, and tells how many these are.
-    fn decode<C: Ledger>(
-        &self,
-        alloc: Global,
-        kept: &AnswerSet<'_>,
-        column: usize,
-        block: &mut [u8],
-        cols: &mut Steps<C>,
-    ) -> Result<usize, AllocError>
-        requires width { length block.old ≡ self.now.width }
-        requires column { column ≤ self.now.width }
-        requires part { IsPart self.now.answers kept.now }
-        requires enough { self.now.agreement ≤ length kept.now }
-        ensures size { length block.new ≡ length block.old }
-        ensures kept { take column block.new ≡ take column block.old }
-        ensures run { IfOk result (IsRun (map (λ a. a.index) kept.now) (map (λ a. a.payload) kept.now) self.now.degree column
-            (drop column block.new)) }
-        ensures cols { MatchResult result (λ n. cols.new ≡ cols.old + n) (λ _. cols.new ≡ cols.old) }
-    {
-        let indices = kept.indices(alloc)?;
-        let payloads = kept.payloads(alloc)?;
-        decode_run(
-            alloc,
-            &indices,
-            &payloads,
-            self.degree,
-            column,
-            &mut block[column..],
-            cols,
-        )
-    }
-
-    /// The polynomials on which enough of the answers lie in a column.
-    fn list<C: Ledger, N: Ledger>(
-        &self,
-        alloc: Global,
-        kept: &AnswerSet<'_>,
-        column: usize,
-        cols: &mut Steps<C>,
-        nodes: &mut Steps<N>,
-    ) -> Result<Vec<Vec<u8>>, AllocError>
-        requires column { column < self.now.width }
-        requires part { IsPart self.now.answers kept.now }
-        requires enough { self.now.agreement ≤ length kept.now }
-        ensures exact { IfOk result (λ list. ListsAgreeing (map (λ r. r.items) list.items) (points_in kept.now column)
-            self.now.degree self.now.agreement) }
-        ensures cols { cols.new ≤ cols.old + 1 }
-        ensures some { OnOk result (cols.old < cols.new) }
-        ensures nodes { nodes.new ≤ nodes.old
-            + column_nodes (length self.now.answers) self.now.degree self.now.agreement }
-        ensures rises { (cols.old ≤ cols.new) × (nodes.old ≤ nodes.new) }
-    {
-        let points = kept.points(alloc, column)?;
-        column_list(
+        let list = list(
             alloc,
             self.way,
-            &points,
+            kept,
+            next,
             self.degree,
             self.agreement,
             cols,
             nodes,
-        )
+        )?;
+        for polynomial in &list {
+            let fewer = follow(alloc, kept, polynomial, next, block)?;
+            self.extend(alloc, &fewer, next + 1, block, report, cols, nodes)?;
+        }
+        Ok(())
     }
+}
+
+/// Decodes the columns from `column` on, as long as all answers lie on one polynomial of degree at most `t`, and tells how
+/// many these are.
+fn decode<C: Ledger>(
+    alloc: Global,
+    kept: &AnswerSet<'_>,
+    t: u32,
+    column: usize,
+    block: &mut [u8],
+    cols: &mut Steps<C>,
+) -> Result<usize, AllocError>
+    requires column { column ≤ length block.old }
+    requires enough { t < length kept.now }
+    requires widths { All (λ a. length block.old ≤ length a.payload) kept.now }
+    requires distinct { AllPairs (λ a b. a.index ≢ b.index) kept.now }
+    ensures size { length block.new ≡ length block.old }
+    ensures kept { take column block.new ≡ take column block.old }
+    ensures run { IfOk result (IsRun (map (λ a. a.index) kept.now) (map (λ a. a.payload) kept.now) t column
+        (drop column block.new)) }
+    ensures cols { MatchResult result (λ n. cols.new ≡ cols.old + n) (λ _. cols.new ≡ cols.old) }
+{
+    decode_into(alloc, kept, t, column, &mut block[column..], cols)
+}
+
+/// Decodes as many columns from `column` on as `out` has places, as long as all answers lie on one polynomial of degree at
+/// most `t`, and tells how many these are.
+fn decode_into<C: Ledger>(
+    alloc: Global,
+    kept: &AnswerSet<'_>,
+    t: u32,
+    column: usize,
+    out: &mut [u8],
+    cols: &mut Steps<C>,
+) -> Result<usize, AllocError>
+    requires enough { t < length kept.now }
+    requires widths { All (λ a. column + length out.old ≤ length a.payload) kept.now }
+    requires distinct { AllPairs (λ a b. a.index ≢ b.index) kept.now }
+    ensures run { IfOk result (IsRun (map (λ a. a.index) kept.now) (map (λ a. a.payload) kept.now) t column out.new) }
+    ensures cols { MatchResult result (λ n. cols.new ≡ cols.old + n) (λ _. cols.new ≡ cols.old) }
+{
+    let indices = kept.indices(alloc)?;
+    let payloads = kept.payloads(alloc)?;
+    decode_run(alloc, &indices, &payloads, t, column, out, cols)
+}
+
+/// The polynomials of degree at most `t` on which `h` or more of the answers lie in a column.
+fn list<I: Interpolate, C: Ledger, N: Ledger>(
+    alloc: Global,
+    way: &I,
+    kept: &AnswerSet<'_>,
+    column: usize,
+    t: u32,
+    h: u32,
+    cols: &mut Steps<C>,
+    nodes: &mut Steps<N>,
+) -> Result<Vec<Vec<u8>>, AllocError>
+    requires column { All (λ a. column < length a.payload) kept.now }
+    requires enough { h ≤ length kept.now }
+    requires listed { CanBeListed kept.now t h }
+    ensures exact { IfOk result (λ list. ListsAgreeing (map (λ r. r.items) list.items) (points_in kept.now column) t h) }
+    ensures cols { cols.new ≤ cols.old + 1 }
+    ensures some { OnOk result (cols.old < cols.new) }
+    ensures nodes { nodes.new ≤ nodes.old + column_nodes (length kept.now) t h }
+    ensures rises { (cols.old ≤ cols.new) × (nodes.old ≤ nodes.new) }
+{
+    let points = kept.points(alloc, column)?;
+    column_list(alloc, way, &points, t, h, cols, nodes)
+}
+
+/// Puts the constant of a column's polynomial into the block, and has the answers that lie on the polynomial.
+fn follow<'a>(
+    alloc: Global,
+    kept: &AnswerSet<'a>,
+    polynomial: &[u8],
+    column: usize,
+    block: &mut [u8],
+) -> Result<AnswerSet<'a>, AllocError>
+    requires some { 0 < length polynomial.now }
+    requires room { column < length block.old }
+    requires widths { All (λ a. column < length a.payload) kept.now }
+    ensures size { length block.new ≡ length block.old }
+    ensures block { take (column + 1) block.new ≡ take column block.old ++ slice_index polynomial.now 0 ∷ [] }
+    ensures answers { IfOk result (λ set. set ≡ filter (meets polynomial.now column) kept.now) }
+{
+    block[column] = polynomial[0];
+    kept.meeting(alloc, polynomial, column)
 }

@@ -4,11 +4,11 @@ use Rattle.std.specs.Prelude.{Option, Some, None, IfSome}
 use Rattle.std.specs.Option.{option_map}
 use Rattle.std.proofs.Math.Seq.{take-add}
 use Rattle.std.proofs.lemmas.List.{take_all, drop_all, length-take-le, length-drop}
-use Rattle.pir_ports.specs.World.{Cell, World}
-use Rattle.pir_ports.specs.Number.{DATABASE}
-use Rattle.pir_ports.specs.Moves.{Hands, took, counted, Rose}
-use Rattle.pir_ports.specs.Whole.{Reads, IsFront, Ends, FailsShort}
-use Rattle.pir_ports.proofs.Cells.{reads_more, took-took}
+use Rattle.port_rules.specs.World.{Cell, World}
+use Rattle.port_rules.specs.Number.{DATABASE}
+use Rattle.port_rules.specs.Moves.{Hands, took, counted, Rose}
+use Rattle.port_rules.specs.Whole.{Reads, IsFront, Ends, FailsShort}
+use Rattle.port_rules.proofs.Cells.{reads_more, took-took}
 use Rattle.block_matrix.specs.Loading.{ReadsUpTo}
 
 -- the bytes behind a slice that is all of a list

@@ -1,10 +1,10 @@
 -- What reading the file of a database does to its port.
 use Rattle.std.specs.Prelude.{◌≡◌, ℕ, ◌+◌, ◌<◌, ◌≤◌, List, [], length, take, IfSome, Vec, Result, Ok, Err}
 use Rattle.std.specs.declared.alloc.Global.{Global}
-use Rattle.pir_ports.specs.World.{Cell, World}
-use Rattle.pir_ports.specs.Number.{DATABASE}
-use Rattle.pir_ports.specs.Moves.{took}
-use Rattle.pir_ports.specs.Whole.{Reads, FailsShort}
+use Rattle.port_rules.specs.World.{Cell, World}
+use Rattle.port_rules.specs.Number.{DATABASE}
+use Rattle.port_rules.specs.Moves.{took}
+use Rattle.port_rules.specs.Whole.{Reads, FailsShort}
 use Rattle.block_matrix.specs.Database.{Database, limit}
 use Rattle.block_matrix.specs.Loaded.{IsFileOf}
 use Rattle.block_matrix.specs.declared.matrix.LoadFault.{LoadFault}

@@ -1,13 +1,13 @@
 //! Reads a database from its file.
 ghost use Rattle.std.specs.Prelude.{◌≡◌, ◌+◌, ◌<◌, ◌≤◌, length, take, drop, vec_len};
-ghost use Rattle.pir_ports.specs.Number.{DATABASE};
-ghost use Rattle.pir_ports.specs.Moves.{Touches};
-ghost use Rattle.pir_ports.specs.Whole.{Fills};
+ghost use Rattle.port_rules.specs.Number.{DATABASE};
+ghost use Rattle.port_rules.specs.Moves.{Touches};
+ghost use Rattle.port_rules.specs.Whole.{Fills};
 ghost use Rattle.wire_frames.specs.declared.TheConstants.{MOST_WIDTH};
 ghost use Rattle.block_matrix.specs.Loading.{Lengthens, ReadsOr, Loads};
 
 use crate::matrix::{LoadFault, Matrix, most_bytes};
-use pir_ports::{Filled, Port, Ports, read_exactly};
+use port_rules::{Filled, Port, Ports, read_exactly};
 use std::alloc::Global;
 
 /// How many bytes are asked for at once, at most.

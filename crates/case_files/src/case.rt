@@ -1,6 +1,6 @@
 //! A case: what it is run on, and what is expected.
 
-use pir_ports::Port;
+use port_rules::Port;
 use std::alloc::Global;
 
 /// What a port holds.

@@ -1,13 +1,13 @@
 -- Asking every server, and then taking the answer of each.
 use Rattle.std.proofs.Common.{◌≡◌, ◌∙◌, inl, inr, ℕ, ◌+◌, ◌≤◌, List, [], ◌++◌, length, take, slice_index_or, ap, ap₂, sym, subst, arith}
 use Rattle.std.specs.Prelude.{Bool, true, false, Option, Some, None, IfSome}
-use Rattle.pir_ports.specs.World.{Cell, World}
-use Rattle.pir_ports.specs.declared.port.TheConstants.{PORT_COUNT}
-use Rattle.pir_ports.specs.Number.{COINS, link}
-use Rattle.pir_ports.specs.Moves.{Rose, Touches, took, counted}
-use Rattle.pir_ports.specs.Whole.{FailsShort}
-use Rattle.pir_ports.specs.Each.{TouchesRange}
-use Rattle.pir_ports.proofs.Ranges.{each_before, range_still}
+use Rattle.port_rules.specs.World.{Cell, World}
+use Rattle.port_rules.specs.declared.port.TheConstants.{PORT_COUNT}
+use Rattle.port_rules.specs.Number.{COINS, link}
+use Rattle.port_rules.specs.Moves.{Rose, Touches, took, counted}
+use Rattle.port_rules.specs.Whole.{FailsShort}
+use Rattle.port_rules.specs.Each.{TouchesRange}
+use Rattle.port_rules.proofs.Ranges.{each_before, range_still}
 use Rattle.wire_frames.specs.Header.{query_header}
 use Rattle.wire_frames.specs.Session.{Transcript}
 use Rattle.wire_frames.specs.Sizes.{answer_len}
@@ -16,7 +16,7 @@ use Rattle.fetch_client.specs.Plan.{need, params_of, query_params}
 use Rattle.fetch_client.specs.Sent.{sent, header_to, payload_for, queries_from, session_number}
 use Rattle.fetch_client.specs.Link.{LinkAsked, LinkBreaks, LinkSent, LinkTaken, FailsToHand}
 use Rattle.fetch_client.specs.Rounds.{SentEach, TakenEach}
-use Rattle.pir_ports.specs.Tossed.{Tossed}
+use Rattle.port_rules.specs.Tossed.{Tossed}
 use Rattle.fetch_client.specs.Fetched.{AskedEach, AsksWith}
 use Rattle.fetch_client.proofs.Schemes.{payload_of_session}
 

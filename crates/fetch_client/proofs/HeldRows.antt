@@ -12,8 +12,8 @@ use Rattle.uni_poly.proofs.Coefficients.{IsBytes-from_all}
 use Rattle.block_matrix.proofs.Rows.{IsMatrix-rows_of, get_or-rows_of}
 use Rattle.shamir_share.specs.Query.{row_coins}
 use Rattle.shamir_share.proofs.Rows.{rows_fit}
-use Rattle.share_db.specs.Share.{position_polynomial, share}
-use Rattle.share_db.proofs.Shares.{length-share, share_at, val-position}
+use Rattle.share_bytes.specs.Share.{position_polynomial, share}
+use Rattle.share_bytes.proofs.Shares.{length-share, share_at, val-position}
 use Rattle.wire_frames.proofs.Turns.{length-in_turn, piece-in_turn}
 use Rattle.fetch_client.specs.Held.{block_of, bytes_of, held_by, share_rows}
 

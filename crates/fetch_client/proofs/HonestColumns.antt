@@ -15,8 +15,8 @@ use Rattle.uni_poly.proofs.Coefficients.{IsBytes-from_all}
 use Rattle.block_decoder.proofs.Agreed.{row_within}
 use Rattle.shamir_share.specs.Query.{query, row_polynomial, row_coins}
 use Rattle.shamir_share.proofs.Rows.{length-row_coins, rows_fit}
-use Rattle.share_db.specs.Share.{position_polynomial}
-use Rattle.share_db.proofs.ProductSums.{product_sum, degree-product_sum, val-product_sum, constant-product_sum}
+use Rattle.share_bytes.specs.Share.{position_polynomial}
+use Rattle.share_bytes.proofs.ProductSums.{product_sum, degree-product_sum, val-product_sum, constant-product_sum}
 use Rattle.fetch_client.specs.Held.{block_of, bytes_of, held_by}
 use Rattle.fetch_client.proofs.HeldRows.{byte_of, held_at, held_is_matrix, place_within}
 

@@ -65,6 +65,14 @@ pub coins_in_session : (p : FetchPlan) (count number t : ℕ) (params : SessionP
 coins_in_session p count number t params is degree =
     sym (coins_of_session p count number) ∙ ap query_coins (sym (ap₂ with_degree degree is))
 
+-- and they are as many as the rows of the session take
+pub coins_of_rows : (p : FetchPlan) (number t : ℕ) (params : SessionParams) (blocks rows coins given : List ℕ) → params ≡ params_of p (length blocks) number → t ≡ p.t
+    → given ≡ coins → length coins ≡ length blocks * query_coins (query_params p 1 0) → rows ≡ blocks
+    → length given ≡ length rows * query_coins (with_degree t params)
+coins_of_rows p number t params blocks rows coins given is degree coins_are size rows_are =
+    ap length coins_are ∙ size ∙ ap (λ (n : ℕ). length blocks * n) (coins_in_session p (length blocks) number t params is degree)
+    ∙ ap (λ (l : List ℕ). length l * query_coins (with_degree t params)) (sym rows_are)
+
 -- nor does the vector of a query
 pub vector_of_session : (p : FetchPlan) (count number : ℕ) (coins : List ℕ) (block i : ℕ)
     → payload_to (query_params p 1 0) coins block i ≡ payload_to (query_params p count number) coins block i

@@ -1,13 +1,13 @@
 -- What a fetch does.
 use Rattle.std.specs.Prelude.{ℕ, ◌≡◌, ◌+◌, ◌*◌, ◌≤◌, ◌⊎◌, ◌∷◌, List, [], length, Option, None, Result, Ok, Err}
 use Rattle.std.specs.Prelude.{slice_index_or}
-use Rattle.pir_ports.specs.World.{World}
-use Rattle.pir_ports.specs.Number.{COINS, link}
-use Rattle.pir_ports.specs.Moves.{Touches}
-use Rattle.pir_ports.specs.Whole.{FailsShort}
-use Rattle.pir_ports.specs.Each.{Each}
-use Rattle.pir_ports.specs.Tossed.{Tossed, RunsOut}
-use Rattle.pir_ports.specs.Touched.{One, From, TouchesOnly}
+use Rattle.port_rules.specs.World.{World}
+use Rattle.port_rules.specs.Number.{COINS, link}
+use Rattle.port_rules.specs.Moves.{Touches}
+use Rattle.port_rules.specs.Whole.{FailsShort}
+use Rattle.port_rules.specs.Each.{Each}
+use Rattle.port_rules.specs.Tossed.{Tossed, RunsOut}
+use Rattle.port_rules.specs.Touched.{One, From, TouchesOnly}
 use Rattle.wire_frames.specs.Sizes.{answer_len}
 use Rattle.wire_frames.specs.Answer.{answers}
 use Rattle.wire_frames.specs.Session.{Transcript}

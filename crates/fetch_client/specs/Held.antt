@@ -1,7 +1,7 @@
 -- What a server holds of a database that is kept in shares (Shamir 1979; Goldberg 2007).
 use Rattle.std.specs.Prelude.{ℕ, zero, suc, List, [], length, slice_index_or}
 use Rattle.block_matrix.specs.Database.{rows_of}
-use Rattle.share_db.specs.Share.{share}
+use Rattle.share_bytes.specs.Share.{share}
 use Rattle.wire_frames.specs.Turns.{in_turn}
 
 -- the block with this number: a row of the matrix

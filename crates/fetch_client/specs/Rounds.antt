@@ -1,8 +1,8 @@
 -- What the two rounds of a fetch do: each server is sent its query, and then the answer of each is taken.
 use Rattle.std.specs.Prelude.{ℕ, ◌≡◌, ◌+◌, ◌++◌, ◌∷◌, List, [], length, Bool, false, Option, None, slice_index_or}
-use Rattle.pir_ports.specs.World.{World}
-use Rattle.pir_ports.specs.Number.{link}
-use Rattle.pir_ports.specs.Each.{Each}
+use Rattle.port_rules.specs.World.{World}
+use Rattle.port_rules.specs.Number.{link}
+use Rattle.port_rules.specs.Each.{Each}
 use Rattle.wire_frames.specs.Session.{Transcript}
 use Rattle.fetch_client.specs.declared.plan.FetchPlan.{FetchPlan}
 use Rattle.fetch_client.specs.Sent.{sent}

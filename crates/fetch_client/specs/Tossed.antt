@@ -1,9 +1,9 @@
 -- The coins of a fetch.
 use Rattle.std.specs.Prelude.{ℕ, List, Result, Ok, Err}
-use Rattle.pir_ports.specs.World.{World}
-use Rattle.pir_ports.specs.Number.{COINS}
-use Rattle.pir_ports.specs.Whole.{FailsShort}
-use Rattle.pir_ports.specs.Tossed.{Tossed, RunsOut}
+use Rattle.port_rules.specs.World.{World}
+use Rattle.port_rules.specs.Number.{COINS}
+use Rattle.port_rules.specs.Whole.{FailsShort}
+use Rattle.port_rules.specs.Tossed.{Tossed, RunsOut}
 use Rattle.fetch_client.specs.declared.plan.FetchFault.{FetchFault}
 use Rattle.fetch_client.specs.declared.plan.FetchFault.TheVariants.{CoinsFault, CoinsEnded, Memory}
 

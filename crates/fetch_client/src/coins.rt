@@ -1,15 +1,15 @@
 //! The random bytes.
 
 ghost use Rattle.std.specs.Prelude.{◌≡◌, ◌<◌, ◌≤◌, length};
-ghost use Rattle.pir_ports.specs.Number.{COINS};
-ghost use Rattle.pir_ports.specs.Moves.{Touches};
+ghost use Rattle.port_rules.specs.Number.{COINS};
+ghost use Rattle.port_rules.specs.Moves.{Touches};
 ghost use Rattle.fetch_client.specs.declared.coins.TheConstants.{NUMBER_LEN};
 ghost use Rattle.fetch_client.specs.Sent.{session_number};
 ghost use Rattle.fetch_client.specs.Tossed.{TakesCoins};
 
 use crate::plan::FetchFault;
 use byteorder::{BigEndian, ByteOrder};
-use pir_ports::{Filled, Port, Ports, read_exactly};
+use port_rules::{Filled, Port, Ports, read_exactly};
 
 /// How many coins the number of a session takes.
 pub const NUMBER_LEN: usize = 8;

@@ -19,7 +19,7 @@ use crate::queries::Queries;
 use crate::rounds::{ask_all, take_all};
 use block_decoder::{Report, Verdict, judge, judge_report};
 use interpolation::Interpolate;
-use pir_ports::Ports;
+use port_rules::Ports;
 use std::alloc::{AllocError, Global};
 use std::sync::ledger::Ledger;
 use uni_poly::steps::Steps;

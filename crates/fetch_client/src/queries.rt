@@ -1,8 +1,8 @@
 //! What each server is sent.
 
 ghost use Rattle.std.specs.Prelude.{◌≡◌, ◌*◌, ◌<◌, ◌≤◌, length, IfOk};
-ghost use Rattle.pir_ports.specs.Number.{COINS};
-ghost use Rattle.pir_ports.specs.Moves.{Touches};
+ghost use Rattle.port_rules.specs.Number.{COINS};
+ghost use Rattle.port_rules.specs.Moves.{Touches};
 ghost use Rattle.wire_frames.specs.declared.TheConstants.{MOST_BLOCKS, MOST_SERVERS};
 ghost use Rattle.wire_frames.specs.Header.{query_header};
 ghost use Rattle.wire_frames.specs.Limits.{IsInRange};
@@ -15,7 +15,7 @@ ghost use Rattle.fetch_client.specs.Tossed.{TakesCoins};
 use crate::coins::{NUMBER_LEN, session_number_of, take_coins};
 use crate::plan::{FetchFault, FetchPlan};
 use chor_xor::bitmap_into;
-use pir_ports::Ports;
+use port_rules::Ports;
 use shamir_share::query_into;
 use std::alloc::{AllocError, Global};
 use std::marker::Model;

@@ -1,9 +1,9 @@
 //! The two rounds in which the servers are asked: each is sent its query before the answer of any is awaited.
 
 ghost use Rattle.std.specs.Prelude.{ℕ, ◌≡◌, ◌<◌, ◌≤◌, ◌+◌, [], length, map, string_bytes};
-ghost use Rattle.pir_ports.specs.Number.{link};
-ghost use Rattle.pir_ports.specs.Moves.{Touches};
-ghost use Rattle.pir_ports.specs.Each.{TouchesRange};
+ghost use Rattle.port_rules.specs.Number.{link};
+ghost use Rattle.port_rules.specs.Moves.{Touches};
+ghost use Rattle.port_rules.specs.Each.{TouchesRange};
 ghost use Rattle.wire_frames.specs.declared.TheConstants.{MOST_SERVERS};
 ghost use Rattle.wire_frames.specs.Sizes.{answer_len};
 ghost use Rattle.fetch_client.specs.Sent.{frame_len, sent};
@@ -12,7 +12,7 @@ ghost use Rattle.fetch_client.specs.Rounds.{SentEach, TakenEach, TakesNext};
 
 use crate::links::{ask, take_answer};
 use crate::queries::Queries;
-use pir_ports::Ports;
+use port_rules::Ports;
 use wire_frames::Session;
 
 /// Asks the server at a place, counted from 0, and says whether it was reached.

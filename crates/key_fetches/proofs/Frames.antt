@@ -3,10 +3,10 @@ use Rattle.std.proofs.Common.{◌≡◌, ◌∙◌, ◌⊎◌, inl, inr, ℕ, �
 use Rattle.std.specs.List.{concat}
 use Rattle.std.specs.Option.{option_map}
 use Rattle.std.proofs.lemmas.List.{append-nil, length-take-le, take_all}
-use Rattle.pir_ports.specs.World.{Cell, World}
-use Rattle.pir_ports.specs.Number.{link}
-use Rattle.pir_ports.specs.Moves.{Rose}
-use Rattle.pir_ports.proofs.Ranges.{each_as}
+use Rattle.port_rules.specs.World.{Cell, World}
+use Rattle.port_rules.specs.Number.{link}
+use Rattle.port_rules.specs.Moves.{Rose}
+use Rattle.port_rules.proofs.Ranges.{each_as}
 use Rattle.wire_frames.specs.Sizes.{answer_len}
 use Rattle.fetch_client.specs.declared.plan.FetchPlan.{FetchPlan}
 use Rattle.fetch_client.specs.Link.{LinkAsked}

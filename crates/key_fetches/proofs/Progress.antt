@@ -5,12 +5,12 @@ use Rattle.std.proofs.lemmas.List.{map-append}
 use Rattle.std.proofs.lemmas.List.Elements.{All-nil}
 use Rattle.std.proofs.lemmas.List.Sums.{fold-append}
 use Rattle.std.specs.Option.{option_or}
-use Rattle.pir_ports.specs.World.{Cell, World}
-use Rattle.pir_ports.specs.Number.{COINS, link}
-use Rattle.pir_ports.specs.Moves.{Touches}
-use Rattle.pir_ports.specs.Whole.{FailsShort}
-use Rattle.pir_ports.proofs.Cells.{took_none}
-use Rattle.pir_ports.proofs.Ranges.{each_after}
+use Rattle.port_rules.specs.World.{Cell, World}
+use Rattle.port_rules.specs.Number.{COINS, link}
+use Rattle.port_rules.specs.Moves.{Touches}
+use Rattle.port_rules.specs.Whole.{FailsShort}
+use Rattle.port_rules.proofs.Cells.{took_none}
+use Rattle.port_rules.proofs.Ranges.{each_after}
 use Rattle.wire_frames.specs.declared.scheme.TheConstants.{SHAMIR}
 use Rattle.wire_frames.specs.Session.{Transcript}
 use Rattle.block_decoder.specs.declared.verdict.Verdict.{Verdict}
@@ -18,7 +18,7 @@ use Rattle.fetch_client.specs.declared.plan.FetchPlan.{FetchPlan}
 use Rattle.fetch_client.specs.declared.plan.FetchFault.{FetchFault}
 use Rattle.fetch_client.specs.declared.plan.FetchFault.TheVariants.{CoinsFault, CoinsEnded, Memory}
 use Rattle.fetch_client.specs.Plan.{IsPlan, need}
-use Rattle.pir_ports.specs.Tossed.{RunsOut, Tossed}
+use Rattle.port_rules.specs.Tossed.{RunsOut, Tossed}
 use Rattle.fetch_client.specs.Fetched.{AsksSome, Concludes, Fetches}
 use Rattle.fetch_client.specs.Sent.{session_number}
 use Rattle.key_search.specs.Standing.{Standing, asked_row, standing_after, standing_at_start, turns_of}

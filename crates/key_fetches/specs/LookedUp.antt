@@ -1,8 +1,8 @@
 -- What a look-up does.
 use Rattle.std.specs.Prelude.{◌≡◌, ℕ, ◌+◌, ◌*◌, ◌%◌, ◌<◌, ◌≤◌, ◌⊎◌, ◌++◌, List, [], ◌∷◌, length, map, take, fold, IfSome, Result, Ok, Err}
-use Rattle.pir_ports.specs.World.{Cell, World}
-use Rattle.pir_ports.specs.Number.{COINS}
-use Rattle.pir_ports.specs.Moves.{Rose, took, counted}
+use Rattle.port_rules.specs.World.{Cell, World}
+use Rattle.port_rules.specs.Number.{COINS}
+use Rattle.port_rules.specs.Moves.{Rose, took, counted}
 use Rattle.block_decoder.specs.declared.verdict.Verdict.{Verdict}
 use Rattle.fetch_client.specs.declared.plan.FetchPlan.{FetchPlan}
 use Rattle.fetch_client.specs.declared.plan.FetchFault.{FetchFault}

@@ -2,10 +2,10 @@
 use Rattle.std.specs.Prelude.{◌≡◌, ℕ, ◌+◌, ◌++◌, List, [], ◌∷◌, length, take, map, ⊤}
 use Rattle.std.specs.List.{concat}
 use Rattle.std.specs.Option.{option_map}
-use Rattle.pir_ports.specs.World.{Cell, World}
-use Rattle.pir_ports.specs.Number.{link}
-use Rattle.pir_ports.specs.Moves.{Rose}
-use Rattle.pir_ports.specs.Each.{Each}
+use Rattle.port_rules.specs.World.{Cell, World}
+use Rattle.port_rules.specs.Number.{link}
+use Rattle.port_rules.specs.Moves.{Rose}
+use Rattle.port_rules.specs.Each.{Each}
 use Rattle.fetch_client.specs.declared.plan.FetchPlan.{FetchPlan}
 use Rattle.key_fetches.specs.Rounds.{Round, frame_in}
 

@@ -2,7 +2,7 @@
 
 ghost use Rattle.std.specs.Prelude.{◌≡◌, ◌<◌, ◌≤◌, ◌∷◌, [], length, map, string_bytes, IfSome, is_none, if◌then◌else◌};
 ghost use Rattle.std.specs.Option.{option_or};
-ghost use Rattle.pir_ports.specs.Number.{COINS};
+ghost use Rattle.port_rules.specs.Number.{COINS};
 ghost use Rattle.wire_frames.specs.declared.scheme.TheConstants.{SHAMIR};
 ghost use Rattle.key_search.specs.Standing.{asked_row, standing_after, turns_of};
 ghost use Rattle.fetch_client.specs.Plan.{IsPlan};
@@ -15,7 +15,7 @@ use block_decoder::Verdict;
 use fetch_client::{FetchFault, FetchPlan, fetch};
 use interpolation::Interpolate;
 use key_search::{Key, Search};
-use pir_ports::Ports;
+use port_rules::Ports;
 use std::alloc::Global;
 use std::sync::ledger::Ledger;
 use uni_poly::steps::Steps;

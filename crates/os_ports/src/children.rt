@@ -2,7 +2,7 @@
 use crate::limits::LINK;
 use crate::timed::connect;
 use crate::variables::CHILD;
-use std::alloc::Global;
+use std::alloc::{AllocError, Global};
 use std::io::{ErrorKind, Read};
 use std::net::Net;
 use std::process::{Child, Command, OpenProcess, Processes, Stdio};
@@ -24,8 +24,68 @@ struct Started<P: OpenProcess> {
 
 /// The children that were started, none of which was waited for.
 #[derive(Drop)]
-pub struct Children<R: Processes> {
-    started: Vec<Started<R::Started>>,
+pub struct Children<P: OpenProcess> {
+    started: Vec<Started<P>>,
+}
+
+impl<P: OpenProcess> Started<P> {
+    // Starts the command, and waits until the child says that it is ready. One that doesn't say so is killed, and
+    // waited for.
+    fn spawn<R: Processes<Started = P>>(
+        rt: &R,
+        command: &mut Command,
+        address: String,
+    ) -> io::Result<Self> {
+        let mut process = command.spawn(rt)?;
+        // Kept open for as long as the child is there: a wait for it would close it before.
+        let input = process.stdin.take();
+        await_or_kill(&mut process)?;
+        Ok(Started {
+            address,
+            has_guest: false,
+            process,
+            _input: input,
+        })
+    }
+
+    // A link to this address was opened.
+    fn note_link(&mut self, address: &str) {
+        self.has_guest = self.has_guest || self.address.as_str() == address;
+    }
+
+    // Lets it meet its guest and end, or kills it, and waits for it.
+    fn end<R: Net + Clock>(&mut self, rt: &R) {
+        if !self.has_guest && connect(rt, &self.address, LINK).is_err() {
+            let _ = self.process.kill();
+        }
+        let _ = self.process.wait();
+    }
+}
+
+// The name by which this program was started.
+fn own_name<R: Env + AllocGlobal>(rt: &R) -> io::Result<String> {
+    // Not `current_exe`, which is the loader where a loader was told to run this program.
+    let name = env::args(rt)?.next().ok_or(ErrorKind::NotFound)?;
+    Ok(name)
+}
+
+// Gives the command its words, and what every child has.
+fn set_up(command: &mut Command, words: &[String]) -> Result<(), AllocError> {
+    for word in words {
+        command.arg(word.as_str())?;
+    }
+    command.env(CHILD, "1")?;
+    command.stdin(Stdio::piped());
+    command.stdout(Stdio::piped());
+    Ok(())
+}
+
+// Where a child with these words lets its guest in: the last of them.
+fn address_of(alloc: Global, words: &[String]) -> Result<String, AllocError> {
+    match words.last() {
+        Some(word) => word.clone(),
+        None => Ok(String::new(alloc)),
+    }
 }
 
 // Waits until the child says that it is ready. Its output is closed then, so that it can't wait for a reader.
@@ -42,7 +102,17 @@ fn await_ready<P: OpenProcess>(child: &mut Child<P>) -> io::Result<()> {
     }
 }
 
-impl<R: Processes> Children<R> {
+// The same, where a child that doesn't say so is killed, and waited for.
+fn await_or_kill<P: OpenProcess>(child: &mut Child<P>) -> io::Result<()> {
+    let ready = await_ready(child);
+    if ready.is_err() {
+        let _ = child.kill();
+        let _ = child.wait();
+    }
+    ready
+}
+
+impl<P: OpenProcess + Drop> Children<P> {
     /// No children.
     pub fn new(alloc: Global) -> Self {
         Children {
@@ -52,60 +122,41 @@ impl<R: Processes> Children<R> {
 
     /// Starts this same program with the words, and waits until it says that it is ready. A child that
     /// doesn't say so is killed, and waited for.
-    pub fn start(&mut self, rt: &R, words: &[String]) -> io::Result<()>
+    pub fn start<R>(&mut self, rt: &R, words: &[String]) -> io::Result<()>
     where
-        R: Env + AllocGlobal,
+        R: Processes<Started = P> + Env + AllocGlobal,
     {
-        // Not `current_exe`, which is the loader where a loader was told to run this program.
-        let program = env::args(rt)?.next().ok_or(ErrorKind::NotFound)?;
+        let program = own_name(rt)?;
         let mut command = Command::new(rt.alloc(), program.as_str())?;
-        for word in words {
-            command.arg(word.as_str())?;
-        }
-        command.env(CHILD, "1")?;
-        command.stdin(Stdio::piped());
-        command.stdout(Stdio::piped());
-        let address = match words.last() {
-            Some(word) => word.clone()?,
-            None => String::new(rt.alloc()),
-        };
+        self.start_by(rt, &mut command, words)
+    }
+
+    // The same by the command with these words.
+    fn start_by<R>(&mut self, rt: &R, command: &mut Command, words: &[String]) -> io::Result<()>
+    where
+        R: Processes<Started = P> + AllocGlobal,
+    {
+        set_up(command, words)?;
+        let address = address_of(rt.alloc(), words)?;
         // No memory is needed once the child runs, so that none is left behind.
         self.started.reserve(1)?;
-        let mut process = command.spawn(rt)?;
-        // Kept open for as long as the child is there: a wait for it would close it before.
-        let input = process.stdin.take();
-        if let Err(error) = await_ready(&mut process) {
-            let _ = process.kill();
-            let _ = process.wait();
-            return Err(error);
-        }
-        self.started.push(Started {
-            address,
-            has_guest: false,
-            process,
-            _input: input,
-        })?;
+        let child = Started::spawn(rt, command, address)?;
+        self.started.push(child)?;
         Ok(())
     }
 
     /// A link to this address was opened.
     pub fn note_link(&mut self, address: &str) {
         for child in self.started.iter_mut() {
-            child.has_guest = child.has_guest || child.address.as_str() == address;
+            child.note_link(address);
         }
     }
 
     /// Connects once to each child to which no link was opened, so that it meets its guest and ends, and
     /// waits for all children. One to which it can't connect would wait for its guest, and is killed.
-    pub fn end(&mut self, rt: &R)
-    where
-        R: Net + Clock,
-    {
+    pub fn end<R: Net + Clock>(&mut self, rt: &R) {
         for child in self.started.iter_mut() {
-            if !child.has_guest && connect(rt, &child.address, LINK).is_err() {
-                let _ = child.process.kill();
-            }
-            let _ = child.process.wait();
+            child.end(rt);
         }
         self.started.clear();
     }

@@ -1,6 +1,6 @@
 // Why calls on ports failed, for whoever asks.
 use crate::port_name::PortName;
-use pir_ports::Port;
+use port_rules::Port;
 use std::alloc::{AllocError, Global};
 use std::io::{self, Eprint};
 use std::net::SocketAddr;

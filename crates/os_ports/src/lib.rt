@@ -1,5 +1,5 @@
 //! The outside itself, the trusted edge: files, standard streams, TCP streams, a listener and child
-//! programs as the ports of `pir_ports`.
+//! programs as the ports of `port_rules`.
 //!
 //! Promised is that a call that fails raises the count of its own port, that one that succeeds
 //! raises none, and that no count but that of the port named is touched.
@@ -12,8 +12,11 @@
 #![tactic(auto)]
 
 mod children;
+mod closed;
+mod connections;
 mod counts;
 mod explainer;
+mod files;
 mod limits;
 mod parent;
 mod port_name;

@@ -1,5 +1,5 @@
 // The names of ports in words.
-use pir_ports::Port;
+use port_rules::Port;
 use std::fmt::{self, Display, Formatter, Write};
 
 /// A port as a text calls it: `coins`, `link 3`.

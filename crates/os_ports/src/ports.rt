@@ -1,12 +1,12 @@
 // The ports of the system.
-ghost use Rattle.std.specs.Prelude.{◌≡◌, ◌≢◌, ◌+◌, ◌-◌, ◌^◌, ℕ, slice_index, min, IfOk};
-ghost use Rattle.pir_ports.specs.Number.{number};
+ghost use Rattle.std.specs.Prelude.{◌≡◌, ◌≢◌, ◌<◌, ◌+◌, ◌-◌, ◌^◌, ℕ, slice_index, min, IfOk, OnOk, OnErr, Ok};
+ghost use Rattle.port_rules.specs.Number.{number};
 
 use crate::counts::Counts;
 use crate::standard::StandardStreams;
 use crate::streams::Streams;
 use crate::system::System;
-use pir_ports::{Failed, Port, Ports};
+use port_rules::{Failed, Port, Ports};
 use std::io::{self, ErrorKind};
 use std::os::fd::AsRawFd;
 
@@ -82,15 +82,34 @@ impl<R: System> OsPorts<R> {
         self.streams.end_children();
     }
 
-    // Counts a failed call on the port, and says why it failed where that is asked for. A name is that of a call which
-    // has one of its own.
-    fn fail(&mut self, p: Port, name: Option<&str>, error: &io::Error) -> Failed
-        ensures rose { slice_index self.new.counts (number p)
-            ≡ min (slice_index self.old.counts (number p) + 1) (2 ^ 64 - 1) }
-        ensures others { (q : ℕ) → q ≢ number p → slice_index self.new.counts q ≡ slice_index self.old.counts q }
+    // Tells how a call on the port ended: one that failed is counted, and explained where that is asked for. A name is
+    // that of a call which has one of its own.
+    fn told<T>(&mut self, p: Port, name: Option<&str>, ended: io::Result<T>) -> Result<T, Failed>
+        ensures ok { IfOk result (λ x. ended ≡ Ok x) }
+        ensures same { OnOk result (self.new.counts ≡ self.old.counts) }
+        ensures rose { OnErr result (slice_index self.new.counts (number p)
+            ≡ min (slice_index self.old.counts (number p) + 1) (2 ^ 64 - 1)) }
+        ensures others { OnErr result ((q : ℕ) → q ≢ number p
+            → slice_index self.new.counts q ≡ slice_index self.old.counts q) }
     {
-        self.streams.explain(p, name, error);
-        self.counts.raise(p)
+        match ended {
+            Ok(x) => Ok(x),
+            Err(error) => {
+                self.streams.explain(p, name, &error);
+                Err(self.counts.raise(p))
+            }
+        }
+    }
+}
+
+// A write that took nothing has failed.
+fn some_taken(written: io::Result<usize>) -> io::Result<usize>
+    ensures same { IfOk result (λ n. written ≡ Ok n) }
+    ensures some { IfOk result (λ n. 0 < n) }
+{
+    match written {
+        Ok(0) => Err(io::Error::from(ErrorKind::WriteZero)),
+        written => written,
     }
 }
 
@@ -100,41 +119,28 @@ impl<R: System> Ports for OsPorts<R> {
     ghost world = { λ s. counts_alone s.counts };
 
     fn open(&mut self, p: Port, name: &str) -> Result<(), Failed> {
-        match self.streams.open(p, name) {
-            Ok(()) => Ok(()),
-            Err(error) => Err(self.fail(p, Some(name), &error)),
-        }
+        let opened = self.streams.open(p, name);
+        self.told(p, Some(name), opened)
     }
 
     fn take(&mut self, p: Port, into: &mut [u8]) -> Result<usize, Failed> {
-        match self.streams.read(p, into) {
-            Ok(n) => Ok(n),
-            Err(error) => Err(self.fail(p, None, &error)),
-        }
+        let taken = self.streams.read(p, into);
+        self.told(p, None, taken)
     }
 
     fn give(&mut self, p: Port, piece: &[u8]) -> Result<usize, Failed> {
-        match self.streams.write(p, piece) {
-            Ok(n) if n > 0 => Ok(n),
-            Ok(_) => Err(self.fail(p, None, &io::Error::from(ErrorKind::WriteZero))),
-            Err(error) => Err(self.fail(p, None, &error)),
-        }
+        let given = some_taken(self.streams.write(p, piece));
+        self.told(p, None, given)
     }
 
     fn next_guest(&mut self) -> Result<(), Failed> {
-        match self.streams.meet() {
-            Ok(()) => Ok(()),
-            Err(error) => Err(self.fail(Port::Door, None, &error)),
-        }
+        let met = self.streams.meet();
+        self.told(Port::Door, None, met)
     }
 
     fn start_child(&mut self, i: u8, words: &[String]) -> Result<(), Failed> {
-        match self.streams.start(words) {
-            Ok(()) => Ok(()),
-            Err(error) => {
-                let address = words.last().map(|word| word.as_str());
-                Err(self.fail(Port::Child(i), address, &error))
-            }
-        }
+        let started = self.streams.start(words);
+        let address = words.last().map(|word| word.as_str());
+        self.told(Port::Child(i), address, started)
     }
 }

@@ -2,10 +2,10 @@
 //! so that a test has little of its own to prove.
 
 ghost use Rattle.std.specs.Prelude.{◌<◌, ◌≢◌, length};
-ghost use Rattle.pir_ports.specs.Number.{GUEST, number};
+ghost use Rattle.port_rules.specs.Number.{GUEST, number};
 
 use os_ports::OsPorts;
-use pir_ports::{Filled, Port, Ports, read_exactly, write_all};
+use port_rules::{Filled, Port, Ports, read_exactly, write_all};
 use std::alloc::{AllocError, Global};
 use std::io::{Print, Read, Write};
 use std::net::{Ipv4Addr, Net, OpenListener, TcpListener};

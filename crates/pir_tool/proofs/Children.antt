@@ -4,9 +4,9 @@ use Rattle.std.specs.List.{range_with_len, take-map}
 use Rattle.std.proofs.lemmas.List.FromFn.{map-range_with_len_more}
 use Rattle.std.proofs.lemmas.Simd.{map-map}
 use Rattle.std.proofs.lemmas.List.{map-append, take_all, length-map}
-use Rattle.pir_ports.specs.World.{World}
-use Rattle.pir_ports.specs.Number.{child}
-use Rattle.pir_ports.specs.Moves.{Fails, Touches}
+use Rattle.port_rules.specs.World.{World}
+use Rattle.port_rules.specs.Number.{child}
+use Rattle.port_rules.specs.Moves.{Fails, Touches}
 use Rattle.pir_tool.specs.DemoOrder.{address_from}
 use Rattle.pir_tool.specs.DemoOutcome.{StartsAll, StartsSome}
 

@@ -5,14 +5,14 @@ use Rattle.std.specs.List.{range_with_len}
 use Rattle.std.proofs.lemmas.List.{length-map}
 use Rattle.std.proofs.lemmas.List.FromFn.{length-map-range_with_len}
 use Rattle.std.proofs.lemmas.Simd.{map-map}
-use Rattle.pir_ports.specs.declared.port.TheConstants.{PORT_COUNT}
-use Rattle.pir_ports.specs.World.{Cell, World}
-use Rattle.pir_ports.specs.Number.{OUTPUT, COINS, link, child}
-use Rattle.pir_ports.specs.Moves.{Rose, gave, named}
-use Rattle.pir_ports.proofs.Ranges.{each_within}
+use Rattle.port_rules.specs.declared.port.TheConstants.{PORT_COUNT}
+use Rattle.port_rules.specs.World.{Cell, World}
+use Rattle.port_rules.specs.Number.{OUTPUT, COINS, link, child}
+use Rattle.port_rules.specs.Moves.{Rose, gave, named}
+use Rattle.port_rules.proofs.Ranges.{each_within}
 use Rattle.wire_frames.specs.Session.{Transcript}
 use Rattle.fetch_client.specs.Plan.{need}
-use Rattle.pir_ports.specs.Tossed.{Tossed}
+use Rattle.port_rules.specs.Tossed.{Tossed}
 use Rattle.pir_tool.specs.Said.{whole_text}
 use Rattle.pir_tool.specs.Told.{NoneRose, NoChildRose}
 use Rattle.pir_tool.specs.FetchOrder.{FetchOrder}

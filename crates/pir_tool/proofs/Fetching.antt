@@ -1,12 +1,12 @@
 -- A fetch from its first port to its last.
 use Rattle.std.proofs.Common.{◌≡◌, ◌≢◌, ◌⊎◌, ◌∙◌, inl, inr, Bool, true, false, ℕ, ◌+◌, ◌<◌, ◌≤◌, List, [], ◌∷◌, length, take, slice_index_or, refl, lit<, sym, ap, subst, arith}
 use Rattle.std.specs.Prelude.{Option, Some, None, IfSome, unwrap_or, Result, Ok, Err}
-use Rattle.pir_ports.specs.declared.port.TheConstants.{PORT_COUNT}
-use Rattle.pir_ports.specs.World.{Cell, World}
-use Rattle.pir_ports.specs.Number.{COINS, RECORD, link}
-use Rattle.pir_ports.specs.Moves.{Rose, Touches, took, gave, named, counted}
-use Rattle.pir_ports.proofs.Ranges.{each_within}
-use Rattle.pir_ports.proofs.Carried.{fails_writing_before}
+use Rattle.port_rules.specs.declared.port.TheConstants.{PORT_COUNT}
+use Rattle.port_rules.specs.World.{Cell, World}
+use Rattle.port_rules.specs.Number.{COINS, RECORD, link}
+use Rattle.port_rules.specs.Moves.{Rose, Touches, took, gave, named, counted}
+use Rattle.port_rules.proofs.Ranges.{each_within}
+use Rattle.port_rules.proofs.Carried.{fails_writing_before}
 use Rattle.wire_frames.specs.Sizes.{answer_len}
 use Rattle.wire_frames.specs.Session.{Transcript, session_bytes}
 use Rattle.block_decoder.specs.declared.verdict.Verdict.{Verdict}

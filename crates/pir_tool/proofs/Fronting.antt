@@ -2,10 +2,10 @@
 use Rattle.std.proofs.Common.{◌≡◌, ◌⊎◌, inl, inr, ◌∙◌, ℕ, ◌+◌, ◌<◌, ◌≤◌, Bool, List, cond, refl, sym, ap, subst, arith}
 use Rattle.std.specs.Prelude.{Ok, Err, nat_le}
 use Rattle.std.proofs.lemmas.Bool.{cases_lt, le-leb, lt-leb}
-use Rattle.pir_ports.specs.World.{Cell, World}
-use Rattle.pir_ports.specs.Number.{OUTPUT, DOOR, GUEST}
-use Rattle.pir_ports.specs.Moves.{Rose, Touches, Fails, counted, gave}
-use Rattle.pir_ports.specs.Guests.{Meets}
+use Rattle.port_rules.specs.World.{Cell, World}
+use Rattle.port_rules.specs.Number.{OUTPUT, DOOR, GUEST}
+use Rattle.port_rules.specs.Moves.{Rose, Touches, Fails, counted, gave}
+use Rattle.port_rules.specs.Guests.{Meets}
 use Rattle.pir_words.specs.FrontForm.{IsFront}
 use Rattle.shard_front.specs.declared.TheConstants.{MOST_SHARDS}
 use Rattle.shard_front.specs.declared.spread.Spread.{Spread}
@@ -204,8 +204,12 @@ pub front_touches_door : (n : ℕ) (w u : World) → TouchesDoor w u → Touches
 front_touches_door n w u t = record { others = λ q b n1 n5 n6 off. t.others q b n1 n5; crowd = tt; started = t.started }
 
 -- nor of Guest
-pub front_guest_stays : (w u : World) → TouchesDoor w u → u.at GUEST ≡ w.at GUEST
+front_guest_stays : (w u : World) → TouchesDoor w u → u.at GUEST ≡ w.at GUEST
 front_guest_stays w u t = t.others 6 (omega arith) (omega arith) (omega arith)
+
+-- which is opened by no name
+pub front_unnamed : (w u : World) → TouchesDoor w u → (u.at GUEST).opened ≡ (w.at GUEST).opened
+front_unnamed w u t = ap (λ (c : Cell). c.opened) (front_guest_stays w u t)
 
 -- guests can come in
 module _ (o : FrontOrder) (front : Spread) (w u x : World) (is : front ≡ o.spread) (l : Listens o.listen (Ok tt) w u) (t : TouchesDoor w u)
@@ -248,13 +252,11 @@ module _ (o : FrontOrder) (front : Spread) (w u x : World) (is : front ≡ o.spr
     guests = before_them dry.served dry.guests;
   }
 
-  -- Output, Door, Guest and the links alone were touched
-  pub front_touches : TouchesFront (shards o.spread) w x
-  front_touches = record {
-    others = λ q b n1 n5 n6 off. g.others q b n5 n6 off ∙ t.others q b n1 n5;
-    crowd = tt;
-    started = g.started ∙ t.started;
-  }
+-- Output, Door, Guest and the links alone were touched
+pub front_touches : (o : FrontOrder) (front : Spread) (w u x : World) → front ≡ o.spread → TouchesDoor w u → TouchesRelaying (shards front) u x → TouchesFront (shards o.spread) w x
+front_touches o front w u x is t given =
+    let g = subst (λ (d : Spread). TouchesRelaying (shards d) u x) is given in
+    record { others = λ q b n1 n5 n6 off. g.others q b n5 n6 off ∙ t.others q b n1 n5; crowd = tt; started = g.started ∙ t.started }
 
 -- Door's count rose
 front_door_rose : (o : FrontOrder) (old new : World) → NoneRose own_ports old new → FrontEnds o DoorFault old new → ⊥

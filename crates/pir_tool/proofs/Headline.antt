@@ -2,9 +2,9 @@
 use Rattle.std.proofs.Common.{◌≡◌, ◌⊎◌, inl, inr, ℕ, ◌<◌, ◌≤◌, List, length, take, ◌∙◌, Bool, refl, subst, ap, ap₂, sym, arith}
 use Rattle.std.specs.Prelude.{Option, Some, None}
 use Rattle.std.proofs.lemmas.List.{length-take}
-use Rattle.pir_ports.specs.World.{World}
-use Rattle.pir_ports.specs.Number.{INPUT, OUTPUT, COINS}
-use Rattle.pir_ports.specs.Moves.{gave, named}
+use Rattle.port_rules.specs.World.{World}
+use Rattle.port_rules.specs.Number.{INPUT, OUTPUT, COINS}
+use Rattle.port_rules.specs.Moves.{gave, named}
 use Rattle.wire_frames.specs.Limits.{IsInRange}
 use Rattle.wire_frames.specs.Session.{Transcript, IsSession}
 use Rattle.wire_frames.proofs.OneSession.{one_session}

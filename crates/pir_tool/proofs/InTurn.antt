@@ -2,8 +2,8 @@
 use Rattle.std.proofs.Common.{◌≡◌, ◌∙◌, ℕ, ◌+◌, ◌<◌, ◌≤◌, Bool, inl, inr, cond, refl, sym, ap, subst, arith}
 use Rattle.std.specs.Prelude.{nat_le}
 use Rattle.std.proofs.lemmas.Bool.{cases_lt, le-leb, lt-leb}
-use Rattle.pir_ports.specs.World.{Cell, World}
-use Rattle.pir_ports.specs.Number.{GUEST}
+use Rattle.port_rules.specs.World.{Cell, World}
+use Rattle.port_rules.specs.Number.{GUEST}
 use Rattle.serve_core.specs.Service.{Service}
 use Rattle.serve_core.specs.Attended.{Attends, AttendsNext}
 use Rattle.serve_core.specs.declared.met.Met.{Met}

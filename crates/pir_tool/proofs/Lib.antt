@@ -3,12 +3,14 @@ mod Replaying
 pub mod Headline
 mod Children
 mod Demonstrating
+mod Loading
 mod Serving
 mod ServeHeadline
 mod UnusedBits
 mod HonestReplies
 mod HeldRow
 mod Plans
+mod Formless
 mod InTurn
 mod SameFrames
 pub mod Fetching

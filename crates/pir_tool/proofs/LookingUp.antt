@@ -4,11 +4,11 @@ use Rattle.std.specs.Prelude.{Err, Ok, Option, Some, None, Result, slice_get, sl
 use Rattle.std.proofs.lemmas.List.{length-take}
 use Rattle.std.proofs.lemmas.Option.{slice_get-get_or}
 use Rattle.gf256.specs.Product.{IsMatrix}
-use Rattle.pir_ports.specs.declared.port.TheConstants.{PORT_COUNT}
-use Rattle.pir_ports.specs.World.{Cell, World}
-use Rattle.pir_ports.specs.Number.{COINS, OUTPUT, link}
-use Rattle.pir_ports.specs.Moves.{Touches, gave, named}
-use Rattle.pir_ports.proofs.Carried.{fails_writing_before}
+use Rattle.port_rules.specs.declared.port.TheConstants.{PORT_COUNT}
+use Rattle.port_rules.specs.World.{Cell, World}
+use Rattle.port_rules.specs.Number.{COINS, OUTPUT, link}
+use Rattle.port_rules.specs.Moves.{Touches, gave, named}
+use Rattle.port_rules.proofs.Carried.{fails_writing_before}
 use Rattle.wire_frames.specs.declared.scheme.TheConstants.{SHAMIR}
 use Rattle.wire_frames.specs.Answer.{answers}
 use Rattle.wire_frames.proofs.Turns.{in_turn-one}

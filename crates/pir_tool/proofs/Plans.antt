@@ -18,3 +18,11 @@ demo_plan r s n t h fits = record {
   private = fits.private;
   held_whole = λ two. absurd (omega (arith, two));
 }
+
+-- that of `lookup` is one of a fetch in Shamir's scheme, where each server holds the whole database
+pub look_up_shared : (r s t h n : ℕ) → FitsSession SHAMIR t h n r s → IsSharedFetch SHAMIR r s t 0 h n
+look_up_shared r s t h n fits = record {
+  numbers = subst (λ (d : ℕ). FitsSession SHAMIR d h n r s) (sym (add-zero t)) fits;
+  private = fits.private;
+  held_whole = λ two. absurd (omega (arith, two));
+}

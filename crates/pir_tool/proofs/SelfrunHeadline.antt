@@ -1,7 +1,7 @@
 -- What a run says of a workload.
 use Rattle.std.proofs.Common.{◌≡◌, ◌⊎◌, inl, inr, [], ◌∷◌, refl}
-use Rattle.pir_ports.specs.World.{World}
-use Rattle.pir_ports.specs.Number.{OUTPUT}
+use Rattle.port_rules.specs.World.{World}
+use Rattle.port_rules.specs.Number.{OUTPUT}
 use Rattle.drawn_workload.specs.declared.order.Workload.{Workload}
 use Rattle.pir_tool.specs.Told.{NoneRose}
 use Rattle.pir_tool.specs.SelfrunOutcome.{SelfrunEnds, SelfrunPromise, SelfrunReported}

@@ -1,8 +1,8 @@
 -- What is promised of `serve` where no call failed but on guests.
 use Rattle.std.proofs.Common.{◌≡◌, ◌⊎◌, inl, inr, ℕ, ◌<◌, ◌≤◌, List, [], length, refl, ap, arith}
 use Rattle.std.specs.Prelude.{Some}
-use Rattle.pir_ports.specs.World.{World}
-use Rattle.pir_ports.specs.Number.{DATABASE}
+use Rattle.port_rules.specs.World.{World}
+use Rattle.port_rules.specs.Number.{DATABASE}
 use Rattle.block_matrix.specs.Database.{limit}
 use Rattle.replay.proofs.Readings.{at_told}
 use Rattle.pir_tool.specs.Told.{NoneRose}

@@ -1,13 +1,13 @@
 -- The steps of `serve`, put together.
-use Rattle.std.proofs.Common.{◌≡◌, ℕ, ◌+◌, ◌-◌, ◌^◌, ◌<◌, ◌≤◌, min, List, sym, ◌∙◌, ap, ap₂, subst, arith}
+use Rattle.std.proofs.Common.{◌≡◌, inl, ℕ, ◌+◌, ◌-◌, ◌^◌, ◌<◌, ◌≤◌, min, List, sym, ◌∙◌, ap, ap₂, subst, arith}
 use Rattle.std.specs.Prelude.{Ok, Err}
-use Rattle.pir_ports.specs.World.{Cell, World, answers}
-use Rattle.pir_ports.specs.Number.{OUTPUT, DATABASE, DOOR, GUEST}
-use Rattle.pir_ports.specs.Moves.{Rose, Touches, Fails, named, counted, gave}
-use Rattle.pir_ports.proofs.Carried.{fails_writing_before}
-use Rattle.pir_ports.specs.Guests.{Meets}
-use Rattle.pir_ports.specs.Serving.{Served as IsServing}
-use Rattle.pir_ports.proofs.Served.{served_none, served_still, served_more}
+use Rattle.port_rules.specs.World.{Cell, World, answers}
+use Rattle.port_rules.specs.Number.{OUTPUT, DATABASE, DOOR, GUEST}
+use Rattle.port_rules.specs.Moves.{Rose, Touches, Fails, named, counted, gave}
+use Rattle.port_rules.proofs.Carried.{fails_writing_before}
+use Rattle.port_rules.specs.Guests.{Meets}
+use Rattle.port_rules.specs.Serving.{Served as IsServing}
+use Rattle.port_rules.proofs.Served.{served_none, served_still, served_more}
 use Rattle.block_matrix.specs.Database.{Database}
 use Rattle.serve_core.specs.Service.{Service}
 use Rattle.serve_core.specs.Attended.{Replied, Broke, Attends, HasReply, IsServed}
@@ -16,9 +16,11 @@ use Rattle.serve_core.specs.declared.met.Met.TheVariants.{Served, Refused, Gone,
 use Rattle.serve_core.proofs.ServingOne.{serves_one, replies_one}
 use Rattle.pir_tool.specs.Told.{DidRise}
 use Rattle.pir_tool.specs.ServeOrder.{ServeOrder, service_of}
-use Rattle.pir_tool.specs.declared.status.Status.TheVariants.{WriteFault, DoorFault}
-use Rattle.pir_tool.specs.ServeSteps.{ready, AttendsInTurn, Loaded, OpensDesk, Listens, TouchesDoor, ServesGuests, RepliesToGuests, RunsDry, TouchesGuests}
-use Rattle.pir_tool.specs.ServeOutcome.{Nobody, ServedAll, NoFurtherGuest, CannotListen, CannotSayReady, TouchesServer}
+use Rattle.pir_tool.specs.declared.status.Status.{Status}
+use Rattle.pir_tool.specs.declared.status.Status.TheVariants.{One, Usage, NoBlock, Several, Absent, TooFew, TooWeak, TooCostly, ReadFault, WriteFault, BadInput, DoorFault, ChildFault, Memory}
+use Rattle.pir_tool.specs.declared.status.Bad.TheVariants.{Session, EmptyFile, TooBig, CoinsEnded}
+use Rattle.pir_tool.specs.ServeSteps.{ready, AttendsInTurn, Loaded, OpensDesk, HasOpenDesk, Listens, TouchesDoor, TouchesAtDesk, ServesGuests, RepliesToGuests, RunsDry, TouchesGuests}
+use Rattle.pir_tool.specs.ServeOutcome.{Nobody, ServeEnds, ServedAll, NoFurtherGuest, CannotListen, CannotSayReady, TouchesServer}
 
 -- no guest was served yet
 pub guests_none : (service : Service) (w : World) → ServesGuests service 0 w w
@@ -126,50 +128,67 @@ loaded_still : (name : List ℕ) (width : ℕ) (database : Database) (w v u : Wo
 loaded_still name width database w v u l same = record { read = l.read; cell = same ∙ l.cell; file = l.file; all = l.all }
 
 -- the desk is open
-module _ (o : ServeOrder) (service : Service) (w v : World) (opens : OpensDesk o (Ok service) w v) (touch : Touches DATABASE w v) where
+module _ (o : ServeOrder) (service : Service) (w v : World) (has : HasOpenDesk o service w v) where
   abbrev database : Database
   database = service.database
 
   service_is : service ≡ record { database = database; scheme = o.scheme; workers = o.workers }
-  service_is = ap₂ (λ (s k : ℕ). record { database = database; scheme = s; workers = k }) opens.0 opens.1
+  service_is = ap₂ (λ (s k : ℕ). record { database = database; scheme = s; workers = k }) has.opens.0 has.opens.1
 
   door_is : v.at DOOR ≡ w.at DOOR
-  door_is = touch.others 5 (omega arith) (omega arith)
+  door_is = has.others.others 5 (omega arith) (omega arith)
 
   nobody : (u : World) → TouchesDoor v u → Nobody w u
   nobody u t = record {
-    guest = t.others 6 (omega arith) (omega arith) (omega arith) ∙ touch.others 6 (omega arith) (omega arith);
-    crowd = t.crowd ∙ touch.crowd;
+    guest = t.others 6 (omega arith) (omega arith) (omega arith) ∙ has.others.others 6 (omega arith) (omega arith);
+    crowd = t.crowd ∙ has.others.crowd;
   }
 
   loaded_after : (u : World) → TouchesDoor v u → Loaded o.database o.width database w u
-  loaded_after u t = loaded_still o.database o.width database w v u opens.2 (t.others 2 (omega arith) (omega arith) (omega arith))
+  loaded_after u t = loaded_still o.database o.width database w v u has.opens.2 (t.others 2 (omega arith) (omega arith) (omega arith))
 
   -- nobody can come in
-  pub cannot_listen : (u : World) → Listens o.listen (Err DoorFault) v u → TouchesDoor v u → CannotListen o w u
+  cannot_listen : (u : World) → Listens o.listen (Err DoorFault) v u → TouchesDoor v u → CannotListen o w u
   cannot_listen u l t = record {
     database = database;
     loaded = loaded_after u t;
     door = l.door ∙ ap (counted (u.at DOOR).faults) door_is;
     rose = subst (λ (c : Cell). Rose c.faults (u.at DOOR).faults) door_is l.rose;
-    output = l.output ∙ touch.others 1 (omega arith) (omega arith);
+    output = l.output ∙ has.others.others 1 (omega arith) (omega arith);
     nobody = nobody u t;
   }
 
   -- that guests can come in can't be written
-  pub cannot_say_ready : (u : World) → Listens o.listen (Err WriteFault) v u → TouchesDoor v u → CannotSayReady o w u
+  cannot_say_ready : (u : World) → Listens o.listen (Err WriteFault) v u → TouchesDoor v u → CannotSayReady o w u
   cannot_say_ready u l t = record {
     database = database;
     loaded = loaded_after u t;
     door = l.door ∙ ap (named o.listen) door_is;
-    written = fails_writing_before 1 w v u (touch.others 1 (omega arith) (omega arith)) ready l.written;
+    written = fails_writing_before 1 w v u (has.others.others 1 (omega arith) (omega arith)) ready l.written;
     nobody = nobody u t;
   }
+
+  -- so the run ends
+  pub not_ready : (status : Status) (u : World) → Listens o.listen (Err status) v u → TouchesDoor v u → ServeEnds o status w u
+  not_ready One u l t = absurd l
+  not_ready Usage u l t = absurd l
+  not_ready NoBlock u l t = absurd l
+  not_ready Several u l t = absurd l
+  not_ready Absent u l t = absurd l
+  not_ready (TooFew k h) u l t = absurd l
+  not_ready (TooWeak k t' h) u l t = absurd l
+  not_ready (TooCostly equations) u l t = absurd l
+  not_ready ReadFault u l t = absurd l
+  not_ready WriteFault u l t = cannot_say_ready u l t
+  not_ready (BadInput bad) u l t = absurd l
+  not_ready DoorFault u l t = inl (cannot_listen u l t)
+  not_ready Memory u l t = absurd l
+  not_ready ChildFault u l t = absurd l
 
   -- guests can come in
   module _ (u x : World) (l : Listens o.listen (Ok tt) v u) (t : TouchesDoor v u) (g : TouchesGuests u x) where
     output_is : x.at OUTPUT ≡ gave ready (w.at OUTPUT)
-    output_is = g.others 1 (omega arith) (omega arith) (omega arith) ∙ l.written ∙ ap (gave ready) (touch.others 1 (omega arith) (omega arith))
+    output_is = g.others 1 (omega arith) (omega arith) (omega arith) ∙ l.written ∙ ap (gave ready) (has.others.others 1 (omega arith) (omega arith))
 
     loaded_at_end : Loaded o.database o.width database w x
     loaded_at_end = loaded_still o.database o.width database w u x (loaded_after u t) (g.others 2 (omega arith) (omega arith) (omega arith))
@@ -219,10 +238,44 @@ module _ (o : ServeOrder) (service : Service) (w v : World) (opens : OpensDesk o
       guests = guests_from dry.served dry.guests;
     }
 
-    -- Output, Database, Door and Guest alone were touched
-    pub server_touches : TouchesServer w x
-    server_touches = record {
-      others = λ q b n1 n2 n5 n6. g.others q b n5 n6 ∙ t.others q b n1 n5 ∙ touch.others q b n2;
-      crowd = tt;
-      started = g.started ∙ t.started ∙ touch.started;
-    }
+-- before the first guest no more than Output and Door was touched
+pub door_touches : (v u : World) → TouchesDoor v u → TouchesAtDesk v u
+door_touches v u t = record { others = λ q b n1 n5 n6. t.others q b n1 n5; crowd = tt; started = t.started }
+
+-- and then no more than Door and Guest
+pub desk_touches : (v u x : World) → TouchesDoor v u → TouchesGuests u x → TouchesAtDesk v x
+desk_touches v u x t g = record { others = λ q b n1 n5 n6. g.others q b n5 n6 ∙ t.others q b n1 n5; crowd = tt; started = g.started ∙ t.started }
+
+-- and before the desk was open, Database
+pub server_touches : (w v x : World) → Touches DATABASE w v → TouchesAtDesk v x → TouchesServer w x
+server_touches w v x touch t = record { others = λ q b n1 n2 n5 n6. t.others q b n1 n5 n6 ∙ touch.others q b n2; crowd = tt; started = t.started ∙ touch.started }
+
+pub database_touches : (w v : World) → Touches DATABASE w v → TouchesServer w v
+database_touches w v touch = record { others = λ q b n1 n2 n5 n6. touch.others q b n2; crowd = tt; started = touch.started }
+
+-- Guest is opened by no name
+pub unnamed_by_door : (v u : World) → TouchesDoor v u → (u.at GUEST).opened ≡ (v.at GUEST).opened
+unnamed_by_door v u t = ap (λ (c : Cell). c.opened) (t.others 6 (omega arith) (omega arith) (omega arith))
+
+pub unnamed_by_database : (w v : World) → Touches DATABASE w v → (v.at GUEST).opened ≡ (w.at GUEST).opened
+unnamed_by_database w v touch = ap (λ (c : Cell). c.opened) (touch.others 6 (omega arith) (omega arith))
+
+-- the desk can't be opened, so the run ends
+pub desk_not_open : (o : ServeOrder) (status : Status) (w v : World) → OpensDesk o (Err status) w v → Touches DATABASE w v → ServeEnds o status w v
+desk_not_open o One w v opens touch = absurd opens
+desk_not_open o Usage w v opens touch = absurd opens
+desk_not_open o NoBlock w v opens touch = absurd opens
+desk_not_open o Several w v opens touch = absurd opens
+desk_not_open o Absent w v opens touch = absurd opens
+desk_not_open o (TooFew k h) w v opens touch = absurd opens
+desk_not_open o (TooWeak k t h) w v opens touch = absurd opens
+desk_not_open o (TooCostly equations) w v opens touch = absurd opens
+desk_not_open o ReadFault w v opens touch = (opens, touch)
+desk_not_open o WriteFault w v opens touch = absurd opens
+desk_not_open o (BadInput (Session place)) w v opens touch = absurd opens
+desk_not_open o (BadInput EmptyFile) w v opens touch = (opens, touch)
+desk_not_open o (BadInput (TooBig most)) w v opens touch = (opens, touch)
+desk_not_open o (BadInput (CoinsEnded taken)) w v opens touch = absurd opens
+desk_not_open o DoorFault w v opens touch = absurd opens
+desk_not_open o Memory w v opens touch = (opens, touch)
+desk_not_open o ChildFault w v opens touch = absurd opens

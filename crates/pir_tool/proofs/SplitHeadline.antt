@@ -3,8 +3,8 @@ use Rattle.std.proofs.Common.{◌≡◌, ◌∙◌, ◌⊎◌, inl, inr, ℕ, �
 use Rattle.std.specs.Prelude.{Some}
 use Rattle.std.specs.Int.{div_ceil}
 use Rattle.std.proofs.lemmas.List.{length-take}
-use Rattle.pir_ports.specs.World.{World}
-use Rattle.pir_ports.specs.Number.{COINS, DATABASE}
+use Rattle.port_rules.specs.World.{World}
+use Rattle.port_rules.specs.Number.{COINS, DATABASE}
 use Rattle.block_matrix.specs.Database.{Database}
 use Rattle.share_files.specs.Limit.{shared_limit}
 use Rattle.share_files.proofs.Limits.{length-cells}

@@ -1,12 +1,12 @@
 -- A splitting from its first port to its last.
 use Rattle.std.proofs.Common.{◌≡◌, ◌∙◌, inl, inr, ℕ, ◌<◌, List, length, lit<, sym, ap, subst, arith}
 use Rattle.std.specs.Prelude.{Ok}
-use Rattle.pir_ports.specs.World.{Cell, World}
-use Rattle.pir_ports.specs.Number.{COINS, DATABASE, OUTPUT}
-use Rattle.pir_ports.specs.Moves.{Rose, Touches, took, gave, named, counted}
-use Rattle.pir_ports.specs.Files.{Unread}
-use Rattle.pir_ports.specs.Tossed.{RunsOut}
-use Rattle.pir_ports.proofs.Carried.{fails_writing_before}
+use Rattle.port_rules.specs.World.{Cell, World}
+use Rattle.port_rules.specs.Number.{COINS, DATABASE, OUTPUT}
+use Rattle.port_rules.specs.Moves.{Rose, Touches, took, gave, named, counted}
+use Rattle.port_rules.specs.Files.{Unread}
+use Rattle.port_rules.specs.Tossed.{RunsOut}
+use Rattle.port_rules.proofs.Carried.{fails_writing_before}
 use Rattle.block_matrix.specs.Database.{Database}
 use Rattle.share_files.specs.Limit.{HoldsFew, LoadsFew}
 use Rattle.share_files.proofs.Carried.{part_before, whole_before}

@@ -1,10 +1,10 @@
 -- What `demo` does to the outside, by the status that it ends with.
 use Rattle.std.specs.Prelude.{◌≡◌, ◌⊎◌, ℕ, ◌+◌, ◌<◌, ◌≤◌, List, [], ◌∷◌, length, take, ◌++◌, Some}
 use Rattle.std.specs.Option.{option_map}
-use Rattle.pir_ports.specs.declared.port.TheConstants.{PORT_COUNT}
-use Rattle.pir_ports.specs.World.{World}
-use Rattle.pir_ports.specs.Number.{OUTPUT, COINS, child}
-use Rattle.pir_ports.specs.Moves.{Fails, Touches}
+use Rattle.port_rules.specs.declared.port.TheConstants.{PORT_COUNT}
+use Rattle.port_rules.specs.World.{World}
+use Rattle.port_rules.specs.Number.{OUTPUT, COINS, child}
+use Rattle.port_rules.specs.Moves.{Fails, Touches}
 use Rattle.fetch_client.specs.Plan.{need}
 use Rattle.pir_tool.specs.Told.{NoneRose, NoChildRose}
 use Rattle.pir_tool.specs.DemoOrder.{DemoOrder, fetch_from_children, plan_of, words_of_children}

@@ -1,12 +1,12 @@
 -- What `fetch` does to the outside, by the status that it ends with.
 use Rattle.std.specs.Prelude.{◌≡◌, ◌⊎◌, ℕ, ◌<◌, ◌≤◌, Bool, List, [], ◌∷◌, length, Option, Some, None, Result, Ok, Err}
-use Rattle.pir_ports.specs.World.{World}
-use Rattle.pir_ports.specs.Number.{OUTPUT, COINS, RECORD, link}
-use Rattle.pir_ports.specs.Moves.{Touches, gave, named}
-use Rattle.pir_ports.specs.Whole.{FailsWithin}
-use Rattle.pir_ports.specs.Touched.{One, From, TouchesOnly}
-use Rattle.pir_ports.specs.Files.{Unread, Unwritten}
-use Rattle.pir_ports.specs.Tossed.{Tossed, RunsOut}
+use Rattle.port_rules.specs.World.{World}
+use Rattle.port_rules.specs.Number.{OUTPUT, COINS, RECORD, link}
+use Rattle.port_rules.specs.Moves.{Touches, gave, named}
+use Rattle.port_rules.specs.Whole.{FailsWithin}
+use Rattle.port_rules.specs.Touched.{One, From, TouchesOnly}
+use Rattle.port_rules.specs.Files.{Unread, Unwritten}
+use Rattle.port_rules.specs.Tossed.{Tossed, RunsOut}
 use Rattle.wire_frames.specs.Session.{Transcript, IsSession, session_bytes}
 use Rattle.block_decoder.specs.Report.{Agreement}
 use Rattle.block_decoder.specs.Verdict.{IsVerdict}
@@ -19,7 +19,7 @@ use Rattle.fetch_client.specs.Honest.{FindsHonestBlock, NamesLiarsIn}
 use Rattle.fetch_client.specs.Fetched.{AsksAll, Concludes, FetchesTo}
 use Rattle.pir_tool.specs.HeldRow.{FindsHeldRow}
 use Rattle.pir_tool.specs.Table.{status_of}
-use Rattle.pir_ports.specs.declared.port.Failed.{Failed}
+use Rattle.port_rules.specs.declared.port.Failed.{Failed}
 use Rattle.pir_tool.specs.Said.{IsBeside, ToldAs, whole_text}
 use Rattle.pir_tool.specs.Told.{NoneRose}
 use Rattle.pir_tool.specs.FetchOrder.{FetchOrder}

@@ -1,9 +1,9 @@
 -- What `front` does to the outside, by the status that it ends with.
 use Rattle.std.specs.Prelude.{◌≡◌, ◌⊎◌, ℕ, ◌<◌, List, [], ◌∷◌}
-use Rattle.pir_ports.specs.World.{World}
-use Rattle.pir_ports.specs.Number.{OUTPUT, DOOR, GUEST, link}
-use Rattle.pir_ports.specs.Moves.{Fails, Touches, gave, named, counted}
-use Rattle.pir_ports.specs.Touched.{One, From, Crowd, TouchesOnly}
+use Rattle.port_rules.specs.World.{World}
+use Rattle.port_rules.specs.Number.{OUTPUT, DOOR, GUEST, link}
+use Rattle.port_rules.specs.Moves.{Fails, Touches, gave, named, counted}
+use Rattle.port_rules.specs.Touched.{One, From, Crowd, TouchesOnly}
 use Rattle.shard_front.specs.Spread.{shards}
 use Rattle.pir_tool.specs.Told.{DidRise, NoneRose}
 use Rattle.pir_tool.specs.ServeSteps.{ready, IsMute, IsShut, TouchesDoor}

@@ -1,10 +1,10 @@
 -- The steps of `front`, and what each does to the outside.
 use Rattle.std.specs.Prelude.{◌≡◌, ℕ, ◌+◌, ◌<◌, List, [], ◌∷◌}
-use Rattle.pir_ports.specs.World.{World}
-use Rattle.pir_ports.specs.Number.{DOOR, GUEST, link}
-use Rattle.pir_ports.specs.Guests.{Meets}
-use Rattle.pir_ports.specs.Moves.{Fails, Touches, counted}
-use Rattle.pir_ports.specs.Touched.{One, From, Crowd, TouchesOnly}
+use Rattle.port_rules.specs.World.{World}
+use Rattle.port_rules.specs.Number.{DOOR, GUEST, link}
+use Rattle.port_rules.specs.Guests.{Meets}
+use Rattle.port_rules.specs.Moves.{Fails, Touches, counted}
+use Rattle.port_rules.specs.Touched.{One, From, Crowd, TouchesOnly}
 use Rattle.shard_front.specs.declared.spread.Spread.{Spread}
 use Rattle.shard_front.specs.declared.relayed.Relayed.{Relayed}
 use Rattle.shard_front.specs.Spread.{shards}

@@ -1,11 +1,11 @@
 -- What `lookup` does to the outside, by the status that it ends with.
 use Rattle.std.specs.Prelude.{◌≡◌, ◌⊎◌, ℕ, ◌+◌, ◌*◌, ◌%◌, ◌<◌, ◌≤◌, List, [], ◌∷◌, length, ⊤, Some}
 use Rattle.gf256.specs.Product.{IsMatrix}
-use Rattle.pir_ports.specs.World.{Cell, World}
-use Rattle.pir_ports.specs.Number.{OUTPUT, COINS, link}
-use Rattle.pir_ports.specs.Moves.{Fails, Touches, gave, named}
-use Rattle.pir_ports.specs.Whole.{FailsWithin}
-use Rattle.pir_ports.specs.Touched.{One, From, TouchesOnly}
+use Rattle.port_rules.specs.World.{Cell, World}
+use Rattle.port_rules.specs.Number.{OUTPUT, COINS, link}
+use Rattle.port_rules.specs.Moves.{Fails, Touches, gave, named}
+use Rattle.port_rules.specs.Whole.{FailsWithin}
+use Rattle.port_rules.specs.Touched.{One, From, TouchesOnly}
 use Rattle.wire_frames.specs.Answer.{answers}
 use Rattle.fetch_client.specs.declared.plan.FetchPlan.{FetchPlan}
 use Rattle.fetch_client.specs.Plan.{need}

@@ -1,6 +1,6 @@
 -- What a run does to the outside, by the command that the words ask for and the status that it ends with.
 use Rattle.std.specs.Prelude.{◌≡◌, ◌⊎◌, ℕ, Bool, List, length, Option, Some, None}
-use Rattle.pir_ports.specs.World.{World}
+use Rattle.port_rules.specs.World.{World}
 use Rattle.pir_words.specs.Form.{asked_of}
 use Rattle.pir_words.specs.declared.asked.Asked.{Asked}
 use Rattle.pir_words.specs.declared.asked.Asked.TheVariants.{Replay, Fetch, Serve, Selfrun, Demo, Lookup, Split, Front}

@@ -1,10 +1,10 @@
 -- What `replay FILE` and `replay --report FILE` do to the outside, by the status that they end with.
 use Rattle.std.specs.Prelude.{◌≡◌, ◌⊎◌, ℕ, Bool, List, [], ◌∷◌, Option, Some}
-use Rattle.pir_ports.specs.World.{World}
-use Rattle.pir_ports.specs.Number.{INPUT, OUTPUT}
-use Rattle.pir_ports.specs.Moves.{gave, named, counted}
-use Rattle.pir_ports.specs.Touched.{One, TouchesOnly}
-use Rattle.pir_ports.specs.Whole.{FailsWithin}
+use Rattle.port_rules.specs.World.{World}
+use Rattle.port_rules.specs.Number.{INPUT, OUTPUT}
+use Rattle.port_rules.specs.Moves.{gave, named, counted}
+use Rattle.port_rules.specs.Touched.{One, TouchesOnly}
+use Rattle.port_rules.specs.Whole.{FailsWithin}
 use Rattle.wire_frames.specs.Session.{Transcript, IsSession}
 use Rattle.block_decoder.specs.Report.{Agreement}
 use Rattle.block_decoder.specs.Verdict.{IsVerdict}

@@ -1,10 +1,10 @@
 -- What `selfrun` does to the outside, by the status that it ends with.
 use Rattle.std.specs.Prelude.{◌≡◌, ◌⊎◌, ℕ, ◌+◌, ◌*◌, ◌<◌, ◌≤◌, List, [], ◌∷◌, ◌++◌, Contains, codes, decimal}
 use Rattle.std.specs.List.{concat}
-use Rattle.pir_ports.specs.World.{World}
-use Rattle.pir_ports.specs.Number.{OUTPUT}
-use Rattle.pir_ports.specs.Moves.{Touches, gave}
-use Rattle.pir_ports.specs.Whole.{FailsWithin}
+use Rattle.port_rules.specs.World.{World}
+use Rattle.port_rules.specs.Number.{OUTPUT}
+use Rattle.port_rules.specs.Moves.{Touches, gave}
+use Rattle.port_rules.specs.Whole.{FailsWithin}
 use Rattle.column_lists.specs.Numbers.{cost}
 use Rattle.block_decoder.specs.Numbers.{bound_of}
 use Rattle.block_decoder.specs.Text.{text}

@@ -1,11 +1,11 @@
 -- What `serve` does to the outside, by the status that it ends with.
 use Rattle.std.specs.Prelude.{◌≡◌, ◌⊎◌, ℕ, ◌<◌, ◌≤◌, List, [], ◌∷◌, length, Some}
-use Rattle.pir_ports.specs.World.{World}
-use Rattle.pir_ports.specs.Number.{OUTPUT, DATABASE, DOOR, GUEST}
-use Rattle.pir_ports.specs.Moves.{Fails, Touches, gave, named, counted}
-use Rattle.pir_ports.specs.Whole.{FailsWithin}
-use Rattle.pir_ports.specs.Touched.{One, Crowd, TouchesOnly}
-use Rattle.pir_ports.specs.Files.{Unread}
+use Rattle.port_rules.specs.World.{World}
+use Rattle.port_rules.specs.Number.{OUTPUT, DATABASE, DOOR, GUEST}
+use Rattle.port_rules.specs.Moves.{Fails, Touches, gave, named, counted}
+use Rattle.port_rules.specs.Whole.{FailsWithin}
+use Rattle.port_rules.specs.Touched.{One, Crowd, TouchesOnly}
+use Rattle.port_rules.specs.Files.{Unread}
 use Rattle.block_matrix.specs.Database.{Database, limit}
 use Rattle.block_matrix.specs.Loading.{asked_for}
 use Rattle.pir_tool.specs.Told.{DidRise, NoneRose}

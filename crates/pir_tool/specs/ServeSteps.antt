@@ -1,12 +1,12 @@
 -- The steps of `serve`, and what each does to the outside.
 use Rattle.std.specs.Prelude.{◌≡◌, ℕ, ◌+◌, ◌<◌, List, [], codes, Result, Ok, Err, ◌∷◌}
-use Rattle.pir_ports.specs.World.{World}
-use Rattle.pir_ports.specs.Number.{OUTPUT, DATABASE, DOOR, GUEST}
-use Rattle.pir_ports.specs.Moves.{Fails, Touches, gave, named, counted}
-use Rattle.pir_ports.specs.Whole.{FailsWithin}
-use Rattle.pir_ports.specs.Touched.{One, Crowd, TouchesOnly}
-use Rattle.pir_ports.specs.Files.{Unread}
-use Rattle.pir_ports.specs.Serving.{Served}
+use Rattle.port_rules.specs.World.{World}
+use Rattle.port_rules.specs.Number.{OUTPUT, DATABASE, DOOR, GUEST}
+use Rattle.port_rules.specs.Moves.{Fails, Touches, gave, named, counted}
+use Rattle.port_rules.specs.Whole.{FailsWithin}
+use Rattle.port_rules.specs.Touched.{One, Crowd, TouchesOnly}
+use Rattle.port_rules.specs.Files.{Unread}
+use Rattle.port_rules.specs.Serving.{Served}
 use Rattle.block_matrix.specs.Database.{Database, limit}
 use Rattle.block_matrix.specs.Loading.{Holds, HoldsMore, HoldsNone, Stopped, asked_for}
 use Rattle.serve_core.specs.Service.{Service}
@@ -47,6 +47,11 @@ OpensDesk o (Err (BadInput EmptyFile)) old new = HasNoBytes o.database old new
 OpensDesk o (Err (BadInput (TooBig most))) old new = HasTooMany o.database o.width most old new
 OpensDesk o (Err Memory) old new = HasBegun o.database o.width old new
 OpensDesk o (Err status) old new = ⊥
+
+-- the database was loaded, and the desk opened at which it is served
+pub record HasOpenDesk (o : ServeOrder) (service : Service) (old new : World) : Type 0 where
+  pub opens : OpensDesk o (Ok service) old new
+  pub others : Touches DATABASE old new
 
 -- Door was opened at this address, and that is written
 pub record IsOpen (address : List ℕ) (old new : World) : Type 0 where
@@ -106,3 +111,7 @@ pub record RunsDry (service : Service) (n : ℕ) (old new : World) : Type 0 wher
 -- Door and Guest alone are touched, and guests come and go
 abbrev pub TouchesGuests : World → World → Type 0
 TouchesGuests old new = TouchesOnly (One DOOR ∷ One GUEST ∷ Crowd ∷ []) old new
+
+-- Output, Door and Guest alone are touched, and guests come and go
+abbrev pub TouchesAtDesk : World → World → Type 0
+TouchesAtDesk old new = TouchesOnly (One OUTPUT ∷ One DOOR ∷ One GUEST ∷ Crowd ∷ []) old new

@@ -1,13 +1,13 @@
 -- The steps of `split`, and what each does to the outside.
 use Rattle.std.specs.Prelude.{◌≡◌, ◌⊎◌, ℕ, ◌*◌, List, [], ◌∷◌, length, codes, decimal}
 use Rattle.std.specs.List.{concat}
-use Rattle.pir_ports.specs.World.{World}
-use Rattle.pir_ports.specs.Number.{OUTPUT, DATABASE, COINS, share_file}
-use Rattle.pir_ports.specs.Moves.{Touches, gave, named}
-use Rattle.pir_ports.specs.Whole.{FailsWithin}
-use Rattle.pir_ports.specs.Touched.{One, From, TouchesOnly}
-use Rattle.pir_ports.specs.Files.{Unread}
-use Rattle.pir_ports.specs.Tossed.{RunsOut}
+use Rattle.port_rules.specs.World.{World}
+use Rattle.port_rules.specs.Number.{OUTPUT, DATABASE, COINS, share_file}
+use Rattle.port_rules.specs.Moves.{Touches, gave, named}
+use Rattle.port_rules.specs.Whole.{FailsWithin}
+use Rattle.port_rules.specs.Touched.{One, From, TouchesOnly}
+use Rattle.port_rules.specs.Files.{Unread}
+use Rattle.port_rules.specs.Tossed.{RunsOut}
 use Rattle.block_matrix.specs.Database.{Database}
 use Rattle.share_files.specs.Limit.{HoldsFew, HoldsTooMany, shared_limit}
 use Rattle.share_files.specs.Splits.{SplitsPart, SplitsWhole}

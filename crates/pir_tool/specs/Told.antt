@@ -1,8 +1,8 @@
 -- What a run may say of any port.
 use Rattle.std.specs.Prelude.{ℕ, ◌+◌, ◌<◌, List, [], ◌∷◌}
-use Rattle.pir_ports.specs.World.{World}
-use Rattle.pir_ports.specs.Number.{child, share_file}
-use Rattle.pir_ports.specs.Moves.{Rose}
+use Rattle.port_rules.specs.World.{World}
+use Rattle.port_rules.specs.Number.{child, share_file}
+use Rattle.port_rules.specs.Moves.{Rose}
 
 -- a call on the port failed in this run, or its count stands at its limit
 abbrev pub DidRise : ℕ → World → World → Type 0

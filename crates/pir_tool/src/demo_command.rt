@@ -10,7 +10,7 @@ use crate::fetch_command::fetch_block;
 use crate::orders::{Demonstration, Fetching};
 use crate::status::Status;
 use fetch_client::FetchPlan;
-use pir_ports::{Failed, Ports};
+use port_rules::{Failed, Ports};
 use std::alloc::{AllocError, Global};
 use wire_frames::SHAMIR;
 
@@ -56,6 +56,17 @@ fn addresses_of_children(alloc: Global, port: u16, servers: u8) -> Result<Vec<St
     Ok(addresses)
 }
 
+/// These texts, each as a string of its own.
+fn strings_of(alloc: Global, texts: &[&str]) -> Result<Vec<String>, AllocError>
+    ensures { IfOk result (λ words. map string_bytes words.items ≡ map (λ text. text.now) texts.now) }
+{
+    let mut words = Vec::new(alloc);
+    'words: for text in texts {
+        words.push(String::from_str(alloc, text)?)?;
+    }
+    Ok(words)
+}
+
 /// The words of a child that serves the database, in rows of this width, to one guest at this address.
 #[tactic(auto, unfolding(crate::specs::DemoOrder::words_to_serve))]
 fn words_of_child(
@@ -78,11 +89,7 @@ fn words_of_child(
         "--listen",
         address,
     ];
-    let mut words = Vec::new(alloc);
-    'words: for text in texts {
-        words.push(String::from_str(alloc, text)?)?;
-    }
-    Ok(words)
+    strings_of(alloc, &texts)
 }
 
 /// The words of the children at these addresses, in their order.

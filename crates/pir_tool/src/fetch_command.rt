@@ -2,8 +2,8 @@
 
 ghost use Rattle.std.specs.Prelude.{◌≡◌, ◌<◌, length};
 ghost use Rattle.std.specs.Option.{option_copied};
-ghost use Rattle.pir_ports.specs.Number.{RECORD};
-ghost use Rattle.pir_ports.specs.Moves.{Touches};
+ghost use Rattle.port_rules.specs.Number.{RECORD};
+ghost use Rattle.port_rules.specs.Moves.{Touches};
 ghost use Rattle.wire_frames.specs.Session.{Transcript};
 ghost use Rattle.block_decoder.specs.Report.{Agreement};
 ghost use Rattle.fetch_client.specs.Fetched.{TouchesLinks};
@@ -18,7 +18,7 @@ use crate::status::Status;
 use block_decoder::{Report, Verdict};
 use fetch_client::{FetchFault, fetch, fetch_report};
 use gs_interpolate::Koetter;
-use pir_ports::{Failed, Port, Ports};
+use port_rules::{Failed, Port, Ports};
 use std::alloc::Global;
 use std::marker::Brand;
 use std::sync::ledger::{Blank, Ledger};

@@ -1,7 +1,7 @@
 //! The command `front`.
 
 ghost use Rattle.std.specs.Prelude.{◌≡◌, IfErr, OnOk, OnErr, length, map, string_bytes};
-ghost use Rattle.pir_ports.specs.Number.{DOOR, GUEST};
+ghost use Rattle.port_rules.specs.Number.{DOOR, GUEST};
 ghost use Rattle.shard_front.specs.Spread.{IsSpread, shards};
 ghost use Rattle.pir_tool.specs.FrontAnswers.{FrontsGuests};
 ghost use Rattle.pir_tool.specs.FrontSteps.{FrontRunsDry, FrontsInTurn, TouchesRelaying};
@@ -10,7 +10,7 @@ ghost use Rattle.pir_tool.specs.FrontOutcome.{FrontEnds, FrontedAll, TouchesFron
 use crate::orders::Fronting;
 use crate::serve_command::listen;
 use crate::status::Status;
-use pir_ports::{Failed, Ports};
+use port_rules::{Failed, Ports};
 use shard_front::{Front, front_one};
 use std::alloc::Global;
 
@@ -46,12 +46,30 @@ fn relay_guests<P: Ports>(
     Ok(())
 }
 
+/// Lets guests come in and says so, and meets each by asking the shards, from a front that is open.
+///
+/// # Errors
+///
+/// The status that the run ends with.
+fn relay_from<P: Ports>(front: &mut Front, order: &Fronting, ports: &mut P) -> Result<(), Status>
+    requires { front.old ≡ order.now.spread }
+    ensures relayed { OnOk result (FrontedAll order.now (P.world ports.old) (P.world ports.new)) }
+    ensures ends { IfErr result (λ status. FrontEnds order.now status (P.world ports.old) (P.world ports.new)) }
+    ensures others { TouchesFront (shards order.now.spread) (P.world ports.old) (P.world ports.new) }
+    ensures unnamed { ((P.world ports.new).at GUEST).opened ≡ ((P.world ports.old).at GUEST).opened }
+{
+    listen(order.listen, ports)?;
+    let Ok(()) = relay_guests(front, order.addresses, order.guests, ports) else {
+        return Err(Status::DoorFault);
+    };
+    Ok(())
+}
+
 /// Opens a front, lets guests come in and says so, and meets each by asking the shards.
 ///
 /// # Errors
 ///
 /// The status that the run ends with.
-#[tactic(auto, using(crate::proofs::Fronting::front_spread))]
 fn relay_database<P: Ports>(alloc: Global, order: &Fronting, ports: &mut P) -> Result<(), Status>
     ensures relayed { OnOk result (FrontedAll order.now (P.world ports.old) (P.world ports.new)) }
     ensures ends { IfErr result (λ status. FrontEnds order.now status (P.world ports.old) (P.world ports.new)) }
@@ -59,11 +77,7 @@ fn relay_database<P: Ports>(alloc: Global, order: &Fronting, ports: &mut P) -> R
     ensures unnamed { ((P.world ports.new).at GUEST).opened ≡ ((P.world ports.old).at GUEST).opened }
 {
     let mut front = Front::open(alloc, order.rows, order.width, order.shard)?;
-    listen(order.listen, ports)?;
-    let Ok(()) = relay_guests(&mut front, order.addresses, order.guests, ports) else {
-        return Err(Status::DoorFault);
-    };
-    Ok(())
+    relay_from(&mut front, order, ports)
 }
 
 /// Meets guests by asking shards, and says how that ends.

@@ -1,8 +1,8 @@
 //! The command `lookup`.
 
 ghost use Rattle.std.specs.Prelude.{◌≡◌};
-ghost use Rattle.pir_ports.specs.Number.{COINS, OUTPUT};
-ghost use Rattle.pir_ports.specs.Moves.{Touches};
+ghost use Rattle.port_rules.specs.Number.{COINS, OUTPUT};
+ghost use Rattle.port_rules.specs.Moves.{Touches};
 ghost use Rattle.fetch_client.specs.Fetched.{TouchesLinks};
 ghost use Rattle.drawn_workload.specs.Counters.{IsOwn};
 ghost use Rattle.key_fetches.specs.LookedUp.{LooksUp};
@@ -15,7 +15,7 @@ use crate::status::Status;
 use fetch_client::FetchFault;
 use gs_interpolate::Koetter;
 use key_fetches::{Ending, LookUp, look_up, write_end};
-use pir_ports::{Failed, Port, Ports};
+use port_rules::{Failed, Port, Ports};
 use std::alloc::Global;
 use std::marker::Brand;
 use std::sync::ledger::{Blank, Ledger};

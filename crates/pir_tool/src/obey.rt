@@ -1,7 +1,7 @@
 //! Each command, by its values.
 
-ghost use Rattle.std.specs.Prelude.{◌≡◌};
-ghost use Rattle.std.specs.Option.{option_copied};
+ghost use Rattle.std.specs.Prelude.{◌≡◌, length};
+ghost use Rattle.pir_words.specs.FetchForm.{IsSharedFetch};
 ghost use Rattle.pir_words.specs.Form.{InRange};
 ghost use Rattle.pir_tool.specs.Outcome.{Outcome};
 
@@ -17,24 +17,45 @@ use crate::split_command::split_file;
 use crate::status::Status;
 use drawn_workload::{Workload, WorkloadOrder};
 use fetch_client::FetchPlan;
-use pir_ports::Ports;
-use pir_words::{Asked, Text};
+use pir_words::{Asked, Texts};
+use port_rules::Ports;
 use std::alloc::Global;
 use std::thread::Threads;
 use wire_frames::SHAMIR;
 
-/// The text of a word, where there is one.
-fn text_of(word: &Option<Text>) -> Option<&str>
-    ensures { option_copied result ≡ word.now }
+/// The plan of a fetch from the servers at these addresses.
+fn plan_among(
+    scheme: u8,
+    rows: u32,
+    width: u32,
+    degree: u8,
+    tau: u8,
+    agree: u8,
+    addresses: &Texts,
+) -> FetchPlan
+    requires { IsSharedFetch scheme rows width degree tau agree (length addresses.now) }
+    ensures { result ≡ record {
+      scheme = scheme;
+      t = degree;
+      tau = tau;
+      h = agree;
+      n = length addresses.now;
+      r = rows;
+      s = width;
+    } }
 {
-    match word {
-        Some(text) => Some(text.as_str()),
-        None => None,
+    FetchPlan {
+        scheme,
+        t: degree,
+        tau,
+        h: agree,
+        n: addresses.as_slice().len() as u8,
+        r: rows,
+        s: width,
     }
 }
 
 /// Does what the command says. It is told apart here and nowhere else.
-#[tactic(auto, using(fetch_client::proofs::Ranges::one_block, crate::proofs::Plans::fetch_plan, crate::proofs::Plans::demo_plan))]
 #[rattlefmt::skip]
 pub(crate) fn obey<R: Threads + Sync, P: Ports>(rt: &R, alloc: Global, asked: &Asked, ports: &mut P) -> Status
     requires { InRange asked.now }
@@ -43,46 +64,34 @@ pub(crate) fn obey<R: Threads + Sync, P: Ports>(rt: &R, alloc: Global, asked: &A
     match asked {
         Asked::Replay { file, report } => replay_file(alloc, file.as_str(), *report, ports),
         Asked::Fetch { scheme, rows, width, blocks, degree, tau, agree, coins, keep, report, addresses } => {
-            let (report, addresses) = (*report, addresses.as_slice());
-            let (scheme, t, tau, h, n) = (*scheme, *degree, *tau, *agree, addresses.len() as u8);
-            let plan = FetchPlan { scheme, t, tau, h, n, r: *rows, s: *width };
-            let (blocks, coins, record_name) = (blocks.as_slice(), coins.as_str(), text_of(keep));
-            let order = Fetching { plan, blocks, addresses, coins, record_name, report };
-            fetch_block(alloc, &order, ports)
+            let plan = plan_among(*scheme, *rows, *width, *degree, *tau, *agree, addresses);
+            fetch_block(alloc, &Fetching::new(plan, blocks, addresses, coins, keep, *report), ports)
         }
         Asked::Serve { scheme, database, width, conns, listen, workers } => {
-            let (database, listen) = (database.as_str(), listen.as_str());
-            let (scheme, width, guests, workers) = (*scheme, *width, *conns, *workers);
-            serve_file(rt, alloc, &Serving { scheme, database, width, guests, listen, workers }, ports)
+            serve_file(rt, alloc, &Serving::new(*scheme, database, *width, *conns, listen, *workers), ports)
         }
         Asked::Selfrun { seed, rows, width, servers, degree, agree, liars, workers, slow } => {
-            let (seed, rows, width, servers) = (*seed, *rows, *width, *servers);
-            let (degree, agree, liars, workers) = (*degree, *agree, *liars, *workers);
-            let load = Workload { seed, rows, width, servers, degree, agree, liars };
-            run_workload(rt, alloc, &WorkloadOrder { load, workers, slow: *slow }, ports)
+            let load = Workload {
+                seed: *seed, rows: *rows, width: *width, servers: *servers, degree: *degree, agree: *agree, liars: *liars,
+            };
+            run_workload(rt, alloc, &WorkloadOrder { load, workers: *workers, slow: *slow }, ports)
         }
         Asked::Demo { port, database, rows, width, block, servers, degree, agree, coins } => {
-            let (port, rows, width, block) = (*port, *rows, *width, *block);
-            let (servers, degree, agree) = (*servers, *degree, *agree);
-            let (database, coins) = (database.as_str(), coins.as_str());
-            let order = Demonstration { port, database, rows, width, block, servers, degree, agree, coins };
+            let order = Demonstration {
+                port: *port, database: database.as_str(), rows: *rows, width: *width, block: *block, servers: *servers,
+                degree: *degree, agree: *agree, coins: coins.as_str(),
+            };
             demonstrate(alloc, &order, ports)
         }
         Asked::Lookup { rows, width, key, degree, agree, coins, addresses } => {
-            let (addresses, coins) = (addresses.as_slice(), coins.as_str());
-            let (t, h, n) = (*degree, *agree, addresses.len() as u8);
-            let plan = FetchPlan { scheme: SHAMIR, t, tau: 0, h, n, r: *rows, s: *width };
-            look_up_row(alloc, &LookingUp { plan, key, addresses, coins }, ports)
+            let plan = plan_among(SHAMIR, *rows, *width, *degree, 0, *agree, addresses);
+            look_up_row(alloc, &LookingUp::new(plan, key, addresses, coins), ports)
         }
         Asked::Split { database, width, servers, tau, into, coins } => {
-            let (database, into, coins) = (database.as_str(), into.as_str(), coins.as_str());
-            let (width, servers, tau) = (*width, *servers, *tau);
-            split_file(alloc, &Splitting { database, width, servers, tau, into, coins }, ports)
+            split_file(alloc, &Splitting::new(database, *width, *servers, *tau, into, coins), ports)
         }
         Asked::Front { rows, width, shard, conns, listen, addresses } => {
-            let (listen, addresses) = (listen.as_str(), addresses.as_slice());
-            let (rows, width, shard, guests) = (*rows, *width, *shard, *conns);
-            relay_shards(alloc, &Fronting { rows, width, shard, guests, listen, addresses }, ports)
+            relay_shards(alloc, &Fronting::new(*rows, *width, *shard, *conns, listen, addresses), ports)
         }
     }
 }

@@ -1,11 +1,30 @@
 //! What each command is told to do, with the ranges of its values.
 
+ghost use Rattle.std.specs.Prelude.{◌≡◌, ◌<◌, ◌≤◌, length};
+ghost use Rattle.std.specs.Option.{option_copied};
+ghost use Rattle.wire_frames.specs.declared.scheme.TheConstants.{SHAMIR};
+ghost use Rattle.fetch_client.specs.Plan.{AreBlocks, IsPlan};
+ghost use Rattle.pir_words.specs.FrontForm.{IsFront};
+ghost use Rattle.pir_words.specs.ServeForm.{IsServe};
+ghost use Rattle.pir_words.specs.SplitForm.{IsSplit};
+
 use fetch_client::FetchPlan;
 use key_search::Key;
+use pir_words::{Blocks, Text, Texts};
 use std::marker::Model;
 
 /// TCP has so many ports, from 0 on.
 pub(crate) const TCP_PORTS: u32 = 65536;
+
+/// The text of a word, where there is one.
+fn text_of(word: &Option<Text>) -> Option<&str>
+    ensures { option_copied result ≡ word.now }
+{
+    match word {
+        Some(text) => Some(text.as_str()),
+        None => None,
+    }
+}
 
 /// Which blocks are fetched, and how, from which servers, with which coins, in which file the session is recorded, if it is,
 /// and whether a report is wanted.
@@ -40,6 +59,39 @@ impl<'a, 'b> Model for Fetching<'a, 'b> {
         × (length f.addresses.now ≡ f.plan.n) };
 }
 
+impl<'a> Fetching<'a, 'a> {
+    /// What `fetch` orders, by its values.
+    pub(crate) fn new(
+        plan: FetchPlan,
+        blocks: &'a Blocks,
+        addresses: &'a Texts,
+        coins: &'a Text,
+        keep: &'a Option<Text>,
+        report: bool,
+    ) -> Fetching<'a, 'a>
+        requires plan { IsPlan plan }
+        requires blocks { AreBlocks plan blocks.now }
+        requires servers { length addresses.now ≡ plan.n }
+        ensures { result ≡ record {
+          plan = plan;
+          blocks = blocks.now;
+          addresses = addresses.now;
+          coins = coins.now;
+          keep = keep.now;
+          report = report;
+        } }
+    {
+        Fetching {
+            plan,
+            blocks: blocks.as_slice(),
+            addresses: addresses.as_slice(),
+            coins: coins.as_str(),
+            record_name: text_of(keep),
+            report,
+        }
+    }
+}
+
 /// Which row is looked up, among which rows and how, from which servers, and with which coins.
 #[derive(Drop)]
 pub(crate) struct LookingUp<'a, 'b> {
@@ -66,6 +118,29 @@ impl<'a, 'b> Model for LookingUp<'a, 'b> {
 
     ghost invariant = { λ l. IsPlan l.plan × (l.plan.scheme ≡ SHAMIR) × (length l.key.now ≤ l.plan.s)
         × (length l.addresses.now ≡ l.plan.n) };
+}
+
+impl<'a> LookingUp<'a, 'a> {
+    /// What `lookup` orders, by its values.
+    pub(crate) fn new(
+        plan: FetchPlan,
+        key: &'a Key,
+        addresses: &'a Texts,
+        coins: &'a Text,
+    ) -> LookingUp<'a, 'a>
+        requires plan { IsPlan plan }
+        requires scheme { plan.scheme ≡ SHAMIR }
+        requires key { length key.now ≤ plan.s }
+        requires servers { length addresses.now ≡ plan.n }
+        ensures { result ≡ record { plan = plan; key = key.now; addresses = addresses.now; coins = coins.now } }
+    {
+        LookingUp {
+            plan,
+            key,
+            addresses: addresses.as_slice(),
+            coins: coins.as_str(),
+        }
+    }
 }
 
 /// What is served, where, to how many guests, and by how many workers.
@@ -100,6 +175,37 @@ impl<'a> Model for Serving<'a> {
         × (s.width ≤ MOST_WIDTH) × (1 ≤ s.workers) × (s.workers ≤ MOST_WORKERS) };
 }
 
+impl<'a> Serving<'a> {
+    /// What `serve` orders, by its values.
+    pub(crate) fn new(
+        scheme: u8,
+        database: &'a Text,
+        width: u32,
+        guests: u32,
+        listen: &'a Text,
+        workers: u8,
+    ) -> Serving<'a>
+        requires { IsServe scheme width guests workers }
+        ensures { result ≡ record {
+          scheme = scheme;
+          database = database.now;
+          width = width;
+          guests = guests;
+          listen = listen.now;
+          workers = workers;
+        } }
+    {
+        Serving {
+            scheme,
+            database: database.as_str(),
+            width,
+            guests,
+            listen: listen.as_str(),
+            workers,
+        }
+    }
+}
+
 /// Which database is split, how, into which files, and with which coins.
 #[derive(Drop)]
 pub(crate) struct Splitting<'a> {
@@ -130,6 +236,37 @@ impl<'a> Model for Splitting<'a> {
     ghost invariant = { λ s. (1 ≤ s.width) × (s.width ≤ MOST_WIDTH) × (1 ≤ s.tau) × (s.tau < s.servers) };
 }
 
+impl<'a> Splitting<'a> {
+    /// What `split` orders, by its values.
+    pub(crate) fn new(
+        database: &'a Text,
+        width: u32,
+        servers: u8,
+        tau: u8,
+        into: &'a Text,
+        coins: &'a Text,
+    ) -> Splitting<'a>
+        requires { IsSplit width servers tau }
+        ensures { result ≡ record {
+          database = database.now;
+          width = width;
+          servers = servers;
+          tau = tau;
+          into = into.now;
+          coins = coins.now;
+        } }
+    {
+        Splitting {
+            database: database.as_str(),
+            width,
+            servers,
+            tau,
+            into: into.as_str(),
+            coins: coins.as_str(),
+        }
+    }
+}
+
 /// How many rows of how many bytes are spread, so many on each shard, where guests come in, how many are met, and the address
 /// of each shard.
 #[derive(Drop)]
@@ -157,6 +294,35 @@ impl<'a> Model for Fronting<'a> {
     } };
 
     ghost invariant = { λ f. IsFront f.rows f.width f.shard f.guests (length f.addresses.now) };
+}
+
+impl<'a> Fronting<'a> {
+    /// What `front` orders, by its values.
+    pub(crate) fn new(
+        rows: u32,
+        width: u32,
+        shard: u32,
+        guests: u32,
+        listen: &'a Text,
+        addresses: &'a Texts,
+    ) -> Fronting<'a>
+        requires { IsFront rows width shard guests (length addresses.now) }
+        ensures { result ≡ record {
+          spread = record { rows = rows; width = width; shard = shard };
+          guests = guests;
+          listen = listen.now;
+          addresses = addresses.now;
+        } }
+    {
+        Fronting {
+            rows,
+            width,
+            shard,
+            guests,
+            listen: listen.as_str(),
+            addresses: addresses.as_slice(),
+        }
+    }
 }
 
 /// What is fetched, from which children, and with which coins.

@@ -1,8 +1,8 @@
 //! The command `replay`.
 
 ghost use Rattle.std.specs.Prelude.{◌≡◌, ◌<◌, true, false};
-ghost use Rattle.pir_ports.specs.Number.{INPUT};
-ghost use Rattle.pir_ports.specs.Moves.{Touches};
+ghost use Rattle.port_rules.specs.Number.{INPUT};
+ghost use Rattle.port_rules.specs.Moves.{Touches};
 ghost use Rattle.replay.specs.Replayed.{Judged, JudgedWhole, ReadTo};
 ghost use Rattle.drawn_workload.specs.Counters.{IsOwn};
 ghost use Rattle.pir_tool.specs.ReplayOutcome.{ReplayEnds, ReplayOutcome, TouchesStreams};
@@ -11,7 +11,7 @@ use crate::report::{report, report_whole};
 use crate::status::Status;
 use block_decoder::{Report, Verdict};
 use gs_interpolate::Koetter;
-use pir_ports::{Port, Ports};
+use port_rules::{Port, Ports};
 use replay::{ReplayFault, replay, replay_report};
 use std::alloc::Global;
 use std::marker::Brand;

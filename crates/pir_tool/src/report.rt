@@ -1,9 +1,9 @@
 //! The verdict, told, and who agrees.
 
 ghost use Rattle.std.specs.Prelude.{◌≡◌, ◌++◌};
-ghost use Rattle.pir_ports.specs.Number.{OUTPUT};
-ghost use Rattle.pir_ports.specs.Moves.{Touches};
-ghost use Rattle.pir_ports.specs.Written.{Written};
+ghost use Rattle.port_rules.specs.Number.{OUTPUT};
+ghost use Rattle.port_rules.specs.Moves.{Touches};
+ghost use Rattle.port_rules.specs.Written.{Written};
 ghost use Rattle.block_decoder.specs.Reported.{IsSessionReport};
 ghost use Rattle.block_decoder.specs.Text.{report_text, text};
 ghost use Rattle.pir_tool.specs.Table.{status_of};
@@ -11,7 +11,7 @@ ghost use Rattle.pir_tool.specs.Said.{IsReportOf, ToldAs, whole_text};
 
 use crate::status::Status;
 use block_decoder::{Report, Verdict, write_report, write_verdict};
-use pir_ports::{Failed, Ports};
+use port_rules::{Failed, Ports};
 use wire_frames::Session;
 
 /// The status that a verdict is.

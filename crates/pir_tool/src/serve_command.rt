@@ -1,17 +1,18 @@
 //! The command `serve`.
 
 ghost use Rattle.std.specs.Prelude.{◌≡◌, IfErr, OnOk, OnErr};
-ghost use Rattle.pir_ports.specs.Number.{DATABASE, DOOR, GUEST};
-ghost use Rattle.pir_ports.specs.Moves.{Touches};
+ghost use Rattle.port_rules.specs.World.{World};
+ghost use Rattle.port_rules.specs.Number.{DATABASE, DOOR, GUEST};
+ghost use Rattle.port_rules.specs.Moves.{Touches};
 ghost use Rattle.pir_tool.specs.Told.{DidRise};
-ghost use Rattle.pir_tool.specs.ServeSteps.{OpensDesk, Listens, TouchesDoor};
+ghost use Rattle.pir_tool.specs.ServeSteps.{OpensDesk, HasOpenDesk, Listens, TouchesDoor, TouchesAtDesk};
 ghost use Rattle.pir_tool.specs.ServeSteps.{AttendsInTurn, ServesGuests, RepliesToGuests, RunsDry, TouchesGuests};
 ghost use Rattle.pir_tool.specs.ServeOutcome.{ServeEnds, ServedAll, TouchesServer};
 
 use crate::orders::Serving;
 use crate::status::Status;
 use block_matrix::load;
-use pir_ports::{Failed, Port, Ports, write_all};
+use port_rules::{Failed, Port, Ports, write_all};
 use serve_core::{Desk, serve_one};
 use server_product::OpenGate;
 use std::alloc::Global;
@@ -78,6 +79,31 @@ fn serve_guests<R: Threads + Sync, P: Ports>(
     Ok(())
 }
 
+/// Lets guests come in and says so, and answers the query of each at the desk.
+///
+/// # Errors
+///
+/// The status that the run ends with.
+fn serve_at_desk<R: Threads + Sync, P: Ports>(
+    rt: &R,
+    desk: &mut Desk,
+    order: &Serving,
+    ports: &mut P,
+) -> Result<(), Status>
+    ensures served { OnOk result ((start : World) → HasOpenDesk order.now desk.old start (P.world ports.old)
+        → ServedAll order.now start (P.world ports.new)) }
+    ensures ends { IfErr result (λ status. (start : World) → HasOpenDesk order.now desk.old start (P.world ports.old)
+        → ServeEnds order.now status start (P.world ports.new)) }
+    ensures others { TouchesAtDesk (P.world ports.old) (P.world ports.new) }
+    ensures unnamed { ((P.world ports.new).at GUEST).opened ≡ ((P.world ports.old).at GUEST).opened }
+{
+    listen(order.listen, ports)?;
+    let Ok(()) = serve_guests(rt, desk, order.guests, ports) else {
+        return Err(Status::DoorFault);
+    };
+    Ok(())
+}
+
 /// Loads the database, lets guests come in and says so, and answers the query of each.
 ///
 /// # Errors
@@ -95,11 +121,7 @@ fn serve_database<R: Threads + Sync, P: Ports>(
     ensures unnamed { ((P.world ports.new).at GUEST).opened ≡ ((P.world ports.old).at GUEST).opened }
 {
     let mut desk = open_desk(alloc, order, ports)?;
-    listen(order.listen, ports)?;
-    let Ok(()) = serve_guests(rt, &mut desk, order.guests, ports) else {
-        return Err(Status::DoorFault);
-    };
-    Ok(())
+    serve_at_desk(rt, &mut desk, order, ports)
 }
 
 /// Serves a database, and says how that ends.

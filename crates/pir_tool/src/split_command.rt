@@ -1,8 +1,8 @@
 //! The command `split`.
 
 ghost use Rattle.std.specs.Prelude.{◌≡◌, ◌<◌, length, string_bytes, IfOk};
-ghost use Rattle.pir_ports.specs.Number.{OUTPUT};
-ghost use Rattle.pir_ports.specs.Moves.{Touches};
+ghost use Rattle.port_rules.specs.Number.{OUTPUT};
+ghost use Rattle.port_rules.specs.Moves.{Touches};
 ghost use Rattle.pir_tool.specs.SplitOrder.{plan_to_split};
 ghost use Rattle.pir_tool.specs.SplitSteps.{Says, SharesOut, TouchesSharing, numbers_text};
 ghost use Rattle.pir_tool.specs.SplitOutcome.{SplitEnds, TouchesSplit};
@@ -10,7 +10,7 @@ ghost use Rattle.pir_tool.specs.SplitOutcome.{SplitEnds, TouchesSplit};
 use crate::orders::Splitting;
 use crate::status::Status;
 use block_matrix::Matrix;
-use pir_ports::{Failed, Port, Ports, write_all};
+use port_rules::{Failed, Port, Ports, write_all};
 use share_files::{SplitPlan, load_to_share, split};
 use std::alloc::{AllocError, Global};
 

@@ -1,7 +1,7 @@
 //! The top call.
 
 ghost use Rattle.std.specs.Prelude.{◌≡◌, ◌⊎◌, Bool, List, ℕ, [], ◌∷◌, Some, map, string_bytes};
-ghost use Rattle.pir_ports.specs.Number.{INPUT};
+ghost use Rattle.port_rules.specs.Number.{INPUT};
 ghost use Rattle.wire_frames.specs.Session.{Transcript, IsSession};
 ghost use Rattle.pir_tool.specs.Told.{NoneRose};
 ghost use Rattle.pir_tool.specs.Outcome.{AskFor, EndsAsAsked, RefusesWords};
@@ -24,8 +24,8 @@ ghost use Rattle.pir_tool.specs.FrontOutcome.{FrontPromise};
 
 use crate::obey::obey;
 use crate::status::Status;
-use pir_ports::Ports;
 use pir_words::{Asked, read_words};
+use port_rules::Ports;
 use std::alloc::Global;
 use std::thread::Threads;
 

@@ -11,3 +11,4 @@ pub mod LookUpForm
 pub mod SplitForm
 pub mod FrontForm
 pub mod Form
+pub mod Table

@@ -92,9 +92,13 @@ fn read_rows(
 pub fn blocks_at(alloc: Global, matches: &ArgMatches, sizes: Sizes) -> Result<Blocks, WordsFault>
     ensures { IsReadAs (blocks_in sizes (given matches.now)) result }
 {
-    let first = block_at(matches, sizes.rows).ok_or(WordsFault::Usage)?;
+    let Some(first) = block_at(matches, sizes.rows) else {
+        return Err(WordsFault::Usage);
+    };
     let texts = more_at(alloc, matches)?;
-    let blocks = read_rows(alloc, first, sizes.rows, &texts)?.ok_or(WordsFault::Usage)?;
+    let Some(blocks) = read_rows(alloc, first, sizes.rows, &texts)? else {
+        return Err(WordsFault::Usage);
+    };
     if are_at_once(sizes.width, blocks.as_slice()) {
         Ok(blocks)
     } else {

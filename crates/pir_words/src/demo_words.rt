@@ -16,14 +16,24 @@ use std::alloc::Global;
 pub fn read_demo(alloc: Global, matches: &ArgMatches) -> Result<Asked, WordsFault>
     ensures { IsReadAs (demo_of (given matches.now)) result }
 {
-    let port = limited_at(matches, "port", u64::from(LEAST_PORT), u64::from(MOST_PORT)).ok_or(
-        WordsFault::Usage,
-    )?;
-    let database = text_at(matches, "database").ok_or(WordsFault::Usage)?;
-    let sizes = sizes_at(matches).ok_or(WordsFault::Usage)?;
-    let block = block_at(matches, sizes.rows).ok_or(WordsFault::Usage)?;
-    let servers = servers_at(matches).ok_or(WordsFault::Usage)?;
-    let sharing = sharing_at(matches, servers).ok_or(WordsFault::Usage)?;
+    let Some(port) = limited_at(matches, "port", u64::from(LEAST_PORT), u64::from(MOST_PORT)) else {
+        return Err(WordsFault::Usage);
+    };
+    let Some(database) = text_at(matches, "database") else {
+        return Err(WordsFault::Usage);
+    };
+    let Some(sizes) = sizes_at(matches) else {
+        return Err(WordsFault::Usage);
+    };
+    let Some(block) = block_at(matches, sizes.rows) else {
+        return Err(WordsFault::Usage);
+    };
+    let Some(servers) = servers_at(matches) else {
+        return Err(WordsFault::Usage);
+    };
+    let Some(sharing) = sharing_at(matches, servers) else {
+        return Err(WordsFault::Usage);
+    };
     let database = owned(alloc, database)?;
     let coins = owned(alloc, coins_at(matches))?;
     Ok(Asked::Demo {

@@ -87,14 +87,22 @@ fn tau_at(matches: &ArgMatches, scheme: Scheme, sharing: Sharing) -> Option<u8>
 pub fn read_fetch(alloc: Global, matches: &ArgMatches) -> Result<Asked, WordsFault>
     ensures { IsReadAs (fetch_of (given matches.now)) result }
 {
-    let sizes = sizes_at(matches).ok_or(WordsFault::Usage)?;
+    let Some(sizes) = sizes_at(matches) else {
+        return Err(WordsFault::Usage);
+    };
     let blocks = blocks_at(alloc, matches, sizes)?;
-    let scheme = scheme_at(matches).ok_or(WordsFault::Usage)?;
-    let addresses = addresses_at(matches).ok_or(WordsFault::Usage)?;
-    let sharing = fetch_sharing_at(matches, scheme, addresses.len() as u8).ok_or(
-        WordsFault::Usage,
-    )?;
-    let tau = tau_at(matches, scheme, sharing).ok_or(WordsFault::Usage)?;
+    let Some(scheme) = scheme_at(matches) else {
+        return Err(WordsFault::Usage);
+    };
+    let Some(addresses) = addresses_at(matches) else {
+        return Err(WordsFault::Usage);
+    };
+    let Some(sharing) = fetch_sharing_at(matches, scheme, addresses.len() as u8) else {
+        return Err(WordsFault::Usage);
+    };
+    let Some(tau) = tau_at(matches, scheme, sharing) else {
+        return Err(WordsFault::Usage);
+    };
     let coins = owned(alloc, coins_at(matches))?;
     let keep = owned_if_given(alloc, text_at(matches, "record"))?;
     let addresses = Texts::new(alloc, addresses)?;

@@ -38,11 +38,21 @@ fn shard_addresses_at<'a, 'b>(
 pub fn read_front(alloc: Global, matches: &ArgMatches) -> Result<Asked, WordsFault>
     ensures { IsReadAs (front_of (given matches.now)) result }
 {
-    let sizes = sizes_at(matches).ok_or(WordsFault::Usage)?;
-    let shard = limited_at(matches, "shard", 1, u64::from(sizes.rows)).ok_or(WordsFault::Usage)?;
-    let guests = limited_at(matches, "conns", 1, u64::from(MOST_GUESTS)).ok_or(WordsFault::Usage)?;
-    let addresses = shard_addresses_at(matches, sizes.rows, shard as u32).ok_or(WordsFault::Usage)?;
-    let listen = text_at(matches, "listen").ok_or(WordsFault::Usage)?;
+    let Some(sizes) = sizes_at(matches) else {
+        return Err(WordsFault::Usage);
+    };
+    let Some(shard) = limited_at(matches, "shard", 1, u64::from(sizes.rows)) else {
+        return Err(WordsFault::Usage);
+    };
+    let Some(guests) = limited_at(matches, "conns", 1, u64::from(MOST_GUESTS)) else {
+        return Err(WordsFault::Usage);
+    };
+    let Some(addresses) = shard_addresses_at(matches, sizes.rows, shard as u32) else {
+        return Err(WordsFault::Usage);
+    };
+    let Some(listen) = text_at(matches, "listen") else {
+        return Err(WordsFault::Usage);
+    };
     let listen = owned(alloc, listen)?;
     let addresses = Texts::new(alloc, addresses)?;
     Ok(Asked::Front {

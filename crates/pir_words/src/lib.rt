@@ -8,9 +8,9 @@
 //! Not promised: that a file or an address is one. Any text is a name, the empty one too. `help`,
 //! `--help` and `--version` are a faulty command line.
 //!
-//! A command that is to come takes a variant of [`Asked`], an app in `specs/Command.antt` and a
-//! function that builds it in `command`, a form in `specs/` and a module that reads it, and an arm
-//! of `read_command`.
+//! A command that is to come takes a variant of [`Asked`], an app in `specs/Command.antt` and a row
+//! in the table of `command`, a form in `specs/` and a module that reads it, and an arm of
+//! `read_command`.
 #![tactic(auto)]
 
 ghost use Rattle.std.specs.Prelude.{◌≡◌, true, false, IfErr, IfOk, map, string_bytes};

@@ -36,10 +36,16 @@ fn key_at(alloc: Global, matches: &ArgMatches, width: u32) -> Result<Key, WordsF
 pub fn read_lookup(alloc: Global, matches: &ArgMatches) -> Result<Asked, WordsFault>
     ensures { IsReadAs (lookup_of (given matches.now)) result }
 {
-    let sizes = sizes_at(matches).ok_or(WordsFault::Usage)?;
+    let Some(sizes) = sizes_at(matches) else {
+        return Err(WordsFault::Usage);
+    };
     let key = key_at(alloc, matches, sizes.width)?;
-    let addresses = addresses_at(matches).ok_or(WordsFault::Usage)?;
-    let sharing = sharing_at(matches, addresses.len() as u8).ok_or(WordsFault::Usage)?;
+    let Some(addresses) = addresses_at(matches) else {
+        return Err(WordsFault::Usage);
+    };
+    let Some(sharing) = sharing_at(matches, addresses.len() as u8) else {
+        return Err(WordsFault::Usage);
+    };
     let coins = owned(alloc, coins_at(matches))?;
     let addresses = Texts::new(alloc, addresses)?;
     Ok(Asked::Lookup {

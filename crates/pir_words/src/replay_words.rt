@@ -14,7 +14,9 @@ use std::alloc::Global;
 pub fn read_replay(alloc: Global, matches: &ArgMatches) -> Result<Asked, WordsFault>
     ensures { IsReadAs (replay_of (given matches.now)) result }
 {
-    let file = text_at(matches, "file").ok_or(WordsFault::Usage)?;
+    let Some(file) = text_at(matches, "file") else {
+        return Err(WordsFault::Usage);
+    };
     let file = owned(alloc, file)?;
     let report = flag_at(matches, "report");
     Ok(Asked::Replay { file, report })

@@ -16,12 +16,24 @@ use wire_frames::{MOST_GUESTS, MOST_WIDTH};
 pub fn read_serve(alloc: Global, matches: &ArgMatches) -> Result<Asked, WordsFault>
     ensures { IsReadAs (serve_of (given matches.now)) result }
 {
-    let width = limited_at(matches, "width", 1, u64::from(MOST_WIDTH)).ok_or(WordsFault::Usage)?;
-    let guests = limited_at(matches, "conns", 1, u64::from(MOST_GUESTS)).ok_or(WordsFault::Usage)?;
-    let scheme = scheme_at(matches).ok_or(WordsFault::Usage)?;
-    let workers = workers_at(matches).ok_or(WordsFault::Usage)?;
-    let database = text_at(matches, "database").ok_or(WordsFault::Usage)?;
-    let listen = text_at(matches, "listen").ok_or(WordsFault::Usage)?;
+    let Some(width) = limited_at(matches, "width", 1, u64::from(MOST_WIDTH)) else {
+        return Err(WordsFault::Usage);
+    };
+    let Some(guests) = limited_at(matches, "conns", 1, u64::from(MOST_GUESTS)) else {
+        return Err(WordsFault::Usage);
+    };
+    let Some(scheme) = scheme_at(matches) else {
+        return Err(WordsFault::Usage);
+    };
+    let Some(workers) = workers_at(matches) else {
+        return Err(WordsFault::Usage);
+    };
+    let Some(database) = text_at(matches, "database") else {
+        return Err(WordsFault::Usage);
+    };
+    let Some(listen) = text_at(matches, "listen") else {
+        return Err(WordsFault::Usage);
+    };
     let database = owned(alloc, database)?;
     let listen = owned(alloc, listen)?;
     Ok(Asked::Serve {

@@ -30,11 +30,21 @@ fn tau_among(matches: &ArgMatches, servers: u8) -> Option<u8>
 pub fn read_split(alloc: Global, matches: &ArgMatches) -> Result<Asked, WordsFault>
     ensures { IsReadAs (split_of (given matches.now)) result }
 {
-    let width = limited_at(matches, "width", 1, u64::from(MOST_WIDTH)).ok_or(WordsFault::Usage)?;
-    let servers = servers_at(matches).ok_or(WordsFault::Usage)?;
-    let tau = tau_among(matches, servers).ok_or(WordsFault::Usage)?;
-    let database = text_at(matches, "database").ok_or(WordsFault::Usage)?;
-    let into = text_at(matches, "into").ok_or(WordsFault::Usage)?;
+    let Some(width) = limited_at(matches, "width", 1, u64::from(MOST_WIDTH)) else {
+        return Err(WordsFault::Usage);
+    };
+    let Some(servers) = servers_at(matches) else {
+        return Err(WordsFault::Usage);
+    };
+    let Some(tau) = tau_among(matches, servers) else {
+        return Err(WordsFault::Usage);
+    };
+    let Some(database) = text_at(matches, "database") else {
+        return Err(WordsFault::Usage);
+    };
+    let Some(into) = text_at(matches, "into") else {
+        return Err(WordsFault::Usage);
+    };
     let database = owned(alloc, database)?;
     let into = owned(alloc, into)?;
     let coins = owned(alloc, coins_at(matches))?;

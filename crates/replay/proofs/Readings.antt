@@ -5,11 +5,11 @@ use Rattle.std.specs.Prelude.{Option, Some, None, IfSome, Ok, Err}
 use Rattle.std.proofs.lemmas.Bool.{cases_lt}
 use Rattle.std.proofs.lemmas.List.{length-take-le, take-append-le, take_all}
 use Rattle.std.proofs.lemmas.List.Elements.{All-nil, All-push}
-use Rattle.pir_ports.specs.World.{Cell, World}
-use Rattle.pir_ports.specs.Number.{INPUT}
-use Rattle.pir_ports.specs.Moves.{Rose, Touches, Hands, Fails, counted}
-use Rattle.pir_ports.specs.Whole.{Reads, IsFront}
-use Rattle.pir_ports.proofs.Cells.{took_none, reads_more, reads_end, touches_more}
+use Rattle.port_rules.specs.World.{Cell, World}
+use Rattle.port_rules.specs.Number.{INPUT}
+use Rattle.port_rules.specs.Moves.{Rose, Touches, Hands, Fails, counted}
+use Rattle.port_rules.specs.Whole.{Reads, IsFront}
+use Rattle.port_rules.proofs.Cells.{took_none, reads_more, reads_end, touches_more}
 use Rattle.wire_frames.specs.declared.scheme.TheConstants.{SHAMIR, XOR}
 use Rattle.wire_frames.specs.Sizes.{answer_len}
 use Rattle.wire_frames.specs.Answer.{answers, block_len}

@@ -1,9 +1,9 @@
 -- What reading a recorded session from Input, and judging it, does and gives.
 use Rattle.std.specs.Prelude.{◌≤◌, ◌+◌, ◌⊎◌, length, Some, ◌≡◌, ℕ, List, Option, IfSome, Result, Ok, Err}
-use Rattle.pir_ports.specs.World.{Cell, World}
-use Rattle.pir_ports.specs.Number.{INPUT}
-use Rattle.pir_ports.specs.Moves.{Rose, took, counted}
-use Rattle.pir_ports.specs.Whole.{IsFront}
+use Rattle.port_rules.specs.World.{Cell, World}
+use Rattle.port_rules.specs.Number.{INPUT}
+use Rattle.port_rules.specs.Moves.{Rose, took, counted}
+use Rattle.port_rules.specs.Whole.{IsFront}
 use Rattle.wire_frames.specs.declared.scheme.TheConstants.{SHAMIR, XOR}
 use Rattle.wire_frames.specs.declared.sizes.TheConstants.{SESSION_HEADER_LEN}
 use Rattle.wire_frames.specs.Session.{Transcript, IsSession}

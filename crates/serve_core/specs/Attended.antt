@@ -1,9 +1,9 @@
 -- What a server does with the guest that is in.
 use Rattle.std.specs.Prelude.{◌≡◌, ◌⊎◌, ℕ, ◌<◌, ◌≤◌, List, [], length, take, IfSome}
-use Rattle.pir_ports.specs.World.{World}
-use Rattle.pir_ports.specs.Number.{GUEST}
-use Rattle.pir_ports.specs.Guests.{Meets}
-use Rattle.pir_ports.specs.Moves.{Rose, Touches, took, gave, counted}
+use Rattle.port_rules.specs.World.{World}
+use Rattle.port_rules.specs.Number.{GUEST}
+use Rattle.port_rules.specs.Guests.{Meets}
+use Rattle.port_rules.specs.Moves.{Rose, Touches, took, gave, counted}
 use Rattle.serve_core.specs.Service.{Service, terms_of}
 use Rattle.serve_core.specs.Case.{ReplyTakes}
 use Rattle.serve_core.specs.Reply.{Replies}

@@ -1,7 +1,7 @@
 //! The answer to a query that was taken.
 ghost use Rattle.std.specs.Prelude.{◌≡◌, ◌*◌, ◌≤◌, ◌++◌, length, drop};
-ghost use Rattle.pir_ports.specs.Number.{GUEST};
-ghost use Rattle.pir_ports.specs.Moves.{Touches};
+ghost use Rattle.port_rules.specs.Number.{GUEST};
+ghost use Rattle.port_rules.specs.Moves.{Touches};
 ghost use Rattle.wire_frames.specs.declared.sizes.TheConstants.{FRAME_HEADER_LEN};
 ghost use Rattle.wire_frames.specs.declared.TheConstants.{MOST_BLOCKS};
 ghost use Rattle.wire_frames.specs.Header.{answer_to, blocks_in, query_header};
@@ -16,7 +16,7 @@ ghost use Rattle.serve_core.specs.declared.met.Met.TheVariants.{Served};
 use crate::give::give;
 use crate::met::Met;
 use crate::service::Service;
-use pir_ports::Ports;
+use port_rules::Ports;
 use server_answer::answers_into;
 use server_product::{Gate, products_into};
 use std::thread::Threads;

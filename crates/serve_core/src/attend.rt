@@ -1,7 +1,7 @@
 //! Attends to the guest that is in, with the room of a desk.
 ghost use Rattle.std.specs.Prelude.{◌≡◌, length};
-ghost use Rattle.pir_ports.specs.Number.{GUEST};
-ghost use Rattle.pir_ports.specs.Moves.{Touches};
+ghost use Rattle.port_rules.specs.Number.{GUEST};
+ghost use Rattle.port_rules.specs.Moves.{Touches};
 ghost use Rattle.wire_frames.specs.Sizes.{answer_len};
 ghost use Rattle.serve_core.specs.Terms.{most_blocks_for, payload_len_for};
 ghost use Rattle.serve_core.specs.Service.{sums_len_for, terms_of};
@@ -14,7 +14,7 @@ use crate::room::Room;
 use crate::service::Service;
 use crate::take::take_query;
 use crate::taken::Taken;
-use pir_ports::Ports;
+use port_rules::Ports;
 use server_product::Gate;
 use std::thread::Threads;
 

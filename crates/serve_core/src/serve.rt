@@ -1,12 +1,12 @@
 //! Serves the guest that is in.
 ghost use Rattle.std.specs.Prelude.{◌≡◌};
-ghost use Rattle.pir_ports.specs.Number.{GUEST};
-ghost use Rattle.pir_ports.specs.Moves.{Touches};
+ghost use Rattle.port_rules.specs.Number.{GUEST};
+ghost use Rattle.port_rules.specs.Moves.{Touches};
 ghost use Rattle.serve_core.specs.Attended.{Attends};
 
 use crate::desk::Desk;
 use crate::met::Met;
-use pir_ports::Ports;
+use port_rules::Ports;
 use server_product::Gate;
 use std::thread::Threads;
 

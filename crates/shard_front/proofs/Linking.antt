@@ -1,9 +1,9 @@
 -- A link that was asked.
 use Rattle.std.proofs.Common.{◌≡◌, ◌∙◌, inr, ℕ, ◌≤◌, List, length, ap, subst}
 use Rattle.std.specs.Prelude.{IfSome}
-use Rattle.pir_ports.specs.World.{Cell, World}
-use Rattle.pir_ports.specs.Moves.{Rose, took, gave, named, counted}
-use Rattle.pir_ports.specs.Whole.{FailsShort}
+use Rattle.port_rules.specs.World.{Cell, World}
+use Rattle.port_rules.specs.Moves.{Rose, took, gave, named, counted}
+use Rattle.port_rules.specs.Whole.{FailsShort}
 use Rattle.shard_front.specs.Link.{LinkBreaks}
 
 -- the link was opened and took the whole frame, and then a call failed

@@ -1,8 +1,8 @@
 -- Asking one shard.
 use Rattle.std.proofs.Common.{◌≡◌, ◌∙◌, inl, inr, ℕ, ◌+◌, List, sym, ap, subst, arith}
 use Rattle.std.specs.Prelude.{Bool, true, false, Option, Some, None}
-use Rattle.pir_ports.specs.World.{World}
-use Rattle.pir_ports.specs.Number.{link}
+use Rattle.port_rules.specs.World.{World}
+use Rattle.port_rules.specs.Number.{link}
 use Rattle.wire_frames.specs.declared.header.QueryHeader.{QueryHeader}
 use Rattle.wire_frames.specs.Answer.{usable}
 use Rattle.wire_frames.specs.Sizes.{answer_len}

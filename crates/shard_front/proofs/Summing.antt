@@ -6,12 +6,12 @@ use Rattle.std.proofs.lemmas.List.FromFn.{length-map-range_with_len, get_or-map-
 use Rattle.gf256.specs.Field.{◌⊕◌}
 use Rattle.gf256.specs.Sums.{sum_to}
 use Rattle.gf256.proofs.Sums.{sum_to-same}
-use Rattle.pir_ports.specs.declared.port.TheConstants.{PORT_COUNT}
-use Rattle.pir_ports.specs.World.{Cell, World}
-use Rattle.pir_ports.specs.Number.{link}
-use Rattle.pir_ports.specs.Moves.{Touches}
-use Rattle.pir_ports.specs.Each.{Each}
-use Rattle.pir_ports.proofs.Ranges.{each_as, each_more, each_none, range_more, range_none, range_still}
+use Rattle.port_rules.specs.declared.port.TheConstants.{PORT_COUNT}
+use Rattle.port_rules.specs.World.{Cell, World}
+use Rattle.port_rules.specs.Number.{link}
+use Rattle.port_rules.specs.Moves.{Touches}
+use Rattle.port_rules.specs.Each.{Each}
+use Rattle.port_rules.proofs.Ranges.{each_as, each_more, each_none, range_more, range_none, range_still}
 use Rattle.chor_xor.specs.Chosen.{combined, combined_at}
 use Rattle.wire_frames.specs.declared.header.QueryHeader.{QueryHeader}
 use Rattle.shard_front.specs.declared.spread.Spread.{Spread}

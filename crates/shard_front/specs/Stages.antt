@@ -1,10 +1,10 @@
 -- The steps of a front: the shards are asked, the frame is given.
 use Rattle.std.specs.Prelude.{◌≡◌, ◌⊎◌, ℕ, List}
-use Rattle.pir_ports.specs.World.{World}
-use Rattle.pir_ports.specs.Number.{GUEST, link}
-use Rattle.pir_ports.specs.Moves.{Touches, gave}
-use Rattle.pir_ports.specs.Each.{TouchesRange}
-use Rattle.pir_ports.specs.Whole.{FailsWithin}
+use Rattle.port_rules.specs.World.{World}
+use Rattle.port_rules.specs.Number.{GUEST, link}
+use Rattle.port_rules.specs.Moves.{Touches, gave}
+use Rattle.port_rules.specs.Each.{TouchesRange}
+use Rattle.port_rules.specs.Whole.{FailsWithin}
 use Rattle.wire_frames.specs.declared.header.QueryHeader.{QueryHeader}
 use Rattle.shard_front.specs.declared.spread.Spread.{Spread}
 use Rattle.shard_front.specs.declared.relayed.Relayed.{Relayed}

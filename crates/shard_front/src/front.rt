@@ -9,7 +9,7 @@ use crate::meet::front_within;
 use crate::relayed::Relayed;
 use crate::room::Room;
 use crate::spread::Spread;
-use pir_ports::Ports;
+use port_rules::Ports;
 use std::alloc::{AllocError, Global};
 use std::marker::Model;
 

@@ -1,7 +1,7 @@
 //! Asks the shards for a query, in their order.
 ghost use Rattle.std.specs.Prelude.{◌≡◌, ◌+◌, ◌*◌, ◌<◌, ◌≤◌, length, map, string_bytes};
-ghost use Rattle.pir_ports.specs.Number.{GUEST};
-ghost use Rattle.pir_ports.specs.Moves.{Touches};
+ghost use Rattle.port_rules.specs.Number.{GUEST};
+ghost use Rattle.port_rules.specs.Moves.{Touches};
 ghost use Rattle.wire_frames.specs.Sizes.{answer_len, query_len};
 ghost use Rattle.wire_frames.specs.declared.scheme.Scheme.TheVariants.{Shamir};
 ghost use Rattle.serve_core.specs.Taking.{IsGood};
@@ -11,7 +11,7 @@ ghost use Rattle.shard_front.specs.Asked.{AsksShards};
 use crate::shard::add_shard;
 use crate::spread::Spread;
 use gf256::rows::clear;
-use pir_ports::Ports;
+use port_rules::Ports;
 use wire_frames::QueryHeader;
 
 /// Asks each shard for its part of a query, in their order, and sums the payloads of their answers. It

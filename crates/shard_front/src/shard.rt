@@ -1,7 +1,7 @@
 //! Asks one shard, and adds its answer to the sum.
 ghost use Rattle.std.specs.Prelude.{◌≡◌, ◌+◌, ◌*◌, ◌<◌, ◌≤◌, length};
-ghost use Rattle.pir_ports.specs.Number.{link};
-ghost use Rattle.pir_ports.specs.Moves.{Touches};
+ghost use Rattle.port_rules.specs.Number.{link};
+ghost use Rattle.port_rules.specs.Moves.{Touches};
 ghost use Rattle.wire_frames.specs.Sizes.{answer_len};
 ghost use Rattle.serve_core.specs.Taking.{IsGood};
 ghost use Rattle.shard_front.specs.Spread.{IsSpread, shards, terms_of};
@@ -12,7 +12,7 @@ use crate::links::ask;
 use crate::parts::{header_to, write_part};
 use crate::spread::Spread;
 use chor_xor::combine_into;
-use pir_ports::Ports;
+use port_rules::Ports;
 use wire_frames::{QueryHeader, Scheme, query_len, usable_answer};
 
 /// Adds the payload to the sum, where the bytes are a usable answer to the query with this header, and says

@@ -17,8 +17,9 @@ use Rattle.shamir_share.proofs.Rows.{coin_at, length-row_coins, rows_fit}
 use Rattle.privacy_law.specs.Bijection.{AreCoins, IsBijection}
 use Rattle.privacy_law.specs.Hiding.{hiding}
 use Rattle.privacy_law.proofs.HidingPolynomial.{length-hiding, hiding_rest}
-use Rattle.share_db.specs.Share.{position_polynomial, share, difference, partner_db}
-use Rattle.share_db.proofs.Shares.{share_at, length-share, val-position}
+use Rattle.share_bytes.specs.Share.{position_polynomial, share}
+use Rattle.share_db.specs.Partner.{difference, partner_db}
+use Rattle.share_bytes.proofs.Shares.{share_at, length-share, val-position}
 
 -- there are as many coins
 pub length-partner_db : (coins from to : List ℕ) (tau : ℕ) (coalition : List ℕ) → length (partner_db coins from to tau coalition) ≡ length coins

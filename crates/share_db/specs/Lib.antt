@@ -1,1 +1,2 @@
-pub mod Share
+pub mod Partner
+pub use Rattle.share_bytes.specs.Share

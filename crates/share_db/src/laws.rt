@@ -3,7 +3,8 @@
 
 ghost use Rattle.std.specs.Prelude.{◌≡◌, ◌≢◌, ℕ, List, ◌*◌, ◌≤◌, length, All};
 ghost use Rattle.privacy_law.specs.Bijection.{AreCoins, IsBijection};
-ghost use Rattle.share_db.specs.Share.{share, partner_db};
+ghost use Rattle.share_bytes.specs.Share.{share};
+ghost use Rattle.share_db.specs.Partner.{partner_db};
 
 /// A coalition of at most `tau` servers can't read the database: for any two databases of one size
 /// a bijection of the coins makes the share that each member holds of the one that which it holds

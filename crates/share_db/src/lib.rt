@@ -5,8 +5,8 @@
 //! and whose other coefficients are coins. A server's share is the value of each at the server's
 //! index.
 //!
-//! Promised, for all coins: [`share_into`] writes exactly these values, and takes no memory. For
-//! any coalition of at most `tau` servers and any two databases of one size, [`partner_db`] is a
+//! [`share_into`], which writes these values, comes from `share_bytes`. Promised here, for all coins:
+//! for any coalition of at most `tau` servers and any two databases of one size, [`partner_db`] is a
 //! bijection of the coins under which the coalition holds for the one database what it holds for
 //! the other. [`laws`] says the same of the definitions, in a call that takes no memory and cannot
 //! fail.
@@ -18,7 +18,6 @@
 
 pub mod laws;
 mod partner;
-mod share;
 
 pub use partner::partner_db;
-pub use share::share_into;
+pub use share_bytes::share_into;

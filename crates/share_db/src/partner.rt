@@ -2,7 +2,8 @@
 
 ghost use Rattle.std.specs.Prelude.{◌≡◌, ◌≢◌, ◌*◌, ◌≤◌, length, All, IfOk};
 ghost use Rattle.gf256.specs.Rows.{IsAdded};
-ghost use Rattle.share_db.specs.Share.{share, difference, partner_db};
+ghost use Rattle.share_bytes.specs.Share.{share};
+ghost use Rattle.share_db.specs.Partner.{difference, partner_db};
 
 use privacy_law::hiding;
 use std::alloc::{AllocError, Global};

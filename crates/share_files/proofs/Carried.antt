@@ -1,11 +1,11 @@
 -- What a splitting did, carried over what was done to Database before it.
 use Rattle.std.proofs.Common.{◌≡◌, inl, ℕ, ◌+◌, ◌*◌, ◌<◌, List, [], length, slice_index_or, lit<, subst, ◌∙◌, arith}
-use Rattle.pir_ports.specs.World.{Cell, World}
-use Rattle.pir_ports.specs.Number.{COINS, DATABASE, share_file}
-use Rattle.pir_ports.specs.Moves.{Touches, named}
-use Rattle.pir_ports.specs.Tossed.{Tossed}
-use Rattle.pir_ports.proofs.Ranges.{each_before}
-use Rattle.share_db.specs.Share.{share}
+use Rattle.port_rules.specs.World.{Cell, World}
+use Rattle.port_rules.specs.Number.{COINS, DATABASE, share_file}
+use Rattle.port_rules.specs.Moves.{Touches, named}
+use Rattle.port_rules.specs.Tossed.{Tossed}
+use Rattle.port_rules.proofs.Ranges.{each_before}
+use Rattle.share_bytes.specs.Share.{share}
 use Rattle.share_files.specs.SplitPlan.{SplitPlan, share_names}
 use Rattle.share_files.specs.Splits.{IsShared, SharesEach, SplitsWhole, SplitsPart, Tosses}
 use Rattle.share_files.proofs.Shares.{length-share_names, unwritten_before}

@@ -2,13 +2,13 @@
 use Rattle.std.proofs.Common.{◌≡◌, ◌∙◌, ℕ, ◌+◌, ◌*◌, ◌≤◌, List, ◌++◌, length, take, drop, sym, ap, subst}
 use Rattle.std.specs.List.{slice_range}
 use Rattle.std.proofs.lemmas.List.{take-append-drop}
-use Rattle.pir_ports.specs.World.{World}
-use Rattle.pir_ports.specs.Moves.{gave}
-use Rattle.pir_ports.specs.Whole.{FailsWithin}
-use Rattle.pir_ports.proofs.Cells.{gave-gave, fails_first, fails_next}
-use Rattle.pir_ports.proofs.Pieces.{gave_none}
-use Rattle.share_db.specs.Share.{share}
-use Rattle.share_db.proofs.Shares.{first_shares, first_shares_are, share_is, shares_none, shares_more}
+use Rattle.port_rules.specs.World.{World}
+use Rattle.port_rules.specs.Moves.{gave}
+use Rattle.port_rules.specs.Whole.{FailsWithin}
+use Rattle.port_rules.proofs.Cells.{gave-gave, fails_first, fails_next}
+use Rattle.port_rules.proofs.Pieces.{gave_none}
+use Rattle.share_bytes.specs.Share.{share}
+use Rattle.share_bytes.proofs.Shares.{first_shares, first_shares_are, share_is, shares_none, shares_more}
 
 -- the shares of the first m positions were given since w, and now the piece with those of the next n
 module _ (bytes coins piece : List ℕ) (tau a p m n : ℕ) (w v u : World) (within : m + n ≤ length bytes)

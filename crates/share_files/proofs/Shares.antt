@@ -1,14 +1,14 @@
 -- The files of shares, written one after the other.
 use Rattle.std.proofs.Common.{◌≡◌, ◌∙◌, inl, inr, ℕ, ◌+◌, ◌*◌, ◌<◌, List, [], length, take, slice_index_or, sym, ap, subst, arith}
 use Rattle.std.proofs.lemmas.List.FromFn.{length-map-range_with_len}
-use Rattle.pir_ports.specs.World.{Cell, World}
-use Rattle.pir_ports.specs.Number.{COINS, share_file}
-use Rattle.pir_ports.specs.Moves.{Rose, Touches, gave, named, counted}
-use Rattle.pir_ports.specs.Each.{TouchesRange}
-use Rattle.pir_ports.specs.Files.{Unwritten}
-use Rattle.pir_ports.specs.Tossed.{Tossed}
-use Rattle.pir_ports.proofs.Ranges.{each_after, each_before, each_more, range_more}
-use Rattle.share_db.specs.Share.{share}
+use Rattle.port_rules.specs.World.{Cell, World}
+use Rattle.port_rules.specs.Number.{COINS, share_file}
+use Rattle.port_rules.specs.Moves.{Rose, Touches, gave, named, counted}
+use Rattle.port_rules.specs.Each.{TouchesRange}
+use Rattle.port_rules.specs.Files.{Unwritten}
+use Rattle.port_rules.specs.Tossed.{Tossed}
+use Rattle.port_rules.proofs.Ranges.{each_after, each_before, each_more, range_more}
+use Rattle.share_bytes.specs.Share.{share}
 use Rattle.share_files.specs.SplitPlan.{SplitPlan, share_name, share_names}
 use Rattle.share_files.specs.Splits.{IsShared, SharesEach, SharesSome, SplitsWhole, SplitsPart, Tosses}
 

@@ -1,9 +1,9 @@
 -- How large a database in shares may be.
 use Rattle.std.specs.Prelude.{◌≡◌, ℕ, ◌*◌, ◌/◌, ◌<◌, ◌≤◌, min, length, IfSome, Result, Ok, Err}
-use Rattle.pir_ports.specs.World.{Cell, World}
-use Rattle.pir_ports.specs.Number.{DATABASE}
-use Rattle.pir_ports.specs.Moves.{took}
-use Rattle.pir_ports.specs.Whole.{FailsShort}
+use Rattle.port_rules.specs.World.{Cell, World}
+use Rattle.port_rules.specs.Number.{DATABASE}
+use Rattle.port_rules.specs.Moves.{took}
+use Rattle.port_rules.specs.Whole.{FailsShort}
 use Rattle.wire_frames.specs.declared.TheConstants.{MOST_ROWS, MOST_CELLS}
 use Rattle.block_matrix.specs.Database.{Database}
 use Rattle.block_matrix.specs.Loading.{Holds, HoldsNone, Stopped, asked_for}

@@ -1,14 +1,14 @@
 -- What splitting a database into shares does.
 use Rattle.std.specs.Prelude.{◌≡◌, ℕ, ◌+◌, ◌*◌, ◌<◌, List, [], ◌∷◌, length, slice_index_or, Result, Ok, Err}
-use Rattle.pir_ports.specs.World.{Cell, World}
-use Rattle.pir_ports.specs.Number.{COINS, share_file}
-use Rattle.pir_ports.specs.Moves.{Touches, gave, named}
-use Rattle.pir_ports.specs.Each.{Each}
-use Rattle.pir_ports.specs.Touched.{One, From, TouchesOnly}
-use Rattle.pir_ports.specs.Files.{Unread, Unwritten}
-use Rattle.pir_ports.specs.Tossed.{Tossed, RunsOut}
-use Rattle.pir_ports.specs.declared.port.Failed.{Failed}
-use Rattle.share_db.specs.Share.{share}
+use Rattle.port_rules.specs.World.{Cell, World}
+use Rattle.port_rules.specs.Number.{COINS, share_file}
+use Rattle.port_rules.specs.Moves.{Touches, gave, named}
+use Rattle.port_rules.specs.Each.{Each}
+use Rattle.port_rules.specs.Touched.{One, From, TouchesOnly}
+use Rattle.port_rules.specs.Files.{Unread, Unwritten}
+use Rattle.port_rules.specs.Tossed.{Tossed, RunsOut}
+use Rattle.port_rules.specs.declared.port.Failed.{Failed}
+use Rattle.share_bytes.specs.Share.{share}
 use Rattle.share_files.specs.SplitPlan.{SplitPlan, share_names}
 use Rattle.share_files.specs.declared.fault.SplitFault.{SplitFault}
 use Rattle.share_files.specs.declared.fault.SplitFault.TheVariants.{CoinsFault, CoinsEnded, ShareFault, Memory}

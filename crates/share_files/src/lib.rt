@@ -1,7 +1,7 @@
 //! The files of a database in shares: each server is to hold one, and up to `tau` of them together can't read the database
 //! (Goldberg 2007, who calls it tau-independence).
 //!
-//! Promised: each file has the share of its server, by the definition of `share_db`; the database and its coins are no
+//! Promised: each file has the share of its server, by the definition of `share_bytes`; the database and its coins are no
 //! more than a database may have cells; no file is opened before all coins are there; and where one can't be written, the
 //! files before it are whole, it has a front of its share, and those behind it are left alone.
 //!

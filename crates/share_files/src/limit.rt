@@ -1,13 +1,13 @@
 //! How large a database in shares may be.
 
 ghost use Rattle.std.specs.Prelude.{◌≡◌, ◌≤◌};
-ghost use Rattle.pir_ports.specs.Number.{DATABASE};
-ghost use Rattle.pir_ports.specs.Moves.{Touches};
+ghost use Rattle.port_rules.specs.Number.{DATABASE};
+ghost use Rattle.port_rules.specs.Moves.{Touches};
 ghost use Rattle.wire_frames.specs.declared.TheConstants.{MOST_CELLS, MOST_WIDTH};
 ghost use Rattle.share_files.specs.Limit.{LoadsFew, shared_limit};
 
 use block_matrix::{LoadFault, Matrix, load};
-use pir_ports::Ports;
+use port_rules::Ports;
 use std::alloc::Global;
 use wire_frames::{MOST_CELLS, MOST_ROWS};
 

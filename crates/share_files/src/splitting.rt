@@ -2,12 +2,12 @@
 
 ghost use Rattle.std.specs.Prelude.{◌≡◌, ◌≢◌, ◌+◌, ◌*◌, ◌<◌, ◌≤◌, length, map, string_bytes, OnOk, OnErr};
 ghost use Rattle.std.specs.List.{concat};
-ghost use Rattle.pir_ports.specs.Number.{share_file};
-ghost use Rattle.pir_ports.specs.Moves.{Touches, gave, named};
-ghost use Rattle.pir_ports.specs.Each.{TouchesRange};
-ghost use Rattle.pir_ports.specs.Whole.{FailsWithin};
-ghost use Rattle.pir_ports.specs.Files.{Unwritten};
-ghost use Rattle.share_db.specs.Share.{share};
+ghost use Rattle.port_rules.specs.Number.{share_file};
+ghost use Rattle.port_rules.specs.Moves.{Touches, gave, named};
+ghost use Rattle.port_rules.specs.Each.{TouchesRange};
+ghost use Rattle.port_rules.specs.Whole.{FailsWithin};
+ghost use Rattle.port_rules.specs.Files.{Unwritten};
+ghost use Rattle.share_bytes.specs.Share.{share};
 ghost use Rattle.share_files.specs.SplitPlan.{share_names};
 ghost use Rattle.share_files.specs.Splits.{Splits, TouchesShares, WritesShares};
 
@@ -16,8 +16,8 @@ use crate::fault::SplitFault;
 use crate::names::names_of_shares;
 use crate::plan::SplitPlan;
 use block_matrix::Matrix;
-use pir_ports::{Failed, Port, Ports, write_all};
-use share_db::share_into;
+use port_rules::{Failed, Port, Ports, write_all};
+use share_bytes::share_into;
 use std::alloc::Global;
 
 /// How many positions of a share are made at once, at most: a piece still lies in the processor's nearest caches when it

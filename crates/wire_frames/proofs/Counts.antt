@@ -1,5 +1,5 @@
 -- The byte that says for how many blocks a query asks, in either version.
-use Rattle.std.proofs.Common.{◌≡◌, ℕ, ◌*◌, ◌/◌, ◌<◌, ◌≤◌, max, min, inl, inr, refl, sym, subst, ap, ◌∙◌, arith, div-le_self}
+use Rattle.std.proofs.Common.{◌≡◌, ℕ, ◌*◌, ◌/◌, ◌≤◌, max, inl, inr, refl, sym, ap, ◌∙◌, arith, div-le_self}
 use Rattle.std.specs.Prelude.{◌⊎◌, ◌==◌}
 use Rattle.std.proofs.lemmas.Bool.{cases_eq, cond_both, cond-true, cond-false, eq-eqb, eqb-true, ne_eqb}
 use Rattle.wire_frames.specs.declared.TheConstants.{MOST_BLOCKS, MOST_ROWS, MOST_WIDTH, MOST_CELLS}

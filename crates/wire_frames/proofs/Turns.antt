@@ -1,8 +1,8 @@
 -- Pieces one behind another.
 use Rattle.std.specs.List.{slice_range}
-use Rattle.std.proofs.Common.{◌≡◌, ℕ, zero, suc, ◌+◌, ◌-◌, ◌*◌, ◌<◌, ◌≤◌, List, [], ◌++◌, length, map, take, drop, All, refl, sym, subst, ap, ap₂, ◌∙◌, arith, length-append, zero-mul, inl, inr}
+use Rattle.std.proofs.Common.{◌≡◌, ℕ, zero, suc, ◌+◌, ◌-◌, ◌*◌, ◌<◌, ◌≤◌, List, ◌++◌, length, map, take, drop, All, refl, sym, ap, ap₂, ◌∙◌, arith, length-append, zero-mul, inl, inr}
 use Rattle.std.proofs.Math.Nat.{mul-le-mul_right, suc-mul}
-use Rattle.std.proofs.Math.Seq.{take-add, take-append_seam, drop-append_seam}
+use Rattle.std.proofs.Math.Seq.{take-add, drop-append_seam}
 use Rattle.std.proofs.lemmas.Bool.{cases_eq}
 use Rattle.std.proofs.lemmas.List.{take-append-le, drop-append-le, take_all, length-drop, length-take-le, map-append, take_at, append_assoc}
 use Rattle.std.proofs.lemmas.List.Elements.{All-nil, All-append}

@@ -1,9 +1,9 @@
 //! Writes the file of a session, in pieces, with no memory taken.
 ghost use Rattle.std.specs.Prelude.{◌≡◌, ◌<◌, ◌^◌, length, IfSome};
 ghost use Rattle.std.specs.Option.{option_copied};
-ghost use Rattle.pir_ports.specs.Number.{RECORD};
-ghost use Rattle.pir_ports.specs.Moves.{Touches};
-ghost use Rattle.pir_ports.specs.Written.{Written};
+ghost use Rattle.port_rules.specs.Number.{RECORD};
+ghost use Rattle.port_rules.specs.Moves.{Touches};
+ghost use Rattle.port_rules.specs.Written.{Written};
 ghost use Rattle.wire_frames.specs.Layout.{record_header};
 ghost use Rattle.wire_frames.specs.Limits.{IsInRange};
 ghost use Rattle.wire_frames.specs.Session.{IsSession, header_bytes, record_bytes, records_bytes, session_bytes};
@@ -19,7 +19,7 @@ use crate::session::{Session, SessionParams};
 use crate::sizes::{RECORD_HEADER_LEN, SESSION_HEADER_LEN};
 use crate::version::count_byte;
 use byteorder::{BigEndian, ByteOrder};
-use pir_ports::{Failed, Port, Ports, write_all};
+use port_rules::{Failed, Port, Ports, write_all};
 
 /// The header of a session with these numbers.
 fn header_of(params: &SessionParams) -> [u8; SESSION_HEADER_LEN]

@@ -1,7 +1,7 @@
-use Rattle.std.proofs.Common.{◌≡◌, ◌≢◌, ◌+◌, ◌≤◌, ℕ, List, All, length, IfOk, sym, subst, ap, ◌∙◌, arith}
+use Rattle.std.proofs.Common.{◌≢◌, ◌+◌, ◌≤◌, ℕ, List, All, length, sym, subst, ap, ◌∙◌, arith}
 use Rattle.uni_poly.proofs.Coefficients.{bytes_from_get_or}
 use Rattle.wire_frames.specs.Answer.{Answer}
-use Rattle.block_decoder.specs.Agreed.{answers_of, HasColumns}
+use Rattle.block_decoder.specs.Agreed.{HasColumns}
 use Rattle.block_decoder.specs.Numbers.{bound_of, most_columns, most_nodes}
 use Rattle.block_decoder.specs.Verdict.{IsDecided, IsUnlisted, ListsNoMoreThan}
 use Rattle.block_decoder.proofs.Agreed.{length-answers_of}

@@ -1,29 +1,52 @@
-use Rattle.std.proofs.Common.{◌≤◌, ◌+◌, ◌≡◌, ℕ, true, List, Option, length, subst, ◌∙◌, ap, ◌<◌, ◌*◌}
+use Rattle.std.proofs.Common.{◌≤◌, ◌+◌, ◌≡◌, ℕ, true, List, Option, length, subst, ◌<◌, ◌*◌, arith}
 use Rattle.std.proofs.lemmas.Result.{IfOk-weaker}
 use Rattle.column_lists.specs.Numbers.{cost}
 use Rattle.column_lists.specs.declared.TheConstants.{MOST_COST}
 use Rattle.block_decoder.specs.Numbers.{bound_of}
 use Rattle.block_decoder.specs.Report.{Agreement}
 use Rattle.block_decoder.specs.Reported.{IsListedFrom, IsReportBeside, ReportsNoMoreThan}
-use Rattle.block_decoder.specs.Verdict.{IsDecided, ListsNoMoreThan, least_columns}
+use Rattle.block_decoder.specs.Verdict.{IsDecided, IsRefusal, ListsNoMoreThan, least_columns}
 use Rattle.block_decoder.specs.declared.verdict.Verdict.{Verdict}
-use Rattle.block_decoder.proofs.Beside.{decided, beside, few_beside, least_listed}
+use Rattle.block_decoder.proofs.Beside.{decided, beside, few_beside, least_listed, refused}
 use Rattle.block_decoder.proofs.FewBlocks.{few_decided}
 use Rattle.block_decoder.proofs.decoder.decide_among.Goals as goal
 
-pub find_agreements-requires-clause-cheap : goal.find_agreements-requires-clause-cheap
-find_agreements-requires-clause-cheap g c =
-    subst (λ (k : ℕ). cost k c.args.t c.args.h ≤ MOST_COST) c.len-k.ensures (subst (λ (n : ℕ). n ≤ MOST_COST) c.plan-cost.ensures.cost c.if-cost-gt-MOST_COST.false)
+pub returns-in-Some-clause-verdict : goal.returns-in-Some-clause-verdict
+returns-in-Some-clause-verdict g c = (refused c.args.answers c.args.s c.args.t c.args.h (bound_of (length c.args.answers) c.args.t c.args.h) c.in-Some.verdict (subst (λ (k : ℕ). IsRefusal k c.args.t c.args.h c.in-Some.verdict) c.len.ensures c.in-Some.ensures.refused)).0
+
+pub returns-in-Some-clause-report : goal.returns-in-Some-clause-report
+returns-in-Some-clause-report g c = λ wanted. (refused c.args.answers c.args.s c.args.t c.args.h (bound_of (length c.args.answers) c.args.t c.args.h) c.in-Some.verdict (subst (λ (k : ℕ). IsRefusal k c.args.t c.args.h c.in-Some.verdict) c.len.ensures c.in-Some.ensures.refused)).3
+
+pub returns-in-Some-clause-listed : goal.returns-in-Some-clause-listed
+returns-in-Some-clause-listed g c =
+    let none = (refused c.args.answers c.args.s c.args.t c.args.h (bound_of (length c.args.answers) c.args.t c.args.h) c.in-Some.verdict (subst (λ (k : ℕ). IsRefusal k c.args.t c.args.h c.in-Some.verdict) c.len.ensures c.in-Some.ensures.refused)).1 in
+    omega (arith, none)
+
+pub returns-in-Some-clause-few : goal.returns-in-Some-clause-few
+returns-in-Some-clause-few g c = (refused c.args.answers c.args.s c.args.t c.args.h (bound_of (length c.args.answers) c.args.t c.args.h) c.in-Some.verdict (subst (λ (k : ℕ). IsRefusal k c.args.t c.args.h c.in-Some.verdict) c.len.ensures c.in-Some.ensures.refused)).2
+
+pub find_agreements-requires : goal.find_agreements-requires
+find_agreements-requires g c =
+    let is = subst (λ (k : ℕ). (c.args.h ≤ k) × (k * c.args.t < c.args.h * c.args.h) × (cost k c.args.t c.args.h ≤ MOST_COST)) c.len.ensures c.in_default.ensures.listed in
+    let width = c.requires.width in
+    record {
+      columns = c.requires.columns;
+      nonzero = c.requires.nonzero;
+      few = c.requires.few;
+      redundant = c.requires.agreement;
+      agreement = is.0;
+      strong = is.1;
+      cheap = is.2;
+      some = omega (arith, width);
+    }
 
 pub returns-clause-verdict : goal.returns-clause-verdict
 returns-clause-verdict g c =
     let answers = c.args.answers in
     let report = c.in_ok-report.report in
-    let enough = subst (λ (k : ℕ). c.args.h ≤ k) c.len-k.ensures c.if-k-h.false in
-    let strong = subst (λ (k : ℕ). k * c.args.t < c.args.h * c.args.h) c.len-k.ensures c.if-h-k.false in
-    let cheap = subst (λ (k : ℕ). cost k c.args.t c.args.h ≤ MOST_COST) c.len-k.ensures (subst (λ (n : ℕ). n ≤ MOST_COST) c.plan-cost.ensures.cost c.if-cost-gt-MOST_COST.false) in
+    let is = subst (λ (k : ℕ). (c.args.h ≤ k) × (k * c.args.t < c.args.h * c.args.h) × (cost k c.args.t c.args.h ≤ MOST_COST)) c.len.ensures c.in_default.ensures.listed in
     IfOk-weaker c.listed.result (IsListedFrom c.args.wanted report) (λ (found : Verdict × Option (List Agreement)). IsDecided answers c.args.s c.args.t c.args.h found.0)
-    (λ found is. decided answers c.args.s c.args.t c.args.h c.requires.columns report c.in_ok-report.ensures.report enough strong cheap found.0 is.0) c.listed.ensures
+    (λ found is_listed. decided answers c.args.s c.args.t c.args.h c.requires.columns report c.in_ok-report.ensures.report is.0 is.1 is.2 found.0 is_listed.0) c.listed.ensures
 
 pub returns-clause-report : goal.returns-clause-report
 returns-clause-report g c =
@@ -51,7 +74,7 @@ pub returns-clause-few_agree : goal.returns-clause-few_agree
 returns-clause-few_agree g c =
     let answers = c.args.answers in
     let report = c.in_ok-report.report in
-    let strong = subst (λ (k : ℕ). k * c.args.t < c.args.h * c.args.h) c.len-k.ensures c.if-h-k.false in
+    let is = subst (λ (k : ℕ). (c.args.h ≤ k) × (k * c.args.t < c.args.h * c.args.h) × (cost k c.args.t c.args.h ≤ MOST_COST)) c.len.ensures c.in_default.ensures.listed in
     IfOk-weaker c.listed.result (IsListedFrom c.args.wanted report)
     (λ (found : Verdict × Option (List Agreement)). ReportsNoMoreThan (bound_of (length answers) c.args.t c.args.h) found.1)
-    (λ found is. few_beside answers c.args.s c.args.t c.args.h c.requires.columns report c.in_ok-report.ensures.report c.requires.agreement.1 strong c.args.wanted found is) c.listed.ensures
+    (λ found is_listed. few_beside answers c.args.s c.args.t c.args.h c.requires.columns report c.in_ok-report.ensures.report c.requires.agreement.1 is.1 c.args.wanted found is_listed) c.listed.ensures

@@ -1,5 +1,5 @@
-use Rattle.std.proofs.Common.{◌≡◌, ◌≢◌, ◌+◌, ◌∷◌, ◌++◌, ◌≤◌, ℕ, List, [], length, All, ap, sym, subst, ◌∙◌, arith}
-use Rattle.wire_frames.specs.Answer.{Answer, answers, block_len}
+use Rattle.std.proofs.Common.{◌≡◌, ◌≢◌, ◌+◌, ◌∷◌, ◌++◌, ℕ, List, [], length, All, ap, sym, subst, ◌∙◌, arith}
+use Rattle.wire_frames.specs.Answer.{Answer, block_len}
 use Rattle.wire_frames.specs.Sizes.{answer_len}
 use Rattle.wire_frames.specs.declared.session.SessionParams.{SessionParams}
 use Rattle.block_decoder.specs.Agreed.{HasColumns}

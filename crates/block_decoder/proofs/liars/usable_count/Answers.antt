@@ -1,5 +1,5 @@
-use Rattle.std.proofs.Common.{◌≡◌, ◌+◌, ◌≤◌, length, refl, sym, ap, ◌∙◌, arith}
-use Rattle.block_decoder.proofs.FirstAnswers.{first_of, first_of-none, first_of-all, count-one, count-no, count-few}
+use Rattle.std.proofs.Common.{length, sym, ap, ◌∙◌, arith}
+use Rattle.block_decoder.proofs.FirstAnswers.{first_of-none, first_of-all, count-one, count-no}
 use Rattle.block_decoder.proofs.liars.usable_count.Goals as goal
 use Rattle.block_decoder.proofs.liars.usable_count.Goals.{in-Some, in_default}
 

@@ -1,12 +1,9 @@
-use Rattle.std.proofs.Common.{ℕ, List, [], ◌∷◌, ◌++◌, ◌∙◌, ap, subst}
+use Rattle.std.proofs.Common.{[], ◌∷◌, ◌++◌, ap}
 use Rattle.std.specs.Prelude.{flat_map, codes}
 use Rattle.std.proofs.lemmas.Result.{err_from_is_err_and}
 use Rattle.hex.specs.Hex.{encode_lower}
-use Rattle.pir_ports.specs.Number.{OUTPUT}
-use Rattle.pir_ports.specs.Moves.{gave}
-use Rattle.pir_ports.specs.Written.{Written}
-use Rattle.pir_ports.proofs.Cells.{fails_next}
-use Rattle.pir_ports.proofs.Pieces.{written_next, written_first, written_cut, written_both}
+use Rattle.port_rules.proofs.Cells.{fails_next}
+use Rattle.port_rules.proofs.Pieces.{written_next, written_first, written_cut, written_both}
 use Rattle.block_decoder.specs.Text.{agree_line, number_word, line_of}
 use Rattle.block_decoder.proofs.reporting.write_agreement.Goals as goal
 

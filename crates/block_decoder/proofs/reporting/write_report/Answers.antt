@@ -1,11 +1,11 @@
-use Rattle.std.proofs.Common.{ℕ, List, ◌++◌, ◌∙◌, ap, subst}
+use Rattle.std.proofs.Common.{ℕ, List, ◌∙◌, ap, subst}
 use Rattle.std.specs.Prelude.{flat_map}
 use Rattle.std.proofs.lemmas.Result.{err_from_is_err_and}
 use Rattle.wire_frames.specs.Answer.{answers}
-use Rattle.pir_ports.specs.Number.{OUTPUT}
-use Rattle.pir_ports.specs.Moves.{gave}
-use Rattle.pir_ports.specs.Written.{Written}
-use Rattle.pir_ports.proofs.Pieces.{written_next, written_first}
+use Rattle.port_rules.specs.Number.{OUTPUT}
+use Rattle.port_rules.specs.Moves.{gave}
+use Rattle.port_rules.specs.Written.{Written}
+use Rattle.port_rules.proofs.Pieces.{written_next, written_first}
 use Rattle.block_decoder.specs.Report.{Agreement}
 use Rattle.block_decoder.specs.Text.{agree_line, liars_line, report_text}
 use Rattle.block_decoder.proofs.reporting.write_report.Goals as goal

@@ -1,7 +1,7 @@
 use Rattle.std.proofs.Common.{[], ◌∷◌}
 use Rattle.hex.specs.Hex.{encode_lower}
 use Rattle.block_decoder.specs.Text.{block_line}
-use Rattle.pir_ports.proofs.Pieces.{written_next, written_first, written_both}
+use Rattle.port_rules.proofs.Pieces.{written_next, written_first, written_both}
 use Rattle.std.proofs.lemmas.Result.{err_from_is_err_and}
 use Rattle.block_decoder.proofs.write.write_block.Goals as goal
 

@@ -1,7 +1,7 @@
 use Rattle.std.proofs.Common.{[], ◌∷◌, ◌++◌}
 use Rattle.std.specs.Prelude.{flat_map}
 use Rattle.std.proofs.lemmas.Result.{err_from_is_err_and}
-use Rattle.pir_ports.proofs.Pieces.{written_next, written_first, written_cut, written_both}
+use Rattle.port_rules.proofs.Pieces.{written_next, written_first, written_cut, written_both}
 use Rattle.block_decoder.specs.Text.{number_word, line_of}
 use Rattle.block_decoder.proofs.write.write_line.Goals as goal
 

@@ -1,9 +1,9 @@
 use Rattle.std.proofs.Common.{◌∙◌, ap, subst, [], ◌∷◌, List, ℕ, length}
 use Rattle.std.specs.Prelude.{flat_map}
-use Rattle.pir_ports.specs.Number.{OUTPUT}
-use Rattle.pir_ports.specs.Moves.{gave}
-use Rattle.pir_ports.specs.Written.{Written}
-use Rattle.pir_ports.proofs.Pieces.{written_next}
+use Rattle.port_rules.specs.Number.{OUTPUT}
+use Rattle.port_rules.specs.Moves.{gave}
+use Rattle.port_rules.specs.Written.{Written}
+use Rattle.port_rules.proofs.Pieces.{written_next}
 use Rattle.block_decoder.specs.Text.{block_line, line_of}
 use Rattle.block_decoder.proofs.write.write_listing.Goals as goal
 

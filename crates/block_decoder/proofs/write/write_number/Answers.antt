@@ -1,6 +1,6 @@
 use Rattle.std.proofs.Common.{[], ◌∷◌, decimal}
 use Rattle.std.proofs.lemmas.Result.{err_from_is_err_and}
-use Rattle.pir_ports.proofs.Pieces.{written_next, written_first, written_both}
+use Rattle.port_rules.proofs.Pieces.{written_next, written_first, written_both}
 use Rattle.block_decoder.specs.Text.{number_word}
 use Rattle.block_decoder.proofs.write.write_number.Goals as goal
 

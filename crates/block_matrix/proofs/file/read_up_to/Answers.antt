@@ -1,8 +1,8 @@
 use Rattle.std.proofs.Common.{length-drop, ◌≡◌, ◌∙◌, ◌+◌, ℕ, List, length, take, drop, refl, sym, ap, subst, arith}
-use Rattle.pir_ports.specs.Number.{DATABASE}
-use Rattle.pir_ports.specs.Moves.{Hands}
-use Rattle.pir_ports.specs.Whole.{Reads, Ends}
-use Rattle.pir_ports.proofs.Cells.{touches_more}
+use Rattle.port_rules.specs.Number.{DATABASE}
+use Rattle.port_rules.specs.Moves.{Hands}
+use Rattle.port_rules.specs.Whole.{Reads, Ends}
+use Rattle.port_rules.proofs.Cells.{touches_more}
 use Rattle.block_matrix.specs.Loading.{ReadsUpTo}
 use Rattle.block_matrix.proofs.Pieces.{whole_again, reads_full, reads_ended, reads_failed}
 use Rattle.block_matrix.proofs.file.read_up_to.Goals as goal

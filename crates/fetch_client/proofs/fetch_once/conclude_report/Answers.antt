@@ -1,10 +1,12 @@
-use Rattle.std.proofs.Common.{◌≡◌, ◌+◌, ◌*◌, ℕ, List, length, sym, ap, subst, ◌∙◌}
+use Rattle.std.proofs.Common.{◌≡◌, ◌+◌, ◌≤◌, ℕ, List, length, sym, ap, subst, ◌∙◌}
 use Rattle.wire_frames.specs.declared.session.SessionParams.{SessionParams}
+use Rattle.wire_frames.specs.Answer.{answers, block_len}
+use Rattle.block_decoder.specs.Numbers.{most_columns, most_nodes}
+use Rattle.block_decoder.specs.Verdict.{least_columns}
 use Rattle.fetch_client.specs.declared.plan.FetchPlan.{FetchPlan}
-use Rattle.fetch_client.specs.Plan.{query_coins, with_degree}
 use Rattle.fetch_client.specs.Sent.{queries_from, session_number}
 use Rattle.fetch_client.specs.Honest.{FindsHonestBlock, NamesLiarsIn}
-use Rattle.fetch_client.proofs.Schemes.{coins_in_session}
+use Rattle.fetch_client.proofs.Schemes.{coins_of_rows}
 use Rattle.fetch_client.proofs.fetch_once.conclude_report.Goals as goal
 
 pub honest_block_is_found-requires-clause-count : goal.honest_block_is_found-requires-clause-count
@@ -21,10 +23,8 @@ pub honest_block_is_found-requires-clause-coins : goal.honest_block_is_found-req
 honest_block_is_found-requires-clause-coins g c =
     let q = c.args.queries.now in
     let t : c.plan-t.result.t ≡ q.plan.t = ap (λ (p : FetchPlan). p.t) c.plan-t.ensures.is in
-    let own = coins_in_session q.plan (length q.blocks) (session_number q.coins) _ _ c.requires.params t in
-    ap length c.query_coins-coins.ensures.is ∙ c.query_coins-coins.ensures.size
-    ∙ ap (λ (n : ℕ). length q.blocks * n) own
-    ∙ ap (λ (l : List ℕ). length l * query_coins (with_degree c.plan-t.result.t c.args.session.now.params)) (sym c.blocks-rows.ensures.is)
+    coins_of_rows q.plan (session_number q.coins) c.plan-t.result.t c.args.session.now.params q.blocks c.blocks-rows.result.now (queries_from q.coins) c.query_coins-coins.result.now
+    c.requires.params t c.query_coins-coins.ensures.is c.query_coins-coins.ensures.size c.blocks-rows.ensures.is
 
 pub honest_block_is_found-requires-clause-held_whole : goal.honest_block_is_found-requires-clause-held_whole
 honest_block_is_found-requires-clause-held_whole g c =
@@ -45,10 +45,8 @@ pub liars_are_named-requires-clause-coins : goal.liars_are_named-requires-clause
 liars_are_named-requires-clause-coins g c =
     let q = c.args.queries.now in
     let t : c.plan-t.result.t ≡ q.plan.t = ap (λ (p : FetchPlan). p.t) c.plan-t.ensures.is in
-    let own = coins_in_session q.plan (length q.blocks) (session_number q.coins) _ _ c.requires.params t in
-    ap length c.query_coins-coins.ensures.is ∙ c.query_coins-coins.ensures.size
-    ∙ ap (λ (n : ℕ). length q.blocks * n) own
-    ∙ ap (λ (l : List ℕ). length l * query_coins (with_degree c.plan-t.result.t c.args.session.now.params)) (sym c.blocks-rows.ensures.is)
+    coins_of_rows q.plan (session_number q.coins) c.plan-t.result.t c.args.session.now.params q.blocks c.blocks-rows.result.now (queries_from q.coins) c.query_coins-coins.result.now
+    c.requires.params t c.query_coins-coins.ensures.is c.query_coins-coins.ensures.size c.blocks-rows.ensures.is
 
 pub returns-clause-found : goal.returns-clause-found
 returns-clause-found g c =
@@ -69,3 +67,30 @@ returns-clause-liars g c =
     (subst (λ (blocks : List ℕ). NamesLiarsIn session c.plan-t.result.t c.plan-t.result.tau (queries_from q.coins) blocks found) c.blocks-rows.ensures.is
     (subst (λ (coins : List ℕ). NamesLiarsIn session c.plan-t.result.t c.plan-t.result.tau coins c.blocks-rows.result.now found) c.query_coins-coins.ensures.is
     c.liars_are_named.ensures))
+
+pub returns-in_err-verdict-clause-cols : goal.returns-in_err-verdict-clause-cols
+returns-in_err-verdict-clause-cols g c =
+    subst (λ (p : SessionParams). c.judge_report.new.cols ≤ c.args.cols.now + most_columns (length (answers c.args.session.now)) p.t p.h (block_len p)) c.requires.params c.judge_report.ensures.cols
+
+pub returns-in_err-verdict-clause-nodes : goal.returns-in_err-verdict-clause-nodes
+returns-in_err-verdict-clause-nodes g c =
+    subst (λ (p : SessionParams). c.judge_report.new.nodes ≤ c.args.nodes.now + most_nodes (length (answers c.args.session.now)) p.t p.h (block_len p)) c.requires.params c.judge_report.ensures.nodes
+
+pub returns-in_err-verdict-clause-xor : goal.returns-in_err-verdict-clause-xor
+returns-in_err-verdict-clause-xor g c = λ two. c.judge_report.ensures.xor (ap (λ (p : SessionParams). p.scheme) c.requires.params ∙ two)
+
+pub returns-clause-cols : goal.returns-clause-cols
+returns-clause-cols g c =
+    subst (λ (p : SessionParams). c.judge_report.new.cols ≤ c.args.cols.now + most_columns (length (answers c.args.session.now)) p.t p.h (block_len p)) c.requires.params c.judge_report.ensures.cols
+
+pub returns-clause-nodes : goal.returns-clause-nodes
+returns-clause-nodes g c =
+    subst (λ (p : SessionParams). c.judge_report.new.nodes ≤ c.args.nodes.now + most_nodes (length (answers c.args.session.now)) p.t p.h (block_len p)) c.requires.params c.judge_report.ensures.nodes
+
+pub returns-clause-xor : goal.returns-clause-xor
+returns-clause-xor g c = λ two. c.judge_report.ensures.xor (ap (λ (p : SessionParams). p.scheme) c.requires.params ∙ two)
+
+pub returns-clause-listed : goal.returns-clause-listed
+returns-clause-listed g c = λ one.
+    subst (λ (p : SessionParams). c.args.cols.now + least_columns (block_len p) c.in_ok-verdict.verdict ≤ c.judge_report.new.cols) c.requires.params
+    (c.in_ok-verdict.ensures.listed (ap (λ (p : SessionParams). p.scheme) c.requires.params ∙ one))

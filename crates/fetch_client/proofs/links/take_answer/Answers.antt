@@ -1,6 +1,6 @@
 use Rattle.std.proofs.Common.{length, sym, subst}
 use Rattle.std.specs.Prelude.{Bool, None}
-use Rattle.pir_ports.specs.Number.{link}
+use Rattle.port_rules.specs.Number.{link}
 use Rattle.fetch_client.specs.Link.{LinkTaken}
 use Rattle.fetch_client.proofs.Asking.{fails_to_hand}
 use Rattle.fetch_client.proofs.links.take_answer.Goals as goal

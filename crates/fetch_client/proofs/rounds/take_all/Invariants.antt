@@ -1,6 +1,6 @@
 use Rattle.std.proofs.Common.{◌≡◌, length}
-use Rattle.pir_ports.specs.Number.{link}
-use Rattle.pir_ports.specs.Each.{TouchesRange}
+use Rattle.port_rules.specs.Number.{link}
+use Rattle.port_rules.specs.Each.{TouchesRange}
 use Rattle.fetch_client.specs.Rounds.{TakenEach}
 use Rattle.fetch_client.proofs.rounds.take_all.Given as goal
 

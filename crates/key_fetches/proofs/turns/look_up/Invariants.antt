@@ -1,5 +1,5 @@
 use Rattle.std.proofs.Common.{map, string_bytes}
-use Rattle.pir_ports.specs.Number.{COINS}
+use Rattle.port_rules.specs.Number.{COINS}
 use Rattle.fetch_client.specs.Fetched.{TouchesLinks}
 use Rattle.key_fetches.proofs.Progress.{InTurns}
 use Rattle.key_fetches.proofs.turns.look_up.Given as goal

@@ -1,5 +1,5 @@
 use Rattle.std.proofs.Common.{◌≡◌, map, string_bytes}
-use Rattle.pir_ports.specs.Number.{DOOR, GUEST}
+use Rattle.port_rules.specs.Number.{DOOR, GUEST}
 use Rattle.shard_front.specs.Spread.{shards}
 use Rattle.pir_tool.specs.FrontAnswers.{FrontsGuests}
 use Rattle.pir_tool.specs.FrontSteps.{FrontsInTurn, TouchesRelaying}

@@ -1,7 +1,7 @@
 use Rattle.std.proofs.Common.{◌∙◌, sym, ap, subst}
 use Rattle.std.specs.Prelude.{Err, Result}
 use Rattle.std.proofs.lemmas.Result.{err_from_is_err_and}
-use Rattle.pir_ports.specs.Number.{COINS}
+use Rattle.port_rules.specs.Number.{COINS}
 use Rattle.fetch_client.specs.declared.plan.FetchFault.{FetchFault}
 use Rattle.key_fetches.specs.Listed.{Ended}
 use Rattle.key_fetches.specs.LookedUp.{LooksUp}

@@ -1,6 +1,6 @@
 use Rattle.std.proofs.Common.{sym, subst}
 use Rattle.std.specs.Prelude.{Err}
-use Rattle.pir_ports.specs.Number.{COINS}
+use Rattle.port_rules.specs.Number.{COINS}
 use Rattle.key_fetches.specs.LookedUp.{LooksUp}
 use Rattle.pir_tool.specs.Faults.{of_fetch}
 use Rattle.pir_tool.specs.LookUpOrder.{LookUpOrder}

@@ -1,4 +1,4 @@
-use Rattle.pir_ports.proofs.Pieces.{written_next}
+use Rattle.port_rules.proofs.Pieces.{written_next}
 use Rattle.block_decoder.specs.Text.{report_text, text}
 use Rattle.pir_tool.proofs.report.write_both.Goals as goal
 

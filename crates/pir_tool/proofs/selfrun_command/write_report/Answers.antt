@@ -1,5 +1,5 @@
 use Rattle.block_decoder.specs.Text.{text}
-use Rattle.pir_ports.proofs.Pieces.{written_next, written_both}
+use Rattle.port_rules.proofs.Pieces.{written_next, written_both}
 use Rattle.pir_tool.proofs.selfrun_command.write_report.Goals as goal
 
 pub returns-clause-written : goal.returns-clause-written

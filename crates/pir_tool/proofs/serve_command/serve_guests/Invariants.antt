@@ -1,5 +1,5 @@
 use Rattle.std.proofs.Common.{◌≡◌}
-use Rattle.pir_ports.specs.Number.{DOOR, GUEST}
+use Rattle.port_rules.specs.Number.{DOOR, GUEST}
 use Rattle.pir_tool.specs.ServeSteps.{AttendsInTurn, ServesGuests, TouchesGuests}
 use Rattle.pir_tool.proofs.Serving.{Replying}
 use Rattle.pir_tool.proofs.serve_command.serve_guests.Given as goal

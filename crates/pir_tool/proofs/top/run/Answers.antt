@@ -1,7 +1,8 @@
-use Rattle.std.proofs.Common.{subst, arith}
+use Rattle.std.proofs.Common.{inl, inr, refl, subst, arith}
 use Rattle.pir_tool.specs.Outcome.{Outcome}
 use Rattle.pir_tool.specs.FetchOutcome.{FetchOutcome}
 use Rattle.pir_tool.proofs.Demonstrating.{demo_promised}
+use Rattle.pir_tool.proofs.Formless.{no_demo, no_fetch, no_front, no_look_up, no_replay, no_room, no_selfrun, no_serve, no_split, no_usage, refused}
 use Rattle.pir_tool.proofs.Headline.{answered, replay_promised, fetch_promised}
 use Rattle.pir_tool.proofs.SelfrunHeadline.{selfrun_promised}
 use Rattle.pir_tool.proofs.ServeHeadline.{serve_promised}
@@ -11,7 +12,54 @@ use Rattle.pir_tool.proofs.LookingUp.{look_up_is, look_up_promised}
 use Rattle.pir_tool.proofs.SplitHeadline.{split_promised}
 use Rattle.pir_tool.proofs.Fronting.{front_promised}
 use Rattle.pir_words.specs.Form.{InRange}
+use Rattle.pir_tool.specs.declared.status.Status.{Status}
 use Rattle.pir_tool.proofs.top.run.Goals as goal
+
+pub returns-in-Err-clause-words : goal.returns-in-Err-clause-words
+returns-in-Err-clause-words g c = refused _ c.in-Err.fault _ _ c.in-Err.ensures.form c.into.ensures
+
+pub returns-in-Err-clause-outcome : goal.returns-in-Err-clause-outcome
+returns-in-Err-clause-outcome g c = λ asked command. inl (no_room _ c.in-Err.fault _ asked c.in-Err.ensures.form c.into.ensures command, refl)
+
+pub returns-in-Err-clause-headline : goal.returns-in-Err-clause-headline
+returns-in-Err-clause-headline g c = λ file bytes wanted session command told whole none. inr (no_room _ c.in-Err.fault _ _ c.in-Err.ensures.form c.into.ensures command)
+
+pub returns-in-Err-clause-replay : goal.returns-in-Err-clause-replay
+returns-in-Err-clause-replay g c = λ file wanted command. no_replay _ _ _ (no_room _ c.in-Err.fault _ _ c.in-Err.ensures.form c.into.ensures command) wanted
+
+pub returns-in-Err-clause-fetch : goal.returns-in-Err-clause-fetch
+returns-in-Err-clause-fetch g c = λ order orders. no_fetch _ _ _ (no_room _ c.in-Err.fault _ _ c.in-Err.ensures.form c.into.ensures orders.command) order
+
+pub returns-in-Err-clause-serve : goal.returns-in-Err-clause-serve
+returns-in-Err-clause-serve g c = λ order command. no_serve _ _ _ (no_room _ c.in-Err.fault _ _ c.in-Err.ensures.form c.into.ensures command) order
+
+pub returns-in-Err-clause-selfrun : goal.returns-in-Err-clause-selfrun
+returns-in-Err-clause-selfrun g c = λ order command. no_selfrun _ _ _ (no_room _ c.in-Err.fault _ _ c.in-Err.ensures.form c.into.ensures command) order.load
+
+pub returns-in-Err-clause-demo : goal.returns-in-Err-clause-demo
+returns-in-Err-clause-demo g c = λ order command. no_demo _ _ _ (no_room _ c.in-Err.fault _ _ c.in-Err.ensures.form c.into.ensures command) order
+
+pub returns-in-Err-clause-lookup : goal.returns-in-Err-clause-lookup
+returns-in-Err-clause-lookup g c = λ order orders. no_look_up _ _ _ (no_room _ c.in-Err.fault _ _ c.in-Err.ensures.form c.into.ensures orders.command) order
+
+pub returns-in-Err-clause-split : goal.returns-in-Err-clause-split
+returns-in-Err-clause-split g c = λ order command. no_split _ _ _ (no_room _ c.in-Err.fault _ _ c.in-Err.ensures.form c.into.ensures command) order
+
+pub returns-in-Err-clause-front : goal.returns-in-Err-clause-front
+returns-in-Err-clause-front g c = λ order command. no_front _ _ _ (no_room _ c.in-Err.fault _ _ c.in-Err.ensures.form c.into.ensures command) order
+
+pub returns-in-Ok-clause-words : goal.returns-in-Ok-clause-words
+returns-in-Ok-clause-words g c =
+    let form = c.in-Ok.ensures.form in
+    record {
+      formless = λ usage. absurd (no_usage _ _ _ (subst (λ (s : Status). Outcome c.in-Ok.asked s (g.P.Ports.world c.args.ports.now) (g.P.Ports.world c.obey.new.ports)) usage c.obey.ensures));
+      said = λ none. absurd cc;
+      untouched = λ none. absurd cc;
+    }
+
+pub returns-in-Ok-clause-outcome : goal.returns-in-Ok-clause-outcome
+returns-in-Ok-clause-outcome g c = λ asked command.
+    inr (subst (λ a. Outcome a c.obey.result (g.P.Ports.world c.args.ports.now) (g.P.Ports.world c.obey.new.ports)) (one_command _ _ _ c.in-Ok.ensures.form command) c.obey.ensures)
 
 pub returns-in-Ok-clause-headline : goal.returns-in-Ok-clause-headline
 returns-in-Ok-clause-headline g c = λ file bytes wanted session command told whole none.

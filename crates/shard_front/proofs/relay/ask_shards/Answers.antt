@@ -1,8 +1,8 @@
 use Rattle.std.proofs.Common.{◌≡◌, ◌∙◌, ℕ, ◌+◌, ◌<◌, [], length, map, get_or, string_bytes, refl, sym, ap, arith}
 use Rattle.std.proofs.lemmas.List.{get_or-map}
-use Rattle.pir_ports.specs.Number.{link}
-use Rattle.pir_ports.specs.declared.port.TheConstants.{PORT_COUNT}
-use Rattle.pir_ports.proofs.Ranges.{range_more}
+use Rattle.port_rules.specs.Number.{link}
+use Rattle.port_rules.specs.declared.port.TheConstants.{PORT_COUNT}
+use Rattle.port_rules.proofs.Ranges.{range_more}
 use Rattle.shard_front.specs.Spread.{shards}
 use Rattle.shard_front.proofs.Summing.{lost_next, sums_more, sums_none}
 use Rattle.shard_front.proofs.relay.ask_shards.Goals as goal

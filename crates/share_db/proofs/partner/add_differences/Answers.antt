@@ -3,7 +3,7 @@ use Rattle.std.proofs.lemmas.Option.{unwrap_or-slice_get}
 use Rattle.gf256.specs.Field.{◌⊕◌, ◌⊗◌}
 use Rattle.gf256.proofs.Added.{added-place}
 use Rattle.gf256.specs.Polynomial.{coef}
-use Rattle.share_db.specs.Share.{difference}
+use Rattle.share_db.specs.Partner.{difference}
 use Rattle.share_db.proofs.partner.add_differences.Goals as goal
 
 pub loop-j-preserved : goal.loop-j-preserved

@@ -1,5 +1,5 @@
 use Rattle.gf256.specs.Rows.{IsAdded}
-use Rattle.share_db.specs.Share.{difference}
+use Rattle.share_db.specs.Partner.{difference}
 use Rattle.share_db.proofs.partner.add_differences.Given as goal
 
 abbrev pub invariant-loop-j : goal.invariant-loop-j

@@ -1,7 +1,8 @@
 use Rattle.std.proofs.Common.{ap, ◌∙◌, get_or}
 use Rattle.std.proofs.lemmas.List.{take_at, get_or_default}
 use Rattle.uni_poly.proofs.Coefficients.{bytes_from_get_or}
-use Rattle.share_db.specs.Share.{share, partner_db}
+use Rattle.share_bytes.specs.Share.{share}
+use Rattle.share_db.specs.Partner.{partner_db}
 use Rattle.share_db.proofs.SameShares.{same_share, partner_db_back, partner_db_is}
 use Rattle.share_db.proofs.partner.partner_db.Goals as goal
 

@@ -1,9 +1,9 @@
 use Rattle.std.proofs.Common.{◌≡◌, ◌+◌, ◌*◌, ◌≤◌, ℕ, ap, ap₂, length, rules, ◌∙◌, arith, length-append, length-drop}
 use Rattle.std.specs.List.{slice_range}
-use Rattle.pir_ports.specs.Number.{share_file}
-use Rattle.pir_ports.proofs.Cells.{at_err, touches_more}
-use Rattle.share_db.specs.Share.{share}
-use Rattle.share_db.proofs.Shares.{length-share, length-slice}
+use Rattle.port_rules.specs.Number.{share_file}
+use Rattle.port_rules.proofs.Cells.{at_err, touches_more}
+use Rattle.share_bytes.specs.Share.{share}
+use Rattle.share_bytes.proofs.Shares.{length-share, length-slice}
 use Rattle.share_files.proofs.Pieces.{piece_given, piece_cut, no_piece_given, all_pieces_given}
 use Rattle.share_files.proofs.splitting.give_share.Goals as goal
 

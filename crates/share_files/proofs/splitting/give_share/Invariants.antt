@@ -1,7 +1,7 @@
 use Rattle.std.proofs.Common.{◌≡◌, ◌-◌, ◌≤◌, length}
-use Rattle.pir_ports.specs.Number.{share_file}
-use Rattle.pir_ports.specs.Moves.{Touches, gave}
-use Rattle.share_db.proofs.Shares.{first_shares}
+use Rattle.port_rules.specs.Number.{share_file}
+use Rattle.port_rules.specs.Moves.{Touches, gave}
+use Rattle.share_bytes.proofs.Shares.{first_shares}
 use Rattle.share_files.proofs.splitting.give_share.Given as goal
 
 -- the shares of the positions before this one are given

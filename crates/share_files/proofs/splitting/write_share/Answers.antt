@@ -1,5 +1,5 @@
 use Rattle.std.proofs.Common.{inl, arith}
-use Rattle.share_db.proofs.Shares.{length-share}
+use Rattle.share_bytes.proofs.Shares.{length-share}
 use Rattle.share_files.proofs.splitting.write_share.Goals as goal
 
 pub returns-in_default-clause-failed : goal.returns-in_default-clause-failed

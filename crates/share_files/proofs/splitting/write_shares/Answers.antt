@@ -1,8 +1,8 @@
 use Rattle.std.proofs.Common.{◌≡◌, ◌∙◌, ◌+◌, ◌<◌, ℕ, List, [], length, map, string_bytes, slice_index_or, sym, ap, ap₂, rules, arith}
 use Rattle.std.proofs.lemmas.List.{length-map, get_or-map}
-use Rattle.pir_ports.specs.Number.{share_file}
-use Rattle.pir_ports.specs.Moves.{gave, named}
-use Rattle.share_db.specs.Share.{share}
+use Rattle.port_rules.specs.Number.{share_file}
+use Rattle.port_rules.specs.Moves.{gave, named}
+use Rattle.share_bytes.specs.Share.{share}
 use Rattle.share_files.proofs.Shares.{shares_more}
 use Rattle.share_files.proofs.splitting.write_shares.Goals as goal
 

@@ -1,18 +1,82 @@
-use Rattle.std.proofs.Common.{◌≡◌, ◌∙◌, ℕ, ap, subst, sym, arith}
+use Rattle.std.proofs.Common.{◌≡◌, ◌∙◌, ℕ, ◌+◌, ◌<◌, ◌≤◌, ◌^◌, Fits, w8, w32, ap, subst, sym, arith, lit≤, lit<}
 use Rattle.wire_frames.specs.Layout.{IsHeader}
-use Rattle.wire_frames.specs.Field.{width_field}
+use Rattle.wire_frames.specs.Field.{IsField, width_field}
 use Rattle.wire_frames.specs.Version.{count_of}
 use Rattle.wire_frames.specs.Scheme.{scheme_of}
-use Rattle.wire_frames.specs.declared.TheConstants.{MOST_BLOCKS}
+use Rattle.wire_frames.specs.declared.field.Number.{Number}
+use Rattle.wire_frames.specs.declared.TheConstants.{MOST_BLOCKS, MOST_DEGREE, MOST_SERVERS}
 use Rattle.wire_frames.specs.declared.places.TheConstants.{SESSION_AGREEMENT_PLACE, SESSION_SERVERS_PLACE, SESSION_COUNT_PLACE, SESSION_WIDTH_PLACE}
 use Rattle.wire_frames.proofs.Chains.{leads-start, leads-stop, leads-done, no_more}
 use Rattle.wire_frames.proofs.Counts.{byte_most}
 use Rattle.wire_frames.proofs.Prefixes.{reads-exit}
-use Rattle.wire_frames.proofs.Servers.{few_agree}
+use Rattle.wire_frames.proofs.Servers.{few_agree, servers_are}
 use Rattle.wire_frames.proofs.SessionLayout.{params_of, header_into, header_back, to_version, to_scheme, to_t, to_h, to_n, to_count, to_zero, to_session, some_version, some_scheme, some_t, some_h, some_n, some_count, some_zero, some_shape}
 use Rattle.wire_frames.proofs.ShapeFields.{some_r, some_s, to_r, to_s, to_end}
-use Rattle.wire_frames.proofs.Spellings.{number_as, stop_as}
+use Rattle.wire_frames.proofs.Spellings.{is_field, number_as, stop_as}
 use Rattle.wire_frames.proofs.layout.read_header.Goals as goal
+
+-- a number that is at most a byte's, or at most a word's
+fits_byte : {n m : ℕ} → n ≤ m → m < 2 ^ 8 → Fits w8 n
+fits_byte few small = omega (arith, few, small)
+
+fits_word : {n m : ℕ} → n ≤ m → m < 2 ^ 32 → Fits w32 n
+fits_word few small = omega (arith, few, small)
+
+-- where so few may learn nothing together, one more may have to agree
+one_more : (t : ℕ) → t ≤ MOST_DEGREE → t + 1 ≤ MOST_SERVERS
+one_more t few = omega (arith, few)
+
+pub number_at-requires : goal.number_at-requires
+number_at-requires c = is_field _ _ _ (lit≤ tt) (lit≤ tt) (lit< tt)
+
+pub number_at-requires-2 : goal.number_at-requires-2
+number_at-requires-2 c = is_field _ _ _ (lit≤ tt) (lit≤ tt) (lit< tt)
+
+pub number_at-requires-3 : goal.number_at-requires-3
+number_at-requires-3 c = is_field _ _ _ (lit≤ tt) (lit≤ tt) (lit< tt)
+
+pub number_at-requires-4 : goal.number_at-requires-4
+number_at-requires-4 c = is_field _ _ _ (lit≤ tt) (lit≤ tt) (lit< tt)
+
+pub number_at-requires-8 : goal.number_at-requires-8
+number_at-requires-8 c = is_field _ _ _ (lit≤ tt) (lit≤ tt) (lit< tt)
+
+pub number_at-requires-9 : goal.number_at-requires-9
+number_at-requires-9 c = is_field _ _ _ (lit≤ tt) (lit≤ tt) (lit< tt)
+
+pub number_at-requires-10 : goal.number_at-requires-10
+number_at-requires-10 c = is_field _ _ _ (lit≤ tt) (lit≤ tt) (lit< tt)
+
+pub number_at-requires-5 : goal.number_at-requires-5
+number_at-requires-5 c =
+    subst (λ (f : Number). IsField f) (sym c.servers_field.ensures) (servers_are (scheme_of c.in_ok-scheme.scheme) (c.in_ok-t.t + 1) (one_more c.in_ok-t.t c.in_ok-t.ensures.most))
+
+pub number_at-requires-6 : goal.number_at-requires-6
+number_at-requires-6 c =
+    let agree = number_as SESSION_AGREEMENT_PLACE c.args.bytes.now c.servers_field.ensures c.in_ok-h.ensures in
+    let few = few_agree (scheme_of c.in_ok-scheme.scheme) c.in_ok-t.t c.in_ok-h.h c.in_ok-t.ensures.most agree.most in
+    subst (λ (f : Number). IsField f) (sym c.servers_field-2.ensures) (servers_are (scheme_of c.in_ok-scheme.scheme) c.in_ok-h.h few)
+
+pub overflow_cast-scheme : goal.overflow_cast-scheme
+overflow_cast-scheme c = fits_byte c.in_ok-scheme.ensures.most (lit< tt)
+
+pub overflow_cast-scheme-2 : goal.overflow_cast-scheme-2
+overflow_cast-scheme-2 c = fits_byte c.in_ok-scheme.ensures.most (lit< tt)
+
+pub overflow_cast-version : goal.overflow_cast-version
+overflow_cast-version c = fits_byte c.in_ok-version.ensures.most (lit< tt)
+
+pub overflow_cast-result : goal.overflow_cast-result
+overflow_cast-result c = fits_byte c.in_ok-version.ensures.most (lit< tt)
+
+pub overflow_cast-result-2 : goal.overflow_cast-result-2
+overflow_cast-result-2 c = fits_byte c.in_ok-scheme.ensures.most (lit< tt)
+
+pub overflow_cast-result-3 : goal.overflow_cast-result-3
+overflow_cast-result-3 c = fits_byte c.in_ok-t.ensures.most (lit< tt)
+
+pub overflow_cast-result-7 : goal.overflow_cast-result-7
+overflow_cast-result-7 c = fits_word c.in_ok-r.ensures.most (lit< tt)
 
 pub returns-in_err-number_at : goal.returns-in_err-number_at
 returns-in_err-number_at c =

@@ -1,10 +1,10 @@
 use Rattle.std.proofs.Common.{◌∙◌, List, ℕ, length, ap, subst}
 use Rattle.std.specs.Prelude.{Some}
 use Rattle.std.proofs.lemmas.Result.{err_from_is_err_and}
-use Rattle.pir_ports.specs.Number.{RECORD}
-use Rattle.pir_ports.specs.Moves.{gave}
-use Rattle.pir_ports.specs.Whole.{FailsWithin}
-use Rattle.pir_ports.proofs.Pieces.{written_next, written_first, written_both}
+use Rattle.port_rules.specs.Number.{RECORD}
+use Rattle.port_rules.specs.Moves.{gave}
+use Rattle.port_rules.specs.Whole.{FailsWithin}
+use Rattle.port_rules.proofs.Pieces.{written_next, written_first, written_both}
 use Rattle.wire_frames.specs.Layout.{record_header}
 use Rattle.wire_frames.proofs.write.write_present.Goals as goal
 

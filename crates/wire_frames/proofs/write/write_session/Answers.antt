@@ -1,9 +1,9 @@
 use Rattle.std.proofs.Common.{◌∙◌, List, ℕ, ap, subst, refl}
 use Rattle.std.proofs.lemmas.Result.{err_from_is_err_and}
-use Rattle.pir_ports.specs.Number.{RECORD}
-use Rattle.pir_ports.specs.Moves.{gave}
-use Rattle.pir_ports.specs.Whole.{FailsWithin}
-use Rattle.pir_ports.proofs.Pieces.{written_next, written_first}
+use Rattle.port_rules.specs.Number.{RECORD}
+use Rattle.port_rules.specs.Moves.{gave}
+use Rattle.port_rules.specs.Whole.{FailsWithin}
+use Rattle.port_rules.proofs.Pieces.{written_next, written_first}
 use Rattle.wire_frames.specs.Session.{header_bytes, records_bytes}
 use Rattle.wire_frames.proofs.write.write_session.Goals as goal
 

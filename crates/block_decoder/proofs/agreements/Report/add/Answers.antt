@@ -1,5 +1,3 @@
-use Rattle.std.proofs.Common.{subst}
-use Rattle.block_decoder.specs.Report.{Agreement}
 use Rattle.block_decoder.proofs.agreements.Report.add.Goals as goal
 
 pub returns-clause-ok : goal.returns-clause-ok

@@ -1,9 +1,7 @@
-use Rattle.std.proofs.Common.{◌≡◌, List, Contains, refl, sym, ap, subst, ◌∙◌, inl, inr}
-use Rattle.std.specs.List.Sorted.{IsStrictlySortedBy}
+use Rattle.std.proofs.Common.{Contains, sym, subst, inl, inr}
 use Rattle.std.specs.Result.{is_ok}
-use Rattle.block_decoder.specs.Report.{Agreement, agreement_cmp}
 use Rattle.block_decoder.proofs.Ascending.{Contains-insert}
-use Rattle.block_decoder.proofs.Reported.{agreement_cmp_total, same_agreements, Contains-at, rise, put_in}
+use Rattle.block_decoder.proofs.Reported.{same_agreements, Contains-at, rise, put_in}
 use Rattle.block_decoder.proofs.agreements.Report.insert.Goals as goal
 
 pub returns-in-Ok-clause-ok : goal.returns-in-Ok-clause-ok

@@ -1,4 +1,4 @@
-use Rattle.std.proofs.Common.{◌≡◌, List, [], ◌∷◌, ◌++◌, length, sym, ap, subst, ◌∙◌, arith, append_assoc, append-nil}
+use Rattle.std.proofs.Common.{◌≡◌, List, [], ◌∷◌, ◌++◌, sym, ap, subst, ◌∙◌, arith, append_assoc, append-nil}
 use Rattle.block_decoder.specs.Report.{Agreement, HasBlocks}
 use Rattle.block_decoder.proofs.HeavyVectors.{empty_list}
 use Rattle.block_decoder.proofs.Reported.{blocks-more}

@@ -1,6 +1,6 @@
-use Rattle.std.proofs.Common.{List, [], ◌∷◌, ◌++◌, take, length, sym, ap, subst, ◌∙◌, arith}
+use Rattle.std.proofs.Common.{[], ◌∷◌, ◌++◌, take, sym, ap, subst, ◌∙◌, arith}
 use Rattle.std.proofs.lemmas.List.{take_all, take_more}
-use Rattle.block_decoder.specs.Report.{Agreement, HasBlocks}
+use Rattle.block_decoder.specs.Report.{HasBlocks}
 use Rattle.block_decoder.proofs.Reported.{blocks-more}
 use Rattle.block_decoder.proofs.agreements.Report.to_listing.Goals as goal
 

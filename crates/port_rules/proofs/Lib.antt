@@ -1,0 +1,6 @@
+pub mod Cells
+pub mod Pieces
+pub mod Served
+pub mod Ranges
+pub mod Carried
+pub mod Links

@@ -1,0 +1,12 @@
+pub mod Moves
+pub mod Touched
+pub mod Number
+pub mod World
+pub mod Guests
+pub mod Children
+pub mod Serving
+pub mod Whole
+pub mod Written
+pub mod Files
+pub mod Tossed
+pub mod Each

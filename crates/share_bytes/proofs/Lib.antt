@@ -1,0 +1,2 @@
+pub mod ProductSums
+pub mod Shares
