@@ -32,7 +32,7 @@ wrong = 0
 
 def most_servers():
     """How many servers a fetch may ask."""
-    with open(f"{TOP}/crates/wire_frames/src/lib.rt") as source:
+    with open(f"{TOP}/crates/quantity_limits/src/lib.rt") as source:
         return int(re.search(r"^pub const MOST_SERVERS: u8 = (\d+);", source.read(), re.M)[1])
 
 

@@ -1,7 +1,7 @@
 -- What a verdict asks of answers.
 use Rattle.std.specs.Prelude.{◌≡◌, ◌≢◌, ℕ, ◌*◌, ◌<◌, ◌≤◌, List, length, All}
 use Rattle.std.specs.List.Sorted.{IsStrictlyIncreasing}
-use Rattle.wire_frames.specs.declared.TheConstants.{MOST_SERVERS}
+use Rattle.quantity_limits.specs.declared.TheConstants.{MOST_SERVERS}
 
 -- the answers with these indices, whose payloads of s bytes stand one after another, can be judged
 pub record CanDecide (indices bytes : List ℕ) (t h s : ℕ) : Type 0 where

@@ -10,6 +10,7 @@ ghost use Rattle.bench_decide.specs.Decidable.{CanDecide};
 use anyhow::{Context, Result};
 use block_decoder::{Verdict, decide};
 use gs_interpolate::Koetter;
+use quantity_limits::MOST_SERVERS;
 use std::alloc::Global;
 use std::marker::Brand;
 use std::rt::Clock;
@@ -17,7 +18,6 @@ use std::sync::ledger::{Blank, Ledger};
 use std::time::Instant;
 use std::{env, fs};
 use uni_poly::steps::Steps;
-use wire_frames::MOST_SERVERS;
 
 /// Whether the indices ascend, and the least is not 0.
 fn are_indices(indices: &[u8]) -> bool

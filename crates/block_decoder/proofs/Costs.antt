@@ -1,12 +1,29 @@
 -- Fewer points cost no more.
-use Rattle.std.proofs.Common.{◌≢◌, ℕ, ◌+◌, ◌*◌, ◌-◌, ◌/◌, ◌<◌, ◌≤◌, List, length, arith, mul-le-mul_left}
+use Rattle.std.proofs.Common.{◌≢◌, ◌⊎◌, ℕ, ◌+◌, ◌*◌, ◌-◌, ◌/◌, ◌<◌, ◌≤◌, List, length, arith, mul-le-mul_left}
 use Rattle.std.proofs.Math.Nat.{mul-le-mul_right, div-mul-le_self}
 use Rattle.std.proofs.lemmas.Nat.{le-div}
+use Rattle.column_lists.specs.declared.TheConstants.{MOST_COST}
 use Rattle.column_lists.specs.Numbers.{mult, cost, degree_of}
 use Rattle.wire_frames.specs.Answer.{Answer}
 use Rattle.block_decoder.specs.Narrowing.{CanBeListed, IsPart}
 use Rattle.block_decoder.specs.Numbers.{column_nodes}
+use Rattle.block_decoder.specs.Verdict.{IsUnlisted}
 use Rattle.block_decoder.proofs.Kept.{part-few, part-All, part-different}
+
+-- with no step, the steps are as few as they may be
+pub no_step : (n more : ℕ) → n ≤ n + more
+no_step n more = omega arith
+
+pub not_fewer : (n : ℕ) → n ≤ n
+not_fewer n = omega arith
+
+-- where answers can be listed, they are not refused
+pub not_unlisted : (k t h : ℕ) → (h ≤ k) × (k * t < h * h) × (cost k t h ≤ MOST_COST) → ¬ IsUnlisted k t h
+not_unlisted k t h is none = apart h k (k * t) (h * h) (cost k t h) is none
+  where
+    apart : (h k weak strong costs : ℕ) → (h ≤ k) × (weak < strong) × (costs ≤ MOST_COST)
+        → ¬ ((k < h) ⊎ (strong ≤ weak) ⊎ (MOST_COST < costs))
+    apart h k weak strong costs is none = omega (arith, is, none)
 
 -- a smaller number has no greater quotient by a greater divisor
 quotients : (x y c d : ℕ) → 0 < d → d ≤ c → x ≤ y → x / c ≤ y / d

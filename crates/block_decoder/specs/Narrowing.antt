@@ -5,7 +5,7 @@ use Rattle.gf256.specs.Polynomial.{val, IsPolynomial}
 use Rattle.column_lists.specs.declared.TheConstants.{MOST_COST}
 use Rattle.column_lists.specs.Numbers.{cost}
 use Rattle.wire_frames.specs.Answer.{Answer}
-use Rattle.wire_frames.specs.declared.TheConstants.{MOST_SERVERS}
+use Rattle.quantity_limits.specs.declared.TheConstants.{MOST_SERVERS}
 use Rattle.block_decoder.specs.Agreed.{holds_first, weight, constants_of}
 use Rattle.block_decoder.specs.Gains.{Gains}
 use Rattle.block_decoder.specs.Leaves.{NodesFrom}

@@ -2,7 +2,7 @@
 
 ghost use Rattle.std.specs.Prelude.{◌≡◌, ◌≢◌, ◌+◌, ◌*◌, ◌^◌, ◌<◌, ◌≤◌, ◌⊎◌, ℕ, true, List, length, All, IfNone, IfOk, IfSome, OnOk};
 ghost use Rattle.std.specs.List.Sorted.{IsStrictlyIncreasing};
-ghost use Rattle.wire_frames.specs.declared.TheConstants.{MOST_SERVERS};
+ghost use Rattle.quantity_limits.specs.declared.TheConstants.{MOST_SERVERS};
 ghost use Rattle.column_lists.specs.declared.TheConstants.{MOST_COST};
 ghost use Rattle.column_lists.specs.Numbers.{cost};
 ghost use Rattle.block_decoder.specs.Agreed.{answers_of, HasColumns, Lists};

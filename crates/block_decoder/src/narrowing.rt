@@ -7,7 +7,7 @@ ghost use Rattle.column_lists.specs.declared.TheConstants.{MOST_COST};
 ghost use Rattle.column_lists.specs.Agreement.{ListsAgreeing};
 ghost use Rattle.column_lists.specs.Numbers.{cost};
 ghost use Rattle.column_runs.specs.Run.{IsRun};
-ghost use Rattle.wire_frames.specs.declared.TheConstants.{MOST_SERVERS};
+ghost use Rattle.quantity_limits.specs.declared.TheConstants.{MOST_SERVERS};
 ghost use Rattle.block_decoder.specs.Agreed.{HasColumns};
 ghost use Rattle.block_decoder.specs.Narrowing.{meets, points_of as points_in, CanBeListed, IsCandidate, IsCounted, IsExtended};
 ghost use Rattle.block_decoder.specs.Report.{agreement_cmp, IsReport};

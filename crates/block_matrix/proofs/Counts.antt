@@ -4,8 +4,8 @@ use Rattle.std.specs.Int.{div_ceil}
 use Rattle.std.proofs.Math.Nat.{div-mul-le_self, mul-le-mul_right, lt_of_mul-lt-mul_right, min-le_left, min-le_right}
 use Rattle.std.proofs.lemmas.Grind.{div_ceil_times}
 use Rattle.std.proofs.lemmas.List.{length-replicate}
-use Rattle.wire_frames.specs.declared.TheConstants.{MOST_ROWS, MOST_WIDTH, MOST_CELLS}
-use Rattle.wire_frames.specs.Limits.{IsShape}
+use Rattle.quantity_limits.specs.declared.TheConstants.{MOST_ROWS, MOST_WIDTH, MOST_CELLS}
+use Rattle.quantity_limits.specs.Shape.{IsShape}
 use Rattle.block_matrix.specs.Database.{limit, filled_up}
 
 -- no more rows than times the width gives the bytes

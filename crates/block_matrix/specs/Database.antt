@@ -2,7 +2,7 @@
 use Rattle.std.specs.Prelude.{ℕ, ◌+◌, ◌-◌, ◌*◌, ◌/◌, min, List, ◌++◌, length, map, replicate, slice_range}
 use Rattle.std.specs.List.{range_with_len}
 use Rattle.std.specs.Int.{div_ceil}
-use Rattle.wire_frames.specs.declared.TheConstants.{MOST_ROWS, MOST_CELLS}
+use Rattle.quantity_limits.specs.declared.TheConstants.{MOST_ROWS, MOST_CELLS}
 
 -- the rows of a database, and how many bytes each has
 pub record Database : Type 0 where

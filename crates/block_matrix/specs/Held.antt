@@ -1,6 +1,6 @@
 -- What the fields of `Matrix` hold.
 use Rattle.std.specs.Prelude.{◌≡◌, ◌*◌, ◌<◌, All, vec_len}
-use Rattle.wire_frames.specs.Limits.{IsShape}
+use Rattle.quantity_limits.specs.Shape.{IsShape}
 use Rattle.block_matrix.specs.declared.matrix.Matrix.TheInside.{Inside}
 
 -- as many bytes as the rows have, and as many rows and bytes as a database may have

@@ -3,7 +3,7 @@ ghost use Rattle.std.specs.Prelude.{◌≡◌, ◌+◌, ◌<◌, ◌≤◌, leng
 ghost use Rattle.port_rules.specs.Number.{DATABASE};
 ghost use Rattle.port_rules.specs.Moves.{Touches};
 ghost use Rattle.port_rules.specs.Whole.{Fills};
-ghost use Rattle.wire_frames.specs.declared.TheConstants.{MOST_WIDTH};
+ghost use Rattle.quantity_limits.specs.declared.TheConstants.{MOST_WIDTH};
 ghost use Rattle.block_matrix.specs.Loading.{Lengthens, ReadsOr, Loads};
 
 use crate::matrix::{LoadFault, Matrix, most_bytes};

@@ -2,14 +2,14 @@
 ghost use Rattle.std.specs.Prelude.{◌≡◌, ℕ, [], ◌+◌, ◌*◌, ◌<◌, ◌≤◌, All, length, slice_index_or, vec_len, IfOk, IfErr};
 ghost use Rattle.std.specs.List.{concat};
 ghost use Rattle.gf256.specs.Product.{IsMatrix};
-ghost use Rattle.wire_frames.specs.declared.TheConstants.{MOST_CELLS, MOST_ROWS, MOST_WIDTH};
+ghost use Rattle.quantity_limits.specs.declared.TheConstants.{MOST_CELLS, MOST_ROWS, MOST_WIDTH};
 ghost use Rattle.block_matrix.specs.Database.{Database, limit, rows_of, database};
 ghost use Rattle.block_matrix.specs.Loaded.{Parses, FillsUp};
 
+use quantity_limits::{MOST_CELLS, MOST_ROWS};
 use std::alloc::Global;
 use std::marker::Model;
 use thiserror::Error;
-use wire_frames::{MOST_CELLS, MOST_ROWS};
 
 /// Why a file is no database.
 #[derive(Clone, Copy, Debug, PartialEq, Eq, Error)]

@@ -5,4 +5,3 @@ pub mod ChosenSums
 pub mod FourSums
 pub mod RunSums
 pub mod NextBits
-pub mod BlockSums

@@ -1,7 +1,7 @@
 //! The bitmaps that a client sends.
 
 ghost use Rattle.std.specs.Prelude.{◌≡◌, ℕ, ◌+◌, ◌-◌, ◌*◌, ◌<◌, ◌≤◌, ◌^◌, MatchBool, length, slice_index, if◌then◌else◌};
-ghost use Rattle.wire_frames.specs.declared.TheConstants.{MOST_ROWS};
+ghost use Rattle.quantity_limits.specs.declared.TheConstants.{MOST_ROWS};
 ghost use Rattle.gf256.specs.Sums.{sum_to};
 ghost use Rattle.chor_xor.specs.Bitmap.{IsTrim, bit_of, bitmap, cleared, has_unused, size_of, unused_bits};
 

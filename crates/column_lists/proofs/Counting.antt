@@ -3,6 +3,7 @@
 use Rattle.std.proofs.Common.{◌≡◌, ℕ, zero, suc, ◌+◌, ◌*◌, ◌^◌, ◌-◌, ◌/◌, ◌<◌, ◌≤◌, sym, ap, subst, arith, inl, inr, refl, mul-le-mul_left}
 use Rattle.std.proofs.lemmas.Bool.{cases_lt}
 use Rattle.interpolation.specs.Monomials.{monomials, monomials_below, conditions}
+use Rattle.interpolation.specs.declared.TheConstants.{MOST_WEIGHTED_DEGREE}
 use Rattle.column_lists.specs.Numbers.{mult, cost}
 use Rattle.column_lists.specs.declared.TheConstants.{MOST_COST, MOST_POINTS}
 
@@ -114,6 +115,33 @@ cost-small k t h some more l few strong =
   where
     halved : (q : ℕ) → q ≤ 255 * 64263 * 64264 → q / 2 < 2 ^ 40
     halved q l = omega (arith, l)
+
+-- ---- ranges
+
+-- with so few equations the multiplicity is a byte
+byte_multiplicity : (k m : ℕ) → 1 ≤ k → conditions k m ≤ MOST_COST → m ≤ 255
+byte_multiplicity k m some few =
+    elim (cases_lt m 256) [
+      | inl small ↦ omega (arith, small)
+      | inr large ↦
+          let a : 1 * 256 ≤ k * m = products 1 256 k m some large in
+          let b : 1 * 256 * 257 ≤ k * m * (m + 1) = products (1 * 256) 257 (k * m) (m + 1) a (omega (arith, large)) in
+          absurd (halved (k * m * (m + 1)) b few)
+    ]
+  where
+    halved : (q : ℕ) → 1 * 256 * 257 ≤ q → ¬ (q / 2 ≤ MOST_COST)
+    halved q l few = omega (arith, l, few)
+
+pub multiplicity-in_range : (k t h m : ℕ) → 1 ≤ k → m ≡ mult k t h → conditions k m ≤ MOST_COST → (1 ≤ m) × (m ≤ 255)
+unfolding mult
+multiplicity-in_range k t h m some is few = (subst (λ (x : ℕ). 1 ≤ x) (sym is) (more (t * (k - h) / (h * h - k * t))), byte_multiplicity k m some few)
+  where
+    more : (q : ℕ) → 1 ≤ q + 1
+    more q = omega arith
+
+-- then the degree is small too
+pub degree-in_range : (h m d : ℕ) → h ≤ 255 → m ≤ 255 → d + 1 ≡ h * m → d ≤ MOST_WEIGHTED_DEGREE
+degree-in_range h m d few small e = let l : h * m ≤ 255 * 255 = products h m 255 255 few small in omega (arith, l, e)
 
 -- ---- where 2 h is more than k + t
 

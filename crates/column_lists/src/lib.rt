@@ -113,6 +113,32 @@ pub fn column_list<I: Interpolate, C: Ledger, N: Ledger>(
     if lie_on(&first, points) {
         return Ok(vec![in alloc; first]?);
     }
+    list_roots(alloc, way, points, t, h, nodes)
+}
+
+/// The same list, whatever the points lie on: those of the y-roots of what `way` interpolates that agree.
+fn list_roots<I: Interpolate, N: Ledger>(
+    alloc: Global,
+    way: &I,
+    points: &[(u8, u8)],
+    t: u32,
+    h: u32,
+    nodes: &mut Steps<N>,
+) -> Result<Vec<Vec<u8>>, AllocError>
+    requires degree { 1 ≤ t }
+    requires redundant { t < h }
+    requires agreement { h ≤ length points.now }
+    requires points { length points.now ≤ MOST_POINTS }
+    requires strong { length points.now * t < h * h }
+    requires cheap { cost (length points.now) t h ≤ MOST_COST }
+    requires distinct { AllPairs (λ p q. p.0 ≢ q.0) points.now }
+    requires nonzero { All (λ p. p.0 ≢ 0) points.now }
+    requires bytes { All (λ p. p.0 < 256) points.now }
+    ensures exact { IfOk result (λ list. ListsAgreeing (map (λ r. r.items) list.items) points.now t h) }
+    ensures most { nodes.new ≤ nodes.old + (t + 1) * (degree_of (length points.now) t h / t) }
+    ensures least { IfOk result (λ list. 0 < length list.items → nodes.old + (t + 1) ≤ nodes.new) }
+    ensures rises { nodes.old ≤ nodes.new }
+{
     let plan = plan(points.len() as u32, t, h);
     let q = way.interpolate(alloc, points, plan.m, t, plan.d)?;
     coefficients_are_bytes(&q);

@@ -19,11 +19,12 @@ use Rattle.block_matrix.proofs.Rows.{IsMatrix-rows_of, length-rows_of}
 use Rattle.block_matrix.proofs.Counts.{length-filled_up}
 use Rattle.block_decoder.specs.Agreed.{answers_of}
 use Rattle.block_decoder.specs.Verdict.{IsDecided}
+use Rattle.block_decoder.specs.declared.answers.ServerAnswers.{ServerAnswers}
 use Rattle.block_decoder.specs.declared.verdict.Verdict.{Verdict}
 use Rattle.drawn_workload.specs.Stream.{drawn, key_by, stream_bytes}
 use Rattle.drawn_workload.specs.Workload.{asked_block, database_of, coins_of, lies_from, honest, honest_payload, lie, payload, all_answers}
 use Rattle.drawn_workload.specs.declared.order.Workload.{Workload}
-use Rattle.drawn_workload.specs.Servers.{IsDrawn}
+use Rattle.drawn_workload.specs.Servers.{HasAnswered, IsDrawn}
 use Rattle.drawn_workload.specs.Judged.{IsDecidedOn}
 use Rattle.drawn_workload.proofs.StreamBytes.{length-stream_bytes, small-stream_bytes, take-stream_bytes, drop-stream_bytes}
 
@@ -194,6 +195,15 @@ nonzero-range a n some = λ k d lt.
     let size = length-range_with_len a n in
     let is = get_or-range_with_len a n k d (omega (arith, lt, size)) in
     λ none. omega (arith, is, none, some)
+
+-- the payloads of all servers are so many bytes
+pub size_of : (w : Workload) (all : ServerAnswers) → HasAnswered w w.servers all → length all.payloads.items ≡ w.servers * w.width
+size_of w all held = ap length held.payloads ∙ length-each w.width (payload w) (range_with_len 1 w.servers) (length-payload w) ∙ ap (λ n. n * w.width) (length-range_with_len 1 w.servers)
+
+-- and with the indices they are the answers
+pub all_of : (w : Workload) (all : ServerAnswers) → HasAnswered w w.servers all → answers_of w.width all.indices.items all.payloads.items ≡ all_answers w
+unfolding all_answers
+all_of w all held = ap₂ (answers_of w.width) held.indices held.payloads ∙ answers_of-each w.width (payload w) (range_with_len 1 w.servers) (length-payload w)
 
 -- ---- the verdict on them
 

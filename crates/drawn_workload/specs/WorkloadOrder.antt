@@ -1,6 +1,6 @@
 -- What is to be done with a workload.
 use Rattle.std.specs.Prelude.{Bool, ℕ, ◌≤◌}
-use Rattle.wire_frames.specs.declared.TheConstants.{MOST_WORKERS}
+use Rattle.quantity_limits.specs.declared.TheConstants.{MOST_WORKERS}
 use Rattle.drawn_workload.specs.Workload.{IsWorkload}
 use Rattle.drawn_workload.specs.declared.order.Workload.{Workload}
 

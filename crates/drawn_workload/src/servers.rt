@@ -1,9 +1,9 @@
 //! The servers of a workload, in memory.
 
-ghost use Rattle.std.specs.Prelude.{◌≡◌, ◌+◌, ◌*◌, ◌≤◌, length, take, drop, vec_len, IfOk};
+ghost use Rattle.std.specs.Prelude.{◌≡◌, ◌+◌, ◌*◌, ◌≤◌, [], ◌∷◌, ◌++◌, length, take, drop, vec_len, IfOk};
 ghost use Rattle.std.specs.List.{range_with_len};
 ghost use Rattle.block_decoder.specs.Agreed.{answers_of};
-ghost use Rattle.drawn_workload.specs.Servers.{servers_of};
+ghost use Rattle.drawn_workload.specs.Servers.{HasAnswered, IsRoomFor, servers_of};
 ghost use Rattle.drawn_workload.specs.Workload.{all_answers, honest_payload, payload};
 
 use crate::order::{NUMBER_LEN, Workload, WorkloadOrder};
@@ -120,6 +120,69 @@ impl Servers {
         let liar = usize::from(index - honest - 1);
         out.copy_from_slice(payload_at(&self.lies, load.width as usize, liar));
     }
+
+    /// Answers as each server does, one after the other in the same room.
+    fn answer_each<R: Threads + Sync>(
+        &self,
+        rt: &R,
+        alloc: Global,
+        room: &mut Room,
+    ) -> Result<ServerAnswers, AllocError>
+        requires room { IsRoomFor self.now (vec_len room.old.query) (vec_len room.old.sums) (vec_len room.old.answer) }
+        ensures { IfOk result (HasAnswered self.now.load self.now.load.servers) }
+    {
+        let mut answers = no_answers(alloc, self.load)?;
+        'servers: for place in 0..self.load.servers {
+            let index = place + 1;
+            self.answer_into(rt, index, &mut room.query, &mut room.sums, &mut room.answer);
+            append_answer(&mut answers, index, &room.answer)?;
+        }
+        Ok(answers)
+    }
+}
+
+/// The memory in which the servers answer, one after the other: for the query that a server is sent, for the sums of its
+/// workers, and for its answer.
+#[derive(Drop)]
+struct Room {
+    query: Vec<u8>,
+    sums: Vec<u8>,
+    answer: Vec<u8>,
+}
+
+impl Room {
+    /// Takes as much as each server of a workload needs.
+    fn for_order(alloc: Global, order: &WorkloadOrder) -> Result<Room, AllocError>
+        ensures { IfOk result (λ room.
+            IsRoomFor (servers_of order.now) (vec_len room.query) (vec_len room.sums) (vec_len room.answer)) }
+    {
+        let width = order.load.width as usize;
+        Ok(Room {
+            query: vec![in alloc; 0; order.load.rows as usize]?,
+            sums: vec![in alloc; 0; usize::from(order.workers) * width]?,
+            answer: vec![in alloc; 0; width]?,
+        })
+    }
+}
+
+/// No answers yet, with room for those of all servers.
+fn no_answers(alloc: Global, load: Workload) -> Result<ServerAnswers, AllocError>
+    ensures { IfOk result (HasAnswered load 0) }
+{
+    let count = usize::from(load.servers);
+    Ok(ServerAnswers {
+        indices: Vec::with_capacity(alloc, count)?,
+        payloads: Vec::with_capacity(alloc, count * load.width as usize)?,
+    })
+}
+
+/// Puts a server's answer behind those of the servers before it.
+fn append_answer(answers: &mut ServerAnswers, index: u8, payload: &[u8]) -> Result<(), AllocError>
+    ensures indices { IfOk result (λ _. answers.new.indices.items ≡ answers.old.indices.items ++ index ∷ []) }
+    ensures payloads { IfOk result (λ _. answers.new.payloads.items ≡ answers.old.payloads.items ++ payload.now) }
+{
+    answers.indices.push(index)?;
+    answers.payloads.extend_from_slice(payload)
 }
 
 /// The payload at a place, counted from 0, among those that lie one after another.
@@ -148,19 +211,6 @@ pub fn answer_all<R: Threads + Sync>(
         answers_of order.now.load.width all.indices.items all.payloads.items ≡ all_answers order.now.load) }
 {
     let servers = Servers::draw(alloc, order)?;
-    let load = order.load;
-    let width = load.width as usize;
-    let count = usize::from(load.servers);
-    let mut query = vec![in alloc; 0; load.rows as usize]?;
-    let mut scratch = vec![in alloc; 0; usize::from(order.workers) * width]?;
-    let mut answer = vec![in alloc; 0; width]?;
-    let mut indices = Vec::with_capacity(alloc, count)?;
-    let mut payloads = Vec::with_capacity(alloc, count * width)?;
-    'servers: for place in 0..load.servers {
-        let index = place + 1;
-        servers.answer_into(rt, index, &mut query, &mut scratch, &mut answer);
-        indices.push(index)?;
-        payloads.extend_from_slice(&answer)?;
-    }
-    Ok(ServerAnswers { indices, payloads })
+    let mut room = Room::for_order(alloc, order)?;
+    servers.answer_each(rt, alloc, &mut room)
 }

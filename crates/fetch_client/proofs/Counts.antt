@@ -5,10 +5,11 @@ use Rattle.wire_frames.specs.Answer.{answers}
 use Rattle.wire_frames.specs.Session.{Transcript}
 use Rattle.port_rules.specs.World.{World}
 use Rattle.block_decoder.proofs.UsableAnswers.{length-answers_from-le}
-use Rattle.fetch_client.specs.declared.plan.FetchPlan.{FetchPlan}
-use Rattle.fetch_client.specs.declared.plan.FetchFault.{FetchFault}
-use Rattle.fetch_client.specs.declared.plan.FetchFault.TheVariants.{CoinsFault, CoinsEnded, Memory}
-use Rattle.fetch_client.specs.Fetched.{CountsForSome, FetchCountsOf, FetchesTo}
+use Rattle.query_rounds.specs.declared.plan.FetchPlan.{FetchPlan}
+use Rattle.query_rounds.specs.declared.plan.FetchFault.{FetchFault}
+use Rattle.query_rounds.specs.declared.plan.FetchFault.TheVariants.{CoinsFault, CoinsEnded, Memory}
+use Rattle.query_rounds.specs.Gathered.{FetchesTo}
+use Rattle.fetch_client.specs.Fetched.{CountsForSome, FetchCountsOf}
 
 -- where memory ran out when a session had a record of each server, no more steps are counted than judging some answers
 -- takes, of which there are no more than servers

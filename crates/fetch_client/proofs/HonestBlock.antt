@@ -8,7 +8,7 @@ use Rattle.std.proofs.lemmas.List.Sums.{count_by-le-length}
 use Rattle.std.proofs.lemmas.Slice.Eq.{bytes_eq-Decides}
 use Rattle.gf256.specs.Polynomial.{coef, val, IsPolynomial}
 use Rattle.shamir_share.specs.Query.{query}
-use Rattle.wire_frames.specs.declared.TheConstants.{MOST_SERVERS}
+use Rattle.quantity_limits.specs.declared.TheConstants.{MOST_SERVERS}
 use Rattle.wire_frames.specs.declared.scheme.TheConstants.{SHAMIR}
 use Rattle.wire_frames.specs.Answer.{Answer, answers}
 use Rattle.wire_frames.specs.Session.{Transcript}
@@ -21,11 +21,12 @@ use Rattle.block_decoder.proofs.Places.{places_of, ascending-places_of, within-p
 use Rattle.gf256.specs.Product.{IsMatrix, product}
 use Rattle.wire_frames.specs.Turns.{in_turn, piece}
 use Rattle.wire_frames.proofs.Turns.{All-in_turn, in_turn-one, in_turn-same, length-in_turn, length-piece, map-in_turn, piece-whole, piece_fits}
-use Rattle.fetch_client.specs.Plan.{query_coins, with_degree}
+use Rattle.query_rounds.specs.Plan.{query_coins, with_degree}
 use Rattle.fetch_client.specs.Held.{block_of, held_by}
 use Rattle.fetch_client.specs.Honest.{IsHonest, answer_by, blocks_of}
-use Rattle.fetch_client.specs.Sent.{vector_at}
-use Rattle.fetch_client.proofs.Schemes.{answer_of_shamir, coins_of_shamir, payload_of_shamir}
+use Rattle.query_rounds.specs.Sent.{vector_at}
+use Rattle.query_rounds.proofs.Schemes.{coins_of_shamir, payload_of_shamir}
+use Rattle.fetch_client.proofs.HonestAnswers.{answer_of_shamir}
 use Rattle.fetch_client.proofs.HonestColumns.{column_of, degree-column_of, reply_is, constant-column_of}
 
 -- the answer at an index to the queries for the blocks: for each the product of its query and what the server holds

@@ -7,10 +7,10 @@ use Rattle.wire_frames.specs.Answer.{Answer, answers_from, asked, usable, with_a
 use Rattle.wire_frames.specs.Session.{Transcript}
 use Rattle.block_decoder.proofs.Counting.{one_if, count-cons}
 use Rattle.block_decoder.proofs.UsableAnswers.{usable_frame, answers_from-cons}
-use Rattle.fetch_client.specs.Plan.{with_degree}
+use Rattle.query_rounds.specs.Plan.{with_degree}
 use Rattle.fetch_client.specs.Held.{held_by}
 use Rattle.fetch_client.specs.Honest.{IsHonest, HonestRecords, answer_by, honest_frame, is_frame}
-use Rattle.fetch_client.proofs.Schemes.{length-answer_by}
+use Rattle.fetch_client.proofs.HonestAnswers.{length-answer_by}
 
 module _ (p : SessionParams) (t : ℕ) (held : ℕ → List (List ℕ)) (coins blocks : List ℕ) (count : length blocks ≡ p.count) where
   abbrev reply : ℕ → List ℕ

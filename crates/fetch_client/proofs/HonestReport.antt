@@ -19,9 +19,9 @@ use Rattle.block_decoder.proofs.Others.{others-exact}
 use Rattle.block_decoder.proofs.UsableAnswers.{columns-answers}
 use Rattle.fetch_client.specs.Held.{held_by}
 use Rattle.fetch_client.specs.Honest.{IsClose, NamesLiars, NamesLiarsIn, blocks_of}
-use Rattle.fetch_client.specs.Plan.{query_coins, with_degree}
+use Rattle.query_rounds.specs.Plan.{query_coins, with_degree}
 use Rattle.fetch_client.proofs.HonestBlock.{AreProducts, all_columns, answer_by-products, constants-all_columns, degree-all_columns, length-all_columns, only_member, products_at, products_from_honest, reply-all_columns}
-use Rattle.fetch_client.proofs.Schemes.{coins_of_shamir}
+use Rattle.query_rounds.proofs.Schemes.{coins_of_shamir}
 
 -- a test that fails is one whose subject isn't so
 fails-Decides : (b : Bool) (P : Type 0) → (b ≡ true → P) → (P → b ≡ true) → (b ≡ false) ↔ (P → ⊥)

@@ -1,7 +1,7 @@
 -- What a verdict says of the block that honest servers hold, in each scheme.
 use Rattle.std.proofs.Common.{◌≡◌, ℕ, ◌+◌, ◌*◌, ◌<◌, ◌≤◌, List, [], ◌∷◌, length, map, All, IfSome, Contains, sym, ap, subst, ◌∙◌, arith}
 use Rattle.std.proofs.lemmas.List.Elements.{Contains-get_or}
-use Rattle.wire_frames.specs.declared.TheConstants.{MOST_SERVERS}
+use Rattle.quantity_limits.specs.declared.TheConstants.{MOST_SERVERS}
 use Rattle.wire_frames.specs.declared.scheme.TheConstants.{SHAMIR, XOR}
 use Rattle.wire_frames.specs.Answer.{Answer, answers, block_len}
 use Rattle.wire_frames.specs.Limits.{IsInRange}
@@ -13,9 +13,9 @@ use Rattle.block_decoder.specs.declared.verdict.Verdict.{Verdict}
 use Rattle.block_decoder.specs.declared.verdict.Verdict.TheVariants.{Listed, TooFew, TooWeak, TooCostly}
 use Rattle.block_decoder.proofs.OneBlock.{close_verdict_is_listed}
 use Rattle.block_decoder.proofs.UsableAnswers.{columns-answers, length-answers_from-le}
-use Rattle.fetch_client.specs.Plan.{query_coins, with_degree}
+use Rattle.query_rounds.specs.Plan.{query_coins, with_degree}
 use Rattle.fetch_client.specs.Honest.{FindsHonestBlock, HonestRecords, IsHonest, blocks_of}
-use Rattle.fetch_client.proofs.Schemes.{coins_of_shamir}
+use Rattle.query_rounds.proofs.Schemes.{coins_of_shamir}
 use Rattle.fetch_client.proofs.HonestFrames.{honest_from_records}
 use Rattle.fetch_client.proofs.HonestBlock.{products_from_honest, honest_is_listed, honest_is_alone}
 use Rattle.fetch_client.proofs.HonestXor.{all_usable, combined_is_the_blocks, records_from_all}

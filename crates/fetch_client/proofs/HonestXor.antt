@@ -20,12 +20,13 @@ use Rattle.block_decoder.proofs.Counting.{all_pass, pass_all}
 use Rattle.block_decoder.proofs.UsableAnswers.{AreInOrder, answers_in_order}
 use Rattle.wire_frames.specs.Turns.{in_turn, piece}
 use Rattle.wire_frames.proofs.Turns.{in_turn-same, piece-in_turn}
-use Rattle.chor_xor.proofs.BlockSums.{combined-in_turn}
-use Rattle.fetch_client.specs.Plan.{query_coins, with_degree}
+use Rattle.fetch_client.proofs.BlockSums.{combined-in_turn}
+use Rattle.query_rounds.specs.Plan.{query_coins, with_degree}
 use Rattle.fetch_client.specs.Held.{held_by}
-use Rattle.fetch_client.specs.Sent.{vector_at}
+use Rattle.query_rounds.specs.Sent.{vector_at}
 use Rattle.fetch_client.specs.Honest.{AllHonest, HonestRecords, IsHonest, answer_by, blocks_of, honest_frame, is_frame}
-use Rattle.fetch_client.proofs.Schemes.{answer_of_xor, coins_of_xor, payload_of_xor}
+use Rattle.query_rounds.proofs.Schemes.{coins_of_xor, payload_of_xor}
+use Rattle.fetch_client.proofs.HonestAnswers.{answer_of_xor}
 
 -- ---- the indices
 

@@ -1,5 +1,5 @@
-pub mod Asking
-pub mod Schemes
+pub mod HonestAnswers
+mod BlockSums
 pub mod HeldRows
 pub mod HonestColumns
 pub mod HonestBlock
@@ -8,4 +8,3 @@ pub mod HonestXor
 pub mod HonestVerdicts
 mod HonestReport
 pub mod Counts
-pub mod Ranges

@@ -19,9 +19,9 @@ use Rattle.block_decoder.specs.Verdict.{ListsAtMostOne}
 use Rattle.block_decoder.specs.declared.verdict.Verdict.{Verdict}
 use Rattle.block_decoder.specs.declared.verdict.Verdict.TheVariants.{Listed}
 use Rattle.wire_frames.specs.Turns.{in_turn}
-use Rattle.fetch_client.specs.Plan.{with_degree}
+use Rattle.query_rounds.specs.Plan.{with_degree}
 use Rattle.fetch_client.specs.Held.{block_of, held_by}
-use Rattle.fetch_client.specs.Sent.{vector_at}
+use Rattle.query_rounds.specs.Sent.{vector_at}
 
 -- the blocks with these numbers, one behind another
 abbrev pub blocks_of : List (List ℕ) → List ℕ → List ℕ

@@ -1,9 +1,10 @@
-pub mod Plan
-pub mod Queries
-pub mod Sent
-pub mod Link
-pub mod Rounds
-pub mod Tossed
 pub mod Held
 pub mod Honest
 pub mod Fetched
+pub use Rattle.query_rounds.specs.Plan
+pub use Rattle.query_rounds.specs.Queries
+pub use Rattle.query_rounds.specs.Sent
+pub use Rattle.query_rounds.specs.Link
+pub use Rattle.query_rounds.specs.Rounds
+pub use Rattle.query_rounds.specs.Tossed
+pub use Rattle.query_rounds.specs.Gathered

@@ -5,7 +5,7 @@ ghost use Rattle.wire_frames.specs.declared.scheme.TheConstants.{XOR};
 ghost use Rattle.block_decoder.specs.Reported.{IsReportOn};
 ghost use Rattle.block_decoder.specs.Verdict.{IsVerdict};
 ghost use Rattle.fetch_client.specs.Honest.{FindsHonestBlock, HonestRecords, IsHonest, NamesLiarsIn};
-ghost use Rattle.fetch_client.specs.Plan.{query_coins, with_degree};
+ghost use Rattle.query_rounds.specs.Plan.{query_coins, with_degree};
 
 use block_decoder::{Report, Verdict};
 use wire_frames::Session;

@@ -1,5 +1,6 @@
 -- The conditions of a zero at one point, one after the other.
 use Rattle.std.proofs.Common.{◌≡◌, ◌⊎◌, ℕ, zero, suc, ◌+◌, ◌-◌, ◌*◌, ◌/◌, ◌<◌, ◌≤◌, List, length, sum, refl, ap, ◌∙◌, arith, inl, inr}
+use Rattle.std.proofs.Math.Nat.{mul-le-mul_right}
 use Rattle.std.proofs.lemmas.Bool.{cases_lt, cases_eq}
 use Rattle.bi_poly.specs.Hasse.{hasse, HasZero}
 use Rattle.interpolation.specs.Monomials.{conditions}
@@ -59,6 +60,15 @@ conditions-next k m =
     let f = conditions-orders k m in
     let g = conditions-one m in
     omega arith
+
+-- nor are those of so many zeros and of one more ever more than those of more zeros
+pub conditions-more : (i k m : ℕ) → i < k → conditions i m + conditions 1 m ≤ conditions k m
+conditions-more i k m l =
+    let e = conditions-orders i m in
+    let f = conditions-orders k m in
+    let g = conditions-one m in
+    let more : (i + 1) * orders m m ≤ k * orders m m = mul-le-mul_right (orders m m) (omega arith) in
+    omega (arith, e, f, g, more)
 
 -- The derivatives of order (i, w) at (a, b) are 0 for each w below v, and for v itself where i is below u.
 pub record IsUnder (t n : ℕ) (rows : List (List ℕ)) (es : List ℕ) (made : List (List ℕ)) (raised : List ℕ) (a b m v u : ℕ) : Type 0 where

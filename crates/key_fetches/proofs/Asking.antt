@@ -6,9 +6,9 @@ use Rattle.port_rules.specs.Number.{link}
 use Rattle.wire_frames.specs.Sizes.{answer_len}
 use Rattle.wire_frames.specs.Session.{Transcript}
 use Rattle.block_decoder.specs.declared.verdict.Verdict.{Verdict}
-use Rattle.fetch_client.specs.declared.plan.FetchPlan.{FetchPlan}
-use Rattle.fetch_client.specs.Link.{LinkAsked}
-use Rattle.fetch_client.specs.Fetched.{AskedEach, AsksWith, TouchesLinks}
+use Rattle.query_rounds.specs.declared.plan.FetchPlan.{FetchPlan}
+use Rattle.query_rounds.specs.Link.{LinkAsked}
+use Rattle.query_rounds.specs.Gathered.{AskedEach, AsksWith, TouchesLinks}
 use Rattle.key_search.specs.Standing.{Standing, asked_row, standing_after}
 use Rattle.key_fetches.specs.Listed.{only_block}
 use Rattle.key_fetches.specs.Rounds.{AreJudged, AskEach, AskedInTurn, IsJudged, IsRound, Round, frame_in}

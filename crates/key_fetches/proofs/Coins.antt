@@ -13,8 +13,8 @@ use Rattle.port_rules.specs.Number.{COINS}
 use Rattle.port_rules.specs.Moves.{Rose, took, counted}
 use Rattle.port_rules.specs.Whole.{FailsShort}
 use Rattle.port_rules.proofs.Cells.{took-took}
-use Rattle.fetch_client.specs.declared.plan.FetchPlan.{FetchPlan}
-use Rattle.fetch_client.specs.Plan.{need}
+use Rattle.query_rounds.specs.declared.plan.FetchPlan.{FetchPlan}
+use Rattle.query_rounds.specs.Plan.{need}
 use Rattle.port_rules.specs.Tossed.{Tossed, RunsOut}
 use Rattle.key_search.specs.Standing.{turns_of}
 use Rattle.key_fetches.specs.Rounds.{Round, TossedFor, coins_of}

@@ -8,8 +8,8 @@ use Rattle.port_rules.specs.Number.{link}
 use Rattle.port_rules.specs.Moves.{Rose}
 use Rattle.port_rules.proofs.Ranges.{each_as}
 use Rattle.wire_frames.specs.Sizes.{answer_len}
-use Rattle.fetch_client.specs.declared.plan.FetchPlan.{FetchPlan}
-use Rattle.fetch_client.specs.Link.{LinkAsked}
+use Rattle.query_rounds.specs.declared.plan.FetchPlan.{FetchPlan}
+use Rattle.query_rounds.specs.Link.{LinkAsked}
 use Rattle.key_fetches.specs.Rounds.{AskEach, AskedInTurn, Round, frame_in}
 use Rattle.key_fetches.specs.Sent.{TakeFrames, TakesFrames, frames_to}
 

@@ -14,13 +14,14 @@ use Rattle.port_rules.proofs.Ranges.{each_after}
 use Rattle.wire_frames.specs.declared.scheme.TheConstants.{SHAMIR}
 use Rattle.wire_frames.specs.Session.{Transcript}
 use Rattle.block_decoder.specs.declared.verdict.Verdict.{Verdict}
-use Rattle.fetch_client.specs.declared.plan.FetchPlan.{FetchPlan}
-use Rattle.fetch_client.specs.declared.plan.FetchFault.{FetchFault}
-use Rattle.fetch_client.specs.declared.plan.FetchFault.TheVariants.{CoinsFault, CoinsEnded, Memory}
-use Rattle.fetch_client.specs.Plan.{IsPlan, need}
+use Rattle.query_rounds.specs.declared.plan.FetchPlan.{FetchPlan}
+use Rattle.query_rounds.specs.declared.plan.FetchFault.{FetchFault}
+use Rattle.query_rounds.specs.declared.plan.FetchFault.TheVariants.{CoinsFault, CoinsEnded, Memory}
+use Rattle.query_rounds.specs.Plan.{IsPlan, need}
 use Rattle.port_rules.specs.Tossed.{RunsOut, Tossed}
-use Rattle.fetch_client.specs.Fetched.{AsksSome, Concludes, Fetches}
-use Rattle.fetch_client.specs.Sent.{session_number}
+use Rattle.query_rounds.specs.Gathered.{AsksSome}
+use Rattle.fetch_client.specs.Fetched.{Concludes, Fetches}
+use Rattle.query_rounds.specs.Sent.{session_number}
 use Rattle.key_search.specs.Standing.{Standing, asked_row, standing_after, standing_at_start, turns_of}
 use Rattle.key_search.specs.Answers.{AreRowsAsked, AreSortedByKey, IsLookUp, WasTold, row_with, rows_told, start_of}
 use Rattle.key_search.proofs.ByAnswers.{IsNextTurn-from, found-told, lost-told}

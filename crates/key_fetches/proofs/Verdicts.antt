@@ -10,8 +10,8 @@ use Rattle.wire_frames.specs.Session.{Transcript}
 use Rattle.block_decoder.specs.Verdict.{IsVerdict}
 use Rattle.block_decoder.specs.declared.verdict.Verdict.{Verdict}
 use Rattle.block_decoder.specs.declared.verdict.Verdict.TheVariants.{Listed, TooFew, TooWeak, TooCostly}
-use Rattle.fetch_client.specs.declared.plan.FetchPlan.{FetchPlan}
-use Rattle.fetch_client.specs.Plan.{params_of}
+use Rattle.query_rounds.specs.declared.plan.FetchPlan.{FetchPlan}
+use Rattle.query_rounds.specs.Plan.{params_of}
 use Rattle.key_search.specs.Standing.{Standing, standing_after}
 use Rattle.key_search.specs.Answers.{AreRowsAsked}
 use Rattle.key_fetches.specs.Listed.{first_unlisted, only_block}

@@ -5,10 +5,10 @@ use Rattle.port_rules.specs.World.{Cell, World}
 use Rattle.port_rules.specs.Number.{COINS, link}
 use Rattle.port_rules.proofs.Ranges.{each_within}
 use Rattle.block_decoder.specs.declared.verdict.Verdict.{Verdict}
-use Rattle.fetch_client.specs.declared.plan.FetchPlan.{FetchPlan}
-use Rattle.fetch_client.specs.declared.plan.FetchFault.{FetchFault}
-use Rattle.fetch_client.specs.declared.plan.FetchFault.TheVariants.{CoinsFault, CoinsEnded, Memory}
-use Rattle.fetch_client.specs.Plan.{need}
+use Rattle.query_rounds.specs.declared.plan.FetchPlan.{FetchPlan}
+use Rattle.query_rounds.specs.declared.plan.FetchFault.{FetchFault}
+use Rattle.query_rounds.specs.declared.plan.FetchFault.TheVariants.{CoinsFault, CoinsEnded, Memory}
+use Rattle.query_rounds.specs.Plan.{need}
 use Rattle.port_rules.specs.Tossed.{Tossed}
 use Rattle.key_fetches.specs.Listed.{Ended}
 use Rattle.key_fetches.specs.Rounds.{AskEach, AskedInTurn, Round, TossedFor, coins_of}

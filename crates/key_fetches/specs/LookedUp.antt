@@ -4,10 +4,10 @@ use Rattle.port_rules.specs.World.{Cell, World}
 use Rattle.port_rules.specs.Number.{COINS}
 use Rattle.port_rules.specs.Moves.{Rose, took, counted}
 use Rattle.block_decoder.specs.declared.verdict.Verdict.{Verdict}
-use Rattle.fetch_client.specs.declared.plan.FetchPlan.{FetchPlan}
-use Rattle.fetch_client.specs.declared.plan.FetchFault.{FetchFault}
-use Rattle.fetch_client.specs.declared.plan.FetchFault.TheVariants.{CoinsFault, CoinsEnded, Memory}
-use Rattle.fetch_client.specs.Plan.{need}
+use Rattle.query_rounds.specs.declared.plan.FetchPlan.{FetchPlan}
+use Rattle.query_rounds.specs.declared.plan.FetchFault.{FetchFault}
+use Rattle.query_rounds.specs.declared.plan.FetchFault.TheVariants.{CoinsFault, CoinsEnded, Memory}
+use Rattle.query_rounds.specs.Plan.{need}
 use Rattle.key_search.specs.Standing.{Standing, asked_row, standing_after, standing_at_start, turns_of}
 use Rattle.key_search.specs.Answers.{AreSortedByKey}
 use Rattle.key_fetches.specs.Listed.{Ended, end_among, end_by, only_block}

@@ -7,11 +7,11 @@ use Rattle.wire_frames.specs.Sizes.{answer_len}
 use Rattle.wire_frames.specs.Session.{Transcript}
 use Rattle.block_decoder.specs.declared.verdict.Verdict.{Verdict}
 use Rattle.block_decoder.specs.Verdict.{IsVerdict}
-use Rattle.fetch_client.specs.declared.plan.FetchPlan.{FetchPlan}
-use Rattle.fetch_client.specs.Plan.{need, params_of}
-use Rattle.fetch_client.specs.Sent.{sent, session_number, queries_from}
+use Rattle.query_rounds.specs.declared.plan.FetchPlan.{FetchPlan}
+use Rattle.query_rounds.specs.Plan.{need, params_of}
+use Rattle.query_rounds.specs.Sent.{sent, session_number, queries_from}
 use Rattle.port_rules.specs.Tossed.{Tossed}
-use Rattle.fetch_client.specs.Link.{LinkAsked}
+use Rattle.query_rounds.specs.Link.{LinkAsked}
 use Rattle.fetch_client.specs.Honest.{FindsHonestBlock}
 use Rattle.key_search.specs.Standing.{Standing, asked_row, standing_after}
 use Rattle.key_fetches.specs.Listed.{only_block}

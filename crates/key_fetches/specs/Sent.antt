@@ -6,7 +6,7 @@ use Rattle.port_rules.specs.World.{Cell, World}
 use Rattle.port_rules.specs.Number.{link}
 use Rattle.port_rules.specs.Moves.{Rose}
 use Rattle.port_rules.specs.Each.{Each}
-use Rattle.fetch_client.specs.declared.plan.FetchPlan.{FetchPlan}
+use Rattle.query_rounds.specs.declared.plan.FetchPlan.{FetchPlan}
 use Rattle.key_fetches.specs.Rounds.{Round, frame_in}
 
 -- the frame of each fetch to server i

@@ -5,8 +5,9 @@ ghost use Rattle.std.specs.Option.{option_or};
 ghost use Rattle.port_rules.specs.Number.{COINS};
 ghost use Rattle.wire_frames.specs.declared.scheme.TheConstants.{SHAMIR};
 ghost use Rattle.key_search.specs.Standing.{asked_row, standing_after, turns_of};
-ghost use Rattle.fetch_client.specs.Plan.{IsPlan};
-ghost use Rattle.fetch_client.specs.Fetched.{Fetches, TouchesLinks};
+ghost use Rattle.query_rounds.specs.Plan.{IsPlan};
+ghost use Rattle.query_rounds.specs.Gathered.{TouchesLinks};
+ghost use Rattle.fetch_client.specs.Fetched.{Fetches};
 ghost use Rattle.key_fetches.specs.Listed.{only_block};
 ghost use Rattle.key_fetches.specs.LookedUp.{LooksUp};
 

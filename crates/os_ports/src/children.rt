@@ -65,8 +65,10 @@ impl<P: OpenProcess> Started<P> {
 // The name by which this program was started.
 fn own_name<R: Env + AllocGlobal>(rt: &R) -> io::Result<String> {
     // Not `current_exe`, which is the loader where a loader was told to run this program.
-    let name = env::args(rt)?.next().ok_or(ErrorKind::NotFound)?;
-    Ok(name)
+    match env::args(rt)?.next() {
+        Some(name) => Ok(name),
+        None => Err(io::Error::from(ErrorKind::NotFound)),
+    }
 }
 
 // Gives the command its words, and what every child has.

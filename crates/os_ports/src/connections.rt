@@ -8,7 +8,7 @@ use crate::parent::Parent;
 use crate::timed::{TimedStream, connect};
 use crate::variables::{CHILD, is_one};
 use port_rules::Port;
-use std::alloc::{AllocError, Global};
+use std::alloc::Global;
 use std::io::{self, ErrorKind, Read, Write};
 use std::net::{Net, OpenListener, OpenStream, SocketAddr, TcpListener};
 use std::os::fd::AsRawFd;
@@ -105,34 +105,6 @@ fn link_to<S>(links: &mut [Link<S>], server: u8) -> Option<&mut TimedStream<S>> 
     Some(&mut link.stream)
 }
 
-// Reads from the stream, where that is open.
-fn read_in_time<C: Clock, S: Read + OpenStream>(
-    stream: Option<&mut TimedStream<S>>,
-    clock: &C,
-    into: &mut [u8],
-) -> io::Result<usize>
-    ensures { IfOk result (λ n. n ≤ length into.new) }
-{
-    match stream {
-        Some(stream) => stream.read(clock, into),
-        None => Err(closed()),
-    }
-}
-
-// Writes to the stream, where that is open.
-fn write_in_time<C: Clock, S: Write + OpenStream>(
-    stream: Option<&mut TimedStream<S>>,
-    clock: &C,
-    piece: &[u8],
-) -> io::Result<usize>
-    ensures { IfOk result (λ n. n ≤ length piece.now) }
-{
-    match stream {
-        Some(stream) => stream.write(clock, piece),
-        None => Err(closed()),
-    }
-}
-
 impl<L: OpenListener + Drop, S: Drop> Connections<L, S> {
     /// Nothing is open.
     pub fn new(alloc: Global) -> Self {
@@ -170,8 +142,7 @@ impl<L: OpenListener + Drop, S: Drop> Connections<L, S> {
     {
         let stream = connect(rt, address, self.limit())?;
         children.note_link(address);
-        self.put_link(server, stream)?;
-        Ok(())
+        self.put_link(server, stream)
     }
 
     // How long a link may take that is opened now.
@@ -184,7 +155,7 @@ impl<L: OpenListener + Drop, S: Drop> Connections<L, S> {
     }
 
     // Takes the stream as the link to the server.
-    fn put_link(&mut self, server: u8, stream: TimedStream<S>) -> Result<(), AllocError> {
+    fn put_link(&mut self, server: u8, stream: TimedStream<S>) -> io::Result<()> {
         match link_to(&mut self.links, server) {
             Some(link) => *link = stream,
             None => self.links.push(Link { server, stream })?,
@@ -224,7 +195,10 @@ impl<L: OpenListener + Drop, S: Drop> Connections<L, S> {
         S: Read + OpenStream,
         ensures { IfOk result (λ n. n ≤ length into.new) }
     {
-        read_in_time(self.stream(p), clock, into)
+        match self.stream(p) {
+            Some(stream) => stream.read(clock, into),
+            None => Err(closed()),
+        }
     }
 
     /// Writes to the port.
@@ -233,6 +207,9 @@ impl<L: OpenListener + Drop, S: Drop> Connections<L, S> {
         S: Write + OpenStream,
         ensures { IfOk result (λ n. n ≤ length piece.now) }
     {
-        write_in_time(self.stream(p), clock, piece)
+        match self.stream(p) {
+            Some(stream) => stream.write(clock, piece),
+            None => Err(closed()),
+        }
     }
 }

@@ -1,6 +1,6 @@
 // The parent of a child, with which the child ends.
 use mio::unix::SourceFd;
-use mio::{Events, Interest, Poll, Token};
+use mio::{Events, Interest, Poll, Registry, Token};
 use std::io::{self, ErrorKind};
 use std::net::{Net, OpenListener};
 use std::os::fd::AsRawFd;
@@ -20,6 +20,12 @@ pub struct Parent {
     has_ended: bool,
 }
 
+// Watches standard input, and the door with this number.
+fn register(registry: &Registry, door: i32) -> io::Result<()> {
+    registry.register(&mut SourceFd(&INPUT), PARENT, Interest::READABLE)?;
+    registry.register(&mut SourceFd(&door), DOOR, Interest::READABLE)
+}
+
 impl Parent {
     /// Watches standard input, and this listener, which doesn't wait for a guest from here on.
     pub fn watch<R, L>(rt: &R, door: &L) -> io::Result<Self>
@@ -29,13 +35,10 @@ impl Parent {
     {
         door.set_nonblocking(true)?;
         let poll = Poll::new(rt)?;
-        let events = Events::with_capacity(rt.alloc(), 2)?;
-        let registry = poll.registry();
-        registry.register(&mut SourceFd(&INPUT), PARENT, Interest::READABLE)?;
-        registry.register(&mut SourceFd(&door.as_raw_fd()), DOOR, Interest::READABLE)?;
+        register(poll.registry(), door.as_raw_fd())?;
         Ok(Parent {
             poll,
-            events,
+            events: Events::with_capacity(rt.alloc(), 2)?,
             has_ended: false,
         })
     }

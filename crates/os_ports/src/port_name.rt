@@ -6,19 +6,27 @@ use std::fmt::{self, Display, Formatter, Write};
 #[derive(Clone, Copy)]
 pub struct PortName(pub Port);
 
+// What kind of port it is, and which of its kind.
+fn words(port: Port) -> (&'static str, Option<u8>) {
+    match port {
+        Port::Input => ("input", None),
+        Port::Output => ("output", None),
+        Port::Database => ("database", None),
+        Port::Coins => ("coins", None),
+        Port::Record => ("record", None),
+        Port::Door => ("door", None),
+        Port::Guest => ("guest", None),
+        Port::Link(i) => ("link", Some(i)),
+        Port::Child(i) => ("child", Some(i)),
+        Port::Share(i) => ("share", Some(i)),
+    }
+}
+
 impl Display for PortName {
     fn fmt<W: Write>(&self, f: &mut Formatter<W>) -> fmt::Result {
-        match self.0 {
-            Port::Input => f.write_str("input"),
-            Port::Output => f.write_str("output"),
-            Port::Database => f.write_str("database"),
-            Port::Coins => f.write_str("coins"),
-            Port::Record => f.write_str("record"),
-            Port::Door => f.write_str("door"),
-            Port::Guest => f.write_str("guest"),
-            Port::Link(i) => write!(f, "link {i}"),
-            Port::Child(i) => write!(f, "child {i}"),
-            Port::Share(i) => write!(f, "share {i}"),
+        match words(self.0) {
+            (kind, None) => f.write_str(kind),
+            (kind, Some(i)) => write!(f, "{kind} {i}"),
         }
     }
 }

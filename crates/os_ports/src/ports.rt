@@ -62,8 +62,8 @@ impl<R: System> OsPorts<R> {
         R::File: AsRawFd,
         ensures { IfOk result (λ ports. (q : ℕ) → slice_index ports.counts q ≡ 0) }
     {
-        let standard = StandardStreams::hold(&rt)?;
         let counts = Counts::new(rt.alloc())?;
+        let standard = StandardStreams::hold(&rt)?;
         Ok(OsPorts {
             streams: Streams::new(rt),
             counts,
@@ -100,6 +100,11 @@ impl<R: System> OsPorts<R> {
             }
         }
     }
+}
+
+// The last of the words, where there is one.
+fn last_of(words: &[String]) -> Option<&str> {
+    Some(words.last()?.as_str())
 }
 
 // A write that took nothing has failed.
@@ -140,7 +145,7 @@ impl<R: System> Ports for OsPorts<R> {
 
     fn start_child(&mut self, i: u8, words: &[String]) -> Result<(), Failed> {
         let started = self.streams.start(words);
-        let address = words.last().map(|word| word.as_str());
+        let address = last_of(words);
         self.told(Port::Child(i), address, started)
     }
 }

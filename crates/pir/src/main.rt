@@ -1,8 +1,8 @@
-//! The program `pir`. It makes the ports of the system and reads the words; `pir_tool::run` does the rest.
+//! The program `pir`. It makes the ports of the system and reads the words; `commands::run` does the rest.
 #![tactic(auto)]
 
+use commands::{Ending, Status, ending_of, run};
 use os_ports::{OsPorts, System};
-use pir_tool::{Ending, Status, ending_of, run};
 use std::env;
 use std::io::{self, ErrorKind};
 use std::process::ExitCode;

@@ -9,12 +9,12 @@ use Rattle.wire_frames.specs.Answer.{asked}
 use Rattle.wire_frames.specs.Header.{query_header}
 use Rattle.wire_frames.specs.Turns.{in_turn, piece}
 use Rattle.wire_frames.proofs.Turns.{in_turn-same}
-use Rattle.fetch_client.specs.declared.coins.TheConstants.{NUMBER_LEN}
-use Rattle.fetch_client.specs.declared.plan.FetchPlan.{FetchPlan}
-use Rattle.fetch_client.specs.Plan.{params_of, query_coins, query_params, need}
-use Rattle.fetch_client.specs.Sent.{session_number, payload_for, payload_to, sent, vector_at}
-use Rattle.fetch_client.proofs.Asking.{sent_is}
-use Rattle.fetch_client.proofs.Schemes.{coins_of_shamir, payload_of_shamir, coins_of_xor, payload_of_xor}
+use Rattle.query_rounds.specs.declared.coins.TheConstants.{NUMBER_LEN}
+use Rattle.query_rounds.specs.declared.plan.FetchPlan.{FetchPlan}
+use Rattle.query_rounds.specs.Plan.{params_of, query_coins, query_params, need}
+use Rattle.query_rounds.specs.Sent.{session_number, payload_for, payload_to, sent, vector_at}
+use Rattle.query_rounds.proofs.Asking.{sent_is}
+use Rattle.query_rounds.proofs.Schemes.{coins_of_shamir, payload_of_shamir, coins_of_xor, payload_of_xor}
 use Rattle.privacy_law.specs.Bijection.{AreCoins, IsBijection}
 use Rattle.privacy_law.specs.Partner.{partner_list, partner_xor_list}
 use Rattle.privacy_law.proofs.PartnerLists.{IsBijection-list, IsBijection-xor_list, list_same, xor_list_same}

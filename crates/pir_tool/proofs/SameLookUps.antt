@@ -1,7 +1,7 @@
 -- A coalition is sent the same frames in all fetches of a look-up.
 use Rattle.std.proofs.Common.{◌≡◌, ◌≢◌, ℕ, ◌<◌, ◌≤◌, List, [], ◌∷◌, length, get_or, All, refl, ap₂, arith}
 use Rattle.wire_frames.specs.declared.scheme.TheConstants.{SHAMIR}
-use Rattle.fetch_client.specs.declared.plan.FetchPlan.{FetchPlan}
+use Rattle.query_rounds.specs.declared.plan.FetchPlan.{FetchPlan}
 use Rattle.key_fetches.specs.Rounds.{Round}
 use Rattle.key_fetches.specs.Sent.{frames_to}
 use Rattle.pir_tool.specs.Privacy.{HaveCoins, partner_rounds}

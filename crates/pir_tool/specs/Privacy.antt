@@ -1,10 +1,10 @@
 -- What a coalition of servers is sent for some blocks, it is sent for any others, from coins that a bijection gives: in
 -- Shamir's sharing (Goldberg 2007), and in the XOR scheme (Chor, Goldreich, Kushilevitz and Sudan 1995).
 use Rattle.std.specs.Prelude.{◌≡◌, ◌≢◌, ℕ, ◌≤◌, List, [], ◌∷◌, length, ◌++◌, take, drop, All, ⊤}
-use Rattle.fetch_client.specs.declared.coins.TheConstants.{NUMBER_LEN}
-use Rattle.fetch_client.specs.declared.plan.FetchPlan.{FetchPlan}
-use Rattle.fetch_client.specs.Plan.{need}
-use Rattle.fetch_client.specs.Sent.{sent}
+use Rattle.query_rounds.specs.declared.coins.TheConstants.{NUMBER_LEN}
+use Rattle.query_rounds.specs.declared.plan.FetchPlan.{FetchPlan}
+use Rattle.query_rounds.specs.Plan.{need}
+use Rattle.query_rounds.specs.Sent.{sent}
 use Rattle.key_fetches.specs.Rounds.{Round}
 use Rattle.key_fetches.specs.Sent.{frames_to}
 use Rattle.privacy_law.specs.Bijection.{AreCoins}

@@ -2,12 +2,12 @@
 
 ghost use Rattle.std.specs.Prelude.{◌≡◌, ◌≢◌, ◌<◌, ◌≤◌, ℕ, List, length, All};
 ghost use Rattle.wire_frames.specs.declared.scheme.TheConstants.{SHAMIR, XOR};
-ghost use Rattle.fetch_client.specs.Plan.{AreBlocks, IsPlan, need};
-ghost use Rattle.pir_tool.specs.HonestReply.{RepliesHonestly};
+ghost use Rattle.query_rounds.specs.Plan.{AreBlocks, IsPlan, need};
+ghost use Rattle.commands.specs.HonestReply.{RepliesHonestly};
 ghost use Rattle.privacy_law.specs.Bijection.{IsBijection};
 ghost use Rattle.pir_tool.specs.Privacy.{IsSentTheSame, LookUpLooksTheSame, OthersAreSentTheSame, partner_coins, partner_coins_xor};
 
-use fetch_client::FetchPlan;
+use query_rounds::FetchPlan;
 
 /// What a server that holds a database of the plan's shape replies to the frame that a fetch sends it, is the frame of
 /// an honest server: the header of status 0, and the product of its query and the rows (Goldberg 2007), or in the XOR

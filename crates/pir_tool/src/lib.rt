@@ -1,21 +1,10 @@
-//! The program `pir`: all that it does, over ports that tell what goes in and out.
+//! The program `pir`: all that it does, over ports that tell what goes in and out, and the laws of what its clients and
+//! servers send.
+//!
+//! What [`run`] and the statuses promise comes from `commands`, on which the program stands. The laws of privacy ([`laws`])
+//! are stated and proved here: the program needs no word of them.
 #![tactic(auto)]
 
-mod demo_command;
-mod faults;
-mod fetch_command;
-mod front_command;
 pub mod laws;
-mod lookup_command;
-mod obey;
-mod orders;
-mod replay_command;
-mod report;
-mod selfrun_command;
-mod serve_command;
-mod split_command;
-mod status;
-mod top;
 
-pub use status::{Bad, Ending, Status, code, ending_of, line};
-pub use top::run;
+pub use commands::{Bad, Ending, Status, code, ending_of, line, run};

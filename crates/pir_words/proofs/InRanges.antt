@@ -8,9 +8,9 @@ use Rattle.std.specs.Result.{result_ok}
 use Rattle.std.specs.Prelude.{Result, Ok, Err}
 use Rattle.hex.specs.declared.FromHexError.{FromHexError}
 use Rattle.clap.specs.Words.{Row, Text, all_of, first_of, subcommand_of}
-use Rattle.wire_frames.specs.Limits.{IsShape}
+use Rattle.quantity_limits.specs.Shape.{IsShape}
 use Rattle.wire_frames.proofs.Counts.{single_count}
-use Rattle.wire_frames.specs.declared.TheConstants.{LEAST_SERVERS, MOST_GUESTS, MOST_SERVERS, MOST_WIDTH}
+use Rattle.quantity_limits.specs.declared.TheConstants.{LEAST_SERVERS, MOST_GUESTS, MOST_SERVERS, MOST_WIDTH}
 use Rattle.wire_frames.specs.declared.scheme.Scheme.{Scheme}
 use Rattle.wire_frames.specs.declared.scheme.Scheme.TheVariants.{Shamir, Xor}
 use Rattle.wire_frames.specs.declared.scheme.TheConstants.{XOR}
@@ -30,7 +30,8 @@ use Rattle.hex.proofs.HexLemmas.{decode_of-ok}
 use Rattle.key_search.specs.Spelled.{spells_bytes}
 use Rattle.pir_words.specs.Form.{InRange, are_taken, asked_by, asked_in, asked_of}
 use Rattle.pir_words.specs.Command.{pir}
-use Rattle.pir_words.specs.declared.TheConstants.{LEAST_PORT, MOST_PORT, MOST_SHARDS, MOST_TAU}
+use Rattle.pir_words.specs.declared.TheConstants.{LEAST_PORT, MOST_PORT, MOST_TAU}
+use Rattle.quantity_limits.specs.declared.TheConstants.{MOST_SHARDS}
 use Rattle.pir_words.specs.declared.ranges.Sharing.{Sharing}
 use Rattle.pir_words.specs.declared.asked.Asked.{Asked}
 use Rattle.pir_words.specs.declared.asked.Asked.TheVariants.{Replay}

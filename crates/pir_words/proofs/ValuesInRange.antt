@@ -6,9 +6,9 @@ use Rattle.std.specs.Str.Parse.{digits_value}
 use Rattle.std.proofs.lemmas.Bool.{and_parts, leb-true, ltb-true}
 use Rattle.std.proofs.lemmas.List.Elements.{All-nil, All-cons}
 use Rattle.clap.specs.Words.{Row, Text, first_of}
-use Rattle.wire_frames.specs.Limits.{IsShape}
+use Rattle.quantity_limits.specs.Shape.{IsShape}
 use Rattle.wire_frames.proofs.Counts.{single_count}
-use Rattle.wire_frames.specs.declared.TheConstants.{LEAST_SERVERS, MOST_BLOCKS, MOST_DEGREE, MOST_SERVERS, MOST_ROWS, MOST_WIDTH, MOST_CELLS, MOST_WORKERS}
+use Rattle.quantity_limits.specs.declared.TheConstants.{LEAST_SERVERS, MOST_BLOCKS, MOST_DEGREE, MOST_SERVERS, MOST_ROWS, MOST_WIDTH, MOST_CELLS, MOST_WORKERS}
 use Rattle.wire_frames.specs.declared.scheme.Scheme.{Scheme}
 use Rattle.wire_frames.specs.declared.scheme.Scheme.TheVariants.{Shamir, Xor}
 use Rattle.wire_frames.specs.declared.scheme.TheConstants.{SHAMIR, XOR}

@@ -3,7 +3,7 @@ use Rattle.std.specs.Prelude.{ℕ, ◌≡◌, ◌+◌, ◌*◌, ◌-◌, ◌<◌
 use Rattle.std.specs.Prelude.{Option, None, Some, option_map, codes, is_none, nat_le, nat_lt, unwrap_or}
 use Rattle.std.specs.List.{slice_split}
 use Rattle.clap.specs.Words.{Row, Text, all_of, first_of}
-use Rattle.wire_frames.specs.declared.TheConstants.{LEAST_SERVERS, MOST_BLOCKS, MOST_SERVERS, MOST_WIDTH}
+use Rattle.quantity_limits.specs.declared.TheConstants.{LEAST_SERVERS, MOST_BLOCKS, MOST_SERVERS, MOST_WIDTH}
 use Rattle.wire_frames.specs.declared.scheme.TheConstants.{XOR}
 use Rattle.wire_frames.specs.declared.scheme.Scheme.{Scheme}
 use Rattle.wire_frames.specs.declared.scheme.Scheme.TheVariants.{Shamir, Xor}

@@ -2,12 +2,12 @@
 use Rattle.std.specs.Prelude.{ℕ, ◌≡◌, ◌≤◌, ◌==◌, ◌&&◌, List, length, Option, Some, codes, nat_le}
 use Rattle.std.specs.Int.{div_ceil}
 use Rattle.clap.specs.Words.{Row, Text, all_of, first_of}
-use Rattle.wire_frames.specs.Limits.{IsShape}
-use Rattle.wire_frames.specs.declared.TheConstants.{MOST_GUESTS}
+use Rattle.quantity_limits.specs.Shape.{IsShape}
+use Rattle.quantity_limits.specs.declared.TheConstants.{MOST_GUESTS}
 use Rattle.pir_words.specs.Chain.{◌>>=◌, ◌>>◌}
 use Rattle.pir_words.specs.Numbers.{limited}
 use Rattle.pir_words.specs.Ranges.{sizes_in}
-use Rattle.pir_words.specs.declared.TheConstants.{MOST_SHARDS}
+use Rattle.quantity_limits.specs.declared.TheConstants.{MOST_SHARDS}
 use Rattle.pir_words.specs.declared.ranges.Sizes.{Sizes}
 use Rattle.pir_words.specs.declared.asked.Asked.{Asked}
 use Rattle.pir_words.specs.declared.asked.Asked.TheVariants.{Front}

@@ -4,7 +4,7 @@ use Rattle.clap.specs.Words.{Row}
 use Rattle.pir_words.specs.Chain.{◌>>=◌}
 use Rattle.pir_words.specs.Numbers.{flag_in, limited, number_in}
 use Rattle.pir_words.specs.Ranges.{FitsSession, servers_in, sharing_in, sizes_in, workers_in}
-use Rattle.wire_frames.specs.declared.TheConstants.{MOST_WORKERS}
+use Rattle.quantity_limits.specs.declared.TheConstants.{MOST_WORKERS}
 use Rattle.wire_frames.specs.declared.scheme.TheConstants.{SHAMIR}
 use Rattle.pir_words.specs.declared.ranges.Sizes.{Sizes}
 use Rattle.pir_words.specs.declared.ranges.Sharing.{Sharing}

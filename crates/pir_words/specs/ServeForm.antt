@@ -1,7 +1,7 @@
 -- The form of `serve`.
 use Rattle.std.specs.Prelude.{ℕ, ◌≡◌, ◌⊎◌, ◌≤◌, List, Option, Some, codes}
 use Rattle.clap.specs.Words.{Row, first_of}
-use Rattle.wire_frames.specs.declared.TheConstants.{MOST_GUESTS, MOST_WIDTH, MOST_WORKERS}
+use Rattle.quantity_limits.specs.declared.TheConstants.{MOST_GUESTS, MOST_WIDTH, MOST_WORKERS}
 use Rattle.wire_frames.specs.declared.scheme.TheConstants.{SHAMIR, XOR}
 use Rattle.wire_frames.specs.Scheme.{number_of}
 use Rattle.pir_words.specs.Chain.{◌>>=◌}

@@ -1,7 +1,7 @@
 -- The form of `split`.
 use Rattle.std.specs.Prelude.{ℕ, ◌<◌, ◌≤◌, ◌&&◌, List, Option, Some, codes, nat_le, nat_lt}
 use Rattle.clap.specs.Words.{Row, first_of}
-use Rattle.wire_frames.specs.declared.TheConstants.{MOST_SERVERS, MOST_WIDTH}
+use Rattle.quantity_limits.specs.declared.TheConstants.{MOST_SERVERS, MOST_WIDTH}
 use Rattle.pir_words.specs.Chain.{◌>>=◌, ◌>>◌}
 use Rattle.pir_words.specs.Numbers.{limited, number_in}
 use Rattle.pir_words.specs.Ranges.{coins_in, servers_in}

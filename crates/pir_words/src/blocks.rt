@@ -3,7 +3,7 @@
 ghost use Rattle.std.specs.Prelude.{◌≡◌, ◌≤◌, IfOk, codes, map};
 ghost use Rattle.std.specs.List.{slice_split};
 ghost use Rattle.clap.specs.Words.{first_of};
-ghost use Rattle.wire_frames.specs.declared.TheConstants.{MOST_WIDTH};
+ghost use Rattle.quantity_limits.specs.declared.TheConstants.{MOST_WIDTH};
 ghost use Rattle.pir_words.specs.Numbers.{given};
 ghost use Rattle.pir_words.specs.FetchForm.{at_once, blocks_in, is_comma, more_texts, rows_behind};
 ghost use Rattle.pir_words.specs.Form.{IsReadAs};

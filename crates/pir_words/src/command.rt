@@ -32,7 +32,7 @@ pub struct Form<'a> {
 }
 
 /// The commands of `pir`.
-const COMMANDS: [Form<'static>; 8] = [
+const COMMANDS: &[Form<'static>] = &[
     Form {
         name: "replay",
         arguments: &[("report", Kind::Flag), ("file", Kind::Operand)],
@@ -204,5 +204,5 @@ pub fn pir_command<'a>(alloc: Global) -> Result<Command<'a>, AllocError>
     ensures { IfOk result (λ c. app_of c ≡ pir) }
 {
     let top = Command::new(alloc, "pir").no_binary_name(true);
-    with_commands(alloc, top, &COMMANDS)
+    with_commands(alloc, top, COMMANDS)
 }

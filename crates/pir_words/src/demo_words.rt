@@ -16,7 +16,7 @@ use std::alloc::Global;
 pub fn read_demo(alloc: Global, matches: &ArgMatches) -> Result<Asked, WordsFault>
     ensures { IsReadAs (demo_of (given matches.now)) result }
 {
-    let Some(port) = limited_at(matches, "port", u64::from(LEAST_PORT), u64::from(MOST_PORT)) else {
+    let Some(port) = limited_at(matches, "port", u32::from(LEAST_PORT), u32::from(MOST_PORT)) else {
         return Err(WordsFault::Usage);
     };
     let Some(database) = text_at(matches, "database") else {
@@ -35,7 +35,7 @@ pub fn read_demo(alloc: Global, matches: &ArgMatches) -> Result<Asked, WordsFaul
         return Err(WordsFault::Usage);
     };
     let database = owned(alloc, database)?;
-    let coins = owned(alloc, coins_at(matches))?;
+    let coins = coins_at(alloc, matches)?;
     Ok(Asked::Demo {
         port: port as u16,
         database,

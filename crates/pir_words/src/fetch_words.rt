@@ -1,7 +1,7 @@
 //! The words of `fetch`.
 
 ghost use Rattle.std.specs.Prelude.{◌≡◌, ◌≤◌, IfSome, length, map, option_map};
-ghost use Rattle.wire_frames.specs.declared.TheConstants.{MOST_SERVERS};
+ghost use Rattle.quantity_limits.specs.declared.TheConstants.{MOST_SERVERS};
 ghost use Rattle.pir_words.specs.Numbers.{given};
 ghost use Rattle.pir_words.specs.FetchForm.{addresses_in, fetch_of, fetch_sharing_in, tau_in, xor_sharing_in};
 ghost use Rattle.pir_words.specs.Form.{IsReadAs};
@@ -11,7 +11,7 @@ use crate::asked::{Asked, WordsFault};
 use crate::blocks::blocks_at;
 use crate::ranges::{Sharing, coins_at, scheme_at, sharing_at, sizes_at};
 use crate::text::Texts;
-use crate::values::{flag_at, number_of, owned, owned_if_given, text_at, texts_at};
+use crate::values::{flag_at, number_of, owned_if_given, text_at, texts_at};
 use clap::ArgMatches;
 use std::alloc::Global;
 use wire_frames::{LEAST_SERVERS, MOST_SERVERS, Scheme};
@@ -103,7 +103,7 @@ pub fn read_fetch(alloc: Global, matches: &ArgMatches) -> Result<Asked, WordsFau
     let Some(tau) = tau_at(matches, scheme, sharing) else {
         return Err(WordsFault::Usage);
     };
-    let coins = owned(alloc, coins_at(matches))?;
+    let coins = coins_at(alloc, matches)?;
     let keep = owned_if_given(alloc, text_at(matches, "record"))?;
     let addresses = Texts::new(alloc, addresses)?;
     Ok(Asked::Fetch {

@@ -7,12 +7,11 @@ ghost use Rattle.pir_words.specs.Form.{IsReadAs};
 
 use crate::MOST_SHARDS;
 use crate::asked::{Asked, WordsFault};
-use crate::ranges::sizes_at;
+use crate::ranges::{guests_at, sizes_at};
 use crate::text::Texts;
-use crate::values::{limited_at, owned, text_at, texts_at};
+use crate::values::{limited_at, owned_at, texts_at};
 use clap::ArgMatches;
 use std::alloc::Global;
-use wire_frames::MOST_GUESTS;
 
 /// The addresses, one for each shard of the rows, of which `shard` lie on each but the last.
 #[tactic(auto, unfolding(crate::specs::FrontForm::shard_addresses_in))]
@@ -41,25 +40,22 @@ pub fn read_front(alloc: Global, matches: &ArgMatches) -> Result<Asked, WordsFau
     let Some(sizes) = sizes_at(matches) else {
         return Err(WordsFault::Usage);
     };
-    let Some(shard) = limited_at(matches, "shard", 1, u64::from(sizes.rows)) else {
+    let Some(shard) = limited_at(matches, "shard", 1, sizes.rows) else {
         return Err(WordsFault::Usage);
     };
-    let Some(guests) = limited_at(matches, "conns", 1, u64::from(MOST_GUESTS)) else {
+    let Some(guests) = guests_at(matches) else {
         return Err(WordsFault::Usage);
     };
-    let Some(addresses) = shard_addresses_at(matches, sizes.rows, shard as u32) else {
+    let Some(addresses) = shard_addresses_at(matches, sizes.rows, shard) else {
         return Err(WordsFault::Usage);
     };
-    let Some(listen) = text_at(matches, "listen") else {
-        return Err(WordsFault::Usage);
-    };
-    let listen = owned(alloc, listen)?;
+    let listen = owned_at(alloc, matches, "listen")?;
     let addresses = Texts::new(alloc, addresses)?;
     Ok(Asked::Front {
         rows: sizes.rows,
         width: sizes.width,
-        shard: shard as u32,
-        conns: guests as u32,
+        shard,
+        conns: guests,
         listen,
         addresses,
     })

@@ -42,6 +42,7 @@ use demo_words::read_demo;
 use fetch_words::read_fetch;
 use front_words::read_front;
 use lookup_words::read_lookup;
+pub use quantity_limits::MOST_SHARDS;
 use replay_words::read_replay;
 use selfrun_words::read_selfrun;
 use serve_words::read_serve;
@@ -56,9 +57,6 @@ pub const LEAST_PORT: u16 = 1024;
 /// The greatest port of a demonstration.
 pub const MOST_PORT: u16 = 65000;
 
-/// The most shards of a front.
-pub const MOST_SHARDS: u8 = 32;
-
 /// The greatest degree in which the database of `fetch` may be shared: with queries of degree 1 it is the greatest degree of
 /// a session.
 pub const MOST_TAU: u8 = MOST_DEGREE - 1;
@@ -71,7 +69,9 @@ fn parse<'a>(alloc: Global, words: &'a [String]) -> Result<ArgMatches<'a>, Words
     ensures err { IfErr result (λ e.
         e ≡ WordsFault.Usage → are_taken (map string_bytes words.entry.now) ≡ false) }
 {
-    let command = pir_command(alloc)?;
+    let Ok(command) = pir_command(alloc) else {
+        return Err(WordsFault::Memory);
+    };
     Ok(command.try_get_matches_from(words)?)
 }
 

@@ -8,7 +8,7 @@ use crate::asked::{Asked, WordsFault};
 use crate::fetch_words::addresses_at;
 use crate::ranges::{coins_at, sharing_at, sizes_at};
 use crate::text::Texts;
-use crate::values::{owned, text_at};
+use crate::values::text_at;
 use clap::ArgMatches;
 use key_search::{Key, read_key};
 use std::alloc::Global;
@@ -46,7 +46,7 @@ pub fn read_lookup(alloc: Global, matches: &ArgMatches) -> Result<Asked, WordsFa
     let Some(sharing) = sharing_at(matches, addresses.len() as u8) else {
         return Err(WordsFault::Usage);
     };
-    let coins = owned(alloc, coins_at(matches))?;
+    let coins = coins_at(alloc, matches)?;
     let addresses = Texts::new(alloc, addresses)?;
     Ok(Asked::Lookup {
         rows: sizes.rows,

@@ -1,14 +1,18 @@
 //! The values that several commands have, each in its range.
 
-ghost use Rattle.std.specs.Prelude.{◌≡◌};
-ghost use Rattle.pir_words.specs.Numbers.{given};
+ghost use Rattle.std.specs.Prelude.{◌≡◌, IfErr, IfOk, codes};
+ghost use Rattle.quantity_limits.specs.declared.TheConstants.{MOST_GUESTS, MOST_WIDTH};
+ghost use Rattle.pir_words.specs.Numbers.{given, limited};
 ghost use Rattle.pir_words.specs.Ranges.{block_in, coins_in, row_named, scheme_in, scheme_named, servers_in, sharing_in, sizes_in, workers_in};
 
-use crate::values::{limited_at, number_at, number_of, text_at};
+use crate::asked::WordsFault;
+use crate::text::Text;
+use crate::values::{limited_at, number_at, number_of, owned, text_at};
 use clap::ArgMatches;
+use std::alloc::Global;
 use wire_frames::{
-    LEAST_SERVERS, MOST_CELLS, MOST_DEGREE, MOST_ROWS, MOST_SERVERS, MOST_WIDTH, MOST_WORKERS,
-    Scheme,
+    LEAST_SERVERS, MOST_CELLS, MOST_DEGREE, MOST_GUESTS, MOST_ROWS, MOST_SERVERS, MOST_WIDTH,
+    MOST_WORKERS, Scheme,
 };
 
 /// The sizes of a database.
@@ -25,18 +29,29 @@ pub struct Sharing {
     pub agree: u8,
 }
 
+/// How many bytes a row has.
+pub fn width_at(matches: &ArgMatches) -> Option<u32>
+    ensures { result ≡ limited (codes "width") 1 MOST_WIDTH (given matches.now) }
+{
+    limited_at(matches, "width", 1, MOST_WIDTH)
+}
+
+/// How many guests there are.
+pub fn guests_at(matches: &ArgMatches) -> Option<u32>
+    ensures { result ≡ limited (codes "conns") 1 MOST_GUESTS (given matches.now) }
+{
+    limited_at(matches, "conns", 1, MOST_GUESTS)
+}
+
 /// The rows of a database and their width.
 #[tactic(auto, unfolding(crate::specs::Ranges::sizes_in))]
 pub fn sizes_at(matches: &ArgMatches) -> Option<Sizes>
     ensures { result ≡ sizes_in (given matches.now) }
 {
-    let rows = limited_at(matches, "rows", 1, u64::from(MOST_ROWS))?;
-    let width = limited_at(matches, "width", 1, u64::from(MOST_WIDTH))?;
-    if rows * width <= MOST_CELLS {
-        Some(Sizes {
-            rows: rows as u32,
-            width: width as u32,
-        })
+    let rows = limited_at(matches, "rows", 1, MOST_ROWS)?;
+    let width = width_at(matches)?;
+    if u64::from(rows) * u64::from(width) <= MOST_CELLS {
+        Some(Sizes { rows, width })
     } else {
         None
     }
@@ -91,8 +106,8 @@ pub fn servers_at(matches: &ArgMatches) -> Option<u8>
     let servers = limited_at(
         matches,
         "servers",
-        u64::from(LEAST_SERVERS),
-        u64::from(MOST_SERVERS),
+        u32::from(LEAST_SERVERS),
+        u32::from(MOST_SERVERS),
     )?;
     Some(servers as u8)
 }
@@ -102,9 +117,9 @@ pub fn servers_at(matches: &ArgMatches) -> Option<u8>
 pub fn sharing_at(matches: &ArgMatches, servers: u8) -> Option<Sharing>
     ensures { result ≡ sharing_in servers (given matches.now) }
 {
-    let degree = limited_at(matches, "degree", 1, u64::from(MOST_DEGREE))?;
+    let degree = limited_at(matches, "degree", 1, u32::from(MOST_DEGREE))?;
     let agree = number_at(matches, "agree")?;
-    if degree < agree && agree <= u64::from(servers) {
+    if u64::from(degree) < agree && agree <= u64::from(servers) {
         Some(Sharing {
             degree: degree as u8,
             agree: agree as u8,
@@ -127,10 +142,11 @@ pub fn workers_at(matches: &ArgMatches) -> Option<u8>
     }
 }
 
-/// The file that random bytes come from.
+/// The name of the file that random bytes come from.
 #[tactic(auto, unfolding(crate::specs::Ranges::coins_in))]
-pub fn coins_at<'a>(matches: &ArgMatches<'a>) -> &'a str
-    ensures { result.now ≡ coins_in (given matches.now) }
+pub fn coins_at(alloc: Global, matches: &ArgMatches) -> Result<Text, WordsFault>
+    ensures ok { IfOk result (λ coins. coins ≡ coins_in (given matches.now)) }
+    ensures err { IfErr result (λ e. e ≡ WordsFault.Memory) }
 {
-    text_at(matches, "coins").unwrap_or("/dev/urandom")
+    owned(alloc, text_at(matches, "coins").unwrap_or("/dev/urandom"))
 }

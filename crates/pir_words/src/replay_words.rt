@@ -5,7 +5,7 @@ ghost use Rattle.pir_words.specs.ReplayForm.{replay_of};
 ghost use Rattle.pir_words.specs.Form.{IsReadAs};
 
 use crate::asked::{Asked, WordsFault};
-use crate::values::{flag_at, owned, text_at};
+use crate::values::{flag_at, owned_at};
 use clap::ArgMatches;
 use std::alloc::Global;
 
@@ -14,10 +14,7 @@ use std::alloc::Global;
 pub fn read_replay(alloc: Global, matches: &ArgMatches) -> Result<Asked, WordsFault>
     ensures { IsReadAs (replay_of (given matches.now)) result }
 {
-    let Some(file) = text_at(matches, "file") else {
-        return Err(WordsFault::Usage);
-    };
-    let file = owned(alloc, file)?;
+    let file = owned_at(alloc, matches, "file")?;
     let report = flag_at(matches, "report");
     Ok(Asked::Replay { file, report })
 }

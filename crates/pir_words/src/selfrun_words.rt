@@ -18,7 +18,7 @@ pub fn read_selfrun(matches: &ArgMatches) -> Option<Asked>
     let sizes = sizes_at(matches)?;
     let servers = servers_at(matches)?;
     let sharing = sharing_at(matches, servers)?;
-    let liars = limited_at(matches, "liars", 0, u64::from(servers))?;
+    let liars = limited_at(matches, "liars", 0, u32::from(servers))?;
     let workers = workers_at(matches)?;
     Some(Asked::Selfrun {
         seed,

@@ -4,6 +4,7 @@ ghost use Rattle.std.specs.Prelude.{◌≡◌, ◌≤◌, IfErr, IfOk, IfSome, m
 ghost use Rattle.std.specs.List.{list_all};
 ghost use Rattle.clap.specs.Words.{all_of, first_of};
 ghost use Rattle.pir_words.specs.Numbers.{flag_in, given, is_digit, limited, number, number_in};
+ghost use Rattle.pir_words.specs.Form.{IsReadAs};
 
 use crate::asked::WordsFault;
 use crate::text::Text;
@@ -57,13 +58,13 @@ pub fn number_at(matches: &ArgMatches, id: &str) -> Option<u64>
 
 /// The number of an option, where it is from `least` to `most`.
 #[tactic(auto, unfolding(crate::specs::Numbers::limited))]
-pub fn limited_at(matches: &ArgMatches, id: &str, least: u64, most: u64) -> Option<u64>
+pub fn limited_at(matches: &ArgMatches, id: &str, least: u32, most: u32) -> Option<u32>
     ensures value { result ≡ limited id.now least most (given matches.now) }
     ensures bounds { IfSome result (λ n. (least ≤ n) × (n ≤ most)) }
 {
     let n = number_at(matches, id)?;
-    if least <= n && n <= most {
-        Some(n)
+    if u64::from(least) <= n && n <= u64::from(most) {
+        Some(n as u32)
     } else {
         None
     }
@@ -83,6 +84,16 @@ pub fn owned(alloc: Global, text: &str) -> Result<Text, WordsFault>
     ensures err { IfErr result (λ e. e ≡ WordsFault.Memory) }
 {
     Ok(Text::new(alloc, text)?)
+}
+
+/// A copy of the word of an argument.
+pub fn owned_at(alloc: Global, matches: &ArgMatches, id: &str) -> Result<Text, WordsFault>
+    ensures { IsReadAs (first_of id.now (given matches.now)) result }
+{
+    match text_at(matches, id) {
+        Some(text) => owned(alloc, text),
+        None => Err(WordsFault::Usage),
+    }
 }
 
 /// A copy of a word that may be left out.

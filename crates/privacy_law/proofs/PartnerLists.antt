@@ -1,5 +1,5 @@
 -- Partners of the coins for several blocks, block by block.
-use Rattle.std.proofs.Common.{take, drop, suc-mul, ◌≡◌, ◌≢◌, ℕ, suc, ◌+◌, ◌-◌, ◌*◌, ◌<◌, ◌≤◌, List, ◌++◌, length, get_or, All, Contains, inl, inr, sym, subst, ap, ◌∙◌, arith}
+use Rattle.std.proofs.Common.{drop, ◌≡◌, ◌≢◌, ℕ, ◌+◌, ◌-◌, ◌*◌, ◌<◌, ◌≤◌, List, ◌++◌, length, get_or, All, Contains, inl, inr, sym, subst, ap, ◌∙◌, arith}
 use Rattle.std.proofs.lemmas.Bool.{cases_eq}
 use Rattle.shamir_share.specs.Query.{query}
 use Rattle.chor_xor.specs.Bitmap.{bitmap, size_of, unit_byte}

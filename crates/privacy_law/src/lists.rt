@@ -2,7 +2,7 @@
 ghost use Rattle.std.specs.Prelude.{◌≡◌, ◌≢◌, ℕ, ◌-◌, ◌*◌, ◌<◌, ◌≤◌, length, slice_index, All, IfOk};
 ghost use Rattle.shamir_share.specs.Query.{query};
 ghost use Rattle.chor_xor.specs.Bitmap.{bitmap, size_of};
-ghost use Rattle.wire_frames.specs.declared.TheConstants.{MOST_BLOCKS};
+ghost use Rattle.quantity_limits.specs.declared.TheConstants.{MOST_BLOCKS};
 ghost use Rattle.wire_frames.specs.Turns.{piece};
 ghost use Rattle.privacy_law.specs.Partner.{partner_list, partner_xor_list};
 

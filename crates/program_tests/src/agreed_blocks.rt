@@ -3,7 +3,7 @@
 
 ghost use Rattle.std.specs.Prelude.{◌≡◌, ◌≢◌, ◌+◌, ◌*◌, ◌<◌, ◌≤◌, length, All, IfOk};
 ghost use Rattle.std.specs.List.Sorted.{IsStrictlyIncreasing};
-ghost use Rattle.wire_frames.specs.declared.TheConstants.{MOST_SERVERS};
+ghost use Rattle.quantity_limits.specs.declared.TheConstants.{MOST_SERVERS};
 ghost use Rattle.block_decoder.specs.Numbers.{column_nodes};
 ghost use Rattle.block_decoder.specs.Verdict.{ListsNoMoreThan};
 

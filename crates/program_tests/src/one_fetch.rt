@@ -1,7 +1,7 @@
 //! A block, and two in one query, fetched from three servers in memory, and the texts of the faults of a fetch.
 
 ghost use Rattle.std.specs.Prelude.{◌≡◌, ◌<◌, length};
-ghost use Rattle.fetch_client.specs.Plan.{AreBlocks};
+ghost use Rattle.query_rounds.specs.Plan.{AreBlocks};
 ghost use Rattle.program_tests.specs.declared.one_fetch.TheConstants.{PLAN};
 
 use block_decoder::Verdict;

@@ -282,3 +282,11 @@ counts_of bound session old new before now reads most xor = record {
 
     same : (bytes : List ℕ) (other : Transcript) → old.holds ≡ Some bytes → IsSession bytes other → session ≡ other
     same bytes other told is = one_session bytes session other (spelled bytes told) is
+
+-- where no step is counted, the counts are right
+pub counts_nothing : (bound : ℕ → ℕ → ℕ → ℕ → ℕ) (held : Option (List ℕ)) (n : ℕ) → ReplayCounts bound held n n
+counts_nothing bound held n = record {
+  most = λ bytes session is whole. omega arith;
+  xor = λ bytes session is whole x. refl;
+  none = λ bytes is no. refl;
+}

@@ -2,7 +2,7 @@
 use Rattle.std.proofs.Common.{ℕ, ◌*◌, ◌≤◌, subst, arith}
 use Rattle.std.proofs.Math.Nat.{mul-le-mul_right, mul-le-mul_left, le-min}
 use Rattle.std.proofs.lemmas.Nat.{le-div}
-use Rattle.wire_frames.specs.declared.TheConstants.{MOST_WIDTH}
+use Rattle.quantity_limits.specs.declared.TheConstants.{MOST_WIDTH}
 use Rattle.wire_frames.specs.Sizes.{answer_len}
 use Rattle.wire_frames.specs.declared.header.QueryHeader.{QueryHeader}
 use Rattle.wire_frames.specs.Limits.{IsQuery}

@@ -1,7 +1,7 @@
 -- What the fields of `Service` hold.
 use Rattle.std.specs.Prelude.{◌≡◌, ◌≤◌, ◌⊎◌}
 use Rattle.wire_frames.specs.declared.scheme.TheConstants.{SHAMIR, XOR}
-use Rattle.wire_frames.specs.declared.TheConstants.{MOST_WORKERS}
+use Rattle.quantity_limits.specs.declared.TheConstants.{MOST_WORKERS}
 use Rattle.serve_core.specs.declared.service.Service.TheInside.{Inside}
 
 -- the number of a scheme, and of workers whom a server may have

@@ -1,6 +1,6 @@
 -- Which queries are taken, and how long they are.
 use Rattle.std.specs.Prelude.{ℕ, min, ◌*◌, ◌/◌}
-use Rattle.wire_frames.specs.declared.TheConstants.{MOST_BLOCKS, MOST_WIDTH}
+use Rattle.quantity_limits.specs.declared.TheConstants.{MOST_BLOCKS, MOST_WIDTH}
 use Rattle.wire_frames.specs.Scheme.{scheme_of, payload_len}
 use Rattle.wire_frames.specs.Sizes.{query_len}
 use Rattle.serve_core.specs.declared.terms.Terms.{Terms}

@@ -3,7 +3,7 @@ ghost use Rattle.std.specs.Prelude.{◌≡◌, ◌*◌, ◌≤◌, ◌++◌, len
 ghost use Rattle.port_rules.specs.Number.{GUEST};
 ghost use Rattle.port_rules.specs.Moves.{Touches};
 ghost use Rattle.wire_frames.specs.declared.sizes.TheConstants.{FRAME_HEADER_LEN};
-ghost use Rattle.wire_frames.specs.declared.TheConstants.{MOST_BLOCKS};
+ghost use Rattle.quantity_limits.specs.declared.TheConstants.{MOST_BLOCKS};
 ghost use Rattle.wire_frames.specs.Header.{answer_to, blocks_in, query_header};
 ghost use Rattle.wire_frames.specs.Sizes.{answer_len};
 ghost use Rattle.serve_core.specs.Terms.{most_blocks_for, payload_len_for};

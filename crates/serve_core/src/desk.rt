@@ -3,7 +3,7 @@ ghost use Rattle.std.specs.Prelude.{◌≡◌, ◌⊎◌, ◌≤◌, IfOk};
 ghost use Rattle.port_rules.specs.Number.{GUEST};
 ghost use Rattle.port_rules.specs.Moves.{Touches};
 ghost use Rattle.wire_frames.specs.declared.scheme.TheConstants.{SHAMIR, XOR};
-ghost use Rattle.wire_frames.specs.declared.TheConstants.{MOST_WORKERS};
+ghost use Rattle.quantity_limits.specs.declared.TheConstants.{MOST_WORKERS};
 ghost use Rattle.serve_core.specs.Attended.{Attends};
 
 use crate::attend::attend;

@@ -2,7 +2,7 @@
 ghost use Rattle.std.specs.Prelude.{◌≡◌, ◌+◌, ◌*◌, ◌<◌, ◌≤◌, length};
 ghost use Rattle.port_rules.specs.Number.{GUEST};
 ghost use Rattle.port_rules.specs.Moves.{Touches};
-ghost use Rattle.wire_frames.specs.declared.TheConstants.{MOST_BLOCKS};
+ghost use Rattle.quantity_limits.specs.declared.TheConstants.{MOST_BLOCKS};
 ghost use Rattle.wire_frames.specs.Turns.{piece};
 ghost use Rattle.wire_frames.specs.Scheme.{scheme_of};
 ghost use Rattle.serve_core.specs.Terms.{most_blocks_for, payload_len_for, vector_len_for};

@@ -2,7 +2,7 @@
 ghost use Rattle.std.specs.Prelude.{◌≡◌, ◌≤◌, ◌⊎◌};
 ghost use Rattle.wire_frames.specs.declared.scheme.TheConstants.{SHAMIR, XOR};
 ghost use Rattle.wire_frames.specs.Scheme.{scheme_of};
-ghost use Rattle.wire_frames.specs.declared.TheConstants.{MOST_BLOCKS, MOST_WORKERS};
+ghost use Rattle.quantity_limits.specs.declared.TheConstants.{MOST_BLOCKS, MOST_WORKERS};
 ghost use Rattle.serve_core.specs.Terms.{most_blocks_for, payload_len_for};
 ghost use Rattle.serve_core.specs.Service.{sums_len_for, terms_of};
 

@@ -1,6 +1,6 @@
 //! Which queries are taken.
 ghost use Rattle.std.specs.Prelude.{◌≡◌, ◌≤◌, ◌*◌};
-ghost use Rattle.wire_frames.specs.declared.TheConstants.{MOST_BLOCKS};
+ghost use Rattle.quantity_limits.specs.declared.TheConstants.{MOST_BLOCKS};
 ghost use Rattle.serve_core.specs.Terms.{most_blocks_for, payload_len_for, vector_len_for};
 
 use wire_frames::{MOST_BLOCKS, MOST_WIDTH, Scheme};

@@ -3,7 +3,7 @@
 ghost use Rattle.std.specs.Prelude.{◌≡◌, ℕ, ◌+◌, ◌*◌, ◌<◌, ◌≤◌, true, length, slice_index};
 ghost use Rattle.std.specs.Int.{div_ceil};
 ghost use Rattle.gf256.specs.Sums.{run_sum};
-ghost use Rattle.wire_frames.specs.declared.TheConstants.{MOST_BLOCKS};
+ghost use Rattle.quantity_limits.specs.declared.TheConstants.{MOST_BLOCKS};
 ghost use Rattle.chor_xor.specs.Bitmap.{size_of};
 ghost use Rattle.chor_xor.specs.Chosen.{given};
 ghost use Rattle.server_answer.specs.Asked.{asked};

@@ -8,7 +8,7 @@ ghost use Rattle.std.specs.Prelude.{◌≡◌, ℕ, ◌+◌, ◌-◌, ◌*◌, �
 ghost use Rattle.std.specs.Int.{bit_at};
 ghost use Rattle.gf256.specs.Field.{◌⊕◌};
 ghost use Rattle.gf256.specs.Sums.{run_sum, sum_to};
-ghost use Rattle.wire_frames.specs.declared.TheConstants.{MOST_ROWS};
+ghost use Rattle.quantity_limits.specs.declared.TheConstants.{MOST_ROWS};
 ghost use Rattle.chor_xor.specs.Bitmap.{size_of, bit_of};
 ghost use Rattle.chor_xor.specs.Chosen.{given};
 ghost use Rattle.server_product.specs.Queries.{piece};

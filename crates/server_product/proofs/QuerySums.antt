@@ -134,6 +134,10 @@ filled-next xs h m x room is before p l =
           ap (λ q. get_or (set xs m x) q 0) same ∙ get_or-set_same xs m x 0 room ∙ is ∙ ap h (sym same)
     ]
 
+-- the bytes of the first queries are among those of all
+pub part_fits : (n count r rows total : ℕ) → n ≤ count → r ≡ rows → total ≡ count * rows → n * r ≤ total
+part_fits n count r rows total l e size = omega (arith, mul-le-mul_right rows l, ap (λ k. n * k) e, size)
+
 -- what a row gives, by the queries from one on up to another
 pub entry-part : (queries : List ℕ) (rows : List (List ℕ)) (width done end r p j : ℕ) → r ≡ length rows → done ≤ end
     → p < (end - done) * width → j < length rows

@@ -6,7 +6,7 @@ ghost use Rattle.gf256.specs.Field.{◌⊕◌};
 ghost use Rattle.gf256.specs.Sums.{run_sum};
 ghost use Rattle.server_product.specs.Queries.{entry};
 ghost use Rattle.server_product.specs.Blocks.{block_entry};
-ghost use Rattle.wire_frames.specs.declared.TheConstants.{MOST_ROWS};
+ghost use Rattle.quantity_limits.specs.declared.TheConstants.{MOST_ROWS};
 ghost use Rattle.server_product.specs.declared.group.TheConstants.{MOST_LANES};
 
 use crate::blocks::lay_out;

@@ -4,7 +4,7 @@ ghost use Rattle.std.specs.Prelude.{◌≡◌, ℕ, ◌+◌, ◌*◌, ◌<◌, �
 ghost use Rattle.std.specs.Int.{div_ceil};
 ghost use Rattle.gf256.specs.Sums.{run_sum};
 ghost use Rattle.server_product.specs.Queries.{entry};
-ghost use Rattle.wire_frames.specs.declared.TheConstants.{MOST_BLOCKS};
+ghost use Rattle.quantity_limits.specs.declared.TheConstants.{MOST_BLOCKS};
 ghost use Rattle.server_product.specs.declared.group.TheConstants.{MOST_LANES};
 
 use crate::group::{MOST_LANES, sum_group};

@@ -1,13 +1,13 @@
 //! The products in parts, each on a thread of its own.
 
-ghost use Rattle.std.specs.Prelude.{◌≡◌, ℕ, ◌≤◌, ◌<◌, ◌+◌, ◌-◌, ◌*◌, ◌^◌, length, slice_index};
+ghost use Rattle.std.specs.Prelude.{◌≡◌, ℕ, ◌≤◌, ◌<◌, ◌+◌, ◌*◌, ◌^◌, length, slice_index};
 ghost use Rattle.gf256.specs.Field.{◌⊕◌};
-ghost use Rattle.wire_frames.specs.declared.TheConstants.{MOST_ROWS, MOST_WORKERS};
+ghost use Rattle.quantity_limits.specs.declared.TheConstants.{MOST_ROWS, MOST_WORKERS};
 ghost use Rattle.gf256.specs.Product.{product};
 ghost use Rattle.std.specs.Thread.{IsSync};
 ghost use Rattle.server_product.specs.Parts.{part, HasParts};
 ghost use Rattle.server_product.specs.Queries.{piece, entry};
-ghost use Rattle.wire_frames.specs.declared.TheConstants.{MOST_BLOCKS};
+ghost use Rattle.quantity_limits.specs.declared.TheConstants.{MOST_BLOCKS};
 
 use crate::gate::Gate;
 use crate::queries::{places_of, sum_queries};
@@ -127,7 +127,8 @@ fn sum_from<R: Threads + Sync, G: Gate + Sync>(
     requires first { first < workers }
     requires few_queries { count ≤ MOST_BLOCKS }
     requires queries { length queries.now ≡ count * length matrix.now.rows }
-    requires scratch { length scratch.old ≡ (workers - first) * (count * matrix.now.width) }
+    requires scratch { length scratch.old + first * (count * matrix.now.width)
+        ≡ workers * (count * matrix.now.width) }
     ensures { HasParts scratch.new (count * matrix.now.width)
         (entry queries.now matrix.now.rows matrix.now.width) (length matrix.now.rows) workers first }
 {
@@ -159,7 +160,8 @@ fn sum_both<R: Threads + Sync, G: Gate + Sync>(
     requires few_queries { count ≤ MOST_BLOCKS }
     requires queries { length queries.now ≡ count * length matrix.now.rows }
     requires own { length own.old ≡ count * matrix.now.width }
-    requires others { length others.old ≡ (workers - (first + 1)) * (count * matrix.now.width) }
+    requires others { length others.old + (first + 1) * (count * matrix.now.width)
+        ≡ workers * (count * matrix.now.width) }
     ensures own { (p : ℕ) → p < count * matrix.now.width → slice_index own.new p
         ≡ part (entry queries.now matrix.now.rows matrix.now.width) (length matrix.now.rows) workers first p }
     ensures others { HasParts others.new (count * matrix.now.width)
@@ -177,7 +179,8 @@ fn sum_both<R: Threads + Sync, G: Gate + Sync>(
         requires { IsSync R.row × IsSync G.row × (length matrix.now.rows ≤ MOST_ROWS) × (workers ≤ MOST_WORKERS)
             × (first + 1 < workers) × (count ≤ MOST_BLOCKS)
             × (length queries.now ≡ count * length matrix.now.rows)
-            × (length others.now ≡ (workers - (first + 1)) * (count * matrix.now.width)) }
+            × (length others.now + (first + 1) * (count * matrix.now.width)
+            ≡ workers * (count * matrix.now.width)) }
         ensures { HasParts others.exit.now (count * matrix.entry.now.width)
             (entry queries.entry.now matrix.entry.now.rows matrix.entry.now.width) (length matrix.entry.now.rows) workers (first + 1) }
     { sum_from(rt, matrix, queries, count, workers, first + 1, gate, others) };

@@ -1,10 +1,10 @@
 -- A database that is spread over shards, which are counted from 0 by their places, and from 1 by their numbers.
 use Rattle.std.specs.Prelude.{ℕ, ◌-◌, ◌*◌, ◌≤◌, min}
 use Rattle.std.specs.Int.{div_ceil}
-use Rattle.wire_frames.specs.Limits.{IsShape}
+use Rattle.quantity_limits.specs.Shape.{IsShape}
 use Rattle.wire_frames.specs.declared.scheme.TheConstants.{SHAMIR}
 use Rattle.serve_core.specs.declared.terms.Terms.{Terms}
-use Rattle.shard_front.specs.declared.TheConstants.{MOST_SHARDS}
+use Rattle.quantity_limits.specs.declared.TheConstants.{MOST_SHARDS}
 use Rattle.shard_front.specs.declared.spread.Spread.{Spread}
 
 -- how many shards there are

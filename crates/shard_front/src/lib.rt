@@ -25,10 +25,8 @@ mod spread;
 
 pub use front::Front;
 pub use meet::front_one;
+pub use quantity_limits::MOST_SHARDS;
 pub use relayed::Relayed;
-
-/// The most shards that a front asks.
-pub const MOST_SHARDS: u8 = 32;
 
 /// The status of the frame that names a lost shard: its number stands behind the header.
 pub const LOST: u8 = 4;

@@ -1,6 +1,6 @@
 //! What each shard is asked of a query.
 ghost use Rattle.std.specs.Prelude.{◌≡◌, ◌*◌, ◌<◌, ◌≤◌, length};
-ghost use Rattle.wire_frames.specs.declared.TheConstants.{MOST_BLOCKS};
+ghost use Rattle.quantity_limits.specs.declared.TheConstants.{MOST_BLOCKS};
 ghost use Rattle.wire_frames.specs.Limits.{IsQuery};
 ghost use Rattle.serve_core.specs.Taking.{IsGood};
 ghost use Rattle.shard_front.specs.Spread.{IsSpread, rows_in, shards, terms_of};

@@ -1,6 +1,6 @@
 //! A database that is spread over shards.
 ghost use Rattle.std.specs.Prelude.{◌≡◌, ◌+◌, ◌<◌, ◌≤◌};
-ghost use Rattle.shard_front.specs.declared.TheConstants.{MOST_SHARDS};
+ghost use Rattle.quantity_limits.specs.declared.TheConstants.{MOST_SHARDS};
 ghost use Rattle.serve_core.specs.Terms.{most_blocks_for};
 ghost use Rattle.shard_front.specs.Spread.{IsSpread, first_row, rows_in, shards, terms_of};
 

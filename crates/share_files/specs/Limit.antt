@@ -4,7 +4,7 @@ use Rattle.port_rules.specs.World.{Cell, World}
 use Rattle.port_rules.specs.Number.{DATABASE}
 use Rattle.port_rules.specs.Moves.{took}
 use Rattle.port_rules.specs.Whole.{FailsShort}
-use Rattle.wire_frames.specs.declared.TheConstants.{MOST_ROWS, MOST_CELLS}
+use Rattle.quantity_limits.specs.declared.TheConstants.{MOST_ROWS, MOST_CELLS}
 use Rattle.block_matrix.specs.Database.{Database}
 use Rattle.block_matrix.specs.Loading.{Holds, HoldsNone, Stopped, asked_for}
 use Rattle.block_matrix.specs.declared.matrix.LoadFault.{LoadFault}

@@ -3,13 +3,13 @@
 ghost use Rattle.std.specs.Prelude.{◌≡◌, ◌≤◌};
 ghost use Rattle.port_rules.specs.Number.{DATABASE};
 ghost use Rattle.port_rules.specs.Moves.{Touches};
-ghost use Rattle.wire_frames.specs.declared.TheConstants.{MOST_CELLS, MOST_WIDTH};
+ghost use Rattle.quantity_limits.specs.declared.TheConstants.{MOST_CELLS, MOST_WIDTH};
 ghost use Rattle.share_files.specs.Limit.{LoadsFew, shared_limit};
 
 use block_matrix::{LoadFault, Matrix, load};
 use port_rules::Ports;
+use quantity_limits::{MOST_CELLS, MOST_ROWS};
 use std::alloc::Global;
-use wire_frames::{MOST_CELLS, MOST_ROWS};
 
 /// The most bytes of a database with rows of this width that is shared with degree `tau`.
 #[tactic(auto, unfolding(crate::specs::Limit::shared_limit))]

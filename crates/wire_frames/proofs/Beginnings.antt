@@ -7,7 +7,7 @@ use Rattle.std.proofs.lemmas.List.{append-nil, length-replicate, take-append-dro
 use Rattle.std.proofs.lemmas.List.Elements.{All-nil, All-head, All-tail, All-append, All-push, All-replicate}
 use Rattle.wire_frames.specs.Sizes.{answer_len}
 use Rattle.wire_frames.specs.declared.sizes.TheConstants.{SESSION_HEADER_LEN}
-use Rattle.wire_frames.specs.declared.TheConstants.{MOST_SERVERS}
+use Rattle.quantity_limits.specs.declared.TheConstants.{MOST_SERVERS}
 use Rattle.wire_frames.specs.declared.session.SessionParams.{SessionParams}
 use Rattle.wire_frames.specs.Form.{Starts}
 use Rattle.wire_frames.specs.Layout.{IsHeader, IsRecordHeader, record_header}

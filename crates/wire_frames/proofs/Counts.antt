@@ -2,14 +2,15 @@
 use Rattle.std.proofs.Common.{◌≡◌, ℕ, ◌*◌, ◌/◌, ◌≤◌, max, inl, inr, refl, sym, ap, ◌∙◌, arith, div-le_self}
 use Rattle.std.specs.Prelude.{◌⊎◌, ◌==◌}
 use Rattle.std.proofs.lemmas.Bool.{cases_eq, cond_both, cond-true, cond-false, eq-eqb, eqb-true, ne_eqb}
-use Rattle.wire_frames.specs.declared.TheConstants.{MOST_BLOCKS, MOST_ROWS, MOST_WIDTH, MOST_CELLS}
+use Rattle.quantity_limits.specs.declared.TheConstants.{MOST_BLOCKS, MOST_ROWS, MOST_WIDTH, MOST_CELLS}
 use Rattle.wire_frames.specs.declared.version.TheConstants.{SINGLE, SEVERAL}
 use Rattle.wire_frames.specs.declared.query.Field.{Field}
 use Rattle.wire_frames.specs.declared.query.Field.TheVariants.{Count, Zero}
 use Rattle.wire_frames.specs.declared.places.TheConstants.{FRAME_STATUS_PLACE, FRAME_SESSION_PLACE}
 use Rattle.std.proofs.lemmas.Nat.{le-div}
 use Rattle.wire_frames.specs.Field.{IsField, count_field, width_field}
-use Rattle.wire_frames.specs.Limits.{IsCount, IsShape}
+use Rattle.wire_frames.specs.Limits.{IsCount}
+use Rattle.quantity_limits.specs.Shape.{IsShape}
 use Rattle.wire_frames.specs.Query.{count_name, first_place, end_place}
 use Rattle.wire_frames.specs.Version.{count_byte, count_of, answer_version}
 

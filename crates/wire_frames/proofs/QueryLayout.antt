@@ -13,7 +13,7 @@ use Rattle.wire_frames.specs.declared.query.Field.{Field}
 use Rattle.wire_frames.specs.declared.query.FrameFault.{FrameFault}
 use Rattle.wire_frames.specs.declared.scheme.TheConstants.{SHAMIR, XOR}
 use Rattle.wire_frames.specs.declared.version.TheConstants.{SINGLE, SEVERAL}
-use Rattle.wire_frames.specs.declared.TheConstants.{MOST_BLOCKS}
+use Rattle.quantity_limits.specs.declared.TheConstants.{MOST_BLOCKS}
 use Rattle.wire_frames.specs.Field.{IsNumber, count_field, session_field}
 use Rattle.wire_frames.specs.Form.{Starts, StopsWithin}
 use Rattle.wire_frames.specs.Query.{IsQueryHeader, ReadsField, ReadsQuery, first_place, end_place, count_name}

@@ -1,6 +1,6 @@
 -- The steps of a reader of records.
-use Rattle.std.proofs.Common.{◌≡◌, ℕ, suc, ◌+◌, ◌-◌, ◌*◌, ◌<◌, ◌≤◌, List, [], ◌∷◌, ◌++◌, length, take, min, All, refl, sym, subst, ap, ap₂, ◌∙◌, inl, inr, arith, length-append}
-use Rattle.std.specs.Prelude.{Option, Some, None, Result, Err}
+use Rattle.std.proofs.Common.{◌≡◌, ℕ, suc, ◌+◌, ◌-◌, ◌*◌, ◌<◌, ◌≤◌, List, [], ◌∷◌, ◌++◌, length, take, min, All, refl, sym, append_assoc, subst, ap, ap₂, ◌∙◌, inl, inr, arith, length-append}
+use Rattle.std.specs.Prelude.{Option, Some, None, Result, Ok, Err}
 use Rattle.std.proofs.Math.Nat.{mul-le-mul_right, suc-mul}
 use Rattle.std.proofs.lemmas.Bool.{cases_lt}
 use Rattle.std.proofs.lemmas.List.{append-nil}
@@ -12,12 +12,19 @@ use Rattle.wire_frames.specs.Form.{Starts, Reads}
 use Rattle.wire_frames.specs.Layout.{IsRecordHeader, record_header}
 use Rattle.wire_frames.specs.Limits.{IsInRange}
 use Rattle.wire_frames.specs.Records.{Kept, nothing_kept, closed_by, extended}
-use Rattle.wire_frames.specs.RecordsReader.{IsOpen, IsSteady, IsInHeader, IsInBytes, Refuses, bytes_so_far}
+use Rattle.wire_frames.specs.RecordsReader.{Advances, IsOpen, IsSteady, IsInHeader, IsInBytes, Refuses, bytes_so_far}
 use Rattle.wire_frames.specs.Session.{Transcript, IsSession, Fits, record_bytes, session_bytes}
 use Rattle.wire_frames.proofs.Beginnings.{so_far, AllFit, records_begin, record_begins, record_part, bytes_begin, nothing_behind, record_short, bytes_short, session_bytes-push}
 use Rattle.wire_frames.proofs.Digits.{IsByte}
 use Rattle.wire_frames.proofs.PartialHeaders.{IsBehind, place_behind, head_refuses, head_goes_on}
 use Rattle.wire_frames.proofs.Parsing.{length-record_header}
+
+-- what stands last stands behind all before it
+last_behind : (a b c : List ℕ) → a ++ (b ++ c) ≡ (a ++ b) ++ c
+last_behind a b c = simp append_assoc
+
+last_behind_two : (a b c d : List ℕ) → a ++ (b ++ (c ++ d)) ≡ (a ++ (b ++ c)) ++ d
+last_behind_two a b c d = simp append_assoc
 
 -- no byte of a record's header is right
 no_header : (i most : ℕ) → Starts (IsRecordHeader i most) []
@@ -168,8 +175,21 @@ pub record IsPiece (r : RecordsReader) (piece : List ℕ) (count : ℕ) (head : 
   pub count_is : count ≡ min (6 - length r.head) (length piece)
   pub head_is : head ≡ r.head ++ take count piece
 
+-- the piece is taken: its bytes stand behind those so far
+pub header_taken : (r : RecordsReader) (piece : List ℕ) (count : ℕ) (head : List ℕ) → IsPiece r piece count head → 0 < length piece
+    → Advances (bytes_so_far r) piece (Ok count) (bytes_so_far (record r { head = head }))
+header_taken r piece count head t some =
+    let front = session_bytes (so_far r.params r.records.closed) in
+    let old = seen_header r t.part.none_begun in
+    let new = seen_header (record r { head = head }) t.part.none_begun in
+    let behind = last_behind front r.head (take count piece) in (
+      omega (arith, some, t.count_is, t.part.short),
+      omega (arith, t.count_is),
+      new ∙ (ap (λ (l : List ℕ). front ++ l) t.head_is ∙ (behind ∙ ap (λ (l : List ℕ). l ++ take count piece) (sym old))),
+    )
+
 -- it is read under the index of the next record
-header_reads : (r : RecordsReader) (i : ℕ) (read head : List ℕ) (result : Result (Option ℕ) ℕ) → i ≡ length r.records.closed → read ≡ head
+pub header_reads : (r : RecordsReader) (i : ℕ) (read head : List ℕ) (result : Result (Option ℕ) ℕ) → i ≡ length r.records.closed → read ≡ head
     → Reads (IsRecordHeader (i + 1) (answer_len r.params.count r.params.s)) read result → Reads (IsRecordHeader (1 + length r.records.closed) (answer_len r.params.count r.params.s)) head result
 header_reads r i read head result is_index is_head h =
     let index : i + 1 ≡ 1 + length r.records.closed = omega arith in
@@ -232,6 +252,27 @@ extended_steady r kept bytes left steady below room is_kept =
       byte_room = omega (arith, long, room, steady.byte_room);
     } in
     subst (λ (k : Kept). IsSteady (record r { records = k; left = left })) (sym is_kept) canonical
+
+-- its bytes go on
+pub extended_part : (r : RecordsReader) (kept : Kept) (bytes : List ℕ) (left : ℕ) → IsInBytes r → length bytes + left ≡ r.left → kept ≡ extended bytes r.records
+    → IsInBytes (record r { records = kept; left = left })
+extended_part r kept bytes left part all is_kept =
+    let long = length-append r.records.current bytes in
+    let same : length r.records.current + r.left ≡ length (r.records.current ++ bytes) + left = omega (arith, long, all) in
+    let canonical : IsInBytes (record r { records = extended bytes r.records; left = left }) = record {
+      header = part.header ∙ ap (λ (n : ℕ). record_header (1 + length r.records.closed) (Some n)) same;
+      few = part.few;
+      most = omega (arith, same, part.most);
+    } in
+    subst (λ (k : Kept). IsInBytes (record r { records = k; left = left })) (sym is_kept) canonical
+
+-- and stand behind those so far
+pub extended_bytes : (r : RecordsReader) (kept : Kept) (bytes : List ℕ) (left : ℕ) → kept ≡ extended bytes r.records
+    → bytes_so_far (record r { records = kept; left = left }) ≡ bytes_so_far r ++ bytes
+extended_bytes r kept bytes left is_kept =
+    let front = session_bytes (so_far r.params r.records.closed) in
+    let behind = last_behind_two front r.head r.records.current bytes in
+    ap (λ (k : Kept). session_bytes (so_far r.params k.closed) ++ (r.head ++ k.current)) is_kept ∙ behind
 
 -- there is room for what is left of the next record
 pub room_left : (r : RecordsReader) → IsSteady r → IsInBytes r → r.left ≤ r.records.byte_room

@@ -1,7 +1,7 @@
 -- The header of a session as a chain of fields: each in the range that the numbers before it leave.
 use Rattle.std.proofs.Common.{ℕ, ◌+◌, ◌<◌, ◌≤◌, List, [], ◌∷◌, ◌++◌, take, drop, sym, subst, ap, ◌∙◌, arith, lit≤, lit<}
 use Rattle.std.specs.Int.{bytes_high_first}
-use Rattle.wire_frames.specs.declared.TheConstants.{MOST_BLOCKS, MOST_DEGREE, MOST_SERVERS}
+use Rattle.quantity_limits.specs.declared.TheConstants.{MOST_BLOCKS, MOST_DEGREE, MOST_SERVERS}
 use Rattle.wire_frames.specs.declared.field.Number.{Number}
 use Rattle.wire_frames.specs.declared.layout.TheConstants.{SESSION_MAGIC}
 use Rattle.wire_frames.specs.declared.places.TheConstants.{SESSION_MAGIC_PLACE, SESSION_VERSION_PLACE, SESSION_SCHEME_PLACE, SESSION_DEGREE_PLACE, SESSION_AGREEMENT_PLACE, SESSION_SERVERS_PLACE, SESSION_COUNT_PLACE, SESSION_ZERO_PLACE, SESSION_NUMBER_PLACE}

@@ -3,11 +3,11 @@ use Rattle.std.proofs.Common.{◌≡◌, ℕ, ◌+◌, ◌*◌, ◌/◌, ◌^◌
 use Rattle.std.specs.Int.{bytes_high_first}
 use Rattle.std.proofs.Math.Nat.{div-mul-le_self, mul-le-mul_right}
 use Rattle.std.proofs.lemmas.Nat.{le-div}
-use Rattle.wire_frames.specs.declared.TheConstants.{MOST_BLOCKS, MOST_ROWS, MOST_WIDTH, MOST_CELLS}
+use Rattle.quantity_limits.specs.declared.TheConstants.{MOST_BLOCKS, MOST_ROWS, MOST_WIDTH, MOST_CELLS}
 use Rattle.wire_frames.specs.declared.field.Number.{Number}
 use Rattle.wire_frames.specs.Field.{IsNumber, session_field, width_field}
 use Rattle.wire_frames.specs.Form.{Starts}
-use Rattle.wire_frames.specs.Limits.{IsShape}
+use Rattle.quantity_limits.specs.Shape.{IsShape}
 use Rattle.wire_frames.proofs.Chains.{Then, IsDone, Leads, field_then, leads-on, some_spelling, no_more}
 use Rattle.wire_frames.proofs.Spellings.{number_is, joined, is_field}
 

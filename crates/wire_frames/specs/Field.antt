@@ -1,7 +1,7 @@
 -- A field of a frame: a number of so many bytes, highest first, in a range.
 use Rattle.std.specs.Prelude.{◌≡◌, ℕ, ◌-◌, ◌^◌, ◌/◌, ◌<◌, ◌≤◌, List, min}
 use Rattle.std.specs.Int.{bytes_high_first}
-use Rattle.wire_frames.specs.declared.TheConstants.{MOST_SERVERS, MOST_BLOCKS, MOST_WIDTH, MOST_CELLS}
+use Rattle.quantity_limits.specs.declared.TheConstants.{MOST_SERVERS, MOST_BLOCKS, MOST_WIDTH, MOST_CELLS}
 use Rattle.wire_frames.specs.declared.scheme.Scheme.{Scheme}
 use Rattle.wire_frames.specs.declared.scheme.Scheme.TheVariants.{Shamir, Xor}
 use Rattle.wire_frames.specs.declared.field.Number.{Number}

@@ -1,19 +1,11 @@
--- The ranges of the numbers in frames and session files. Each limit is a constant of the crate's
--- root.
+-- The ranges of the numbers in frames and session files.
 use Rattle.std.specs.Prelude.{ℕ, ◌+◌, ◌*◌, ◌^◌, ◌<◌, ◌≤◌, ◌≡◌, ◌⊎◌}
-use Rattle.wire_frames.specs.declared.TheConstants.{MOST_DEGREE, MOST_SERVERS, MOST_BLOCKS, MOST_ROWS, MOST_WIDTH, MOST_CELLS}
+use Rattle.quantity_limits.specs.declared.TheConstants.{MOST_DEGREE, MOST_SERVERS, MOST_BLOCKS, MOST_WIDTH}
+use Rattle.quantity_limits.specs.Shape.{IsShape}
 use Rattle.wire_frames.specs.declared.scheme.TheConstants.{SHAMIR, XOR}
 use Rattle.wire_frames.specs.declared.version.TheConstants.{SINGLE, SEVERAL}
 use Rattle.wire_frames.specs.declared.header.QueryHeader.{QueryHeader}
 use Rattle.wire_frames.specs.declared.session.SessionParams.{SessionParams}
-
--- so many rows of so many bytes
-pub record IsShape (r s : ℕ) : Type 0 where
-  pub some_rows : 1 ≤ r
-  pub few_rows : r ≤ MOST_ROWS
-  pub some_bytes : 1 ≤ s
-  pub few_bytes : s ≤ MOST_WIDTH
-  pub few_cells : r * s ≤ MOST_CELLS
 
 -- a version, and for how many rows of so many bytes a query asks: in version 1 for one
 pub record IsCount (version count s : ℕ) : Type 0 where

@@ -3,7 +3,7 @@ ghost use Rattle.std.specs.Prelude.{◌≡◌, ◌≤◌};
 ghost use Rattle.std.specs.Option.{option_copied};
 ghost use Rattle.wire_frames.specs.Answer.{asked, block_len, usable};
 ghost use Rattle.wire_frames.specs.Limits.{IsInRange};
-ghost use Rattle.wire_frames.specs.declared.TheConstants.{MOST_WIDTH};
+ghost use Rattle.quantity_limits.specs.declared.TheConstants.{MOST_WIDTH};
 
 use crate::header::{QueryHeader, answer_header};
 use crate::session::SessionParams;

@@ -22,7 +22,7 @@
 //! | present | 0 or 1 |
 //! | length | at most that of an answer, and 0 where present is 0 |
 ghost use Rattle.std.specs.Prelude.{◌≡◌, ◌≤◌, ◌<◌, ◌^◌, length};
-ghost use Rattle.wire_frames.specs.declared.TheConstants.{MOST_BLOCKS, MOST_ROWS};
+ghost use Rattle.quantity_limits.specs.declared.TheConstants.{MOST_BLOCKS, MOST_ROWS};
 ghost use Rattle.wire_frames.specs.declared.sizes.TheConstants.{SESSION_HEADER_LEN, RECORD_HEADER_LEN};
 ghost use Rattle.wire_frames.specs.Field.{IsField, count_field, servers_field, width_field};
 ghost use Rattle.wire_frames.specs.Form.{Reads};

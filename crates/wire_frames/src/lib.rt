@@ -10,9 +10,8 @@
 //! Not promised: where the bytes come from. A server that lies behind a right header gives a usable
 //! answer.
 //!
-//! The sizes of frames, the schemes and the limits of a session and of words stand here, and
-//! definitions and code of every crate take them from here. The places of fields are this crate's
-//! own.
+//! The sizes of frames and the schemes stand here, and definitions and code of every crate take them
+//! from here; the limits of a session come from `quantity_limits`. The places of fields are this crate's own.
 #![tactic(auto)]
 
 mod answer;
@@ -36,6 +35,10 @@ mod write;
 pub use answer::usable_answer;
 pub use cause::{AnswerField, Cause, why};
 pub use header::{QueryHeader, write_answer_header, write_query_header};
+pub use quantity_limits::{
+    LEAST_SERVERS, MOST_BLOCKS, MOST_CELLS, MOST_DEGREE, MOST_GUESTS, MOST_ROWS, MOST_SERVERS,
+    MOST_WIDTH, MOST_WORKERS,
+};
 pub use query::{Field, FrameFault, read_query_header};
 pub use reader::{BadSession, FeedFault, SessionReader};
 pub use scheme::{SHAMIR, Scheme, XOR};
@@ -43,36 +46,3 @@ pub use session::{Session, SessionParams};
 pub use sizes::{FRAME_HEADER_LEN, RECORD_HEADER_LEN, SESSION_HEADER_LEN, answer_len, query_len};
 pub use version::{SEVERAL, SINGLE};
 pub use write::write_session;
-
-/// The least number of servers: one alone would learn the block.
-pub const LEAST_SERVERS: u8 = 2;
-
-/// The greatest number of servers. An index is one byte and not 0, so 255 is the end; a verdict needs
-/// list decodings of so many points, and a row of servers is gone through with no index past it.
-pub const MOST_SERVERS: u8 = 255;
-
-/// The greatest degree of a query's polynomials, so how many servers together may learn nothing. It
-/// goes with [`MOST_SERVERS`]: one server more has to agree.
-pub const MOST_DEGREE: u8 = MOST_SERVERS - 1;
-
-/// The greatest number of blocks that one query asks for.
-pub const MOST_BLOCKS: u8 = 16;
-
-/// The greatest number of rows of a database. Its field has four bytes; [`MOST_CELLS`] has to allow
-/// one byte a row.
-pub const MOST_ROWS: u32 = 1 << 20;
-
-/// The greatest width of a row, in bytes, and of all rows together that one query asks for. The
-/// length of an answer, [`answer_len`], has to fit four bytes.
-pub const MOST_WIDTH: u32 = 1 << 16;
-
-/// The greatest size of a database, in bytes. A server holds so much memory, and a number of rows
-/// times a width has to stay below 2^64.
-pub const MOST_CELLS: u64 = 1 << 30;
-
-/// The greatest number of workers that share the work on an answer. Each is a thread of its own; it
-/// is kept in one byte.
-pub const MOST_WORKERS: u8 = 16;
-
-/// The greatest number of guests that a server takes before it ends. It is kept in four bytes.
-pub const MOST_GUESTS: u32 = 65535;

@@ -11,7 +11,7 @@
 //! | rows | from 1 to `MOST_ROWS` |
 //! | width | from 1 to `MOST_WIDTH`, with rows times width at most `MOST_CELLS`, and blocks times width at most `MOST_WIDTH` |
 ghost use Rattle.std.specs.Prelude.{◌≡◌, ◌≤◌, take, drop, IfOk};
-ghost use Rattle.wire_frames.specs.declared.TheConstants.{MOST_BLOCKS};
+ghost use Rattle.quantity_limits.specs.declared.TheConstants.{MOST_BLOCKS};
 ghost use Rattle.wire_frames.specs.declared.places.TheConstants.{FRAME_SESSION_PLACE};
 ghost use Rattle.wire_frames.specs.Field.{IsField, IsNumber, count_field, session_field};
 ghost use Rattle.wire_frames.specs.Query.{first_place, count_name, ReadsField, ReadsQuery};

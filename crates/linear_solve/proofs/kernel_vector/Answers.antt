@@ -1,5 +1,6 @@
-use Rattle.std.proofs.Common.{◌≡◌, ◌++◌, length, get_or, set, take, drop, replicate, ap, sym, subst, ◌∙◌, arith, below_more, take_at, length-set}
+use Rattle.std.proofs.Common.{◌≡◌, ◌<◌, ◌++◌, length, get_or, set, take, drop, replicate, ap, sym, subst, ◌∙◌, arith, below_more, take_at, length-set}
 use Rattle.std.proofs.lemmas.List.{length-replicate}
+use Rattle.std.proofs.lemmas.Result.{IfOk-from_err}
 use Rattle.linear_solve.specs.Kernel.{component, inner, IsKernelVector}
 use Rattle.linear_solve.specs.Echelon.{columns_of, rows_of, IsEchelon, SendToZero, IsFree}
 use Rattle.linear_solve.proofs.Pivots.{length-rows_of, length-columns_of, no_pivots, no_rows}
@@ -72,3 +73,34 @@ returns c =
       nonzero = (free, F.inside, λ e. one_not_zero (sym one ∙ e));
       sent_to_zero = λ i l. c.loop-i.invariant.sends_to_zero w sent_to_zero i (omega (arith, l, c.rows-i-end.ensures));
     }
+
+pub add_row-requires : goal.add_row-requires
+add_row-requires c = subst (IsEchelon (columns_of c.loop-i.pivots.items) (rows_of c.loop-i.pivots.items)) (sym c.row.ensures.width) c.loop-i.invariant.echelon
+
+pub free_column-requires-clause-inside : goal.free_column-requires-clause-inside
+free_column-requires-clause-inside c = λ t l.
+    let n = c.args.table.now.cols in
+    let ps = c.loop-i.pivots.items in
+    let here : t < length (rows_of ps) = omega (arith, l, ap length c.deref.ensures.value, length-rows_of ps) in
+    let inside = c.loop-i.invariant.echelon.inside t here in
+    let same = ap (λ xs. get_or (columns_of xs) t 0) c.deref.ensures.value in
+    omega (arith, inside, same, c.cols.ensures)
+
+pub solve_back-requires-clause-echelon : goal.solve_back-requires-clause-echelon
+solve_back-requires-clause-echelon c =
+    let n = c.args.table.now.cols in
+    let free = c.in_ok-free.free in
+    let start = c.deref_mut.result.now in
+    let ps = c.loop-i.pivots.items in
+    let z : c.in_ok-v.v.items ≡ replicate n 0 = c.in_ok-v.ensures.items_if_clones_equal (λ y e. e) ∙ ap (λ k. replicate k 0) c.cols-2.ensures in
+    let width : length start ≡ n = ap length (c.deref_mut.ensures.value ∙ ap (λ x. set x free 1) z) ∙ length-set (replicate n 0) free 1 ∙ length-replicate n 0 in
+    subst (λ xs. IsEchelon (columns_of xs) (rows_of xs) (length start)) (sym c.deref-2.ensures.value) (subst (IsEchelon (columns_of ps) (rows_of ps)) (sym width) c.loop-i.invariant.echelon)
+
+pub returns-in_err-add_row : goal.returns-in_err-add_row
+returns-in_err-add_row c = IfOk-from_err c.from_residual.result _ c.from_residual.ensures.0
+
+pub returns-in_err-free : goal.returns-in_err-free
+returns-in_err-free c = IfOk-from_err c.from_residual-in_err-free.result _ c.from_residual-in_err-free.ensures.0
+
+pub returns-in_err-v : goal.returns-in_err-v
+returns-in_err-v c = IfOk-from_err c.from_residual-in_err-v.result _ c.from_residual-in_err-v.ensures.0

@@ -1,4 +1,4 @@
-use Rattle.std.proofs.Common.{◌≢◌, ◌+◌, ◌≤◌, ℕ, List, All, length, sym, subst, ap, ◌∙◌, arith}
+use Rattle.std.proofs.Common.{◌≢◌, ◌+◌, ◌≤◌, ℕ, List, All, length, sym, subst, ap, ◌∙◌, arith, refl}
 use Rattle.uni_poly.proofs.Coefficients.{bytes_from_get_or}
 use Rattle.wire_frames.specs.Answer.{Answer}
 use Rattle.block_decoder.specs.Agreed.{HasColumns}
@@ -6,6 +6,7 @@ use Rattle.block_decoder.specs.Numbers.{bound_of, most_columns, most_nodes}
 use Rattle.block_decoder.specs.Verdict.{IsDecided, IsUnlisted, ListsNoMoreThan}
 use Rattle.block_decoder.proofs.Agreed.{length-answers_of}
 use Rattle.block_decoder.proofs.Columns.{indices-answers_of, columns-answers_of}
+use Rattle.block_decoder.proofs.Costs.{no_step, not_fewer}
 use Rattle.block_decoder.proofs.decoder.decide.Goals as goal
 
 pub decide_among-requires-clause-columns : goal.decide_among-requires-clause-columns
@@ -60,3 +61,33 @@ pub returns-clause-few : goal.returns-clause-few
 returns-clause-few g c =
     let n = ap length (c.in_ok-answers.ensures ∙ c.new.ensures) ∙ length-answers_of c.args.s c.args.indices.now c.args.bytes.now in
     subst (λ (k : ℕ). ListsNoMoreThan (bound_of k c.args.t c.args.h) c.in_ok-verdict.verdict) n c.in_ok-verdict.ensures.few
+
+pub returns-in_err-answers-clause-cols : goal.returns-in_err-answers-clause-cols
+returns-in_err-answers-clause-cols g c = no_step c.args.cols.now _
+
+pub returns-in_err-answers-clause-nodes : goal.returns-in_err-answers-clause-nodes
+returns-in_err-answers-clause-nodes g c = no_step c.args.nodes.now _
+
+pub returns-in_err-answers-clause-least : goal.returns-in_err-answers-clause-least
+returns-in_err-answers-clause-least g c = not_fewer c.args.cols.now
+
+pub returns-in_err-answers-clause-least_nodes : goal.returns-in_err-answers-clause-least_nodes
+returns-in_err-answers-clause-least_nodes g c = not_fewer c.args.nodes.now
+
+pub returns-in_err-answers-clause-unlisted : goal.returns-in_err-answers-clause-unlisted
+returns-in_err-answers-clause-unlisted g c = λ none. (refl, refl)
+
+pub returns-in_err-verdict-clause-least : goal.returns-in_err-verdict-clause-least
+returns-in_err-verdict-clause-least g c = c.in_err-verdict.ensures.least
+
+pub returns-in_err-verdict-clause-least_nodes : goal.returns-in_err-verdict-clause-least_nodes
+returns-in_err-verdict-clause-least_nodes g c = c.in_err-verdict.ensures.least_nodes
+
+pub returns-clause-least : goal.returns-clause-least
+returns-clause-least g c = c.in_ok-verdict.ensures.least
+
+pub returns-clause-least_nodes : goal.returns-clause-least_nodes
+returns-clause-least_nodes g c = c.in_ok-verdict.ensures.least_nodes
+
+pub returns-clause-listed : goal.returns-clause-listed
+returns-clause-listed g c = c.in_ok-verdict.ensures.listed

@@ -1,14 +1,15 @@
-use Rattle.std.proofs.Common.{◌≤◌, ◌+◌, ◌≡◌, ℕ, true, List, Option, length, subst, ◌<◌, ◌*◌, arith}
+use Rattle.std.proofs.Common.{◌≤◌, ◌+◌, ◌≡◌, ℕ, true, List, Option, length, refl, sym, subst, ◌<◌, ◌*◌, arith}
 use Rattle.std.proofs.lemmas.Result.{IfOk-weaker}
 use Rattle.column_lists.specs.Numbers.{cost}
 use Rattle.column_lists.specs.declared.TheConstants.{MOST_COST}
 use Rattle.block_decoder.specs.Numbers.{bound_of}
 use Rattle.block_decoder.specs.Report.{Agreement}
 use Rattle.block_decoder.specs.Reported.{IsListedFrom, IsReportBeside, ReportsNoMoreThan}
-use Rattle.block_decoder.specs.Verdict.{IsDecided, IsRefusal, ListsNoMoreThan, least_columns}
+use Rattle.block_decoder.specs.Verdict.{IsDecided, IsRefusal, IsUnlisted, ListsNoMoreThan, least_columns}
 use Rattle.block_decoder.specs.declared.verdict.Verdict.{Verdict}
 use Rattle.block_decoder.proofs.Beside.{decided, beside, few_beside, least_listed, refused}
 use Rattle.block_decoder.proofs.FewBlocks.{few_decided}
+use Rattle.block_decoder.proofs.Costs.{no_step, not_fewer, not_unlisted}
 use Rattle.block_decoder.proofs.decoder.decide_among.Goals as goal
 
 pub returns-in-Some-clause-verdict : goal.returns-in-Some-clause-verdict
@@ -78,3 +79,48 @@ returns-clause-few_agree g c =
     IfOk-weaker c.listed.result (IsListedFrom c.args.wanted report)
     (λ (found : Verdict × Option (List Agreement)). ReportsNoMoreThan (bound_of (length answers) c.args.t c.args.h) found.1)
     (λ found is_listed. few_beside answers c.args.s c.args.t c.args.h c.requires.columns report c.in_ok-report.ensures.report c.requires.agreement.1 is.1 c.args.wanted found is_listed) c.listed.ensures
+
+pub returns-in-Some-clause-cols : goal.returns-in-Some-clause-cols
+returns-in-Some-clause-cols g c = no_step c.args.cols.now _
+
+pub returns-in-Some-clause-nodes : goal.returns-in-Some-clause-nodes
+returns-in-Some-clause-nodes g c = no_step c.args.nodes.now _
+
+pub returns-in-Some-clause-least : goal.returns-in-Some-clause-least
+returns-in-Some-clause-least g c = not_fewer c.args.cols.now
+
+pub returns-in-Some-clause-least_nodes : goal.returns-in-Some-clause-least_nodes
+returns-in-Some-clause-least_nodes g c = not_fewer c.args.nodes.now
+
+pub returns-in-Some-clause-unlisted : goal.returns-in-Some-clause-unlisted
+returns-in-Some-clause-unlisted g c = λ none. (refl, refl)
+
+pub returns-in_err-report-clause-cols : goal.returns-in_err-report-clause-cols
+returns-in_err-report-clause-cols g c = c.in_err-report.ensures.cols
+
+pub returns-in_err-report-clause-nodes : goal.returns-in_err-report-clause-nodes
+returns-in_err-report-clause-nodes g c = c.in_err-report.ensures.nodes
+
+pub returns-in_err-report-clause-least : goal.returns-in_err-report-clause-least
+returns-in_err-report-clause-least g c = c.in_err-report.ensures.least.0
+
+pub returns-in_err-report-clause-least_nodes : goal.returns-in_err-report-clause-least_nodes
+returns-in_err-report-clause-least_nodes g c = c.in_err-report.ensures.least.1
+
+pub returns-in_err-report-clause-unlisted : goal.returns-in_err-report-clause-unlisted
+returns-in_err-report-clause-unlisted g c = λ none. absurd (not_unlisted c.len.result c.args.t c.args.h c.in_default.ensures.listed (subst (λ (k : ℕ). IsUnlisted k c.args.t c.args.h) (sym c.len.ensures) none))
+
+pub returns-clause-cols : goal.returns-clause-cols
+returns-clause-cols g c = c.in_ok-report.ensures.cols
+
+pub returns-clause-nodes : goal.returns-clause-nodes
+returns-clause-nodes g c = c.in_ok-report.ensures.nodes
+
+pub returns-clause-least : goal.returns-clause-least
+returns-clause-least g c = c.in_ok-report.ensures.least.0
+
+pub returns-clause-least_nodes : goal.returns-clause-least_nodes
+returns-clause-least_nodes g c = c.in_ok-report.ensures.least.1
+
+pub returns-clause-unlisted : goal.returns-clause-unlisted
+returns-clause-unlisted g c = λ none. absurd (not_unlisted c.len.result c.args.t c.args.h c.in_default.ensures.listed (subst (λ (k : ℕ). IsUnlisted k c.args.t c.args.h) (sym c.len.ensures) none))

@@ -11,6 +11,7 @@ use Rattle.block_decoder.proofs.Agreed.{length-answers_of}
 use Rattle.block_decoder.proofs.Columns.{indices-answers_of, columns-answers_of}
 use Rattle.block_decoder.proofs.FewBlocks.{few_agreements}
 use Rattle.block_decoder.proofs.Reported.{listed-reported}
+use Rattle.block_decoder.proofs.Costs.{no_step, not_fewer}
 use Rattle.block_decoder.proofs.decoder.report.Goals as goal
 
 pub find_agreements-requires-clause-columns : goal.find_agreements-requires-clause-columns
@@ -76,3 +77,27 @@ returns-clause-few g c =
     (λ agreements is. subst (λ (k : ℕ). length agreements ≤ bound_of k c.args.t c.args.h) n
     (few_agreements answers columns.indices columns.different c.args.s c.args.t c.args.h agreements columns.filled c.requires.agreement.1
     (subst (λ (k : ℕ). k * c.args.t < c.args.h * c.args.h) (sym n) c.requires.strong) is)) (returns-clause-report g c)
+
+pub returns-in_err-answers-clause-cols : goal.returns-in_err-answers-clause-cols
+returns-in_err-answers-clause-cols g c = no_step c.args.cols.now _
+
+pub returns-in_err-answers-clause-nodes : goal.returns-in_err-answers-clause-nodes
+returns-in_err-answers-clause-nodes g c = no_step c.args.nodes.now _
+
+pub returns-in_err-answers-clause-least : goal.returns-in_err-answers-clause-least
+returns-in_err-answers-clause-least g c = not_fewer c.args.cols.now
+
+pub returns-in_err-answers-clause-least_nodes : goal.returns-in_err-answers-clause-least_nodes
+returns-in_err-answers-clause-least_nodes g c = not_fewer c.args.nodes.now
+
+pub returns-clause-least : goal.returns-clause-least
+returns-clause-least g c = c.find_agreements.ensures.least.0
+
+pub returns-clause-least_nodes : goal.returns-clause-least_nodes
+returns-clause-least_nodes g c = c.find_agreements.ensures.least.1
+
+pub returns-clause-tried : goal.returns-clause-tried
+returns-clause-tried g c = c.find_agreements.ensures.tried
+
+pub returns-clause-found : goal.returns-clause-found
+returns-clause-found g c = c.find_agreements.ensures.found

@@ -9,6 +9,7 @@ use Rattle.block_decoder.specs.Report.{Agreement}
 use Rattle.block_decoder.specs.Reported.{IsReportBeside, IsReportOn, ReportsNoMoreThan}
 use Rattle.block_decoder.specs.Verdict.{IsDecided, IsUnlisted, IsVerdict, ListsNoMoreThan}
 use Rattle.block_decoder.specs.declared.verdict.Verdict.{Verdict}
+use Rattle.block_decoder.proofs.Costs.{no_step, not_fewer}
 use Rattle.block_decoder.proofs.judging.judge_with.Goals as goal
 
 -- ---- the numbers of the session are those that are handed on
@@ -148,3 +149,63 @@ pub returns-in_ok-combine_all-in-Xor-clause-listed : goal.returns-in_ok-combine_
 returns-in_ok-combine_all-in-Xor-clause-listed g c = λ shamir.
     let xor = sym (ap (λ (p : SessionParams). p.scheme) c.params-params.ensures.value) ∙ number_of_xor c.params-params.result.scheme (sym c.of.ensures ∙ c.in-Xor.is) in
     absurd (omega (arith, shamir, xor))
+
+pub returns-in_err-usable-in-Shamir-clause-cols : goal.returns-in_err-usable-in-Shamir-clause-cols
+returns-in_err-usable-in-Shamir-clause-cols g c = no_step c.args.cols.now _
+
+pub returns-in_err-usable-in-Shamir-clause-nodes : goal.returns-in_err-usable-in-Shamir-clause-nodes
+returns-in_err-usable-in-Shamir-clause-nodes g c = no_step c.args.nodes.now _
+
+pub returns-in_err-usable-in-Shamir-clause-least : goal.returns-in_err-usable-in-Shamir-clause-least
+returns-in_err-usable-in-Shamir-clause-least g c = not_fewer c.args.cols.now
+
+pub returns-in_err-usable-in-Shamir-clause-least_nodes : goal.returns-in_err-usable-in-Shamir-clause-least_nodes
+returns-in_err-usable-in-Shamir-clause-least_nodes g c = not_fewer c.args.nodes.now
+
+pub returns-in_err-usable-in-Shamir-clause-unlisted : goal.returns-in_err-usable-in-Shamir-clause-unlisted
+returns-in_err-usable-in-Shamir-clause-unlisted g c = λ none. (refl, refl)
+
+pub returns-in_err-usable-in-Shamir-clause-xor : goal.returns-in_err-usable-in-Shamir-clause-xor
+returns-in_err-usable-in-Shamir-clause-xor g c = λ xor. (refl, refl)
+
+pub returns-in_err-combine_all-in-Xor-clause-cols : goal.returns-in_err-combine_all-in-Xor-clause-cols
+returns-in_err-combine_all-in-Xor-clause-cols g c = no_step c.args.cols.now _
+
+pub returns-in_err-combine_all-in-Xor-clause-nodes : goal.returns-in_err-combine_all-in-Xor-clause-nodes
+returns-in_err-combine_all-in-Xor-clause-nodes g c = no_step c.args.nodes.now _
+
+pub returns-in_err-combine_all-in-Xor-clause-least : goal.returns-in_err-combine_all-in-Xor-clause-least
+returns-in_err-combine_all-in-Xor-clause-least g c = not_fewer c.args.cols.now
+
+pub returns-in_err-combine_all-in-Xor-clause-least_nodes : goal.returns-in_err-combine_all-in-Xor-clause-least_nodes
+returns-in_err-combine_all-in-Xor-clause-least_nodes g c = not_fewer c.args.nodes.now
+
+pub returns-in_err-combine_all-in-Xor-clause-unlisted : goal.returns-in_err-combine_all-in-Xor-clause-unlisted
+returns-in_err-combine_all-in-Xor-clause-unlisted g c = λ none. (refl, refl)
+
+pub returns-in_err-combine_all-in-Xor-clause-xor : goal.returns-in_err-combine_all-in-Xor-clause-xor
+returns-in_err-combine_all-in-Xor-clause-xor g c = λ xor. (refl, refl)
+
+pub returns-in_ok-combine_all-in-Xor-clause-cols : goal.returns-in_ok-combine_all-in-Xor-clause-cols
+returns-in_ok-combine_all-in-Xor-clause-cols g c = no_step c.args.cols.now _
+
+pub returns-in_ok-combine_all-in-Xor-clause-nodes : goal.returns-in_ok-combine_all-in-Xor-clause-nodes
+returns-in_ok-combine_all-in-Xor-clause-nodes g c = no_step c.args.nodes.now _
+
+pub returns-in_ok-combine_all-in-Xor-clause-least : goal.returns-in_ok-combine_all-in-Xor-clause-least
+returns-in_ok-combine_all-in-Xor-clause-least g c = not_fewer c.args.cols.now
+
+pub returns-in_ok-combine_all-in-Xor-clause-least_nodes : goal.returns-in_ok-combine_all-in-Xor-clause-least_nodes
+returns-in_ok-combine_all-in-Xor-clause-least_nodes g c = not_fewer c.args.nodes.now
+
+pub returns-in_ok-combine_all-in-Xor-clause-unlisted : goal.returns-in_ok-combine_all-in-Xor-clause-unlisted
+returns-in_ok-combine_all-in-Xor-clause-unlisted g c = λ none. (refl, refl)
+
+pub returns-in_ok-combine_all-in-Xor-clause-xor : goal.returns-in_ok-combine_all-in-Xor-clause-xor
+returns-in_ok-combine_all-in-Xor-clause-xor g c = λ xor. (refl, refl)
+
+pub returns-in_ok-usable-in-Shamir-clause-least : goal.returns-in_ok-usable-in-Shamir-clause-least
+returns-in_ok-usable-in-Shamir-clause-least g c = c.decide_among.ensures.least
+
+pub returns-in_ok-usable-in-Shamir-clause-least_nodes : goal.returns-in_ok-usable-in-Shamir-clause-least_nodes
+returns-in_ok-usable-in-Shamir-clause-least_nodes g c = c.decide_among.ensures.least_nodes

@@ -4,6 +4,7 @@ use Rattle.std.proofs.lemmas.Result.{err_from_is_err_and}
 use Rattle.wire_frames.specs.Answer.{answers}
 use Rattle.port_rules.proofs.Pieces.{written_next, written_first, written_cut, written_both}
 use Rattle.block_decoder.specs.Text.{words_of}
+use Rattle.port_rules.proofs.Cells.{touches_more}
 use Rattle.block_decoder.proofs.liars.write_line.Goals as goal
 
 pub returns-in_err-write_all-clause-written : goal.returns-in_err-write_all-clause-written
@@ -25,3 +26,12 @@ returns-clause-written g c =
     let end = written_both 1 (10 ∷ []) c.write_all-2.result second last c.write_all-2.ensures.ok c.write_all-2.ensures.failed in
     let rest = written_next 1 words (10 ∷ []) c.write_all-2.result first second last c.in_ok-write_others.ensures.written end in
     written_next 1 (codes "liars") (words ++ 10 ∷ []) c.write_all-2.result (g.P.Ports.world c.args.ports.now) first last c.in_ok-write_all.ensures.ok rest
+
+pub returns-in_err-write_all-clause-others : goal.returns-in_err-write_all-clause-others
+returns-in_err-write_all-clause-others g c = c.in_err-write_all.ensures.others
+
+pub returns-in_err-write_others-clause-others : goal.returns-in_err-write_others-clause-others
+returns-in_err-write_others-clause-others g c = touches_more _ _ _ _ c.in_ok-write_all.ensures.others c.in_err-write_others.ensures.others
+
+pub returns-clause-others : goal.returns-clause-others
+returns-clause-others g c = touches_more _ _ _ _ (touches_more _ _ _ _ c.in_ok-write_all.ensures.others c.in_ok-write_others.ensures.others) c.write_all-2.ensures.others

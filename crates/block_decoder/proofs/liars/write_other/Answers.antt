@@ -19,3 +19,6 @@ returns-clause-written g c =
     let one = with_answer c.args.index (payload_of c.args.session.now c.args.index) [] in
     let is = words-one c.args.indices.now c.args.index one false (rw c.if-is_other.false at c.is_other.ensures) in
     sym (ap (λ (text : List ℕ). gave text ((g.P.Ports.world c.args.ports.now).at OUTPUT)) is ∙ gave_none ((g.P.Ports.world c.args.ports.now).at OUTPUT))
+
+pub returns-then-is_other-clause-others : goal.returns-then-is_other-clause-others
+returns-then-is_other-clause-others g c = c.write_number.ensures.others

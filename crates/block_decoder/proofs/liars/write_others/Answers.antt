@@ -41,3 +41,9 @@ returns-clause-written g c =
     let end = c.loop-place-test.false in
     c.loop-place.invariant.so_far
     ∙ ap (λ answers. gave (words_of c.args.indices.now answers) ((g.P.Ports.world c.args.ports.now).at OUTPUT)) (first_of-all c.args.session.now c.loop-place.place (omega (arith, end, all)))
+
+pub returns-in_err-write_other-clause-others : goal.returns-in_err-write_other-clause-others
+returns-in_err-write_other-clause-others g c = touches_more _ _ _ _ c.loop-place.invariant.others c.in_err-write_other.ensures.others
+
+pub returns-clause-others : goal.returns-clause-others
+returns-clause-others g c = c.loop-place.invariant.others

@@ -3,6 +3,7 @@ use Rattle.column_lists.specs.declared.TheConstants.{MOST_COST}
 use Rattle.column_lists.specs.Numbers.{cost}
 use Rattle.block_decoder.specs.Numbers.{column_nodes}
 use Rattle.block_decoder.proofs.Kept.{length-points, points-All, points-different}
+use Rattle.block_decoder.proofs.Costs.{no_step, not_fewer}
 use Rattle.block_decoder.proofs.narrowing.list.Goals as goal
 
 pub column_list-requires-clause-agreement : goal.column_list-requires-clause-agreement
@@ -39,3 +40,12 @@ pub returns-clause-nodes : goal.returns-clause-nodes
 returns-clause-nodes g c =
     let size = ap length (c.deref.ensures.value ∙ c.in_ok-points.ensures) ∙ length-points c.args.kept.now c.args.column in
     subst (λ (n : ℕ). c.column_list.new.nodes ≤ c.args.nodes.now + column_nodes n c.args.t c.args.h) size c.column_list.ensures.most
+
+pub returns-in_err-points-clause-cols : goal.returns-in_err-points-clause-cols
+returns-in_err-points-clause-cols g c = no_step c.args.cols.now 1
+
+pub returns-in_err-points-clause-nodes : goal.returns-in_err-points-clause-nodes
+returns-in_err-points-clause-nodes g c = no_step c.args.nodes.now _
+
+pub returns-in_err-points-clause-rises : goal.returns-in_err-points-clause-rises
+returns-in_err-points-clause-rises g c = (not_fewer c.args.cols.now, not_fewer c.args.nodes.now)

@@ -2,7 +2,7 @@ use Rattle.std.proofs.Common.{[], ◌∷◌, ◌++◌, ap}
 use Rattle.std.specs.Prelude.{flat_map, codes}
 use Rattle.std.proofs.lemmas.Result.{err_from_is_err_and}
 use Rattle.hex.specs.Hex.{encode_lower}
-use Rattle.port_rules.proofs.Cells.{fails_next}
+use Rattle.port_rules.proofs.Cells.{fails_next, touches_more}
 use Rattle.port_rules.proofs.Pieces.{written_next, written_first, written_cut, written_both}
 use Rattle.block_decoder.specs.Text.{agree_line, number_word, line_of}
 use Rattle.block_decoder.proofs.reporting.write_agreement.Goals as goal
@@ -45,3 +45,15 @@ returns-clause-written g c =
     let after = written_next 1 words (10 ∷ []) c.write_all-2.result second third last c.in_ok-write_indices.ensures.written end in
     let rest = written_next 1 hex (words ++ 10 ∷ []) c.write_all-2.result first second last c.in_ok-write_hex.ensures.written after in
     rw (← block, ← numbers) (written_next 1 (codes "agree ") (hex ++ (words ++ 10 ∷ [])) c.write_all-2.result (g.P.Ports.world c.args.ports.now) first last c.in_ok-write_all.ensures.ok rest)
+
+pub returns-in_err-write_all-clause-others : goal.returns-in_err-write_all-clause-others
+returns-in_err-write_all-clause-others g c = c.in_err-write_all.ensures.others
+
+pub returns-in_err-write_hex-clause-others : goal.returns-in_err-write_hex-clause-others
+returns-in_err-write_hex-clause-others g c = touches_more _ _ _ _ c.in_ok-write_all.ensures.others c.in_err-write_hex.ensures.others
+
+pub returns-in_err-write_indices-clause-others : goal.returns-in_err-write_indices-clause-others
+returns-in_err-write_indices-clause-others g c = touches_more _ _ _ _ (touches_more _ _ _ _ c.in_ok-write_all.ensures.others c.in_ok-write_hex.ensures.others) c.in_err-write_indices.ensures.others
+
+pub returns-clause-others : goal.returns-clause-others
+returns-clause-others g c = touches_more _ _ _ _ (touches_more _ _ _ _ (touches_more _ _ _ _ c.in_ok-write_all.ensures.others c.in_ok-write_hex.ensures.others) c.in_ok-write_indices.ensures.others) c.write_all-2.ensures.others

@@ -26,3 +26,9 @@ returns-in_err-write_agreement-clause-written g c =
     let whole = flat_map-pieces agree_line c.args.agreements.now c.loop-agreement.agreement-index c.agreement-item.result c.loop-agreement-test.true in
     let p = err_from_is_err_and c.from_residual.result c.from_residual.ensures.1 in
     rw (p.1, whole, ← item) (written_cut 1 _ _ _ _ _ _ c.loop-agreement.invariant.so_far c.in_err-write_agreement.ensures.written)
+
+pub returns-in_err-write_agreement-clause-others : goal.returns-in_err-write_agreement-clause-others
+returns-in_err-write_agreement-clause-others g c = touches_more _ _ _ _ c.loop-agreement.invariant.others c.in_err-write_agreement.ensures.others
+
+pub returns-clause-others : goal.returns-clause-others
+returns-clause-others g c = c.loop-agreement.invariant.others

@@ -8,6 +8,7 @@ use Rattle.port_rules.specs.Written.{Written}
 use Rattle.port_rules.proofs.Pieces.{written_next, written_first}
 use Rattle.block_decoder.specs.Report.{Agreement}
 use Rattle.block_decoder.specs.Text.{agree_line, liars_line, report_text}
+use Rattle.port_rules.proofs.Cells.{touches_more}
 use Rattle.block_decoder.proofs.reporting.write_report.Goals as goal
 
 pub returns-in_err-write_agreements-clause-written : goal.returns-in_err-write_agreements-clause-written
@@ -27,3 +28,9 @@ returns-clause-written g c =
     let liars = subst (λ (all : List Agreement). Written OUTPUT (line all) c.write_liars.result before after) c.agreements-2.ensures.all c.write_liars.ensures.written in
     let first = c.in_ok-write_agreements.ensures.written ∙ ap (λ (all : List Agreement). gave (flat_map agree_line all) ((g.P.Ports.world c.args.ports.now).at OUTPUT)) c.agreements.ensures.all in
     written_next 1 (flat_map agree_line c.args.report.now) (line c.args.report.now) c.write_liars.result (g.P.Ports.world c.args.ports.now) before after first liars
+
+pub returns-in_err-write_agreements-clause-others : goal.returns-in_err-write_agreements-clause-others
+returns-in_err-write_agreements-clause-others g c = c.in_err-write_agreements.ensures.others
+
+pub returns-clause-others : goal.returns-clause-others
+returns-clause-others g c = touches_more _ _ _ _ c.in_ok-write_agreements.ensures.others c.write_liars.ensures.others

@@ -36,3 +36,9 @@ returns-clause-written g c =
     let all = take_all c.loop-block.block-index c.args.blocks.now c.loop-block-test.false in
     let whole = flat_map-map block_line (λ (b : Vec ℕ Global). b.items) c.args.blocks.now in
     c.loop-block.invariant.so_far ∙ ap (λ l. gave l ((g.P.Ports.world c.args.ports.now).at OUTPUT)) (ap (flat_map (λ (b : Vec ℕ Global). block_line b.items)) all ∙ sym whole)
+
+pub returns-in_err-write_block-clause-others : goal.returns-in_err-write_block-clause-others
+returns-in_err-write_block-clause-others g c = touches_more _ _ _ _ c.loop-block.invariant.others c.in_err-write_block.ensures.others
+
+pub returns-clause-others : goal.returns-clause-others
+returns-clause-others g c = c.loop-block.invariant.others

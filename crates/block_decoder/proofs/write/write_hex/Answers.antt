@@ -38,3 +38,9 @@ pieces-preserved g c =
           ∙ gave-gave _ _ _ ∙ ap (λ l. gave l ((g.P.Ports.world c.args.ports.now).at OUTPUT)) (sym (encode_lower-take at size bytes) ∙ ap (λ n. encode_lower (take n bytes)) end);
       others = touches_more _ _ _ _ c.pieces.invariant.others c.write_piece.ensures.others;
     }
+
+pub returns-in_err-write_piece-clause-others : goal.returns-in_err-write_piece-clause-others
+returns-in_err-write_piece-clause-others g c = touches_more _ _ _ _ c.pieces.invariant.others c.in_err-write_piece.ensures.others
+
+pub returns-clause-others : goal.returns-clause-others
+returns-clause-others g c = c.pieces.invariant.others

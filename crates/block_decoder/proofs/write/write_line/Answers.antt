@@ -3,6 +3,7 @@ use Rattle.std.specs.Prelude.{flat_map}
 use Rattle.std.proofs.lemmas.Result.{err_from_is_err_and}
 use Rattle.port_rules.proofs.Pieces.{written_next, written_first, written_cut, written_both}
 use Rattle.block_decoder.specs.Text.{number_word, line_of}
+use Rattle.port_rules.proofs.Cells.{touches_more}
 use Rattle.block_decoder.proofs.write.write_line.Goals as goal
 
 pub returns-in_err-write_all-clause-written : goal.returns-in_err-write_all-clause-written
@@ -24,3 +25,12 @@ returns-clause-written g c =
     let end = written_both 1 (10 ∷ []) c.write_all-2.result (g.P.Ports.world c.write_numbers.new.ports) (g.P.Ports.world c.write_all-2.new.ports) c.write_all-2.ensures.ok c.write_all-2.ensures.failed in
     let rest = written_next 1 numbers (10 ∷ []) c.write_all-2.result (g.P.Ports.world c.write_all.new.ports) (g.P.Ports.world c.write_numbers.new.ports) (g.P.Ports.world c.write_all-2.new.ports) c.in_ok-write_numbers.ensures.written end in
     rw (← c.as_bytes.ensures.value) (written_next 1 c.as_bytes.result.now (numbers ++ 10 ∷ []) c.write_all-2.result _ (g.P.Ports.world c.write_all.new.ports) (g.P.Ports.world c.write_all-2.new.ports) c.in_ok-write_all.ensures.ok rest)
+
+pub returns-in_err-write_all-clause-others : goal.returns-in_err-write_all-clause-others
+returns-in_err-write_all-clause-others g c = c.in_err-write_all.ensures.others
+
+pub returns-in_err-write_numbers-clause-others : goal.returns-in_err-write_numbers-clause-others
+returns-in_err-write_numbers-clause-others g c = touches_more _ _ _ _ c.in_ok-write_all.ensures.others c.in_err-write_numbers.ensures.others
+
+pub returns-clause-others : goal.returns-clause-others
+returns-clause-others g c = touches_more _ _ _ _ (touches_more _ _ _ _ c.in_ok-write_all.ensures.others c.in_ok-write_numbers.ensures.others) c.write_all-2.ensures.others

@@ -5,6 +5,7 @@ use Rattle.port_rules.specs.Moves.{gave}
 use Rattle.port_rules.specs.Written.{Written}
 use Rattle.port_rules.proofs.Pieces.{written_next}
 use Rattle.block_decoder.specs.Text.{block_line, line_of}
+use Rattle.port_rules.proofs.Cells.{touches_more}
 use Rattle.block_decoder.proofs.write.write_listing.Goals as goal
 
 pub returns-clause-written : goal.returns-clause-written
@@ -15,3 +16,9 @@ returns-clause-written g c =
     let after = g.P.Ports.world c.write_blocks.new.ports in
     let lines = subst (λ (bs : List (List ℕ)). Written OUTPUT (flat_map block_line bs) c.write_blocks.result before after) c.blocks-2.ensures.all c.write_blocks.ensures.written in
     written_next 1 (head (length c.args.listing.now ∷ [])) (flat_map block_line c.args.listing.now) c.write_blocks.result _ before after (c.in_ok-write_line.ensures.written ∙ first) lines
+
+pub returns-in_err-write_line-clause-others : goal.returns-in_err-write_line-clause-others
+returns-in_err-write_line-clause-others g c = c.in_err-write_line.ensures.others
+
+pub returns-clause-others : goal.returns-clause-others
+returns-clause-others g c = touches_more _ _ _ _ c.in_ok-write_line.ensures.others c.write_blocks.ensures.others

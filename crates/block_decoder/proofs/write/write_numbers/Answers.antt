@@ -20,3 +20,9 @@ returns-in_err-write_number-clause-written g c =
     let whole = flat_map-pieces number_word c.args.numbers.now c.loop-n.n-index 0 c.loop-n-test.true in
     let p = err_from_is_err_and c.from_residual.result c.from_residual.ensures.1 in
     rw (p.1, whole) (written_cut 1 _ _ _ _ _ _ c.loop-n.invariant.so_far c.in_err-write_number.ensures.written)
+
+pub returns-in_err-write_number-clause-others : goal.returns-in_err-write_number-clause-others
+returns-in_err-write_number-clause-others g c = touches_more _ _ _ _ c.loop-n.invariant.others c.in_err-write_number.ensures.others
+
+pub returns-clause-others : goal.returns-clause-others
+returns-clause-others g c = c.loop-n.invariant.others

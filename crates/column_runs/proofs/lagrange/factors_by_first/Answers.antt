@@ -1,7 +1,33 @@
-use Rattle.std.proofs.Common.{◌≡◌, ◌+◌, length, arith}
-use Rattle.std.proofs.lemmas.List.{length-take-le}
+use Rattle.std.proofs.Common.{◌≡◌, ◌≢◌, ◌∙◌, ◌+◌, ◌<◌, ℕ, List, [], ◌∷◌, ◌++◌, Vec, Global, AllPairs, inl, inr, length, map, get_or, take, sym, ap, subst, arith, get_or-take, length-append}
+use Rattle.std.proofs.lemmas.Bool.{cases_lt}
+use Rattle.std.proofs.lemmas.List.{get_or_append_left, get_or_push, length-take, length-take-le, map-append}
+use Rattle.column_runs.specs.Lagrange.{Extends}
 use Rattle.column_runs.proofs.DifferenceRows.{length-items}
 use Rattle.column_runs.proofs.lagrange.factors_by_first.Goals as goal
+
+-- no two of the first places are equal
+distinct-take : (n : ℕ) (xs : List ℕ) → AllPairs (λ x y. x ≢ y) xs → AllPairs (λ x y. x ≢ y) (take n xs)
+distinct-take n xs h = λ i j d l m same.
+    let size = length-take n xs in
+    h i j d l (omega arith) (sym (get_or-take n xs i d (omega arith)) ∙ same ∙ get_or-take n xs j d (omega arith))
+
+-- the factors of one place more
+each_more : (base xs : List ℕ) (from : ℕ) (before after : List (Vec ℕ Global)) (v : Vec ℕ Global) → after ≡ before ++ v ∷ [] → Extends base (get_or xs (from + length before) 0) v.items
+    → ((k : ℕ) → k < length before → Extends base (get_or xs (from + k) 0) (get_or (map (λ (f : Vec ℕ Global). f.items) before) k []))
+    → (k : ℕ) → k < length after → Extends base (get_or xs (from + k) 0) (get_or (map (λ (f : Vec ℕ Global). f.items) after) k [])
+each_more base xs from before after v is last so_far k l =
+    let items = λ (f : Vec ℕ Global). f.items in
+    let all : map items after ≡ map items before ++ v.items ∷ [] = ap (map items) is ∙ map-append items before (v ∷ []) in
+    let size = length-items before in
+    let whole = ap length is ∙ length-append before (v ∷ []) in
+    subst (λ (rows : List (List ℕ)). Extends base (get_or xs (from + k) 0) (get_or rows k [])) (sym all)
+    (elim (cases_lt k (length before)) [
+      | inl below ↦ subst (Extends base (get_or xs (from + k) 0)) (sym (get_or_append_left (map items before) (v.items ∷ []) [] k (omega (arith, below, size)))) (so_far k below)
+      | inr above ↦
+          let here : length before ≡ k = omega (arith, above, l, whole) in
+          subst (Extends base (get_or xs (from + k) 0)) (sym (get_or_push (map items before) v.items [] k (size ∙ here)))
+          (subst (λ (m : ℕ). Extends base (get_or xs (from + m) 0) v.items) here last)
+    ])
 
 pub returns : goal.returns
 returns c =
@@ -14,3 +40,33 @@ returns c =
       each = λ k l. c.loop-place.invariant.each k (omega (arith, l, n));
       constant = c.in_ok-zero.ensures;
     }
+
+pub loop-place-init : goal.loop-place-init
+loop-place-init c =
+    let none = ap length c.in_ok-others.ensures.items in
+    let front = length-take-le (c.args.t + 1) c.args.xs.now (omega (arith, c.requires.enough)) in
+    record {
+      size = omega (arith, front, none);
+      each = λ k l. absurd (omega (arith, l, none));
+    }
+
+pub loop-place-preserved : goal.loop-place-preserved
+loop-place-preserved c =
+    let before = c.loop-place.others.items in
+    let size = c.loop-place.invariant.size in
+    let more = ap length c.in_ok-push.ensures.items ∙ length-append before _ in
+    let xs = c.args.xs.now in
+    let base = take (c.args.t + 1) xs in
+    let last = subst (λ (place : ℕ). Extends base (get_or xs place 0) c.in_ok-factors_for.field-0.items) size c.in_ok-factors_for.ensures in
+    record {
+      size = omega (arith, size, more);
+      each = each_more base xs (c.args.t + 1) before _ c.in_ok-factors_for.field-0 c.in_ok-push.ensures.items last c.loop-place.invariant.each;
+    }
+
+pub factors_for-requires-clause-distinct : goal.factors_for-requires-clause-distinct
+factors_for-requires-clause-distinct c =
+    distinct-take (c.args.t + 1) c.args.xs.now c.requires.distinct
+
+pub factors_for-requires-2-clause-distinct : goal.factors_for-requires-2-clause-distinct
+factors_for-requires-2-clause-distinct c =
+    distinct-take (c.args.t + 1) c.args.xs.now c.requires.distinct

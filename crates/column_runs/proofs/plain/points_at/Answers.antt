@@ -1,5 +1,6 @@
-use Rattle.std.proofs.Common.{◌≡◌, ◌<◌, ◌+◌, ◌++◌, ◌∷◌, ℕ, List, [], length, map, get_or, below_more, sym, ap, ◌∙◌, arith, length-append}
+use Rattle.std.proofs.Common.{◌≡◌, ◌<◌, ◌+◌, ◌++◌, ◌∷◌, ℕ, List, [], Bor, length, map, get_or, below_more, sym, ap, ◌∙◌, arith, length-append, length-drop}
 use Rattle.std.proofs.lemmas.List.{get_or_append_left, get_or-drop}
+use Rattle.std.proofs.lemmas.Result.{IfOk-from_err}
 use Rattle.std.proofs.Math.Seq.{get_or-append_seam}
 use Rattle.column_runs.proofs.ColumnPoints.{are_points, length-rows}
 use Rattle.column_runs.proofs.plain.points_at.Goals as goal
@@ -36,3 +37,35 @@ returns c =
     let end : c.loop-place.place ≡ length xs = omega arith in
     are_points xs (map (λ row. row.now) c.args.rows.now) (length-rows c.args.rows.now ∙ c.requires.rows) (c.args.from + c.args.column) c.loop-place.points.items
     (c.loop-place.invariant.size ∙ end) (λ k d l. c.loop-place.invariant.each k d (omega (arith, l, end)))
+
+pub row_from-requires-clause-within : goal.row_from-requires-clause-within
+row_from-requires-clause-within c =
+    let rows = map (λ (row : Bor (List ℕ)). row.now) c.args.rows.now in
+    let place = c.loop-place.place in
+    let there : place < length rows = omega (arith, length-rows c.args.rows.now, c.requires.rows, c.loop-place-test.true) in
+    let wide = c.requires.widths place [] there in
+    omega (arith, wide)
+
+pub bounds-row_from-column : goal.bounds-row_from-column
+bounds-row_from-column c =
+    let rows = map (λ (row : Bor (List ℕ)). row.now) c.args.rows.now in
+    let place = c.loop-place.place in
+    let there : place < length rows = omega (arith, length-rows c.args.rows.now, c.requires.rows, c.loop-place-test.true) in
+    let wide = c.requires.widths place [] there in
+    let size = ap length c.row_from.ensures ∙ length-drop c.args.from (get_or rows place []) in
+    omega (arith, wide, size)
+
+pub loop-place-init : goal.loop-place-init
+loop-place-init c =
+    record {
+      size = ap length c.in_ok-points.ensures.items;
+      each = λ k d none. absurd (omega (arith, none));
+    }
+
+pub returns-in_err-points : goal.returns-in_err-points
+returns-in_err-points c =
+    IfOk-from_err c.from_residual.result _ c.from_residual.ensures.0
+
+pub returns-in_err-push : goal.returns-in_err-push
+returns-in_err-push c =
+    IfOk-from_err c.from_residual-in_err-push.result _ c.from_residual-in_err-push.ensures.0

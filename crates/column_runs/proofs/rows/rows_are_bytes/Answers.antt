@@ -1,5 +1,6 @@
-use Rattle.std.proofs.Common.{◌<◌, ◌^◌, ℕ, List, Bor, length, map, get_or, All, sym, subst, below_more}
+use Rattle.std.proofs.Common.{◌<◌, ◌^◌, ℕ, List, Bor, length, map, get_or, All, sym, subst, arith, below_more}
 use Rattle.std.proofs.lemmas.List.{get_or-map}
+use Rattle.column_runs.proofs.ColumnPoints.{length-rows}
 use Rattle.column_runs.proofs.rows.rows_are_bytes.Goals as goal
 
 pub loop-place-preserved : goal.loop-place-preserved
@@ -10,3 +11,15 @@ loop-place-preserved c = λ k d l.
     let here = get_or-map (λ (row : Bor (List ℕ)). row.now) c.args.rows.now n _ d c.loop-place-test.true in
     below_more (λ k. Is (get_or rows k d)) n (λ k l. c.loop-place.invariant k d l)
     (subst Is (sym here) (c.is_row.ensures.bytes, c.is_row.ensures.size)) k l
+
+pub returns-clause-bytes : goal.returns-clause-bytes
+returns-clause-bytes c =
+    λ k d l.
+    let size = length-rows c.args.rows.now in
+    (c.loop-place.invariant k d (omega (arith, l, size, c.loop-place-test.false))).0
+
+pub returns-clause-sizes : goal.returns-clause-sizes
+returns-clause-sizes c =
+    λ k d l.
+    let size = length-rows c.args.rows.now in
+    (c.loop-place.invariant k d (omega (arith, l, size, c.loop-place-test.false))).1

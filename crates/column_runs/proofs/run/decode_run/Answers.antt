@@ -1,4 +1,5 @@
-use Rattle.std.proofs.Common.{◌<◌, ℕ, List, [], Bor, Vec, Global, length, map, sym, ap, ◌∙◌, arith}
+use Rattle.std.proofs.Common.{◌<◌, ◌≤◌, ℕ, List, [], All, subst, Bor, Vec, Global, length, map, sym, ap, ◌∙◌, arith}
+use Rattle.std.proofs.lemmas.Result.{IfOk-from_err}
 use Rattle.uni_poly.proofs.Coefficients.{bytes_from_get_or}
 use Rattle.column_runs.proofs.ColumnPoints.{length-rows}
 use Rattle.column_runs.proofs.DifferenceRows.{items_at, length-items}
@@ -34,3 +35,45 @@ returns-clause-run g c =
     is_run xs rows c.args.t others c.in_ok-factors.factors.zero.items c.in_ok-factors.ensures (length-rows c.args.rows.now ∙ c.requires.rows)
     (bytes_from_get_or xs (λ k. (c.type_inv.xs k).fits)) c.requires.distinct c.rows_are_bytes.ensures.bytes c.args.from
     c.decode_tiles.new.out c.decode_tiles.result c.decode_tiles.ensures.tile
+
+pub decode_tiles-requires-clause-count : goal.decode_tiles-requires-clause-count
+decode_tiles-requires-clause-count g c =
+    let lists = c.in_ok-factors.factors.others.items in
+    let others = map (λ (f : Vec ℕ Global). f.items) lists in
+    let zero = length-zero c.args.xs.now c.args.t others c.in_ok-factors.factors.zero.items c.in_ok-factors.ensures in
+    ap length c.deref_mut.ensures.value ∙ c.in_ok-differences.ensures.0 ∙ sym zero
+
+pub decode_tiles-requires-clause-rows : goal.decode_tiles-requires-clause-rows
+decode_tiles-requires-clause-rows g c =
+    let lists = c.in_ok-factors.factors.others.items in
+    let others = map (λ (f : Vec ℕ Global). f.items) lists in
+    let zero = length-zero c.args.xs.now c.args.t others c.in_ok-factors.factors.zero.items c.in_ok-factors.ensures in
+    omega (arith, c.in_ok-factors.ensures.count, length-items lists, zero, c.requires.rows)
+
+pub decode_tiles-requires-clause-some : goal.decode_tiles-requires-clause-some
+decode_tiles-requires-clause-some g c =
+    let sums = c.deref_mut-2.ensures.len ∙ c.in_ok-sums.ensures.len in
+    omega (arith, sums)
+
+pub decode_tiles-requires-clause-room : goal.decode_tiles-requires-clause-room
+decode_tiles-requires-clause-room g c =
+    let sums = c.deref_mut-2.ensures.len ∙ c.in_ok-sums.ensures.len in
+    subst (All (λ (d : Vec ℕ Global). length c.deref_mut-2.result.now ≤ length d.items)) (sym c.deref_mut.ensures.value)
+    (λ k d l. let wide = c.in_ok-differences.ensures.1 k d l in omega (arith, sums, wide))
+
+pub decode_tiles-requires-clause-widths : goal.decode_tiles-requires-clause-widths
+decode_tiles-requires-clause-widths g c =
+    c.requires.widths
+
+pub returns-clause-cols : goal.returns-clause-cols
+returns-clause-cols g c =
+    c.decode_tiles.ensures.cols
+
+pub returns-in_err-factors-clause-run : goal.returns-in_err-factors-clause-run
+returns-in_err-factors-clause-run g c = IfOk-from_err c.from_residual.result _ c.from_residual.ensures.0
+
+pub returns-in_err-differences-clause-run : goal.returns-in_err-differences-clause-run
+returns-in_err-differences-clause-run g c = IfOk-from_err c.from_residual-in_err-differences.result _ c.from_residual-in_err-differences.ensures.0
+
+pub returns-in_err-sums-clause-run : goal.returns-in_err-sums-clause-run
+returns-in_err-sums-clause-run g c = IfOk-from_err c.from_residual-in_err-sums.result _ c.from_residual-in_err-sums.ensures.0

@@ -1,4 +1,4 @@
-use Rattle.std.proofs.Common.{◌≡◌, ◌+◌, ◌-◌, ◌≤◌, ℕ, List, Bor, Vec, Global, length, map, take, drop, ◌∙◌, arith, length-drop}
+use Rattle.std.proofs.Common.{◌≡◌, ◌+◌, ◌-◌, ◌≤◌, ℕ, List, Bor, Vec, Global, length, map, take, drop, refl, ◌∙◌, arith, length-drop}
 use Rattle.std.proofs.lemmas.List.{length-take-le}
 use Rattle.column_runs.proofs.DifferenceRows.{room_kept}
 use Rattle.column_runs.proofs.Tiles.{follow_more, constants_more, ends_early}
@@ -58,3 +58,38 @@ returns-then-columns-size-clause-tile g c =
     let less = c.if-columns-size.true in
     ends_early c.tiles.out c.decode_tile-columns.new.out done part room size rows c.args.from others c.args.factors.now.zero.items
     c.decode_tile-columns.result c.decode_tile-columns.ensures.tile (omega (arith, less)) c.tiles.invariant.follow c.tiles.invariant.constants
+
+pub tiles-init : goal.tiles-init
+tiles-init g c =
+    record {
+      within = omega arith;
+      follow = λ i none. absurd (omega (arith, none));
+      constants = λ i none. absurd (omega (arith, none));
+      sizes = λ i. refl;
+      counted = omega arith;
+    }
+
+pub returns-clause-tile : goal.returns-clause-tile
+returns-clause-tile g c =
+    record {
+      within = omega (arith, c.tiles.invariant.within, c.tiles.auto.out);
+      follow = c.tiles.invariant.follow;
+      constants = c.tiles.invariant.constants;
+      longest = λ l. absurd (omega (arith, l, c.tiles-test.false));
+    }
+
+pub decode_tile-columns-requires-clause-widths : goal.decode_tile-columns-requires-clause-widths
+decode_tile-columns-requires-clause-widths g c =
+    let done = c.tiles.done in
+    let part = done + c.min-size.result - done in
+    let size = length-part c.tiles.out done part (omega (arith, c.min-size.ensures, c.tiles.invariant.within, c.tiles.auto.out)) in
+    λ k d l.
+    let wide = c.requires.widths k d l in
+    omega (arith, wide, size, c.min-size.ensures, c.tiles.invariant.within, c.tiles.auto.out)
+
+pub decode_tile-columns-requires-clause-sums : goal.decode_tile-columns-requires-clause-sums
+decode_tile-columns-requires-clause-sums g c =
+    let done = c.tiles.done in
+    let part = done + c.min-size.result - done in
+    let size = length-part c.tiles.out done part (omega (arith, c.min-size.ensures, c.tiles.invariant.within, c.tiles.auto.out)) in
+    omega (arith, size, c.min-size.ensures, c.tiles.auto.sums)

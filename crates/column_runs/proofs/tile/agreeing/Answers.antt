@@ -1,9 +1,17 @@
-use Rattle.std.proofs.Common.{◌≡◌, ◌+◌, ◌≤◌, ◌<◌, ℕ, [], Vec, Global, length, map, get_or, take, sym, ap, ap₂, ◌∙◌, arith, get_or-take, get_or-drop}
+use Rattle.std.proofs.Common.{◌≡◌, ◌+◌, ◌≤◌, ◌<◌, ℕ, List, [], Bor, Vec, Global, All, drop, length-drop, length, map, get_or, take, sym, ap, ap₂, ◌∙◌, arith, get_or-take, get_or-drop}
 use Rattle.std.proofs.lemmas.List.{length-take-le}
 use Rattle.column_runs.specs.Tile.{cell, with_differences}
+use Rattle.column_runs.proofs.ColumnPoints.{length-rows}
 use Rattle.column_runs.proofs.DifferenceRows.{items_at, length-items}
 use Rattle.column_runs.proofs.Agreed.{agree_next, differ_next}
 use Rattle.column_runs.proofs.tile.agreeing.Goals as goal
+
+-- a row of which a part begins at a column, and how much of that there is
+length-part : (rows : List (List ℕ)) (place from n : ℕ) (row : List ℕ) → place < length rows → All (λ row. from + n ≤ length row) rows → row ≡ drop from (get_or rows place []) → n ≤ length row
+length-part rows place from n row there widths is =
+    let wide = widths place [] there in
+    let size = ap length is ∙ length-drop from (get_or rows place []) in
+    omega (arith, wide, size)
 
 pub loop-k-preserved : goal.loop-k-preserved
 loop-k-preserved c =
@@ -42,3 +50,54 @@ loop-k-preserved c =
           differ_next rows from first ds fs k columns (λ i. get_or c.extend.new.sums i 0) (λ i. get_or (take columns c.row_from.result.now) i 0) given has
           c.common_length-columns.result less room (λ m. c.common_length-columns.ensures.differ (omega (arith, m, whole))) c.loop-k.invariant.differ l;
     }
+
+pub loop-k-init : goal.loop-k-init
+loop-k-init c =
+    record {
+      within = omega arith;
+      agree = λ i l k none. absurd (omega (arith, none));
+      differ = λ l. absurd (omega (arith, l));
+    }
+
+pub extend-requires-clause-room : goal.extend-requires-clause-room
+extend-requires-clause-room c =
+    λ k d l.
+    let size = length-take-le c.loop-k.columns c.args.first.now c.loop-k.invariant.within in
+    let room = c.requires.room k d l in
+    omega (arith, size, room, c.loop-k.invariant.within)
+
+pub extend-requires-clause-same : goal.extend-requires-clause-same
+extend-requires-clause-same c =
+    length-take-le c.loop-k.columns c.args.first.now c.loop-k.invariant.within
+    ∙ sym (length-take-le c.loop-k.columns c.loop-k.sums (omega (arith, c.loop-k.auto.sums, c.requires.sums, c.loop-k.invariant.within)))
+
+pub extend-requires-clause-count : goal.extend-requires-clause-count
+extend-requires-clause-count c =
+    ap length (c.deref.ensures.value ∙ ap (λ (f : Vec ℕ Global). f.items) c.index-others-k.is) ∙ c.requires.factors c.loop-k.k _ c.loop-k-test.true
+
+pub row_from-requires-clause-within : goal.row_from-requires-clause-within
+row_from-requires-clause-within c =
+    let rows = map (λ (row : Bor (List ℕ)). row.now) c.args.rows.now in
+    let place = length c.args.differences.now + 1 + c.loop-k.k in
+    let there : place < length rows = omega (arith, length-rows c.args.rows.now, c.requires.rows, c.loop-k-test.true) in
+    let wide = c.requires.widths place [] there in
+    omega (arith, wide)
+
+pub slice_bounds-row-end : goal.slice_bounds-row-end
+slice_bounds-row-end c =
+    let rows = map (λ (row : Bor (List ℕ)). row.now) c.args.rows.now in
+    let place = length c.args.differences.now + 1 + c.loop-k.k in
+    let there : place < length rows = omega (arith, length-rows c.args.rows.now, c.requires.rows, c.loop-k-test.true) in
+    let wide = length-part rows place c.args.from (length c.args.first.now) c.row_from.result.now there c.requires.widths c.row_from.ensures in
+    let size = length-take-le c.loop-k.columns c.row_from.result.now (omega (arith, wide, c.loop-k.invariant.within)) in
+    sym size
+
+pub common_length-columns-requires : goal.common_length-columns-requires
+common_length-columns-requires c =
+    let rows = map (λ (row : Bor (List ℕ)). row.now) c.args.rows.now in
+    let place = length c.args.differences.now + 1 + c.loop-k.k in
+    let there : place < length rows = omega (arith, length-rows c.args.rows.now, c.requires.rows, c.loop-k-test.true) in
+    let wide = length-part rows place c.args.from (length c.args.first.now) c.row_from.result.now there c.requires.widths c.row_from.ensures in
+    let size = length-take-le c.loop-k.columns c.row_from.result.now (omega (arith, wide, c.loop-k.invariant.within)) in
+    let places = length-take-le c.loop-k.columns c.loop-k.sums (omega (arith, c.loop-k.auto.sums, c.requires.sums, c.loop-k.invariant.within)) in
+    c.extend.auto.sums ∙ places ∙ sym size

@@ -65,3 +65,54 @@ returns-clause-tile c =
     c.agreeing-columns.ensures.differ l
     (subst (λ vs. Agrees vs c.agreeing-columns.result) (sym list) (subst (λ n. Agree rows from first ds lists c.agreeing-columns.result n) many agree)))
     (λ k l. c.extend.ensures k l ∙ ap (λ f. with_differences f ds (get_or first k 0) k) factors)
+
+pub subtract-requires-clause-widths : goal.subtract-requires-clause-widths
+subtract-requires-clause-widths c =
+    let rows = map (λ (row : Bor (List ℕ)). row.now) c.args.rows.now in
+    let count = length-rows c.args.rows.now in
+    let some : 0 < length rows = let all = c.requires.rows in omega (arith, count, all) in
+    let size = length-first rows c.args.from (length c.args.out.now) c.row_from.result.now some c.requires.widths c.row_from.ensures in
+    subst (λ (n : ℕ). All (λ (row : List ℕ). c.args.from + n ≤ length row) rows) (sym size) c.requires.widths
+
+pub agreeing-columns-requires-clause-widths : goal.agreeing-columns-requires-clause-widths
+agreeing-columns-requires-clause-widths c =
+    let rows = map (λ (row : Bor (List ℕ)). row.now) c.args.rows.now in
+    let count = length-rows c.args.rows.now in
+    let some : 0 < length rows = let all = c.requires.rows in omega (arith, count, all) in
+    let size = length-first rows c.args.from (length c.args.out.now) c.row_from.result.now some c.requires.widths c.row_from.ensures in
+    subst (λ (n : ℕ). All (λ (row : List ℕ). c.args.from + n ≤ length row) rows) (sym size) c.requires.widths
+
+pub subtract-requires-clause-room : goal.subtract-requires-clause-room
+subtract-requires-clause-room c =
+    let rows = map (λ (row : Bor (List ℕ)). row.now) c.args.rows.now in
+    let count = length-rows c.args.rows.now in
+    let some : 0 < length rows = let all = c.requires.rows in omega (arith, count, all) in
+    let size = length-first rows c.args.from (length c.args.out.now) c.row_from.result.now some c.requires.widths c.row_from.ensures in
+    subst (λ (n : ℕ). All (λ (d : Vec ℕ Global). n ≤ length d.items) c.args.differences.now) (sym size) c.requires.room
+
+pub agreeing-columns-requires-clause-rows : goal.agreeing-columns-requires-clause-rows
+agreeing-columns-requires-clause-rows c =
+    let others = ap length c.deref.ensures.value in
+    omega (arith, others, c.requires.rows, c.requires.count, c.subtract.auto.differences)
+
+pub agreeing-columns-requires-clause-factors : goal.agreeing-columns-requires-clause-factors
+agreeing-columns-requires-clause-factors c =
+    let held = c.subtract.auto.differences ∙ c.requires.count in
+    subst (All (λ (f : Vec ℕ Global). length f.items ≡ length c.subtract.new.differences)) (sym c.deref.ensures.value)
+    (subst (λ (n : ℕ). All (λ (f : Vec ℕ Global). length f.items ≡ n) c.args.factors.now.others.items) (sym held) c.requires.factors)
+
+pub agreeing-columns-requires-clause-sums : goal.agreeing-columns-requires-clause-sums
+agreeing-columns-requires-clause-sums c =
+    let rows = map (λ (row : Bor (List ℕ)). row.now) c.args.rows.now in
+    let count = length-rows c.args.rows.now in
+    let some : 0 < length rows = let all = c.requires.rows in omega (arith, count, all) in
+    let size = length-first rows c.args.from (length c.args.out.now) c.row_from.result.now some c.requires.widths c.row_from.ensures in
+    omega (arith, size, c.requires.sums)
+
+pub extend-requires-clause-same : goal.extend-requires-clause-same
+extend-requires-clause-same c =
+    let rows = map (λ (row : Bor (List ℕ)). row.now) c.args.rows.now in
+    let count = length-rows c.args.rows.now in
+    let some : 0 < length rows = let all = c.requires.rows in omega (arith, count, all) in
+    let size = length-first rows c.args.from (length c.args.out.now) c.row_from.result.now some c.requires.widths c.row_from.ensures in
+    size

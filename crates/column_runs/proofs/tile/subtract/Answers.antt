@@ -1,10 +1,18 @@
-use Rattle.std.proofs.Common.{◌≡◌, ◌+◌, ◌<◌, ℕ, [], Vec, Global, length, map, get_or, take, set, sym, ap, ◌∙◌, arith, get_or-take, get_or-drop}
-use Rattle.std.proofs.lemmas.List.{map-set}
+use Rattle.std.proofs.Common.{◌≡◌, ◌+◌, ◌<◌, ◌≤◌, ℕ, List, [], Bor, Vec, Global, All, refl, drop, length-drop, length, map, get_or, take, set, sym, ap, ◌∙◌, arith, get_or-take, get_or-drop}
+use Rattle.std.proofs.lemmas.List.{length-take-le, map-set}
 use Rattle.std.specs.Vec.{with_items}
 use Rattle.gf256.specs.Field.{◌⊕◌}
 use Rattle.column_runs.specs.Tile.{cell}
+use Rattle.column_runs.proofs.ColumnPoints.{length-rows}
 use Rattle.column_runs.proofs.DifferenceRows.{items_at, length-items, items-with, sizes-set, each-set}
 use Rattle.column_runs.proofs.tile.subtract.Goals as goal
+
+-- a row of which a part begins at a column, and how much of that there is
+length-part : (rows : List (List ℕ)) (place from n : ℕ) (row : List ℕ) → place < length rows → All (λ row. from + n ≤ length row) rows → row ≡ drop from (get_or rows place []) → n ≤ length row
+length-part rows place from n row there widths is =
+    let wide = widths place [] there in
+    let size = ap length is ∙ length-drop from (get_or rows place []) in
+    omega (arith, wide, size)
 
 pub set_difference-requires-clause-room : goal.set_difference-requires-clause-room
 set_difference-requires-clause-room c =
@@ -55,3 +63,31 @@ returns c =
       sizes = c.loop-i.invariant.sizes;
       each = λ j k l m. c.loop-i.invariant.each j k (omega (arith, l, n, count)) m;
     }
+
+pub loop-i-init : goal.loop-i-init
+loop-i-init c =
+    record {
+      sizes = λ j. refl;
+      each = λ j k none l. absurd (omega (arith, none));
+    }
+
+pub row_from-requires-clause-within : goal.row_from-requires-clause-within
+row_from-requires-clause-within c =
+    let rows = map (λ (row : Bor (List ℕ)). row.now) c.args.rows.now in
+    let there : c.loop-i.i + 1 < length rows = omega (arith, length-rows c.args.rows.now, c.requires.rows, c.loop-i.auto.differences, c.loop-i-test.true) in
+    let wide = c.requires.widths (c.loop-i.i + 1) [] there in
+    omega (arith, wide)
+
+pub set_difference-requires-clause-same : goal.set_difference-requires-clause-same
+set_difference-requires-clause-same c =
+    let rows = map (λ (row : Bor (List ℕ)). row.now) c.args.rows.now in
+    let there : c.loop-i.i + 1 < length rows = omega (arith, length-rows c.args.rows.now, c.requires.rows, c.loop-i.auto.differences, c.loop-i-test.true) in
+    let size = length-take-le (length c.args.first.now) c.row_from.result.now (length-part rows (c.loop-i.i + 1) c.args.from (length c.args.first.now) c.row_from.result.now there c.requires.widths c.row_from.ensures) in
+    size
+
+pub slice_bounds-row-end : goal.slice_bounds-row-end
+slice_bounds-row-end c =
+    let rows = map (λ (row : Bor (List ℕ)). row.now) c.args.rows.now in
+    let there : c.loop-i.i + 1 < length rows = omega (arith, length-rows c.args.rows.now, c.requires.rows, c.loop-i.auto.differences, c.loop-i-test.true) in
+    let size = length-take-le (length c.args.first.now) c.row_from.result.now (length-part rows (c.loop-i.i + 1) c.args.from (length c.args.first.now) c.row_from.result.now there c.requires.widths c.row_from.ensures) in
+    sym size

@@ -3,10 +3,10 @@ use Rattle.wire_frames.specs.declared.session.SessionParams.{SessionParams}
 use Rattle.wire_frames.specs.Answer.{answers, block_len}
 use Rattle.block_decoder.specs.Numbers.{most_columns, most_nodes}
 use Rattle.block_decoder.specs.Verdict.{least_columns}
-use Rattle.fetch_client.specs.declared.plan.FetchPlan.{FetchPlan}
-use Rattle.fetch_client.specs.Sent.{queries_from, session_number}
+use Rattle.query_rounds.specs.declared.plan.FetchPlan.{FetchPlan}
+use Rattle.query_rounds.specs.Sent.{queries_from, session_number}
 use Rattle.fetch_client.specs.Honest.{FindsHonestBlock}
-use Rattle.fetch_client.proofs.Schemes.{coins_of_rows}
+use Rattle.query_rounds.proofs.Schemes.{coins_of_rows}
 use Rattle.fetch_client.proofs.fetch_once.conclude.Goals as goal
 
 pub honest_block_is_found-requires-clause-count : goal.honest_block_is_found-requires-clause-count
@@ -67,3 +67,18 @@ returns-in_err-verdict-clause-nodes g c =
 pub returns-clause-nodes : goal.returns-clause-nodes
 returns-clause-nodes g c =
     subst (λ (p : SessionParams). c.judge.new.nodes ≤ c.args.nodes.now + most_nodes (length (answers c.args.session.now)) p.t p.h (block_len p)) c.requires.params c.judge.ensures.nodes
+
+pub returns-in_err-verdict-clause-least : goal.returns-in_err-verdict-clause-least
+returns-in_err-verdict-clause-least g c = c.in_err-verdict.ensures.least
+
+pub returns-in_err-verdict-clause-least_nodes : goal.returns-in_err-verdict-clause-least_nodes
+returns-in_err-verdict-clause-least_nodes g c = c.in_err-verdict.ensures.least_nodes
+
+pub returns-clause-judged : goal.returns-clause-judged
+returns-clause-judged g c = c.in_ok-verdict.ensures.verdict
+
+pub returns-clause-least : goal.returns-clause-least
+returns-clause-least g c = c.in_ok-verdict.ensures.least
+
+pub returns-clause-least_nodes : goal.returns-clause-least_nodes
+returns-clause-least_nodes g c = c.in_ok-verdict.ensures.least_nodes

@@ -1,4 +1,4 @@
-use Rattle.std.proofs.Common.{◌∙◌, ◌+◌, ◌*◌, ◌≤◌, ℕ, List, length, map, string_bytes, inr, sym, ap, subst}
+use Rattle.std.proofs.Common.{◌∙◌, ◌+◌, ◌*◌, ◌≤◌, ℕ, List, length, map, string_bytes, inr, sym, ap, subst, refl, ap₂, arith}
 use Rattle.wire_frames.specs.Answer.{answers}
 use Rattle.wire_frames.specs.Session.{Transcript}
 use Rattle.std.specs.Prelude.{Result, Err}
@@ -6,14 +6,19 @@ use Rattle.std.proofs.lemmas.Result.{err_from_is_err_and}
 use Rattle.block_decoder.specs.Numbers.{most_columns, most_nodes}
 use Rattle.block_decoder.specs.Verdict.{least_columns}
 use Rattle.block_decoder.specs.declared.verdict.Verdict.{Verdict}
-use Rattle.fetch_client.specs.declared.plan.FetchPlan.{FetchPlan}
-use Rattle.fetch_client.specs.declared.fetch_once.Gathered.{Gathered}
-use Rattle.fetch_client.specs.declared.plan.FetchFault.{FetchFault}
-use Rattle.fetch_client.specs.Fetched.{Concludes, Fetches, Gathers}
+use Rattle.query_rounds.specs.declared.plan.FetchPlan.{FetchPlan}
+use Rattle.query_rounds.specs.declared.gathering.Gathered.{Gathered}
+use Rattle.query_rounds.specs.declared.plan.FetchFault.{FetchFault}
+use Rattle.query_rounds.specs.Gathered.{Gathers}
+use Rattle.fetch_client.specs.Fetched.{Concludes, Fetches}
 use Rattle.fetch_client.specs.Honest.{FindsHonestBlock}
-use Rattle.fetch_client.specs.Sent.{queries_from}
+use Rattle.query_rounds.specs.Sent.{queries_from, session_number}
 use Rattle.fetch_client.proofs.Counts.{counts_none, counts_of_all, failed_alike, same_bound, same_width}
+use Rattle.query_rounds.specs.Plan.{params_of}
 use Rattle.fetch_client.proofs.fetch_once.fetch.Goals as goal
+
+not_fewer : (n : ℕ) → n ≤ n
+not_fewer n = omega arith
 
 -- memory ran out when every server was asked
 pub returns-in_err-verdict-clause-cols : goal.returns-in_err-verdict-clause-cols
@@ -95,3 +100,41 @@ pub returns-clause-nodes : goal.returns-clause-nodes
 returns-clause-nodes g c =
     let all = c.in_ok-all.ensures.gathered in
     same_bound most_nodes c.args.plan.now c.in_ok-all.all.queries.plan c.args.blocks.now _ (length (answers c.in_ok-all.all.session)) c.args.nodes.now c.conclude.new.nodes all.plan_is all.blocks_are c.in_ok-verdict.ensures.nodes
+
+pub returns-in_err-all-clause-others : goal.returns-in_err-all-clause-others
+returns-in_err-all-clause-others g c = c.in_err-all.ensures.others
+
+pub returns-in_err-all-clause-least : goal.returns-in_err-all-clause-least
+returns-in_err-all-clause-least g c = not_fewer c.args.cols.now
+
+pub returns-in_err-all-clause-least_nodes : goal.returns-in_err-all-clause-least_nodes
+returns-in_err-all-clause-least_nodes g c = not_fewer c.args.nodes.now
+
+pub returns-in_err-all-clause-xor : goal.returns-in_err-all-clause-xor
+returns-in_err-all-clause-xor g c = λ two. (refl, refl)
+
+pub returns-in_err-verdict-clause-others : goal.returns-in_err-verdict-clause-others
+returns-in_err-verdict-clause-others g c = c.in_ok-all.ensures.others
+
+pub returns-in_err-verdict-clause-least : goal.returns-in_err-verdict-clause-least
+returns-in_err-verdict-clause-least g c = c.in_err-verdict.ensures.least
+
+pub returns-in_err-verdict-clause-least_nodes : goal.returns-in_err-verdict-clause-least_nodes
+returns-in_err-verdict-clause-least_nodes g c = c.in_err-verdict.ensures.least_nodes
+
+pub returns-clause-others : goal.returns-clause-others
+returns-clause-others g c = c.in_ok-all.ensures.others
+
+pub returns-clause-least : goal.returns-clause-least
+returns-clause-least g c = c.in_ok-verdict.ensures.least
+
+pub returns-clause-least_nodes : goal.returns-clause-least_nodes
+returns-clause-least_nodes g c = c.in_ok-verdict.ensures.least_nodes
+
+pub conclude-requires-clause-params : goal.conclude-requires-clause-params
+conclude-requires-clause-params g c = let all = c.in_ok-all.ensures.gathered in
+    all.asked.asked.params ∙ ap₂ (λ (p : FetchPlan) (blocks : List ℕ). params_of p (length blocks) (session_number c.in_ok-all.all.queries.coins)) (sym all.plan_is) (sym all.blocks_are)
+
+pub conclude-requires-clause-all : goal.conclude-requires-clause-all
+conclude-requires-clause-all g c = let all = c.in_ok-all.ensures.gathered in
+    all.asked.asked.whole ∙ ap (λ (p : FetchPlan). p.n) (sym all.plan_is)

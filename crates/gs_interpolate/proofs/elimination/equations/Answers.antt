@@ -22,3 +22,15 @@ loop-r-preserved c =
           (subst (IsEquation new l.r ns) (get_or_default c.args.conditions.now l.r _ d (omega arith)) W.written)
           r k;
     }
+
+pub overflow_cast-conditions : goal.overflow_cast-conditions
+overflow_cast-conditions c = omega arith
+
+pub offset_bounds-conditions-r : goal.offset_bounds-conditions-r
+offset_bounds-conditions-r c = omega arith
+
+pub bounds-conditions-r : goal.bounds-conditions-r
+bounds-conditions-r c = omega arith
+
+pub overflow_cast-r : goal.overflow_cast-r
+overflow_cast-r c = omega arith

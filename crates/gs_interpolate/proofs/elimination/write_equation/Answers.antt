@@ -28,3 +28,15 @@ loop-j-preserved c =
           j k i inrow;
       kept = λ s k other h. W.kept s k (omega (arith, h, width)) (inl other) ∙ l.invariant.kept s k other h;
     }
+
+pub offset_bounds-lengths-j : goal.offset_bounds-lengths-j
+offset_bounds-lengths-j c = omega arith
+
+pub bounds-lengths-j : goal.bounds-lengths-j
+bounds-lengths-j c = omega arith
+
+pub overflow_cast-j : goal.overflow_cast-j
+overflow_cast-j c = omega arith
+
+pub overflow_add-column : goal.overflow_add-column
+overflow_add-column c = omega (arith, start-within c.args.lengths.now c.loop-j.j (omega arith), c.loop-j.invariant.column)

@@ -1,4 +1,6 @@
-use Rattle.std.proofs.Common.{length, sym, subst, ◌∙◌, arith, take_at}
+use Rattle.std.proofs.Common.{◌≡◌, ◌*◌, ◌%◌, length, sym, ap, subst, ◌∙◌, arith, inl, inr, take_at}
+use Rattle.std.proofs.Math.Nat.{mul-mod_left}
+use Rattle.std.proofs.lemmas.Bool.{cases_lt}
 use Rattle.gs_interpolate.specs.Family.{multiplier, IsRowStep}
 use Rattle.gs_interpolate.proofs.Steps.{row_step-longer, resized}
 use Rattle.gs_interpolate.proofs.family.step_long_row.Goals as goal
@@ -14,3 +16,30 @@ returns-clause-step c =
     subst (λ xs. IsRowStep n xs old c.args.factors.now c.args.p (multiplier c.args.factors.now c.args.p) c.args.count) (sym items)
     (row_step-longer n new old c.args.factors.now c.args.p (multiplier c.args.factors.now c.args.p) c.args.count missing
     (subst (λ xs. IsRowStep n new xs c.args.factors.now c.args.p (multiplier c.args.factors.now c.args.p) c.args.count) (c.deref_mut.ensures.value ∙ longer) c.step_row.ensures))
+
+pub overflow_mul-room : goal.overflow_mul-room
+overflow_mul-room c = omega arith
+
+pub overflow_add-len : goal.overflow_add-len
+overflow_add-len c = omega arith
+
+pub step_row-requires-clause-inside : goal.step_row-requires-clause-inside
+step_row-requires-clause-inside c = omega arith
+
+pub step_row-requires-clause-room : goal.step_row-requires-clause-room
+step_row-requires-clause-room c = omega (arith, c.in_ok-resize.ensures.len)
+
+pub returns-clause-whole : goal.returns-clause-whole
+returns-clause-whole c = λ whole.
+    let n = length c.args.factors.now in
+    let old = c.args.row.now.items in
+    let new = c.step_row.new.row in
+    let long = ap length (take_at new _ c.resize.new.self.len (c.step_row.auto.row ∙ c.deref_mut.ensures.len)) in
+    elim (cases_lt (c.args.count * n) (length old)) [
+      | inl less ↦
+          let same : length new ≡ length old = omega (arith, less, c.step_row.auto.row, c.in_ok-resize.ensures.len) in
+          ap (λ k. k % n) (long ∙ same) ∙ whole
+      | inr more ↦
+          let same : length new ≡ c.args.count * n = omega (arith, more, c.step_row.auto.row, c.in_ok-resize.ensures.len) in
+          ap (λ k. k % n) (long ∙ same) ∙ mul-mod_left c.args.count n
+    ]

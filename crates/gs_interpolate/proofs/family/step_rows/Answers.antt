@@ -1,9 +1,10 @@
-use Rattle.std.proofs.Common.{◌≡◌, ◌≢◌, ℕ, ◌-◌, ◌*◌, ◌%◌, ◌<◌, List, [], length, map, set, get_or, sym, ap, subst, ◌∙◌, arith, inl, inr, Vec, Global, get_or-set_same, get_or-set_other}
+use Rattle.std.proofs.Common.{◌≡◌, ◌≢◌, ℕ, ◌-◌, ◌*◌, ◌%◌, ◌<◌, List, [], length, map, set, get_or, sym, ap, subst, ◌∙◌, arith, inl, inr, Vec, Global, get_or-set_same, get_or-set_other, ◌≤◌, mul-le-mul}
 use Rattle.std.proofs.Math.Seq.{map-set}
 use Rattle.std.proofs.lemmas.Bool.{cases_lt}
 use Rattle.std.proofs.lemmas.List.{get_or-map, length-map}
 use Rattle.bi_poly.specs.Rows.{row}
 use Rattle.gs_interpolate.specs.Family.{multiplier, IsRowStep}
+use Rattle.gs_interpolate.specs.declared.basis.TheConstants.{MOST_PLACES}
 use Rattle.gs_interpolate.proofs.family.step_rows.Goals as goal
 
 pub loop-j-preserved : goal.loop-j-preserved
@@ -44,3 +45,17 @@ loop-j-preserved c =
           ];
       rest = λ k l. other k (λ same. omega (arith, same, l)) ∙ c.loop-j.invariant.rest k (omega arith);
     }
+
+pub offset_bounds-rows-j : goal.offset_bounds-rows-j
+offset_bounds-rows-j c = omega arith
+
+pub bounds-rows-j : goal.bounds-rows-j
+bounds-rows-j c = omega arith
+
+pub step_long_row-requires-clause-inside : goal.step_long_row-requires-clause-inside
+step_long_row-requires-clause-inside c = omega arith
+
+pub overflow_mul-t : goal.overflow_mul-t
+overflow_mul-t c =
+    let place : c.loop-j.j ≤ MOST_PLACES = omega arith in
+    omega (arith, mul-le-mul c.requires.weight place)

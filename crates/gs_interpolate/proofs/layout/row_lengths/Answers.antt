@@ -17,3 +17,9 @@ loop-missing-preserved c =
     subst (λ x. IsFilled c.push.new.self.items (l.missing - n) x size t d) (sym c.saturating_sub-longest.ensures)
     (subst (λ ns. IsFilled ns (l.missing - n) (l.longest - t) size t d) (sym c.in_ok-push.ensures.items)
     (filled-next l.lengths.items l.missing l.longest n size t d c.requires.weight l.invariant (omega arith) (omega arith)))
+
+pub overflow_add-longest : goal.overflow_add-longest
+overflow_add-longest c = omega arith
+
+pub overflow_sub-missing : goal.overflow_sub-missing
+overflow_sub-missing c = omega arith

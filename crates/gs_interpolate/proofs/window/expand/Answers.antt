@@ -1,9 +1,42 @@
-use Rattle.std.proofs.Common.{◌≡◌, ◌+◌, ◌-◌, ◌*◌, ◌/◌, ◌<◌, ◌≤◌, ◌++◌, List, ℕ, length, get_or, take, drop, ap, subst, ◌∙◌, arith, take_at}
-use Rattle.std.proofs.Math.Nat.{div-mul-le_self}
+use Rattle.std.proofs.Common.{◌≡◌, ◌+◌, ◌-◌, ◌*◌, ◌/◌, ◌<◌, ◌≤◌, ◌++◌, List, ℕ, length, get_or, take, drop, sym, ap, subst, ◌∙◌, arith, take_at}
+use Rattle.std.proofs.Math.Nat.{div-mul-le_self, mul-le-mul_right}
 use Rattle.gf256.specs.Field.{◌⊕◌, ◌⊗◌}
 use Rattle.gs_interpolate.proofs.Places.{places_fit, part_before, length-part}
 use Rattle.gs_interpolate.proofs.Windows.{AreExpanded, rest_from, expanded-none, expanded-next, rest-none, rest-next}
 use Rattle.gs_interpolate.proofs.window.expand.Goals as goal
+
+-- a row has the place of each coefficient
+row_fits : (row : List ℕ) (n i : ℕ) → 0 < i → i ≤ length row / n → (i - 1) * n + n ≤ length row
+row_fits row n i some within = omega (arith, places_fit (i - 1) (length row / n) n (omega arith), div-mul-le_self (length row) n)
+
+pub overflow_mul-start : goal.overflow_mul-start
+overflow_mul-start c = omega (arith, row_fits c.args.row.now c.args.lanes c.loop-i.i (omega arith) (omega arith))
+
+pub overflow_add-start : goal.overflow_add-start
+overflow_add-start c = omega (arith, row_fits c.args.row.now c.args.lanes c.loop-i.i (omega arith) (omega arith))
+
+pub slice_bounds-horner-count : goal.slice_bounds-horner-count
+slice_bounds-horner-count c = omega arith
+
+pub slice_bounds-horner-start : goal.slice_bounds-horner-start
+slice_bounds-horner-start c = omega arith
+
+pub slice_bounds-horner-end : goal.slice_bounds-horner-end
+slice_bounds-horner-end c = row_fits c.args.row.now c.args.lanes c.loop-i.i (omega arith) (omega arith)
+
+pub horner-requires-clause-same : goal.horner-requires-clause-same
+horner-requires-clause-same c =
+    ap length c.deref_mut-in-loop-i.ensures.value ∙ c.loop-i.invariant.room ∙ sym (ap length c.deref.ensures.value ∙ c.loop-i.invariant.size)
+
+pub horner-requires-clause-room : goal.horner-requires-clause-room
+horner-requires-clause-room c =
+    let n = c.args.lanes in
+    let k = c.loop-i.i - 1 in
+    let whole : k * n + n - k * n ≡ n = omega arith in
+    let room = row_fits c.args.row.now n c.loop-i.i (omega arith) (omega arith) in
+    let small = ap (λ j. length (take j (drop (k * n) c.args.row.now))) whole ∙ length-part c.args.row.now (k * n) n room in
+    let enough = mul-le-mul_right n c.requires.terms in
+    omega (arith, small, enough, ap length c.deref.ensures.value ∙ c.loop-i.invariant.size)
 
 pub loop-i-init : goal.loop-i-init
 loop-i-init c =

@@ -25,3 +25,24 @@ lanes-preserved c =
       within = omega (arith, size, room);
       done = lanes_written sums sum _ at room lanes c.lanes.invariant.done;
     }
+
+pub overflow_sub-sums : goal.overflow_sub-sums
+overflow_sub-sums c = omega arith
+
+pub bounds-row-at : goal.bounds-row-at
+bounds-row-at c = omega arith
+
+pub bounds-multiplied-at : goal.bounds-multiplied-at
+bounds-multiplied-at c = omega arith
+
+pub overflow_add-at : goal.overflow_add-at
+overflow_add-at c = omega arith
+
+pub bounds-row-k : goal.bounds-row-k
+bounds-row-k c = omega arith
+
+pub bounds-multiplied-k : goal.bounds-multiplied-k
+bounds-multiplied-k c = omega arith
+
+pub bounds-sums-k : goal.bounds-sums-k
+bounds-sums-k c = omega arith

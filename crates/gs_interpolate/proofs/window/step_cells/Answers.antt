@@ -61,3 +61,39 @@ returns c = record {
   size = c.loop-w.auto.cells;
   each = λ w from l. c.loop-w.invariant.each w from (omega arith) l;
 }
+
+pub slice_bounds-step_row-count : goal.slice_bounds-step_row-count
+slice_bounds-step_row-count c = omega arith
+
+pub slice_bounds-step_row-start : goal.slice_bounds-step_row-start
+slice_bounds-step_row-start c = omega arith
+
+pub overflow_sub-m : goal.overflow_sub-m
+overflow_sub-m c = omega arith
+
+pub step_row-requires-clause-inside : goal.step_row-requires-clause-inside
+step_row-requires-clause-inside c = omega arith
+
+pub overflow_mul-size : goal.overflow_mul-size
+overflow_mul-size c =
+    let size = c.args.m * length c.args.factors.now in
+    let fit = places_fit c.loop-w.w c.args.m size (omega arith) in
+    omega (arith, fit, c.requires.size)
+
+pub overflow_mul-start : goal.overflow_mul-start
+overflow_mul-start c =
+    let size = c.args.m * length c.args.factors.now in
+    let fit = places_fit c.loop-w.w c.args.m size (omega arith) in
+    omega (arith, fit, c.requires.size)
+
+pub overflow_add-start : goal.overflow_add-start
+overflow_add-start c =
+    let size = c.args.m * length c.args.factors.now in
+    let fit = places_fit c.loop-w.w c.args.m size (omega arith) in
+    omega (arith, fit, c.requires.size)
+
+pub slice_bounds-step_row-end : goal.slice_bounds-step_row-end
+slice_bounds-step_row-end c =
+    let size = c.args.m * length c.args.factors.now in
+    let fit = places_fit c.loop-w.w c.args.m size (omega arith) in
+    omega (arith, fit, c.requires.size)

@@ -2,7 +2,7 @@ use Rattle.std.proofs.Common.{◌≡◌, ◌∙◌, ◌<◌, map, string_bytes, 
 use Rattle.std.specs.Prelude.{Err, Result}
 use Rattle.std.proofs.lemmas.Result.{err_from_is_err_and}
 use Rattle.port_rules.specs.Number.{COINS}
-use Rattle.fetch_client.specs.declared.plan.FetchFault.{FetchFault}
+use Rattle.query_rounds.specs.declared.plan.FetchFault.{FetchFault}
 use Rattle.key_search.specs.Standing.{Standing, turns_of}
 use Rattle.key_fetches.specs.Listed.{Ended}
 use Rattle.key_fetches.specs.LookedUp.{LooksUp}

@@ -1,6 +1,6 @@
 use Rattle.std.proofs.Common.{map, string_bytes}
 use Rattle.port_rules.specs.Number.{COINS}
-use Rattle.fetch_client.specs.Fetched.{TouchesLinks}
+use Rattle.query_rounds.specs.Gathered.{TouchesLinks}
 use Rattle.key_fetches.proofs.Progress.{InTurns}
 use Rattle.key_fetches.proofs.turns.look_up.Given as goal
 

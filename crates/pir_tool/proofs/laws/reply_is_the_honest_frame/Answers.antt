@@ -1,6 +1,6 @@
 use Rattle.std.proofs.Common.{arith}
 use Rattle.uni_poly.proofs.Coefficients.{bytes_from_get_or}
-use Rattle.pir_tool.proofs.HonestReplies.{replies_honestly, asks_a_query}
+use Rattle.commands.proofs.HonestReplies.{replies_honestly, asks_a_query}
 use Rattle.pir_tool.proofs.laws.reply_is_the_honest_frame.Goals as goal
 
 pub returns : goal.returns

@@ -1,9 +1,11 @@
-use Rattle.std.proofs.Common.{◌≡◌, ◌∙◌, ℕ, ◌+◌, ◌*◌, List, length, get_or, refl, ap, arith}
+use Rattle.std.proofs.Common.{◌≡◌, ◌∙◌, ℕ, ◌+◌, ◌*◌, ◌≤◌, List, length, get_or, refl, ap, arith}
+use Rattle.std.proofs.Math.Nat.{mul-le-mul_right}
 use Rattle.std.proofs.lemmas.List.{get_or_default}
+use Rattle.std.proofs.lemmas.Result.{IfOk-from_err}
 use Rattle.shamir_share.specs.Query.{query}
 use Rattle.uni_poly.proofs.Coefficients.{bytes_from_get_or}
 use Rattle.wire_frames.specs.Turns.{in_turn, piece}
-use Rattle.wire_frames.proofs.Turns.{piece_between}
+use Rattle.wire_frames.proofs.Turns.{length-piece, piece_between, piece_fits}
 use Rattle.privacy_law.specs.Partner.{partner, partner_list}
 use Rattle.privacy_law.proofs.PartnerLists.{one_more, length-list, list_back, list_same}
 use Rattle.privacy_law.proofs.lists.partner_list.Goals as goal
@@ -46,3 +48,77 @@ pub returns-clause-own_inverse : goal.returns-clause-own_inverse
 returns-clause-own_inverse c =
     ap (λ (items : List ℕ). partner_list items c.args.t c.args.r c.args.coalition.now c.args.b2.now c.args.b.now) (returns-clause-is c)
     ∙ list_back c.args.coins.now c.args.t c.args.r c.args.coalition.now c.args.b.now c.args.b2.now c.requires.coins c.requires.as_many
+
+pub overflow_mul-size : goal.overflow_mul-size
+overflow_mul-size c =
+    let one : 1 * (c.args.r * c.args.t) ≤ length c.args.b.now * (c.args.r * c.args.t) = mul-le-mul_right (c.args.r * c.args.t) c.requires.some in
+    omega (arith, one, c.requires.coins)
+
+pub overflow_mul-own : goal.overflow_mul-own
+overflow_mul-own c =
+    let size = c.args.r * c.args.t in
+    let fits : (c.loop-i.i + 1) * size ≤ length c.args.coins.now = omega (arith, piece_fits c.loop-i.i (length c.args.b.now) size c.loop-i-test.true, c.requires.coins) in
+    let step : c.loop-i.i * size ≤ (c.loop-i.i + 1) * size = mul-le-mul_right size (omega arith) in
+    omega (arith, fits, step)
+
+pub overflow_mul-own-in-loop-i : goal.overflow_mul-own-in-loop-i
+overflow_mul-own-in-loop-i c =
+    let size = c.args.r * c.args.t in
+    let fits : (c.loop-i.i + 1) * size ≤ length c.args.coins.now = omega (arith, piece_fits c.loop-i.i (length c.args.b.now) size c.loop-i-test.true, c.requires.coins) in
+    omega (arith, fits)
+
+pub slice_bounds-own-count : goal.slice_bounds-own-count
+slice_bounds-own-count c =
+    mul-le-mul_right (c.args.r * c.args.t) (omega arith)
+
+pub slice_bounds-own-start : goal.slice_bounds-own-start
+slice_bounds-own-start c =
+    mul-le-mul_right (c.args.r * c.args.t) (omega arith)
+
+pub slice_bounds-own-end : goal.slice_bounds-own-end
+slice_bounds-own-end c =
+    let size = c.args.r * c.args.t in
+    let fits : (c.loop-i.i + 1) * size ≤ length c.args.coins.now = omega (arith, piece_fits c.loop-i.i (length c.args.b.now) size c.loop-i-test.true, c.requires.coins) in
+    fits
+
+pub partner-requires-clause-coins : goal.partner-requires-clause-coins
+partner-requires-clause-coins c =
+    let size = c.args.r * c.args.t in
+    let fits : (c.loop-i.i + 1) * size ≤ length c.args.coins.now = omega (arith, piece_fits c.loop-i.i (length c.args.b.now) size c.loop-i-test.true, c.requires.coins) in
+    ap length (piece_between c.loop-i.i size size c.args.coins.now refl) ∙ length-piece size c.loop-i.i c.args.coins.now fits
+
+pub returns-in_err-changed-clause-is : goal.returns-in_err-changed-clause-is
+returns-in_err-changed-clause-is c = IfOk-from_err c.from_residual.result _ c.from_residual.ensures.0
+
+pub returns-in_err-changed-clause-queries : goal.returns-in_err-changed-clause-queries
+returns-in_err-changed-clause-queries c = IfOk-from_err c.from_residual.result _ c.from_residual.ensures.0
+
+pub returns-in_err-changed-clause-length : goal.returns-in_err-changed-clause-length
+returns-in_err-changed-clause-length c = IfOk-from_err c.from_residual.result _ c.from_residual.ensures.0
+
+pub returns-in_err-changed-clause-own_inverse : goal.returns-in_err-changed-clause-own_inverse
+returns-in_err-changed-clause-own_inverse c = IfOk-from_err c.from_residual.result _ c.from_residual.ensures.0
+
+pub returns-in_err-partner-clause-is : goal.returns-in_err-partner-clause-is
+returns-in_err-partner-clause-is c = IfOk-from_err c.from_residual-in_err-partner.result _ c.from_residual-in_err-partner.ensures.0
+
+pub returns-in_err-partner-clause-queries : goal.returns-in_err-partner-clause-queries
+returns-in_err-partner-clause-queries c = IfOk-from_err c.from_residual-in_err-partner.result _ c.from_residual-in_err-partner.ensures.0
+
+pub returns-in_err-partner-clause-length : goal.returns-in_err-partner-clause-length
+returns-in_err-partner-clause-length c = IfOk-from_err c.from_residual-in_err-partner.result _ c.from_residual-in_err-partner.ensures.0
+
+pub returns-in_err-partner-clause-own_inverse : goal.returns-in_err-partner-clause-own_inverse
+returns-in_err-partner-clause-own_inverse c = IfOk-from_err c.from_residual-in_err-partner.result _ c.from_residual-in_err-partner.ensures.0
+
+pub returns-in_err-extend_from_slice-clause-is : goal.returns-in_err-extend_from_slice-clause-is
+returns-in_err-extend_from_slice-clause-is c = IfOk-from_err c.from_residual-in_err-extend_from_slice.result _ c.from_residual-in_err-extend_from_slice.ensures.0
+
+pub returns-in_err-extend_from_slice-clause-queries : goal.returns-in_err-extend_from_slice-clause-queries
+returns-in_err-extend_from_slice-clause-queries c = IfOk-from_err c.from_residual-in_err-extend_from_slice.result _ c.from_residual-in_err-extend_from_slice.ensures.0
+
+pub returns-in_err-extend_from_slice-clause-length : goal.returns-in_err-extend_from_slice-clause-length
+returns-in_err-extend_from_slice-clause-length c = IfOk-from_err c.from_residual-in_err-extend_from_slice.result _ c.from_residual-in_err-extend_from_slice.ensures.0
+
+pub returns-in_err-extend_from_slice-clause-own_inverse : goal.returns-in_err-extend_from_slice-clause-own_inverse
+returns-in_err-extend_from_slice-clause-own_inverse c = IfOk-from_err c.from_residual-in_err-extend_from_slice.result _ c.from_residual-in_err-extend_from_slice.ensures.0

@@ -1,5 +1,6 @@
 use Rattle.std.proofs.Common.{ap, ◌∙◌, length, get_or, arith}
 use Rattle.std.proofs.lemmas.List.{take_at, get_or_default}
+use Rattle.std.proofs.lemmas.Result.{IfOk-from_err}
 use Rattle.shamir_share.specs.Query.{query}
 use Rattle.uni_poly.proofs.Coefficients.{bytes_from_get_or}
 use Rattle.privacy_law.specs.Partner.{partner}
@@ -38,3 +39,27 @@ pub returns-clause-own_inverse : goal.returns-clause-own_inverse
 returns-clause-own_inverse c =
     ap (λ v. partner v c.args.t c.args.coalition.now c.args.b2 c.args.b) (returns-clause-is c)
     ∙ partner_back c.args.coins.now c.args.t c.args.coalition.now c.args.b c.args.b2
+
+pub returns-in_err-hiding-clause-is : goal.returns-in_err-hiding-clause-is
+returns-in_err-hiding-clause-is c = IfOk-from_err c.from_residual.result _ c.from_residual.ensures.0
+
+pub returns-in_err-hiding-clause-queries : goal.returns-in_err-hiding-clause-queries
+returns-in_err-hiding-clause-queries c = IfOk-from_err c.from_residual.result _ c.from_residual.ensures.0
+
+pub returns-in_err-hiding-clause-length : goal.returns-in_err-hiding-clause-length
+returns-in_err-hiding-clause-length c = IfOk-from_err c.from_residual.result _ c.from_residual.ensures.0
+
+pub returns-in_err-hiding-clause-own_inverse : goal.returns-in_err-hiding-clause-own_inverse
+returns-in_err-hiding-clause-own_inverse c = IfOk-from_err c.from_residual.result _ c.from_residual.ensures.0
+
+pub returns-in_err-changed-clause-is : goal.returns-in_err-changed-clause-is
+returns-in_err-changed-clause-is c = IfOk-from_err c.from_residual-in_err-changed.result _ c.from_residual-in_err-changed.ensures.0
+
+pub returns-in_err-changed-clause-queries : goal.returns-in_err-changed-clause-queries
+returns-in_err-changed-clause-queries c = IfOk-from_err c.from_residual-in_err-changed.result _ c.from_residual-in_err-changed.ensures.0
+
+pub returns-in_err-changed-clause-length : goal.returns-in_err-changed-clause-length
+returns-in_err-changed-clause-length c = IfOk-from_err c.from_residual-in_err-changed.result _ c.from_residual-in_err-changed.ensures.0
+
+pub returns-in_err-changed-clause-own_inverse : goal.returns-in_err-changed-clause-own_inverse
+returns-in_err-changed-clause-own_inverse c = IfOk-from_err c.from_residual-in_err-changed.result _ c.from_residual-in_err-changed.ensures.0

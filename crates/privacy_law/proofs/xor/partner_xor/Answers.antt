@@ -1,5 +1,6 @@
 use Rattle.std.proofs.Common.{ap, ◌∙◌}
 use Rattle.std.proofs.lemmas.List.{take_at}
+use Rattle.std.proofs.lemmas.Result.{IfOk-from_err}
 use Rattle.chor_xor.specs.Bitmap.{bitmap}
 use Rattle.privacy_law.specs.Partner.{partner_xor}
 use Rattle.privacy_law.proofs.SameBitmaps.{same_bitmap, xor_back}
@@ -21,3 +22,15 @@ pub returns-clause-own_inverse : goal.returns-clause-own_inverse
 returns-clause-own_inverse c =
     ap (λ coins. partner_xor coins c.args.n c.args.r c.args.left_out c.args.b2 c.args.b) (returns-clause-is c)
     ∙ xor_back c.args.coins.now c.args.n c.args.r c.args.left_out c.args.b c.args.b2
+
+pub returns-in_err-changed-clause-is : goal.returns-in_err-changed-clause-is
+returns-in_err-changed-clause-is c = IfOk-from_err c.from_residual.result _ c.from_residual.ensures.0
+
+pub returns-in_err-changed-clause-bitmaps : goal.returns-in_err-changed-clause-bitmaps
+returns-in_err-changed-clause-bitmaps c = IfOk-from_err c.from_residual.result _ c.from_residual.ensures.0
+
+pub returns-in_err-changed-clause-length : goal.returns-in_err-changed-clause-length
+returns-in_err-changed-clause-length c = IfOk-from_err c.from_residual.result _ c.from_residual.ensures.0
+
+pub returns-in_err-changed-clause-own_inverse : goal.returns-in_err-changed-clause-own_inverse
+returns-in_err-changed-clause-own_inverse c = IfOk-from_err c.from_residual.result _ c.from_residual.ensures.0

@@ -1,4 +1,4 @@
-use Rattle.std.proofs.Common.{◌≡◌, ◌<◌, ◌-◌, ℕ, List, [], ◌∷◌, ◌++◌, length, map, take, drop, vec_len, inl, inr, refl, sym, ap, subst, ◌∙◌, arith}
+use Rattle.std.proofs.Common.{◌≡◌, ◌≢◌, ◌<◌, ◌≤◌, ◌+◌, ◌-◌, ℕ, List, [], ◌∷◌, ◌++◌, length, map, take, drop, vec_len, inl, inr, refl, sym, ap, subst, ◌∙◌, arith, Vec, Global}
 use Rattle.std.proofs.Math.Seq.{take-append_seam}
 use Rattle.std.proofs.lemmas.Bool.{cases_lt}
 use Rattle.std.proofs.lemmas.List.{length-append, length-map, get_or_default}
@@ -10,11 +10,38 @@ use Rattle.rr_roots.proofs.Levels.{HoldsBelow, appends-nothing, appends-skip, ap
 use Rattle.rr_roots.proofs.Multiplicities.{multiplicity}
 use Rattle.rr_roots.proofs.ByteValues.{value-tested}
 use Rattle.rr_roots.proofs.Nodes.{none_begins, child-share, nodes-skip, nodes-more, nodes-most, nodes-spent}
+use Rattle.std.proofs.lemmas.Result.{on_ok_weaker}
 use Rattle.rr_roots.proofs.descent.+descend.Goals as goal
 
 -- what is left after the strip
 stripped : {whole q : List (List ℕ)} {r : ℕ} → IsOrderInX whole r → q ≡ without_first r whole → AreBytes q → IsStripped whole q r
 stripped order quotient bytes = record { order = order; quotient = quotient; bytes = bytes }
+
+-- where it is not 0, it is more
+positive : (n : ℕ) → n ≢ 0 → 0 < n
+positive n some = omega (arith, some)
+
+at_most : (b : ℕ) → b < 256 → b ≤ 256
+at_most b less = omega (arith, less)
+
+none_left : (n l : ℕ) → l ≡ 0 → n + l ≤ n
+none_left n l none = omega (arith, none)
+
+fits_in : (a b c d : ℕ) → a ≡ b → b ≤ c → c ≡ d → a ≤ d
+fits_in a b c d same fits rows = omega (arith, same, fits, rows)
+
+in_place : (n b : ℕ) → n ≡ 256 → b < 256 → b < n
+in_place n b size less = omega (arith, size, less)
+
+-- with no step, the steps are as few as they may be
+no_step : (n more : ℕ) → n ≤ n + more
+no_step n more = omega arith
+
+not_fewer : (n : ℕ) → n ≤ n
+not_fewer n = omega arith
+
+ticked : (n m k l : ℕ) → n ≤ m → k ≡ m + 1 → k ≤ l → n ≤ l
+ticked n m k l up one more = omega (arith, up, one, more)
 
 pub returns-then-left-eq0-clause-exact : goal.returns-then-left-eq0-clause-exact
 returns-then-left-eq0-clause-exact g t c =
@@ -34,13 +61,13 @@ pub returns-in_err-child-clause-most : goal.returns-in_err-child-clause-most
 returns-in_err-child-clause-most g t c = λ d h.
     let s = stripped c.strip_x.ensures.order c.strip_x.ensures.quotient c.coefficients_are_bytes.ensures in
     nodes-most s c.in_ok-constants.constants.items c.in_ok-constants.ensures c.args.left c.args.nodes.now c.loop-byte.nodes c.loop-byte.byte d
-    (omega (arith, c.loop-byte-test.true)) h c.loop-byte.invariant.most
+    (at_most c.loop-byte.byte c.loop-byte-test.true) h c.loop-byte.invariant.most
 
 pub returns-in_err-push-clause-most : goal.returns-in_err-push-clause-most
 returns-in_err-push-clause-most g t c = λ d h.
     let s = stripped c.strip_x.ensures.order c.strip_x.ensures.quotient c.coefficients_are_bytes.ensures in
     nodes-most s c.in_ok-constants.constants.items c.in_ok-constants.ensures c.args.left c.args.nodes.now c.loop-byte.nodes c.loop-byte.byte d
-    (omega (arith, c.loop-byte-test.true)) h c.loop-byte.invariant.most
+    (at_most c.loop-byte.byte c.loop-byte-test.true) h c.loop-byte.invariant.most
 
 pub descend-requires : goal.descend-requires
 descend-requires g t c κs within =
@@ -50,7 +77,7 @@ descend-requires g t c κs within =
       (
         within,
         record {
-          nonzero = child-nonzero s (omega (arith, c.loop-byte-test.true)) child;
+          nonzero = child-nonzero s c.loop-byte-test.true child;
           enough = let same = child.rows in let stripped = ap length c.strip_x.ensures.quotient ∙ length-map c.args.q (drop _) in omega (arith, same, stripped, c.requires.enough);
           powers_are = c.requires.powers_are;
         },
@@ -61,11 +88,11 @@ pub returns-in_err-descend-clause-most : goal.returns-in_err-descend-clause-most
 returns-in_err-descend-clause-most g t c = λ d h.
     let s = stripped c.strip_x.ensures.order c.strip_x.ensures.quotient c.coefficients_are_bytes.ensures in
     let p = c.in_ok-constants.constants.items in
-    let less : c.loop-byte.byte < 256 = omega (arith, c.loop-byte-test.true) in
-    let tested = c.index.ensures ∙ get_or_default c.in_ok-values.values.items c.loop-byte.byte c.index.result.now 0 (let size = c.in_ok-values.ensures.size in omega (arith, size, less)) in
+    let less : c.loop-byte.byte < 256 = c.loop-byte-test.true in
+    let tested = c.index.ensures ∙ get_or_default c.in_ok-values.values.items c.loop-byte.byte c.index.result.now 0 (in_place (length c.in_ok-values.values.items) c.loop-byte.byte c.in_ok-values.ensures.size less) in
     let share = c.descend.ensures.most (multiplicity p c.loop-byte.byte) (child-share s p c.in_ok-constants.ensures c.loop-byte.byte less c.in_ok-child.ensures) in
     nodes-spent s p c.in_ok-constants.ensures c.args.left c.args.nodes.now c.loop-byte.nodes c.descend.new.nodes c.loop-byte.byte d
-    (omega (arith, c.if-left-eq0.false)) less (value-tested c.loop-byte.byte c.deref-2.ensures.value c.in_ok-values.ensures less tested ∙ c.if-index-ne0.false) h
+    (positive c.args.left c.if-left-eq0.false) less (value-tested c.loop-byte.byte c.deref-2.ensures.value c.in_ok-values.ensures less tested ∙ c.if-index-ne0.false) h
     c.loop-byte.invariant.most (omega (arith, c.tick.ensures, share))
 
 -- what is left after the last coefficient is taken away
@@ -78,9 +105,9 @@ pub loop-byte-preserved-then-index-ne0 : goal.loop-byte-preserved-then-index-ne0
 loop-byte-preserved-then-index-ne0 g t c =
     let s = stripped c.strip_x.ensures.order c.strip_x.ensures.quotient c.coefficients_are_bytes.ensures in
     let p = c.in_ok-constants.constants.items in
-    let less : c.loop-byte.byte < 256 = omega (arith, c.loop-byte-test.true) in
-    let tested = c.index.ensures ∙ get_or_default c.in_ok-values.values.items c.loop-byte.byte c.index.result.now 0 (let size = c.in_ok-values.ensures.size in omega (arith, size, less)) in
-    let some : 0 < c.args.left = omega (arith, c.if-left-eq0.false) in
+    let less : c.loop-byte.byte < 256 = c.loop-byte-test.true in
+    let tested = c.index.ensures ∙ get_or_default c.in_ok-values.values.items c.loop-byte.byte c.index.result.now 0 (in_place (length c.in_ok-values.values.items) c.loop-byte.byte c.in_ok-values.ensures.size less) in
+    let some : 0 < c.args.left = positive c.args.left c.if-left-eq0.false in
     record {
       kept = c.loop-byte.invariant.kept;
       appends = appends-skip (IsRootOfSize c.args.q c.args.left) c.loop-byte.byte c.args.prefix.now.items (map (λ r. r.items) c.args.roots.now.items) (map (λ r. r.items) c.loop-byte.roots.items)
@@ -96,9 +123,9 @@ pub loop-byte-preserved : goal.loop-byte-preserved
 loop-byte-preserved g t c =
     let s = stripped c.strip_x.ensures.order c.strip_x.ensures.quotient c.coefficients_are_bytes.ensures in
     let p = c.in_ok-constants.constants.items in
-    let less : c.loop-byte.byte < 256 = omega (arith, c.loop-byte-test.true) in
-    let tested = c.index.ensures ∙ get_or_default c.in_ok-values.values.items c.loop-byte.byte c.index.result.now 0 (let size = c.in_ok-values.ensures.size in omega (arith, size, less)) in
-    let some : 0 < c.args.left = omega (arith, c.if-left-eq0.false) in
+    let less : c.loop-byte.byte < 256 = c.loop-byte-test.true in
+    let tested = c.index.ensures ∙ get_or_default c.in_ok-values.values.items c.loop-byte.byte c.index.result.now 0 (in_place (length c.in_ok-values.values.items) c.loop-byte.byte c.in_ok-values.ensures.size less) in
+    let some : 0 < c.args.left = positive c.args.left c.if-left-eq0.false in
     let prefix = c.args.prefix.now.items in
     let share = c.in_ok-descend.ensures.most (multiplicity p c.loop-byte.byte) (child-share s p c.in_ok-constants.ensures c.loop-byte.byte less c.in_ok-child.ensures) in
     let pushed = rw c.loop-byte.invariant.kept at c.in_ok-push.ensures.items in
@@ -140,7 +167,57 @@ pub returns-clause-most : goal.returns-clause-most
 returns-clause-most g t c = λ d h.
     let s = stripped c.strip_x.ensures.order c.strip_x.ensures.quotient c.coefficients_are_bytes.ensures in
     nodes-most s c.in_ok-constants.constants.items c.in_ok-constants.ensures c.args.left c.args.nodes.now c.loop-byte.nodes c.loop-byte.byte d
-    (omega (arith, c.loop-byte.auto.byte-end)) h c.loop-byte.invariant.most
+    c.loop-byte.auto.byte-end h c.loop-byte.invariant.most
 
 pub returns-clause-least : goal.returns-clause-least
 returns-clause-least g t c = c.loop-byte.invariant.least
+
+pub returns-then-left-eq0-clause-most : goal.returns-then-left-eq0-clause-most
+returns-then-left-eq0-clause-most g t c = λ d h. no_step c.args.nodes.now _
+
+pub returns-then-left-eq0-clause-rises : goal.returns-then-left-eq0-clause-rises
+returns-then-left-eq0-clause-rises g t c = not_fewer c.args.nodes.now
+
+pub returns-in_err-constants-clause-most : goal.returns-in_err-constants-clause-most
+returns-in_err-constants-clause-most g t c = λ d h. no_step c.args.nodes.now _
+
+pub returns-in_err-constants-clause-rises : goal.returns-in_err-constants-clause-rises
+returns-in_err-constants-clause-rises g t c = not_fewer c.args.nodes.now
+
+pub returns-in_err-values-clause-most : goal.returns-in_err-values-clause-most
+returns-in_err-values-clause-most g t c = λ d h. no_step c.args.nodes.now _
+
+pub returns-in_err-values-clause-rises : goal.returns-in_err-values-clause-rises
+returns-in_err-values-clause-rises g t c = not_fewer c.args.nodes.now
+
+pub returns-in_err-child-clause-rises : goal.returns-in_err-child-clause-rises
+returns-in_err-child-clause-rises g t c = c.loop-byte.invariant.rises
+
+pub returns-in_err-push-clause-rises : goal.returns-in_err-push-clause-rises
+returns-in_err-push-clause-rises g t c = c.loop-byte.invariant.rises
+
+pub returns-in_err-descend-clause-rises : goal.returns-in_err-descend-clause-rises
+returns-in_err-descend-clause-rises g t c = ticked c.args.nodes.now c.loop-byte.nodes _ c.descend.new.nodes c.loop-byte.invariant.rises c.tick.ensures c.in_err-descend.ensures.rises
+
+pub returns-clause-rises : goal.returns-clause-rises
+returns-clause-rises g t c = c.loop-byte.invariant.rises
+
+pub returns-clause-kept : goal.returns-clause-kept
+returns-clause-kept g t c = c.loop-byte.invariant.kept
+
+pub values_at_bytes-requires-clause-powers : goal.values_at_bytes-requires-clause-powers
+values_at_bytes-requires-clause-powers g t c = c.requires.powers_are
+
+pub returns-then-left-eq0-clause-kept : goal.returns-then-left-eq0-clause-kept
+returns-then-left-eq0-clause-kept g t c = on_ok_weaker c.keep_root.result (λ found. refl) c.keep_root.ensures
+
+pub returns-then-left-eq0-clause-least : goal.returns-then-left-eq0-clause-least
+returns-then-left-eq0-clause-least g t c = on_ok_weaker c.keep_root.result (λ found some. none_left c.args.nodes.now c.args.left c.if-left-eq0.true) c.keep_root.ensures
+
+pub strip_x-requires : goal.strip_x-requires
+strip_x-requires g t c = c.requires.nonzero
+
+pub values_at_bytes-requires-clause-enough : goal.values_at_bytes-requires-clause-enough
+values_at_bytes-requires-clause-enough g t c = let there = ap length (c.deref-2.ensures.value ∙ c.in_ok-constants.ensures) ∙ length-map c.strip_x.new.self _ ∙ ap length c.strip_x.ensures.quotient ∙ length-map c.args.q (drop _) in
+    let rows = length-map c.args.powers.now (λ (r : Vec ℕ Global). r.items) in
+    fits_in _ _ _ _ there c.requires.enough rows

@@ -5,6 +5,18 @@ use Rattle.serve_core.specs.Stages.{Gives}
 use Rattle.serve_core.specs.declared.met.Met.TheVariants.{Served}
 use Rattle.serve_core.proofs.answer.answer_in.Goals as goal
 
+pub write_frame-requires-clause-few : goal.write_frame-requires-clause-few
+write_frame-requires-clause-few g c κs within = c.requires.good.range.blocks.few_blocks
+
+pub write_frame-requires-clause-query : goal.write_frame-requires-clause-query
+write_frame-requires-clause-query g c κs within = c.requires.query
+
+pub write_frame-requires-clause-scratch : goal.write_frame-requires-clause-scratch
+write_frame-requires-clause-scratch g c κs within = c.requires.scratch
+
+pub write_frame-requires-clause-room : goal.write_frame-requires-clause-room
+write_frame-requires-clause-room g c κs within = c.requires.room
+
 pub write_frame-requires-clause-count : goal.write_frame-requires-clause-count
 write_frame-requires-clause-count g c κs within =
     sym (blocks_in_query c.write_query_header.new.out c.args.asked.now (record { range = c.requires.good.range; spelled = c.write_query_header.ensures }))

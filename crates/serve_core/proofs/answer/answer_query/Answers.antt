@@ -1,4 +1,4 @@
-use Rattle.std.proofs.Common.{◌≡◌, ◌∙◌, ℕ, take, sym, ap, subst, arith}
+use Rattle.std.proofs.Common.{◌≡◌, ◌∙◌, ◌≤◌, ℕ, length, take, sym, ap, subst, arith}
 use Rattle.std.proofs.lemmas.List.{length-take-le}
 use Rattle.block_matrix.specs.Database.{Database}
 use Rattle.wire_frames.specs.Header.{query_header}
@@ -37,6 +37,17 @@ slice_bounds-frame-end-2 g c =
     let frame_is : c.answer_len.result ≡ answer_len c.args.asked.now.count service.database.width
     = c.answer_len.ensures ∙ ap (answer_len c.args.asked.now.count) (c.width.ensures.is ∙ ap (λ (d : Database). d.width) c.matrix.ensures) in
     sym (length-take-le c.answer_len.result c.args.frame.now (omega (arith, frame_is, c.requires.room, frame_fits service c.args.asked.now.count few)))
+
+pub slice_bounds-query-end : goal.slice_bounds-query-end
+slice_bounds-query-end g c =
+    sym (length-take-le c.payload_len.result c.args.query.now (subst (λ (n : ℕ). n ≤ length c.args.query.now) (sym c.payload_len.ensures) c.requires.query))
+
+pub answer_in-requires-clause-good : goal.answer_in-requires-clause-good
+answer_in-requires-clause-good g c κs within = c.requires.good
+
+pub answer_in-requires-clause-query : goal.answer_in-requires-clause-query
+answer_in-requires-clause-query g c κs within =
+    length-take-le c.payload_len.result c.args.query.now (subst (λ (n : ℕ). n ≤ length c.args.query.now) (sym c.payload_len.ensures) c.requires.query) ∙ c.payload_len.ensures
 
 pub answer_in-requires-clause-scratch : goal.answer_in-requires-clause-scratch
 answer_in-requires-clause-scratch g c κs within =

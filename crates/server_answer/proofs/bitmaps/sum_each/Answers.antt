@@ -4,7 +4,7 @@ use Rattle.server_product.specs.Queries.{piece}
 use Rattle.server_product.proofs.QuerySums.{pieces-more}
 use Rattle.chor_xor.specs.Bitmap.{size_of}
 use Rattle.chor_xor.specs.Chosen.{given}
-use Rattle.server_answer.proofs.AnswerSums.{all-asked}
+use Rattle.server_answer.proofs.AnswerSums.{all-asked, part_fits}
 use Rattle.server_answer.proofs.bitmaps.sum_each.Goals as goal
 
 pub loop-v-preserved : goal.loop-v-preserved
@@ -27,3 +27,66 @@ returns c =
     ≡ run_sum (given (piece s c.args.bitmaps.now v) matrix.rows k) c.args.from c.args.to) size
     (subst (λ w. (v k : ℕ) → v < c.loop-v.v → k < w → slice_index c.loop-v.sums (v * w + k)
     ≡ run_sum (given (piece c.div_ceil-size.result c.args.bitmaps.now v) matrix.rows k) c.args.from c.args.to) c.width-width.ensures.is c.loop-v.invariant)) v k l m)
+
+pub div_ceil-size-requires : goal.div_ceil-size-requires
+div_ceil-size-requires c = omega arith
+
+pub overflow_cast-size : goal.overflow_cast-size
+overflow_cast-size c = omega arith
+
+pub overflow_cast-width : goal.overflow_cast-width
+overflow_cast-width c = omega arith
+
+pub overflow_add-bitmap : goal.overflow_add-bitmap
+overflow_add-bitmap c = omega arith
+
+pub slice_bounds-bitmap-count : goal.slice_bounds-bitmap-count
+slice_bounds-bitmap-count c = omega arith
+
+pub slice_bounds-bitmap-start : goal.slice_bounds-bitmap-start
+slice_bounds-bitmap-start c = omega arith
+
+pub overflow_add-v : goal.overflow_add-v
+overflow_add-v c = omega arith
+
+pub slice_bounds-sum_one-count : goal.slice_bounds-sum_one-count
+slice_bounds-sum_one-count c = omega arith
+
+pub slice_bounds-sum_one-start : goal.slice_bounds-sum_one-start
+slice_bounds-sum_one-start c = omega arith
+
+pub sum_one-requires-clause-order : goal.sum_one-requires-clause-order
+sum_one-requires-clause-order c = omega arith
+
+pub sum_one-requires-clause-within : goal.sum_one-requires-clause-within
+sum_one-requires-clause-within c = omega arith
+
+pub sum_one-requires-clause-bitmap : goal.sum_one-requires-clause-bitmap
+sum_one-requires-clause-bitmap c = omega arith
+
+pub sum_one-requires-clause-room : goal.sum_one-requires-clause-room
+sum_one-requires-clause-room c = omega arith
+
+pub overflow_mul-bitmap : goal.overflow_mul-bitmap
+overflow_mul-bitmap c =
+    omega (arith, part_fits c.loop-v.v c.args.count c.div_ceil-size.result _ _ (omega arith) (c.div_ceil-size.ensures ∙ ap size_of c.rows.ensures.is) c.requires.bitmaps)
+
+pub overflow_mul-bitmap-in-loop-v : goal.overflow_mul-bitmap-in-loop-v
+overflow_mul-bitmap-in-loop-v c =
+    omega (arith, part_fits (c.loop-v.v + 1) c.args.count c.div_ceil-size.result _ _ (omega arith) (c.div_ceil-size.ensures ∙ ap size_of c.rows.ensures.is) c.requires.bitmaps)
+
+pub slice_bounds-bitmap-end : goal.slice_bounds-bitmap-end
+slice_bounds-bitmap-end c =
+    omega (arith, part_fits (c.loop-v.v + 1) c.args.count c.div_ceil-size.result _ _ (omega arith) (c.div_ceil-size.ensures ∙ ap size_of c.rows.ensures.is) c.requires.bitmaps)
+
+pub overflow_mul-v : goal.overflow_mul-v
+overflow_mul-v c =
+    omega (arith, part_fits c.loop-v.v c.args.count c.width-width.result _ _ (omega arith) c.width-width.ensures.is c.requires.room)
+
+pub overflow_mul-v-in-loop-v : goal.overflow_mul-v-in-loop-v
+overflow_mul-v-in-loop-v c =
+    omega (arith, part_fits (c.loop-v.v + 1) c.args.count c.width-width.result _ _ (omega arith) c.width-width.ensures.is c.requires.room)
+
+pub slice_bounds-sum_one-end : goal.slice_bounds-sum_one-end
+slice_bounds-sum_one-end c =
+    omega (arith, part_fits (c.loop-v.v + 1) c.args.count c.width-width.result _ _ (omega arith) c.width-width.ensures.is (c.loop-v.auto.sums ∙ c.requires.room))

@@ -1,9 +1,10 @@
-use Rattle.std.proofs.Common.{◌+◌, ◌*◌, slice_range, ap, ◌∙◌}
+use Rattle.std.proofs.Common.{◌+◌, ◌*◌, slice_range, ap, ◌∙◌, arith}
 use Rattle.chor_xor.specs.Bitmap.{size_of}
 use Rattle.chor_xor.specs.Chosen.{given}
 use Rattle.server_answer.specs.Asked.{asked}
 use Rattle.server_product.proofs.QuerySums.{rest-done, rest-kept}
 use Rattle.server_answer.proofs.MaskSums.{given-is}
+use Rattle.server_answer.proofs.AnswerSums.{part_fits}
 use Rattle.server_answer.proofs.group.add_rest.Goals as goal
 
 pub loop-v-preserved : goal.loop-v-preserved
@@ -24,3 +25,66 @@ loop-v-preserved c =
           rest-kept c.loop-v.sums c.add_chosen_rows.new.sum c.args.sums.now matrix.width c.args.count v c.args.from c.args.to c.width-width.result
           c.width-width.ensures.is c.loop-v-test.true room c.add_chosen_rows.auto.sum c.loop-v.invariant.kept;
     }
+
+pub div_ceil-size-requires : goal.div_ceil-size-requires
+div_ceil-size-requires c = omega arith
+
+pub overflow_cast-size : goal.overflow_cast-size
+overflow_cast-size c = omega arith
+
+pub overflow_cast-width : goal.overflow_cast-width
+overflow_cast-width c = omega arith
+
+pub overflow_add-bitmap : goal.overflow_add-bitmap
+overflow_add-bitmap c = omega arith
+
+pub slice_bounds-bitmap-count : goal.slice_bounds-bitmap-count
+slice_bounds-bitmap-count c = omega arith
+
+pub slice_bounds-bitmap-start : goal.slice_bounds-bitmap-start
+slice_bounds-bitmap-start c = omega arith
+
+pub overflow_add-v : goal.overflow_add-v
+overflow_add-v c = omega arith
+
+pub slice_bounds-add_chosen_rows-count : goal.slice_bounds-add_chosen_rows-count
+slice_bounds-add_chosen_rows-count c = omega arith
+
+pub slice_bounds-add_chosen_rows-start : goal.slice_bounds-add_chosen_rows-start
+slice_bounds-add_chosen_rows-start c = omega arith
+
+pub add_chosen_rows-requires-clause-order : goal.add_chosen_rows-requires-clause-order
+add_chosen_rows-requires-clause-order c = omega arith
+
+pub add_chosen_rows-requires-clause-within : goal.add_chosen_rows-requires-clause-within
+add_chosen_rows-requires-clause-within c = omega arith
+
+pub add_chosen_rows-requires-clause-bitmap : goal.add_chosen_rows-requires-clause-bitmap
+add_chosen_rows-requires-clause-bitmap c = omega arith
+
+pub add_chosen_rows-requires-clause-room : goal.add_chosen_rows-requires-clause-room
+add_chosen_rows-requires-clause-room c = omega arith
+
+pub overflow_mul-bitmap : goal.overflow_mul-bitmap
+overflow_mul-bitmap c =
+    omega (arith, part_fits c.loop-v.v c.args.count c.div_ceil-size.result _ _ (omega arith) (c.div_ceil-size.ensures ∙ ap size_of c.rows.ensures.is) c.requires.bitmaps)
+
+pub overflow_mul-bitmap-in-loop-v : goal.overflow_mul-bitmap-in-loop-v
+overflow_mul-bitmap-in-loop-v c =
+    omega (arith, part_fits (c.loop-v.v + 1) c.args.count c.div_ceil-size.result _ _ (omega arith) (c.div_ceil-size.ensures ∙ ap size_of c.rows.ensures.is) c.requires.bitmaps)
+
+pub slice_bounds-bitmap-end : goal.slice_bounds-bitmap-end
+slice_bounds-bitmap-end c =
+    omega (arith, part_fits (c.loop-v.v + 1) c.args.count c.div_ceil-size.result _ _ (omega arith) (c.div_ceil-size.ensures ∙ ap size_of c.rows.ensures.is) c.requires.bitmaps)
+
+pub overflow_mul-v : goal.overflow_mul-v
+overflow_mul-v c =
+    omega (arith, part_fits c.loop-v.v c.args.count c.width-width.result _ _ (omega arith) c.width-width.ensures.is c.requires.room)
+
+pub overflow_mul-v-in-loop-v : goal.overflow_mul-v-in-loop-v
+overflow_mul-v-in-loop-v c =
+    omega (arith, part_fits (c.loop-v.v + 1) c.args.count c.width-width.result _ _ (omega arith) c.width-width.ensures.is c.requires.room)
+
+pub slice_bounds-add_chosen_rows-end : goal.slice_bounds-add_chosen_rows-end
+slice_bounds-add_chosen_rows-end c =
+    omega (arith, part_fits (c.loop-v.v + 1) c.args.count c.width-width.result _ _ (omega arith) c.width-width.ensures.is (c.loop-v.auto.sums ∙ c.requires.room))

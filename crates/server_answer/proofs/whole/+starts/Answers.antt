@@ -1,4 +1,5 @@
-use Rattle.std.proofs.Common.{◌*◌, length, arith}
+use Rattle.std.proofs.Common.{◌≡◌, ◌≤◌, ◌+◌, ◌*◌, length, ap, arith}
+use Rattle.std.proofs.Math.Nat.{mul-le-mul_right}
 use Rattle.server_answer.specs.Asked.{asked}
 use Rattle.server_product.proofs.Workers.{joined, last}
 use Rattle.server_answer.proofs.whole.+starts.Goals as goal
@@ -15,3 +16,39 @@ sum_from-returns-then-first-workers g t c =
     let matrix = c.args.matrix.now in
     last c.sum_part.new.sums (asked c.args.bitmaps.now matrix.rows matrix.width) (length matrix.rows) (c.args.count * matrix.width) c.args.workers c.args.first
     (omega arith) c.sum_part.ensures
+
+pub sum_both-back-slice_bounds-others-end : goal.sum_both-back-slice_bounds-others-end
+sum_both-back-slice_bounds-others-end g t c = omega arith
+
+pub sum_both-back-overflow_add-first : goal.sum_both-back-overflow_add-first
+sum_both-back-overflow_add-first g t c = omega arith
+
+pub sum_from-overflow_add-first : goal.sum_from-overflow_add-first
+sum_from-overflow_add-first g t c = omega arith
+
+pub sum_from-sum_part-requires-clause-rows : goal.sum_from-sum_part-requires-clause-rows
+sum_from-sum_part-requires-clause-rows g t c = omega arith
+
+pub sum_from-sum_part-requires-clause-few : goal.sum_from-sum_part-requires-clause-few
+sum_from-sum_part-requires-clause-few g t c = omega arith
+
+pub sum_from-sum_part-requires-clause-within : goal.sum_from-sum_part-requires-clause-within
+sum_from-sum_part-requires-clause-within g t c = omega arith
+
+pub sum_from-sum_part-requires-clause-few_bitmaps : goal.sum_from-sum_part-requires-clause-few_bitmaps
+sum_from-sum_part-requires-clause-few_bitmaps g t c = omega arith
+
+pub sum_from-sum_part-requires-clause-bitmaps : goal.sum_from-sum_part-requires-clause-bitmaps
+sum_from-sum_part-requires-clause-bitmaps g t c = omega arith
+
+pub sum_from-sum_part-requires-clause-room : goal.sum_from-sum_part-requires-clause-room
+sum_from-sum_part-requires-clause-room g t c =
+    let places = c.args.count * c.args.matrix.now.width in
+    let last : (c.args.first + 1) * places ≡ c.args.workers * places = ap (λ k. k * places) c.if-first-workers.true in
+    omega (arith, last, c.requires.scratch)
+
+pub sum_from-split_at_mut-own-requires : goal.sum_from-split_at_mut-own-requires
+sum_from-split_at_mut-own-requires g t c =
+    let places = c.args.count * c.args.matrix.now.width in
+    let more : (c.args.first + 1) * places ≤ c.args.workers * places = mul-le-mul_right places (omega arith) in
+    omega (arith, more, c.requires.scratch, c.places_of.ensures)

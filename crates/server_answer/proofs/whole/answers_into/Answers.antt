@@ -46,3 +46,43 @@ slice_bounds-add_row-end g c =
     let fits = end-within worker c.args.workers places (omega arith) in
     let within : worker * places + places ≤ length c.sum_parts.new.scratch = omega (arith, room, fits) in
     within
+
+pub sum_parts-requires-clause-rows : goal.sum_parts-requires-clause-rows
+sum_parts-requires-clause-rows g c = omega arith
+
+pub sum_parts-requires-clause-some : goal.sum_parts-requires-clause-some
+sum_parts-requires-clause-some g c = omega arith
+
+pub sum_parts-requires-clause-few : goal.sum_parts-requires-clause-few
+sum_parts-requires-clause-few g c = omega arith
+
+pub sum_parts-requires-clause-few_bitmaps : goal.sum_parts-requires-clause-few_bitmaps
+sum_parts-requires-clause-few_bitmaps g c = omega arith
+
+pub sum_parts-requires-clause-bitmaps : goal.sum_parts-requires-clause-bitmaps
+sum_parts-requires-clause-bitmaps g c = omega arith
+
+pub overflow_cast-start : goal.overflow_cast-start
+overflow_cast-start g c = omega arith
+
+pub slice_bounds-add_row-count : goal.slice_bounds-add_row-count
+slice_bounds-add_row-count g c = omega arith
+
+pub slice_bounds-add_row-start : goal.slice_bounds-add_row-start
+slice_bounds-add_row-start g c = omega arith
+
+pub add_row-requires : goal.add_row-requires
+add_row-requires g c = omega arith
+
+pub sum_parts-requires-clause-scratch : goal.sum_parts-requires-clause-scratch
+sum_parts-requires-clause-scratch g c = omega (arith, ap (λ w. w * (c.args.count * c.args.matrix.now.width)) c.from.ensures)
+
+pub overflow_mul-start : goal.overflow_mul-start
+overflow_mul-start g c =
+    let places = ap (λ p. c.args.workers * p) c.places_of-places.ensures in
+    omega (arith, end-within c.loop-worker.worker c.args.workers c.places_of-places.result (omega arith), places, c.requires.scratch)
+
+pub overflow_add-start : goal.overflow_add-start
+overflow_add-start g c =
+    let places = ap (λ p. c.args.workers * p) c.places_of-places.ensures in
+    omega (arith, end-within c.loop-worker.worker c.args.workers c.places_of-places.result (omega arith), places, c.requires.scratch)

@@ -29,3 +29,42 @@ returns c = λ v g l m.
     let rest : (4 * v + g) % 4 ≡ g = omega arith in
     c.loop-v.invariant.filled (4 * v + g) (omega arith)
     ∙ ap₂ (λ u k. slice_index c.args.queries.now (u * c.args.rows + (c.args.j + k * c.args.apart))) quotient rest
+
+pub overflow_mul-factors : goal.overflow_mul-factors
+overflow_mul-factors c = omega arith
+
+pub bounds-factors-v : goal.bounds-factors-v
+bounds-factors-v c = omega arith
+
+pub overflow_mul-factors-in-loop-v : goal.overflow_mul-factors-in-loop-v
+overflow_mul-factors-in-loop-v c = omega arith
+
+pub overflow_add-factors-in-loop-v : goal.overflow_add-factors-in-loop-v
+overflow_add-factors-in-loop-v c = omega arith
+
+pub bounds-factors-v-in-loop-v : goal.bounds-factors-v-in-loop-v
+bounds-factors-v-in-loop-v c = omega arith
+
+pub overflow_mul-factors-in-loop-v-2 : goal.overflow_mul-factors-in-loop-v-2
+overflow_mul-factors-in-loop-v-2 c = omega arith
+
+pub overflow_mul-factors-in-loop-v-3 : goal.overflow_mul-factors-in-loop-v-3
+overflow_mul-factors-in-loop-v-3 c = omega arith
+
+pub overflow_add-factors-in-loop-v-3 : goal.overflow_add-factors-in-loop-v-3
+overflow_add-factors-in-loop-v-3 c = omega arith
+
+pub bounds-factors-v-in-loop-v-2 : goal.bounds-factors-v-in-loop-v-2
+bounds-factors-v-in-loop-v-2 c = omega arith
+
+pub overflow_mul-factors-in-loop-v-4 : goal.overflow_mul-factors-in-loop-v-4
+overflow_mul-factors-in-loop-v-4 c = omega arith
+
+pub overflow_mul-factors-in-loop-v-5 : goal.overflow_mul-factors-in-loop-v-5
+overflow_mul-factors-in-loop-v-5 c = omega arith
+
+pub overflow_add-factors-in-loop-v-5 : goal.overflow_add-factors-in-loop-v-5
+overflow_add-factors-in-loop-v-5 c = omega arith
+
+pub bounds-factors-v-in-loop-v-3 : goal.bounds-factors-v-in-loop-v-3
+bounds-factors-v-in-loop-v-3 c = omega arith

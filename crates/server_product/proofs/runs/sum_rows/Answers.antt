@@ -1,4 +1,4 @@
-use Rattle.std.proofs.Common.{◌∙◌, ap, length, slice_index}
+use Rattle.std.proofs.Common.{arith, ◌∙◌, ap, length, slice_index}
 use Rattle.gf256.specs.Field.{◌⊕◌}
 use Rattle.gf256.proofs.Xor.{zero_add}
 use Rattle.gf256.specs.Sums.{run_sum}
@@ -17,3 +17,27 @@ returns-else-width-ge-WIDE c = λ k.
     ∙ c.add_in_sixths.ensures k
     ∙ ap (λ s. s ⊕ run_sum (term c.args.q.now c.args.matrix.now.rows k) c.args.from c.args.to)
     (zeros-at (length c.args.sums.now) 8192 k) ∙ zero_add _
+
+pub add_in_trios-requires-clause-order : goal.add_in_trios-requires-clause-order
+add_in_trios-requires-clause-order c = omega arith
+
+pub add_in_trios-requires-clause-within : goal.add_in_trios-requires-clause-within
+add_in_trios-requires-clause-within c = omega arith
+
+pub add_in_trios-requires-clause-query : goal.add_in_trios-requires-clause-query
+add_in_trios-requires-clause-query c = omega arith
+
+pub add_in_trios-requires-clause-room : goal.add_in_trios-requires-clause-room
+add_in_trios-requires-clause-room c = omega arith
+
+pub slice_bounds-stack-end : goal.slice_bounds-stack-end
+slice_bounds-stack-end c = omega arith
+
+pub add_in_sixths-requires-clause-order : goal.add_in_sixths-requires-clause-order
+add_in_sixths-requires-clause-order c = omega arith
+
+pub add_in_sixths-requires-clause-within : goal.add_in_sixths-requires-clause-within
+add_in_sixths-requires-clause-within c = omega arith
+
+pub add_in_sixths-requires-clause-query : goal.add_in_sixths-requires-clause-query
+add_in_sixths-requires-clause-query c = omega arith

@@ -40,3 +40,102 @@ returns c = λ k.
     c.loop-i.invariant k
     ∙ ap (◌⊕◌ (slice_index c.args.sums.now k))
     (ap (sixths (term q rows k) c.args.from c.args.sixth) end ∙ sixths-all (term q rows k) c.args.from c.args.sixth)
+
+pub overflow_add-from : goal.overflow_add-from
+overflow_add-from c = omega arith
+
+pub scaled_row-requires-clause-within : goal.scaled_row-requires-clause-within
+scaled_row-requires-clause-within c = omega arith
+
+pub scaled_row-requires-clause-query : goal.scaled_row-requires-clause-query
+scaled_row-requires-clause-query c = omega arith
+
+pub overflow_add-from-in-loop-i : goal.overflow_add-from-in-loop-i
+overflow_add-from-in-loop-i c = omega arith
+
+pub overflow_add-from-in-loop-i-2 : goal.overflow_add-from-in-loop-i-2
+overflow_add-from-in-loop-i-2 c = omega arith
+
+pub scaled_row-requires-in-loop-i-clause-within : goal.scaled_row-requires-in-loop-i-clause-within
+scaled_row-requires-in-loop-i-clause-within c = omega arith
+
+pub scaled_row-requires-in-loop-i-clause-query : goal.scaled_row-requires-in-loop-i-clause-query
+scaled_row-requires-in-loop-i-clause-query c = omega arith
+
+pub overflow_mul-sixth : goal.overflow_mul-sixth
+overflow_mul-sixth c = omega arith
+
+pub overflow_add-from-in-loop-i-3 : goal.overflow_add-from-in-loop-i-3
+overflow_add-from-in-loop-i-3 c = omega arith
+
+pub overflow_add-from-in-loop-i-4 : goal.overflow_add-from-in-loop-i-4
+overflow_add-from-in-loop-i-4 c = omega arith
+
+pub scaled_row-requires-in-loop-i-2-clause-within : goal.scaled_row-requires-in-loop-i-2-clause-within
+scaled_row-requires-in-loop-i-2-clause-within c = omega arith
+
+pub scaled_row-requires-in-loop-i-2-clause-query : goal.scaled_row-requires-in-loop-i-2-clause-query
+scaled_row-requires-in-loop-i-2-clause-query c = omega arith
+
+pub overflow_mul-sixth-in-loop-i : goal.overflow_mul-sixth-in-loop-i
+overflow_mul-sixth-in-loop-i c = omega arith
+
+pub overflow_add-from-in-loop-i-5 : goal.overflow_add-from-in-loop-i-5
+overflow_add-from-in-loop-i-5 c = omega arith
+
+pub overflow_add-from-in-loop-i-6 : goal.overflow_add-from-in-loop-i-6
+overflow_add-from-in-loop-i-6 c = omega arith
+
+pub scaled_row-requires-in-loop-i-3-clause-within : goal.scaled_row-requires-in-loop-i-3-clause-within
+scaled_row-requires-in-loop-i-3-clause-within c = omega arith
+
+pub scaled_row-requires-in-loop-i-3-clause-query : goal.scaled_row-requires-in-loop-i-3-clause-query
+scaled_row-requires-in-loop-i-3-clause-query c = omega arith
+
+pub overflow_mul-sixth-in-loop-i-2 : goal.overflow_mul-sixth-in-loop-i-2
+overflow_mul-sixth-in-loop-i-2 c = omega arith
+
+pub overflow_add-from-in-loop-i-7 : goal.overflow_add-from-in-loop-i-7
+overflow_add-from-in-loop-i-7 c = omega arith
+
+pub overflow_add-from-in-loop-i-8 : goal.overflow_add-from-in-loop-i-8
+overflow_add-from-in-loop-i-8 c = omega arith
+
+pub scaled_row-requires-in-loop-i-4-clause-within : goal.scaled_row-requires-in-loop-i-4-clause-within
+scaled_row-requires-in-loop-i-4-clause-within c = omega arith
+
+pub scaled_row-requires-in-loop-i-4-clause-query : goal.scaled_row-requires-in-loop-i-4-clause-query
+scaled_row-requires-in-loop-i-4-clause-query c = omega arith
+
+pub overflow_mul-sixth-in-loop-i-3 : goal.overflow_mul-sixth-in-loop-i-3
+overflow_mul-sixth-in-loop-i-3 c = omega arith
+
+pub overflow_add-from-in-loop-i-9 : goal.overflow_add-from-in-loop-i-9
+overflow_add-from-in-loop-i-9 c = omega arith
+
+pub overflow_add-from-in-loop-i-10 : goal.overflow_add-from-in-loop-i-10
+overflow_add-from-in-loop-i-10 c = omega arith
+
+pub scaled_row-requires-in-loop-i-5-clause-within : goal.scaled_row-requires-in-loop-i-5-clause-within
+scaled_row-requires-in-loop-i-5-clause-within c = omega arith
+
+pub scaled_row-requires-in-loop-i-5-clause-query : goal.scaled_row-requires-in-loop-i-5-clause-query
+scaled_row-requires-in-loop-i-5-clause-query c = omega arith
+
+pub add_six_rows-requires-clause-a : goal.add_six_rows-requires-clause-a
+add_six_rows-requires-clause-a c = omega arith
+
+pub add_six_rows-requires-clause-b : goal.add_six_rows-requires-clause-b
+add_six_rows-requires-clause-b c = omega arith
+
+pub add_six_rows-requires-clause-c : goal.add_six_rows-requires-clause-c
+add_six_rows-requires-clause-c c = omega arith
+
+pub add_six_rows-requires-clause-d : goal.add_six_rows-requires-clause-d
+add_six_rows-requires-clause-d c = omega arith
+
+pub add_six_rows-requires-clause-e : goal.add_six_rows-requires-clause-e
+add_six_rows-requires-clause-e c = omega arith
+
+pub add_six_rows-requires-clause-f : goal.add_six_rows-requires-clause-f
+add_six_rows-requires-clause-f c = omega arith

@@ -1,6 +1,7 @@
-use Rattle.std.proofs.Common.{◌*◌, length, arith}
+use Rattle.std.proofs.Common.{◌≡◌, ◌≤◌, ◌+◌, ◌*◌, length, ap, arith}
+use Rattle.std.proofs.Math.Nat.{mul-le-mul_right}
 use Rattle.server_product.specs.Queries.{entry}
-use Rattle.server_product.proofs.Workers.{joined}
+use Rattle.server_product.proofs.Workers.{joined, last}
 use Rattle.server_product.proofs.whole.+starts.Goals as goal
 
 pub sum_from-returns : goal.sum_from-returns
@@ -9,3 +10,45 @@ sum_from-returns g t c =
     joined c.sum_both.new.own c.sum_both.new.others (entry c.args.queries.now matrix.rows matrix.width) (length matrix.rows) (c.args.count * matrix.width)
     c.args.workers c.args.first
     (omega (arith, c.sum_both.auto.own, c.split_at_mut-own.ensures.front_len, c.places_of.ensures)) c.sum_both.ensures.own c.sum_both.ensures.others
+
+pub sum_from-returns-then-first-workers : goal.sum_from-returns-then-first-workers
+sum_from-returns-then-first-workers g t c =
+    let matrix = c.args.matrix.now in
+    last c.sum_part.new.sums (entry c.args.queries.now matrix.rows matrix.width) (length matrix.rows) (c.args.count * matrix.width) c.args.workers c.args.first
+    (omega arith) c.sum_part.ensures
+
+pub sum_both-back-slice_bounds-others-end : goal.sum_both-back-slice_bounds-others-end
+sum_both-back-slice_bounds-others-end g t c = omega arith
+
+pub sum_both-back-overflow_add-first : goal.sum_both-back-overflow_add-first
+sum_both-back-overflow_add-first g t c = omega arith
+
+pub sum_from-overflow_add-first : goal.sum_from-overflow_add-first
+sum_from-overflow_add-first g t c = omega arith
+
+pub sum_from-sum_part-requires-clause-rows : goal.sum_from-sum_part-requires-clause-rows
+sum_from-sum_part-requires-clause-rows g t c = omega arith
+
+pub sum_from-sum_part-requires-clause-few : goal.sum_from-sum_part-requires-clause-few
+sum_from-sum_part-requires-clause-few g t c = omega arith
+
+pub sum_from-sum_part-requires-clause-within : goal.sum_from-sum_part-requires-clause-within
+sum_from-sum_part-requires-clause-within g t c = omega arith
+
+pub sum_from-sum_part-requires-clause-few_queries : goal.sum_from-sum_part-requires-clause-few_queries
+sum_from-sum_part-requires-clause-few_queries g t c = omega arith
+
+pub sum_from-sum_part-requires-clause-queries : goal.sum_from-sum_part-requires-clause-queries
+sum_from-sum_part-requires-clause-queries g t c = omega arith
+
+pub sum_from-sum_part-requires-clause-room : goal.sum_from-sum_part-requires-clause-room
+sum_from-sum_part-requires-clause-room g t c =
+    let places = c.args.count * c.args.matrix.now.width in
+    let last : (c.args.first + 1) * places ≡ c.args.workers * places = ap (λ k. k * places) c.if-first-workers.true in
+    omega (arith, last, c.requires.scratch)
+
+pub sum_from-split_at_mut-own-requires : goal.sum_from-split_at_mut-own-requires
+sum_from-split_at_mut-own-requires g t c =
+    let places = c.args.count * c.args.matrix.now.width in
+    let more : (c.args.first + 1) * places ≤ c.args.workers * places = mul-le-mul_right places (omega arith) in
+    omega (arith, more, c.requires.scratch, c.places_of.ensures)

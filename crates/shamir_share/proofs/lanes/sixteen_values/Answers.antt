@@ -1,6 +1,8 @@
-use Rattle.std.proofs.Common.{ℕ, ◌≤◌, ◌≡◌, ◌≢◌, arith, subst, inl, inr}
+use Rattle.std.proofs.Common.{ℕ, ◌+◌, ◌-◌, ◌*◌, ◌/◌, ◌<◌, ◌≤◌, ◌≡◌, ◌≢◌, min, List, length, arith, refl, sym, subst, inl, inr}
+use Rattle.std.specs.Int.{div_ceil}
+use Rattle.std.proofs.lemmas.Grind.{div_ceil_times}
 use Rattle.gf256.specs.Rows.{AreLanes}
-use Rattle.shamir_share.specs.Lanes.{IsWidth, padded, part}
+use Rattle.shamir_share.specs.Lanes.{AreCells, IsWidth, padded, part, sorted_place}
 use Rattle.shamir_share.proofs.LaneParts.{narrow_values}
 use Rattle.shamir_share.proofs.lanes.sixteen_values.Goals as goal
 
@@ -24,6 +26,44 @@ returns-then-width-eq4 c =
     narrow_values rows c.fours.result t 4 a c.requires.whole few (omega arith)
     (subst (λ (w : ℕ). AreLanes c.fours.result (part (padded rows t 0 w) 4 a) 0) width_is c.fours.ensures)
 
+-- a width that isn't 16 is less
+narrow : (width : ℕ) → IsWidth width → width ≢ 16 → width < 16
+narrow width (inl e) a = omega (arith, e)
+narrow width (inr (inl e)) a = omega (arith, e)
+narrow width (inr (inr (inl e))) a = omega (arith, e)
+narrow width (inr (inr (inr e))) a = absurd (a e)
+
+-- sixteen coins may be read from the last row that is read on
+room_of : (t width len : ℕ) → IsWidth width → width ≢ 16 → 1 ≤ t → (16 - 16 / width) * t + div_ceil t 16 * 16 ≤ len → (width - 1) * (16 / width * t) + 0 + 16 ≤ len
+room_of t width len fills a some room =
+    let times = (div_ceil_times t 16 (omega arith)).0 in
+    let Room : ℕ → Type 0 = λ (w : ℕ). (16 - 16 / w) * t + div_ceil t 16 * 16 ≤ len → (w - 1) * (16 / w * t) + 0 + 16 ≤ len in
+    elim fills [
+      | inl e ↦ subst Room (sym e) (λ h. omega (arith, h, times, some)) room
+      | inr more ↦ elim more [
+        | inl e ↦ subst Room (sym e) (λ h. omega (arith, h, times, some)) room
+        | inr rest ↦ elim rest [
+          | inl e ↦ subst Room (sym e) (λ h. omega (arith, h, times, some)) room
+          | inr e ↦ absurd (a e)
+        ]
+      ]
+    ]
+
+-- narrow rows are cells
+narrow_cells : (rows : List ℕ) (t width : ℕ) (places : List ℕ) → IsWidth width → width ≢ 16 → 1 ≤ t → t ≤ width → 16 * t ≤ length rows → (16 - 16 / width) * t + div_ceil t 16 * 16 ≤ length rows
+    → AreLanes places (sorted_place width t) 0 → AreCells rows t 0 width (16 / width * t) places
+narrow_cells rows t width places fills a some few whole room lanes =
+    let all : t ≡ min (t - 0) width = omega (arith, few) in
+    record {
+      fills = fills;
+      shape = inr (refl, few);
+      inside = some;
+      steps = refl;
+      sorted = subst (λ (n : ℕ). AreLanes places (sorted_place width n) 0) all lanes;
+      whole = whole;
+      room = room_of t width (length rows) fills a some room;
+    }
+
 -- what is left
 eight : (width : ℕ) → IsWidth width → width ≢ 2 → width ≢ 4 → width ≢ 16 → width ≡ 8
 eight width (inl e) a b d = absurd (a e)
@@ -40,3 +80,21 @@ returns c =
     let few : t ≤ 8 = let h = c.requires.wide (omega (arith, width_is)) in omega (arith, h, width_is) in
     narrow_values rows c.eights.result t 8 a c.requires.whole few (omega arith)
     (subst (λ (w : ℕ). AreLanes c.eights.result (part (padded rows t 0 w) 8 a) 0) width_is c.eights.ensures)
+
+pub twos-requires-clause-cells : goal.twos-requires-clause-cells
+twos-requires-clause-cells c =
+    let few = c.requires.wide (narrow c.args.width c.requires.width c.if-width-eq16.false) in
+    narrow_cells c.args.rows.now c.args.t c.args.width c.places_of.result c.requires.width c.if-width-eq16.false c.requires.some few c.requires.whole c.requires.room c.places_of.ensures
+
+pub fours-requires-clause-cells : goal.fours-requires-clause-cells
+fours-requires-clause-cells c =
+    let few = c.requires.wide (narrow c.args.width c.requires.width c.if-width-eq16.false) in
+    narrow_cells c.args.rows.now c.args.t c.args.width c.places_of.result c.requires.width c.if-width-eq16.false c.requires.some few c.requires.whole c.requires.room c.places_of.ensures
+
+pub eights-requires-clause-cells : goal.eights-requires-clause-cells
+eights-requires-clause-cells c =
+    let few = c.requires.wide (narrow c.args.width c.requires.width c.if-width-eq16.false) in
+    narrow_cells c.args.rows.now c.args.t c.args.width c.places_of.result c.requires.width c.if-width-eq16.false c.requires.some few c.requires.whole c.requires.room c.places_of.ensures
+
+pub places_of-requires-clause-few : goal.places_of-requires-clause-few
+places_of-requires-clause-few c = c.requires.wide (narrow c.args.width c.requires.width c.if-width-eq16.false)

@@ -1,6 +1,7 @@
 use Rattle.std.proofs.Common.{◌≡◌, ◌∙◌, ℕ, suc, ◌+◌, ◌-◌, ◌*◌, ◌≤◌, List, ◌++◌, length, take, refl, sym, ap, arith, suc-mul, zero-mul}
+use Rattle.std.proofs.lemmas.List.{take_all}
 use Rattle.wire_frames.specs.Turns.{in_turn}
-use Rattle.wire_frames.proofs.Turns.{in_turn-more, piece_between, piece_fits, turn_keeps, turn_written}
+use Rattle.wire_frames.proofs.Turns.{in_turn-more, length-piece, piece_between, piece_fits, turn_keeps, turn_written}
 use Rattle.shard_front.specs.Spread.{rows_in}
 use Rattle.shard_front.specs.Parts.{slice_at, slice_for}
 use Rattle.shard_front.proofs.parts.write_slices.Goals as goal
@@ -38,3 +39,34 @@ loop-v-preserved c =
           ∙ sym (in_turn-more v (v + 1) slices refl);
       size = turn_keeps out row (v * given) ((v + 1) * given - v * given) (omega (arith, start, end, step, fits, so_far.size)) (omega (arith, long, start, end, step)) ∙ so_far.size;
     }
+
+pub write_slice-requires-clause-room : goal.write_slice-requires-clause-room
+write_slice-requires-clause-room c =
+    let size = rows_in c.args.spread c.args.place in
+    let fits = piece_fits c.loop-v.v c.args.count size (omega (arith, c.loop-v-test.true, c.from-v-end.ensures)) in
+    ap length (piece_between c.loop-v.v c.rows_in-size.result size c.loop-v.out c.rows_in-size.ensures.is) ∙ length-piece size c.loop-v.v c.loop-v.out (omega (arith, fits, c.loop-v.invariant.size))
+
+pub write_slice-requires-clause-vector : goal.write_slice-requires-clause-vector
+write_slice-requires-clause-vector c =
+    let fits = piece_fits c.loop-v.v c.args.count c.args.spread.rows (omega (arith, c.loop-v-test.true, c.from-v-end.ensures)) in
+    ap length (piece_between c.loop-v.v c.args.spread.rows c.args.spread.rows c.args.vectors.now refl) ∙ length-piece c.args.spread.rows c.loop-v.v c.args.vectors.now (omega (arith, fits, c.requires.vectors))
+
+pub overflow_mul-vector-in-loop-v : goal.overflow_mul-vector-in-loop-v
+overflow_mul-vector-in-loop-v c =
+    let fits = piece_fits c.loop-v.v c.args.count c.args.spread.rows (omega (arith, c.loop-v-test.true, c.from-v-end.ensures)) in
+    omega (arith, fits, c.requires.vectors)
+
+pub overflow_mul-slice-in-loop-v : goal.overflow_mul-slice-in-loop-v
+overflow_mul-slice-in-loop-v c =
+    let size = rows_in c.args.spread c.args.place in
+    let fits = piece_fits c.loop-v.v c.args.count size (omega (arith, c.loop-v-test.true, c.from-v-end.ensures)) in
+    let end = ap (λ (w : ℕ). (c.loop-v.v + 1) * w) c.rows_in-size.ensures.is in
+    omega (arith, end, fits, c.loop-v.invariant.size)
+
+pub returns : goal.returns
+returns c =
+    let size = rows_in c.args.spread c.args.place in
+    let all : c.loop-v.v ≡ c.args.count = omega (arith, c.loop-v-test.false, c.loop-v.auto.v-end, c.from-v-end.ensures) in
+    let whole : length c.loop-v.out ≡ c.loop-v.v * size = c.loop-v.invariant.size ∙ ap (λ (n : ℕ). n * size) (sym all) in
+    sym (take_all (c.loop-v.v * size) c.loop-v.out (omega (arith, whole))) ∙ c.loop-v.invariant.written
+    ∙ ap (λ (n : ℕ). in_turn n (slice_at c.args.spread c.args.place c.args.vectors.now)) all

@@ -1,5 +1,5 @@
 use Rattle.std.proofs.Common.{◌∙◌, sym, subst, ap₂, arith}
-use Rattle.wire_frames.specs.declared.TheConstants.{MOST_BLOCKS}
+use Rattle.quantity_limits.specs.declared.TheConstants.{MOST_BLOCKS}
 use Rattle.wire_frames.specs.declared.field.Number.{Number}
 use Rattle.wire_frames.specs.Field.{IsField}
 use Rattle.wire_frames.proofs.Counts.{byte_most, count_is_field}

@@ -1,15 +1,16 @@
-use Rattle.std.proofs.Common.{◌≡◌, ◌∙◌, ℕ, ◌+◌, ◌<◌, ◌≤◌, ◌^◌, Fits, w8, w32, ap, subst, sym, arith, lit≤, lit<}
+use Rattle.std.proofs.Common.{◌≡◌, ◌∙◌, ℕ, ◌+◌, ◌<◌, ◌≤◌, ◌^◌, Fits, w8, w32, w64, max, ap, subst, sym, arith, lit≤, lit<}
 use Rattle.wire_frames.specs.Layout.{IsHeader}
-use Rattle.wire_frames.specs.Field.{IsField, width_field}
+use Rattle.wire_frames.specs.Field.{IsField, most_servers, width_field}
 use Rattle.wire_frames.specs.Version.{count_of}
 use Rattle.wire_frames.specs.Scheme.{scheme_of}
 use Rattle.wire_frames.specs.declared.field.Number.{Number}
-use Rattle.wire_frames.specs.declared.TheConstants.{MOST_BLOCKS, MOST_DEGREE, MOST_SERVERS}
+use Rattle.wire_frames.specs.declared.scheme.Scheme.{Scheme}
+use Rattle.quantity_limits.specs.declared.TheConstants.{MOST_BLOCKS, MOST_DEGREE, MOST_SERVERS}
 use Rattle.wire_frames.specs.declared.places.TheConstants.{SESSION_AGREEMENT_PLACE, SESSION_SERVERS_PLACE, SESSION_COUNT_PLACE, SESSION_WIDTH_PLACE}
 use Rattle.wire_frames.proofs.Chains.{leads-start, leads-stop, leads-done, no_more}
 use Rattle.wire_frames.proofs.Counts.{byte_most}
 use Rattle.wire_frames.proofs.Prefixes.{reads-exit}
-use Rattle.wire_frames.proofs.Servers.{few_agree, servers_are}
+use Rattle.wire_frames.proofs.Servers.{few_agree, few_servers, servers_are}
 use Rattle.wire_frames.proofs.SessionLayout.{params_of, header_into, header_back, to_version, to_scheme, to_t, to_h, to_n, to_count, to_zero, to_session, some_version, some_scheme, some_t, some_h, some_n, some_count, some_zero, some_shape}
 use Rattle.wire_frames.proofs.ShapeFields.{some_r, some_s, to_r, to_s, to_end}
 use Rattle.wire_frames.proofs.Spellings.{is_field, number_as, stop_as}
@@ -21,6 +22,19 @@ fits_byte few small = omega (arith, few, small)
 
 fits_word : {n m : ℕ} → n ≤ m → m < 2 ^ 32 → Fits w32 n
 fits_word few small = omega (arith, few, small)
+
+fits_next : {n m : ℕ} → n ≤ m → m + 1 < 2 ^ 64 → Fits w64 (n + 1)
+fits_next few small = omega (arith, few, small)
+
+fits_servers : (scheme : Scheme) (least n : ℕ) → least ≤ MOST_SERVERS → n ≤ most_servers scheme least → Fits w8 n
+fits_servers scheme least n few most = omega (arith, few_servers scheme least few, most)
+
+-- a query asks for a block or more, and not for too many
+some_blocks : (count byte : ℕ) → count ≡ max byte 1 → 0 < count
+some_blocks count byte is = omega (arith, is)
+
+few_blocks : {count byte most : ℕ} → count ≡ max byte 1 → byte ≤ most → most ≤ MOST_BLOCKS → count ≤ MOST_BLOCKS
+few_blocks is few most = omega (arith, is, few, most)
 
 -- where so few may learn nothing together, one more may have to agree
 one_more : (t : ℕ) → t ≤ MOST_DEGREE → t + 1 ≤ MOST_SERVERS
@@ -56,6 +70,42 @@ number_at-requires-6 c =
     let agree = number_as SESSION_AGREEMENT_PLACE c.args.bytes.now c.servers_field.ensures c.in_ok-h.ensures in
     let few = few_agree (scheme_of c.in_ok-scheme.scheme) c.in_ok-t.t c.in_ok-h.h c.in_ok-t.ensures.most agree.most in
     subst (λ (f : Number). IsField f) (sym c.servers_field-2.ensures) (servers_are (scheme_of c.in_ok-scheme.scheme) c.in_ok-h.h few)
+
+pub number_at-requires-7 : goal.number_at-requires-7
+number_at-requires-7 c = c.count_field.ensures.field
+
+pub number_at-requires-11 : goal.number_at-requires-11
+number_at-requires-11 c = c.width_field.ensures.field
+
+pub width_field-requires-clause-asked : goal.width_field-requires-clause-asked
+width_field-requires-clause-asked c = some_blocks _ _ c.max-count.ensures
+
+pub width_field-requires-clause-blocks : goal.width_field-requires-clause-blocks
+width_field-requires-clause-blocks c = few_blocks c.max-count.ensures c.in_ok-byte.ensures.most c.count_field.ensures.few
+
+pub width_field-requires-clause-some : goal.width_field-requires-clause-some
+width_field-requires-clause-some c = c.in_ok-r.ensures.least
+
+pub width_field-requires-clause-rows : goal.width_field-requires-clause-rows
+width_field-requires-clause-rows c = c.in_ok-r.ensures.most
+
+pub overflow_add-t : goal.overflow_add-t
+overflow_add-t c = fits_next c.in_ok-t.ensures.most (lit< tt)
+
+pub overflow_cast-result-4 : goal.overflow_cast-result-4
+overflow_cast-result-4 c =
+    let agree = number_as SESSION_AGREEMENT_PLACE c.args.bytes.now c.servers_field.ensures c.in_ok-h.ensures in
+    fits_byte (few_agree (scheme_of c.in_ok-scheme.scheme) c.in_ok-t.t c.in_ok-h.h c.in_ok-t.ensures.most agree.most) (lit< tt)
+
+pub overflow_cast-result-5 : goal.overflow_cast-result-5
+overflow_cast-result-5 c =
+    let agree = number_as SESSION_AGREEMENT_PLACE c.args.bytes.now c.servers_field.ensures c.in_ok-h.ensures in
+    let few = few_agree (scheme_of c.in_ok-scheme.scheme) c.in_ok-t.t c.in_ok-h.h c.in_ok-t.ensures.most agree.most in
+    let servers = number_as SESSION_SERVERS_PLACE c.args.bytes.now c.servers_field-2.ensures c.in_ok-n.ensures in
+    fits_servers (scheme_of c.in_ok-scheme.scheme) c.in_ok-h.h c.in_ok-n.n few servers.most
+
+pub overflow_cast-result-6 : goal.overflow_cast-result-6
+overflow_cast-result-6 c = fits_byte (few_blocks c.max-count.ensures c.in_ok-byte.ensures.most c.count_field.ensures.few) (lit< tt)
 
 pub overflow_cast-scheme : goal.overflow_cast-scheme
 overflow_cast-scheme c = fits_byte c.in_ok-scheme.ensures.most (lit< tt)

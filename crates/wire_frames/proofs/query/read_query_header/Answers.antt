@@ -1,4 +1,4 @@
-use Rattle.std.proofs.Common.{◌≡◌, ◌∙◌, ℕ, ap, subst, sym, refl, arith}
+use Rattle.std.proofs.Common.{◌≡◌, ◌∙◌, ℕ, ◌<◌, ◌≤◌, ◌^◌, Fits, w8, w32, max, ap, subst, sym, refl, arith, lit≤, lit<}
 use Rattle.wire_frames.specs.Field.{width_field}
 use Rattle.wire_frames.specs.Version.{count_of}
 use Rattle.wire_frames.specs.declared.field.Number.{Number}
@@ -8,9 +8,72 @@ use Rattle.wire_frames.proofs.Chains.{leads-done, no_more}
 use Rattle.wire_frames.proofs.QueryLayout.{query_of, some_version, some_scheme, some_index, some_count, to_magic, to_version, to_scheme, to_index, to_count, to_session, stops_in, stops_in_count, query_exit}
 use Rattle.wire_frames.proofs.Counts.{byte_most}
 use Rattle.wire_frames.proofs.ShapeFields.{some_s, to_r, to_s, to_end}
-use Rattle.wire_frames.specs.declared.TheConstants.{MOST_BLOCKS}
+use Rattle.quantity_limits.specs.declared.TheConstants.{MOST_BLOCKS}
 use Rattle.wire_frames.specs.declared.query.Field.TheVariants.{Magic, Version, Scheme, Index, Rows, Width}
+use Rattle.wire_frames.proofs.Spellings.{is_field}
 use Rattle.wire_frames.proofs.query.read_query_header.Goals as goal
+
+-- a number that is at most a byte's, or at most a word's
+fits_byte : {n m : ℕ} → n ≤ m → m < 2 ^ 8 → Fits w8 n
+fits_byte few small = omega (arith, few, small)
+
+fits_word : {n m : ℕ} → n ≤ m → m < 2 ^ 32 → Fits w32 n
+fits_word few small = omega (arith, few, small)
+
+-- a query asks for a block or more, and not for too many
+some_blocks : (count byte : ℕ) → count ≡ max byte 1 → 0 < count
+some_blocks count byte is = omega (arith, is)
+
+few_blocks : {count byte : ℕ} → count ≡ max byte 1 → byte ≤ MOST_BLOCKS → count ≤ MOST_BLOCKS
+few_blocks is few = omega (arith, is, few)
+
+pub read_field-requires : goal.read_field-requires
+read_field-requires c = is_field _ _ _ (lit≤ tt) (lit≤ tt) (lit< tt)
+
+pub read_field-requires-2 : goal.read_field-requires-2
+read_field-requires-2 c = is_field _ _ _ (lit≤ tt) (lit≤ tt) (lit< tt)
+
+pub read_field-requires-3 : goal.read_field-requires-3
+read_field-requires-3 c = is_field _ _ _ (lit≤ tt) (lit≤ tt) (lit< tt)
+
+pub read_field-requires-4 : goal.read_field-requires-4
+read_field-requires-4 c = is_field _ _ _ (lit≤ tt) (lit≤ tt) (lit< tt)
+
+pub read_field-requires-5 : goal.read_field-requires-5
+read_field-requires-5 c = is_field _ _ _ (lit≤ tt) (lit≤ tt) (lit< tt)
+
+pub read_field-requires-6 : goal.read_field-requires-6
+read_field-requires-6 c = c.width_field.ensures.field
+
+pub width_field-requires-clause-asked : goal.width_field-requires-clause-asked
+width_field-requires-clause-asked c = some_blocks _ _ c.max-count.ensures
+
+pub width_field-requires-clause-blocks : goal.width_field-requires-clause-blocks
+width_field-requires-clause-blocks c = few_blocks c.max-count.ensures c.in_ok-byte.ensures.few
+
+pub width_field-requires-clause-some : goal.width_field-requires-clause-some
+width_field-requires-clause-some c = c.in_ok-r.ensures.least
+
+pub width_field-requires-clause-rows : goal.width_field-requires-clause-rows
+width_field-requires-clause-rows c = c.in_ok-r.ensures.most
+
+pub overflow_cast-version : goal.overflow_cast-version
+overflow_cast-version c = fits_byte c.in_ok-version.ensures.most (lit< tt)
+
+pub overflow_cast-result : goal.overflow_cast-result
+overflow_cast-result c = fits_byte c.in_ok-version.ensures.most (lit< tt)
+
+pub overflow_cast-result-2 : goal.overflow_cast-result-2
+overflow_cast-result-2 c = fits_byte c.in_ok-scheme.ensures.most (lit< tt)
+
+pub overflow_cast-result-3 : goal.overflow_cast-result-3
+overflow_cast-result-3 c = fits_byte c.in_ok-index.ensures.most (lit< tt)
+
+pub overflow_cast-result-4 : goal.overflow_cast-result-4
+overflow_cast-result-4 c = fits_byte (few_blocks c.max-count.ensures c.in_ok-byte.ensures.few) (lit< tt)
+
+pub overflow_cast-result-5 : goal.overflow_cast-result-5
+overflow_cast-result-5 c = fits_word c.in_ok-r.ensures.most (lit< tt)
 
 pub returns-in_err-read_field : goal.returns-in_err-read_field
 returns-in_err-read_field c =

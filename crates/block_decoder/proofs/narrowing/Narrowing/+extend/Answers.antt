@@ -1,4 +1,4 @@
-use Rattle.std.proofs.Common.{◌≡◌, ◌+◌, ◌<◌, ℕ, List, [], length, map, take, Vec, Global, refl, sym, subst, ◌∙◌, arith}
+use Rattle.std.proofs.Common.{◌≡◌, ◌≢◌, ◌+◌, ◌<◌, ◌≤◌, ℕ, List, [], length, map, take, Vec, Global, refl, sym, subst, ◌∙◌, arith}
 use Rattle.std.proofs.lemmas.List.{length-map, take_all}
 use Rattle.std.proofs.lemmas.Result.{on_ok_weaker}
 use Rattle.column_lists.specs.Agreement.{ListsAgreeing}
@@ -10,6 +10,60 @@ use Rattle.block_decoder.proofs.Costs.{part-listed, part-nodes}
 use Rattle.block_decoder.proofs.Turns.{HaveDecoded, TurnsGained, decoded-fits, decoded-candidate, parted, counted-nothing, counted-end, extended-end, counted-none, gained-none, counted-below, counted-more, gained-more, same-more, extended-below, kept-part, kept-different, kept-wide, kept-beyond, next-some, next-fewer, next-candidate}
 use Rattle.block_decoder.proofs.narrowing.Narrowing.+extend.Goals as goal
 
+-- ---- what is said by facts that stand there, so that nothing is searched for
+
+-- where the columns aren't all decoded, one is left
+below-width : (a b : ℕ) → a ≤ b → a ≢ b → a < b
+below-width a b l n = omega (arith, l, n)
+
+next-fits : (a b : ℕ) → a < b → a + 1 ≤ b
+next-fits a b l = omega (arith, l)
+
+less-fits : (a b : ℕ) → a < b → a ≤ b
+less-fits a b l = omega (arith, l)
+
+after-less : (h t k : ℕ) → h ≤ k → t < h → t < k
+after-less h t k l m = omega (arith, l, m)
+
+pub returns-in_err-next-clause-size : goal.returns-in_err-next-clause-size
+returns-in_err-next-clause-size g t c = c.in_err-next.ensures.size
+
+pub returns-in_err-next-clause-ascending : goal.returns-in_err-next-clause-ascending
+returns-in_err-next-clause-ascending g t c = c.requires.ascending
+
+pub returns-then-next-self-clause-size : goal.returns-then-next-self-clause-size
+returns-then-next-self-clause-size g t c = c.in_ok-next.ensures.size
+
+pub returns-then-next-self-clause-ascending : goal.returns-then-next-self-clause-ascending
+returns-then-next-self-clause-ascending g t c = c.add.ensures.ascending
+
+pub returns-in_err-list-clause-size : goal.returns-in_err-list-clause-size
+returns-in_err-list-clause-size g t c = c.in_ok-next.ensures.size
+
+pub returns-in_err-list-clause-ascending : goal.returns-in_err-list-clause-ascending
+returns-in_err-list-clause-ascending g t c = c.requires.ascending
+
+pub returns-in_err-fewer-clause-size : goal.returns-in_err-fewer-clause-size
+returns-in_err-fewer-clause-size g t c = c.in_err-fewer.ensures.size ∙ c.loop-polynomial.invariant.size ∙ c.in_ok-next.ensures.size
+
+pub returns-in_err-fewer-clause-ascending : goal.returns-in_err-fewer-clause-ascending
+returns-in_err-fewer-clause-ascending g t c = c.loop-polynomial.invariant.ascending
+
+pub returns-in_err-extend-clause-size : goal.returns-in_err-extend-clause-size
+returns-in_err-extend-clause-size g t c = c.in_err-extend.ensures.size ∙ c.in_ok-fewer.ensures.size ∙ c.loop-polynomial.invariant.size ∙ c.in_ok-next.ensures.size
+
+pub returns-in_err-extend-clause-ascending : goal.returns-in_err-extend-clause-ascending
+returns-in_err-extend-clause-ascending g t c = c.in_err-extend.ensures.ascending
+
+pub returns-clause-size : goal.returns-clause-size
+returns-clause-size g t c = c.loop-polynomial.invariant.size ∙ c.in_ok-next.ensures.size
+
+pub returns-clause-ascending : goal.returns-clause-ascending
+returns-clause-ascending g t c = c.loop-polynomial.invariant.ascending
+
+pub overflow_add-next-in-loop-polynomial : goal.overflow_add-next-in-loop-polynomial
+overflow_add-next-in-loop-polynomial g t c = let short = c.loop-polynomial.invariant.parted.short in omega (arith, short)
+
 pub decode-requires : goal.decode-requires
 decode-requires g t c =
     let s = c.args.self.now in
@@ -18,8 +72,8 @@ decode-requires g t c =
     let enough = c.requires.candidate.enough in
     let redundant = s.listed.redundant in
     record {
-      column = omega (arith, width, column);
-      enough = omega (arith, enough, redundant);
+      column = subst (λ (n : ℕ). c.args.column ≤ n) (sym width) column;
+      enough = after-less s.agreement s.degree (length c.args.kept.now) enough redundant;
       widths = kept-wide s.answers s.degree s.agreement c.args.kept.now c.args.column c.args.block.now c.requires.candidate s.width (length c.args.block.now) s.columns.filled (omega (arith, width));
       distinct = kept-different s.answers s.degree s.agreement c.args.kept.now c.args.column c.args.block.now c.requires.candidate s.columns.different;
     }
@@ -66,6 +120,24 @@ returns-then-next-self-clause-extended g t c =
     extended-end s.answers s.width s.degree s.agreement kept c.args.column n c.args.block.now c.decode.new.block c.args.cols.now c.decode.new.cols decoded c.if-next-self.true c.args.report.now c.add.new.self gains)
     c.add.ensures.ok
 
+pub overflow_add-next : goal.overflow_add-next
+overflow_add-next g t c =
+    let s = c.args.self.now in
+    let kept = c.args.kept.now in
+    let n = c.in_ok-next.field-0 in
+    let decoded : HaveDecoded s.answers s.width s.degree s.agreement kept c.args.column n c.args.block.now c.decode.new.block c.args.cols.now c.decode.new.cols =
+    record {
+      columns = s.columns;
+      more_than = s.listed.redundant;
+      fits = c.requires.column;
+      size = c.in_ok-next.ensures.size ∙ c.requires.width;
+      same = c.in_ok-next.ensures.kept;
+      run = c.in_ok-next.ensures.run;
+      cols = c.in_ok-next.ensures.cols;
+    } in
+    let fits = decoded-fits s.answers s.width s.degree s.agreement kept c.args.column n c.args.block.now c.decode.new.block c.args.cols.now c.decode.new.cols decoded in
+    omega (arith, fits)
+
 pub list-requires : goal.list-requires
 list-requires g t c =
     let s = c.args.self.now in
@@ -82,7 +154,7 @@ list-requires g t c =
       cols = c.in_ok-next.ensures.cols;
     } in
     let fits = decoded-fits s.answers s.width s.degree s.agreement kept c.args.column n c.args.block.now c.decode.new.block c.args.cols.now c.decode.new.cols decoded in
-    let short : c.args.column + n < s.width = omega (arith, fits, c.if-next-self.false) in
+    let short : c.args.column + n < s.width = below-width (c.args.column + n) s.width fits c.if-next-self.false in
     record {
       column = kept-beyond s.answers s.degree s.agreement c.args.kept.now c.args.column c.args.block.now c.requires.candidate s.width (c.args.column + n) s.columns.filled short;
       enough = c.requires.candidate.enough;
@@ -105,7 +177,7 @@ returns-in_err-list-clause-counted g t c =
       cols = c.in_ok-next.ensures.cols;
     } in
     let fits = decoded-fits s.answers s.width s.degree s.agreement kept c.args.column n c.args.block.now c.decode.new.block c.args.cols.now c.decode.new.cols decoded in
-    let short : c.args.column + n < s.width = omega (arith, fits, c.if-next-self.false) in
+    let short : c.args.column + n < s.width = below-width (c.args.column + n) s.width fits c.if-next-self.false in
     counted-below s.answers s.width s.degree s.agreement kept c.args.column n c.args.block.now c.decode.new.block c.args.cols.now c.decode.new.cols decoded short [] c.list.new.cols c.list.new.cols c.args.nodes.now c.list.new.nodes c.list.new.nodes
     c.in_err-list.ensures.cols c.in_err-list.ensures.rises.0 (part-nodes s.answers kept s.degree s.agreement (kept-part s.answers s.degree s.agreement c.args.kept.now c.args.column c.args.block.now c.requires.candidate) s.listed c.args.nodes.now c.list.new.nodes c.in_err-list.ensures.nodes) c.in_err-list.ensures.rises.1
     (counted-none s.answers s.width s.degree s.agreement kept (c.args.column + n) c.decode.new.block c.list.new.cols c.list.new.nodes)
@@ -126,7 +198,7 @@ loop-polynomial-init g t c =
       cols = c.in_ok-next.ensures.cols;
     } in
     let fits = decoded-fits s.answers s.width s.degree s.agreement kept c.args.column n c.args.block.now c.decode.new.block c.args.cols.now c.decode.new.cols decoded in
-    let short : c.args.column + n < s.width = omega (arith, fits, c.if-next-self.false) in
+    let short : c.args.column + n < s.width = below-width (c.args.column + n) s.width fits c.if-next-self.false in
     let vectors = c.deref-polynomial-items.result.now in
     let list = map (λ (v : Vec ℕ Global). v.items) vectors in
     let next = c.args.column + n in
@@ -150,14 +222,14 @@ follow-requires g t c =
     let p = c.deref.result.now in
     let item = item_is vectors i c.polynomial-item.result c.loop-polynomial-test.true c.polynomial-item.is ∙ sym c.deref.ensures.value in
     let count = length-map vectors (λ (v : Vec ℕ Global). v.items) in
-    let inside : i < length list = omega (arith, count, c.loop-polynomial-test.true) in
+    let inside : i < length list = subst (λ (m : ℕ). i < m) (sym count) c.loop-polynomial-test.true in
     let short = c.loop-polynomial.invariant.parted.short in
     let size = c.loop-polynomial.invariant.size in
     let before = c.in_ok-next.ensures.size in
     let width = c.requires.width in
     record {
       some = next-some s.width s.degree s.agreement kept (c.args.column + n) list i p c.loop-polynomial.invariant.parted inside item;
-      room = omega (arith, short, size, before, width);
+      room = subst (λ (m : ℕ). c.args.column + n < m) (sym (size ∙ before ∙ width)) short;
       widths = kept-beyond s.answers s.degree s.agreement c.args.kept.now c.args.column c.args.block.now c.requires.candidate s.width (c.args.column + n) s.columns.filled short;
     }
 
@@ -203,7 +275,7 @@ extend-requires g t c κs within =
     let p = c.deref.result.now in
     let item = item_is vectors i c.polynomial-item.result c.loop-polynomial-test.true c.polynomial-item.is ∙ sym c.deref.ensures.value in
     let count = length-map vectors (λ (v : Vec ℕ Global). v.items) in
-    let inside : i < length list = omega (arith, count, c.loop-polynomial-test.true) in
+    let inside : i < length list = subst (λ (m : ℕ). i < m) (sym count) c.loop-polynomial-test.true in
     let less = next-fewer s.answers s.width s.degree s.agreement s.columns kept (c.args.column + n) list c.loop-polynomial.invariant.parted i p inside item c.in_ok-fewer.fewer c.in_ok-fewer.ensures.answers in
     let short = c.loop-polynomial.invariant.parted.short in
     let stored = c.in_ok-fewer.ensures.size in
@@ -218,9 +290,9 @@ extend-requires g t c κs within =
           (
             within.1.1,
             (
-              omega (arith, stored, size, before, width),
+              stored ∙ size ∙ before ∙ width,
               (
-                omega (arith, short),
+                next-fits (c.args.column + n) s.width short,
                 (
                   next-candidate s.answers s.width s.degree s.agreement s.columns kept (c.args.column + n) list c.loop-polynomial.invariant.parted i p inside item c.in_ok-fewer.fewer c.in_ok-fewer.ensures.answers c.decode.new.block c.loop-polynomial.block c.follow.new.block c.loop-polynomial.invariant.kept c.in_ok-fewer.ensures.block (decoded-candidate s.answers s.width s.degree s.agreement kept c.args.column n c.args.block.now c.decode.new.block c.args.cols.now c.decode.new.cols decoded c.requires.candidate),
                   c.loop-polynomial.invariant.ascending,
@@ -253,7 +325,7 @@ returns-in_err-extend-clause-counted g t c =
     let p = c.deref.result.now in
     let item = item_is vectors i c.polynomial-item.result c.loop-polynomial-test.true c.polynomial-item.is ∙ sym c.deref.ensures.value in
     let count = length-map vectors (λ (v : Vec ℕ Global). v.items) in
-    let inside : i < length list = omega (arith, count, c.loop-polynomial-test.true) in
+    let inside : i < length list = subst (λ (m : ℕ). i < m) (sym count) c.loop-polynomial-test.true in
     counted-below s.answers s.width s.degree s.agreement kept c.args.column n c.args.block.now c.decode.new.block c.args.cols.now c.decode.new.cols decoded c.loop-polynomial.invariant.parted.short (take (i + 1) list) c.list.new.cols c.extend.new.cols c.args.nodes.now c.list.new.nodes c.extend.new.nodes
     c.in_ok-list.ensures.cols c.in_ok-list.ensures.rises.0 (part-nodes s.answers kept s.degree s.agreement (kept-part s.answers s.degree s.agreement c.args.kept.now c.args.column c.args.block.now c.requires.candidate) s.listed c.args.nodes.now c.list.new.nodes c.in_ok-list.ensures.nodes) c.in_ok-list.ensures.rises.1
     (counted-more s.answers s.width s.degree s.agreement s.columns kept (c.args.column + n) list c.loop-polynomial.invariant.parted i p inside item c.in_ok-fewer.fewer c.in_ok-fewer.ensures.answers c.decode.new.block c.loop-polynomial.block c.follow.new.block c.loop-polynomial.invariant.kept c.in_ok-fewer.ensures.block c.list.new.cols c.loop-polynomial.cols c.extend.new.cols c.list.new.nodes c.loop-polynomial.nodes c.extend.new.nodes c.loop-polynomial.invariant.counted c.in_err-extend.ensures.counted)
@@ -269,7 +341,7 @@ loop-polynomial-preserved g t c =
     let p = c.deref.result.now in
     let item = item_is vectors i c.polynomial-item.result c.loop-polynomial-test.true c.polynomial-item.is ∙ sym c.deref.ensures.value in
     let count = length-map vectors (λ (v : Vec ℕ Global). v.items) in
-    let inside : i < length list = omega (arith, count, c.loop-polynomial-test.true) in
+    let inside : i < length list = subst (λ (m : ℕ). i < m) (sym count) c.loop-polynomial-test.true in
     let short = c.loop-polynomial.invariant.parted.short in
     let size = c.loop-polynomial.invariant.size in
     let before = c.in_ok-next.ensures.size in
@@ -277,8 +349,8 @@ loop-polynomial-preserved g t c =
     let extended = c.in_ok-extend.ensures.size in
     let stored = c.in_ok-fewer.ensures.size in
     record {
-      size = omega (arith, extended, stored, size);
-      kept = same-more s.answers s.width s.degree s.agreement s.columns kept (c.args.column + n) list c.loop-polynomial.invariant.parted i p inside item c.in_ok-fewer.fewer c.in_ok-fewer.ensures.answers c.decode.new.block c.loop-polynomial.block c.follow.new.block c.loop-polynomial.invariant.kept c.in_ok-fewer.ensures.block c.extend.new.block (omega (arith, short, size, before, width)) c.in_ok-extend.ensures.extended.block;
+      size = extended ∙ stored ∙ size;
+      kept = same-more s.answers s.width s.degree s.agreement s.columns kept (c.args.column + n) list c.loop-polynomial.invariant.parted i p inside item c.in_ok-fewer.fewer c.in_ok-fewer.ensures.answers c.decode.new.block c.loop-polynomial.block c.follow.new.block c.loop-polynomial.invariant.kept c.in_ok-fewer.ensures.block c.extend.new.block (less-fits (c.args.column + n) (length c.loop-polynomial.block) (subst (λ (m : ℕ). c.args.column + n < m) (sym (size ∙ before ∙ width)) short)) c.in_ok-extend.ensures.extended.block;
       ascending = c.in_ok-extend.ensures.ascending;
       parted = c.loop-polynomial.invariant.parted;
       counted = counted-more s.answers s.width s.degree s.agreement s.columns kept (c.args.column + n) list c.loop-polynomial.invariant.parted i p inside item c.in_ok-fewer.fewer c.in_ok-fewer.ensures.answers c.decode.new.block c.loop-polynomial.block c.follow.new.block c.loop-polynomial.invariant.kept c.in_ok-fewer.ensures.block c.list.new.cols c.loop-polynomial.cols c.extend.new.cols c.list.new.nodes c.loop-polynomial.nodes c.extend.new.nodes c.loop-polynomial.invariant.counted c.in_ok-extend.ensures.counted;
@@ -329,3 +401,6 @@ returns-clause-extended g t c =
     extended-below s.answers s.width s.degree s.agreement kept c.args.column n c.args.block.now c.decode.new.block c.args.cols.now c.decode.new.cols decoded list c.loop-polynomial.invariant.parted c.loop-polynomial.block c.args.report.now c.loop-polynomial.report c.list.new.cols c.loop-polynomial.cols
     c.in_ok-list.ensures.some c.loop-polynomial.invariant.counted.cols c.loop-polynomial.invariant.kept
     (subst (λ (nexts : List (List ℕ)). TurnsGained nexts s.answers s.width s.degree s.agreement kept (c.args.column + n) c.decode.new.block c.args.report.now c.loop-polynomial.report c.list.new.cols c.loop-polynomial.cols) whole c.loop-polynomial.invariant.gained)
+
+pub add-requires : goal.add-requires
+add-requires g t c = c.requires.ascending

@@ -1,7 +1,7 @@
 use Rattle.std.proofs.Common.{◌≡◌, ◌∙◌, ◌-◌, ◌*◌, ◌<◌, ◌++◌, replicate, length, sym, ap, subst, arith}
 use Rattle.std.specs.List.{All}
 use Rattle.std.specs.Int.{div_ceil}
-use Rattle.wire_frames.specs.Limits.{IsShape}
+use Rattle.quantity_limits.specs.Shape.{IsShape}
 use Rattle.block_matrix.specs.Database.{filled_up, rows_of, database}
 use Rattle.block_matrix.proofs.Counts.{shape_of_file, length-filled_up}
 use Rattle.block_matrix.proofs.matrix.Matrix.from_bytes.Goals as goal

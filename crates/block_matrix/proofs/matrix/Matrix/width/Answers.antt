@@ -1,5 +1,5 @@
 use Rattle.std.proofs.Common.{◌*◌, ◌≤◌, ◌∙◌, ℕ, length, sym, ap, subst}
-use Rattle.wire_frames.specs.declared.TheConstants.{MOST_CELLS}
+use Rattle.quantity_limits.specs.declared.TheConstants.{MOST_CELLS}
 use Rattle.block_matrix.specs.Database.{Database}
 use Rattle.block_matrix.proofs.Rows.{length-rows_of}
 use Rattle.block_matrix.proofs.matrix.Matrix.width.Goals as goal

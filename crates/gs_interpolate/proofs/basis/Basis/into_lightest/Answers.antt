@@ -1,10 +1,11 @@
-use Rattle.std.proofs.Common.{◌≡◌, ℕ, ◌+◌, ◌-◌, ◌*◌, ◌<◌, List, [], ◌∷◌, ◌++◌, length, map, get_or, sym, ap, subst, ◌∙◌, arith, inl, inr, Vec, Global, length-append}
+use Rattle.std.proofs.Common.{◌≡◌, ℕ, ◌+◌, ◌-◌, ◌*◌, ◌<◌, List, [], ◌∷◌, ◌++◌, length, map, get_or, sym, ap, subst, ◌∙◌, arith, inl, inr, Vec, Global, length-append, ◌≤◌, mul-le-mul}
 use Rattle.std.proofs.lemmas.Bool.{cases_lt}
 use Rattle.std.proofs.lemmas.List.{length-map, map-append, get_or-map, get_or_append_left, get_or_default}
 use Rattle.std.proofs.Math.Seq.{get_or-append_seam}
 use Rattle.bi_poly.specs.Rows.{row}
 use Rattle.gs_interpolate.specs.Basis.{IsLightest}
 use Rattle.gs_interpolate.proofs.Lightest.{is_lightest}
+use Rattle.gs_interpolate.specs.declared.basis.TheConstants.{MOST_PLACES}
 use Rattle.gs_interpolate.proofs.basis.Basis.into_lightest.Goals as goal
 
 pub loop-j-preserved : goal.loop-j-preserved
@@ -65,3 +66,39 @@ returns c =
     (length-map c.loop-j.rows.items f ∙ c.loop-j.invariant.size ∙ all)
     (λ j l. c.loop-j.invariant.each j (omega (arith, l, all)))
     (λ j i l h. c.loop-j.invariant.cells j i (omega (arith, l, all)) h))
+
+pub overflow_cast-t : goal.overflow_cast-t
+overflow_cast-t c = omega arith
+
+pub lightest-place-requires-clause-weight : goal.lightest-place-requires-clause-weight
+lightest-place-requires-clause-weight c = omega arith
+
+pub lightest-place-requires-clause-places : goal.lightest-place-requires-clause-places
+lightest-place-requires-clause-places c = omega arith
+
+pub lightest-place-requires-clause-some : goal.lightest-place-requires-clause-some
+lightest-place-requires-clause-some c = omega arith
+
+pub weight-most-requires-clause-weight : goal.weight-most-requires-clause-weight
+weight-most-requires-clause-weight c = omega arith
+
+pub weight-most-requires-clause-place : goal.weight-most-requires-clause-place
+weight-most-requires-clause-place c = omega arith
+
+pub index-requires-in-loop-j : goal.index-requires-in-loop-j
+index-requires-in-loop-j c = omega arith
+
+pub overflow_add-most : goal.overflow_add-most
+overflow_add-most c =
+    let place : c.lightest-place.result ≤ MOST_PLACES = omega (arith, c.lightest-place.ensures.inside) in
+    omega (arith, mul-le-mul c.requires.weight place, c.weight-most.ensures)
+
+pub overflow_mul-t : goal.overflow_mul-t
+overflow_mul-t c =
+    let place : c.loop-j.j ≤ MOST_PLACES = omega arith in
+    omega (arith, mul-le-mul c.requires.weight place)
+
+pub lightest-place-requires-clause-size : goal.lightest-place-requires-clause-size
+lightest-place-requires-clause-size c =
+    let f : Vec ℕ Global → List ℕ = λ r. r.items in
+    omega (arith, length-map c.args.self.rows.items f, c.requires.basis.size)

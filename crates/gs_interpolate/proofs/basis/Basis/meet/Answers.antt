@@ -1,5 +1,5 @@
 use Rattle.std.proofs.Common.{◌≡◌, ◌≢◌, ◌<◌, ◌+◌, ◌*◌, List, ℕ, length, map, get_or, set, take, refl, sym, ap, ap₂, subst, ◌∙◌, arith, inl, inr, Vec, Global, length-set, get_or-set_same, get_or-set_other}
-use Rattle.std.proofs.lemmas.List.{get_or-take}
+use Rattle.std.proofs.lemmas.List.{get_or-take, length-map, length-take-le}
 use Rattle.gf256.specs.Field.{◌⊕◌, ◌⊗◌, inverse}
 use Rattle.gf256.proofs.Xor.{add_assoc, add_self, add_zero}
 use Rattle.gs_interpolate.specs.Family.{multiplier, IsFamilyStep}
@@ -101,3 +101,91 @@ returns-clause-window c = λ b window.
     (subst (λ k. IsWindowStep k m c.step.new.self.cells.items cells shifting p (multiplier shifting p) v) c.requires.window.0 c.step.ensures.step) in
     window-follows c.args.t n rows es (map f c.step-2.new.self.rows.items) factors p a _ c.requires.basis inside refl rows-step
     m b v cells c.step.new.self.cells.items shifting window change (λ g o. sym (get_or-set_other shifting p g c.add.result 0 o))
+
+pub values-values-requires-clause-order : goal.values-values-requires-clause-order
+values-values-requires-clause-order c = omega arith
+
+pub values-values-requires-clause-size : goal.values-values-requires-clause-size
+values-values-requires-clause-size c = omega arith
+
+pub pivot-requires-clause-weight : goal.pivot-requires-clause-weight
+pivot-requires-clause-weight c = omega arith
+
+pub set_factors-requires-clause-same : goal.set_factors-requires-clause-same
+set_factors-requires-clause-same c = omega arith
+
+pub step-requires-clause-size : goal.step-requires-clause-size
+step-requires-clause-size c = omega arith
+
+pub step-requires-2-clause-weight : goal.step-requires-2-clause-weight
+step-requires-2-clause-weight c = omega arith
+
+pub step-requires-2-clause-places : goal.step-requires-2-clause-places
+step-requires-2-clause-places c = omega arith
+
+pub step-requires-2-clause-lanes : goal.step-requires-2-clause-lanes
+step-requires-2-clause-lanes c = omega arith
+
+pub step-requires-2-clause-room : goal.step-requires-2-clause-room
+step-requires-2-clause-room c = omega arith
+
+pub pivot-requires-clause-places : goal.pivot-requires-clause-places
+pivot-requires-clause-places c =
+    let f : Vec ℕ Global → List ℕ = λ r. r.items in
+    omega (arith, c.requires.basis.size, length-map c.args.self.now.rows.items f, c.requires.places)
+
+pub pivot-requires-clause-size : goal.pivot-requires-clause-size
+pivot-requires-clause-size c =
+    let long = length-take-le c.len.result c.values-values.result.now (omega (arith, c.len.ensures, c.requires.basis.size, c.requires.basis.wide, c.values-values.ensures.length, c.requires.window.0)) in
+    omega (arith, long, c.len.ensures)
+
+pub set_factors-requires-clause-inside : goal.set_factors-requires-clause-inside
+set_factors-requires-clause-inside c =
+    let long = length-take-le c.len.result c.values-values.result.now (omega (arith, c.len.ensures, c.requires.basis.size, c.requires.basis.wide, c.values-values.ensures.length, c.requires.window.0)) in
+    omega (arith, long, c.in-Some.ensures.inside, c.len.ensures, c.requires.basis.size, c.requires.basis.wide, c.values-values.ensures.length, c.requires.window.0)
+
+pub set_factors-requires-clause-fails : goal.set_factors-requires-clause-fails
+set_factors-requires-clause-fails c =
+    let long = length-take-le c.len.result c.values-values.result.now (omega (arith, c.len.ensures, c.requires.basis.size, c.requires.basis.wide, c.values-values.ensures.length, c.requires.window.0)) in
+    subst (λ x. x ≢ 0) (get_or-take c.len.result c.values-values.result.now c.in-Some.p 0 (omega (arith, long, c.in-Some.ensures.inside))) c.in-Some.ensures.fails
+
+pub bounds-factors-p : goal.bounds-factors-p
+bounds-factors-p c =
+    let long = length-take-le c.len.result c.values-values.result.now (omega (arith, c.len.ensures, c.requires.basis.size, c.requires.basis.wide, c.values-values.ensures.length, c.requires.window.0)) in
+    omega (arith, long, c.in-Some.ensures.inside, c.len.ensures, c.requires.basis.size, c.requires.basis.wide, c.set_factors.auto.factors, c.requires.factors)
+
+pub step-requires-clause-lanes : goal.step-requires-clause-lanes
+step-requires-clause-lanes c = omega (arith, length-set c.set_factors.new.factors c.in-Some.p 1, c.set_factors.auto.factors, c.requires.factors, c.requires.window.0)
+
+pub step-requires-clause-inside : goal.step-requires-clause-inside
+step-requires-clause-inside c =
+    let long = length-take-le c.len.result c.values-values.result.now (omega (arith, c.len.ensures, c.requires.basis.size, c.requires.basis.wide, c.values-values.ensures.length, c.requires.window.0)) in
+    omega (arith, long, c.in-Some.ensures.inside, c.len.ensures, c.requires.basis.size, c.requires.basis.wide, c.requires.window.0)
+
+pub bounds-factors-p-2 : goal.bounds-factors-p-2
+bounds-factors-p-2 c =
+    let long = length-take-le c.len.result c.values-values.result.now (omega (arith, c.len.ensures, c.requires.basis.size, c.requires.basis.wide, c.values-values.ensures.length, c.requires.window.0)) in
+    let written = length-set c.set_factors.new.factors c.in-Some.p 1 in
+    omega (arith, long, written, c.in-Some.ensures.inside, c.len.ensures, c.requires.basis.size, c.requires.basis.wide, c.set_factors.auto.factors, c.requires.factors)
+
+pub step-requires-2-clause-wide : goal.step-requires-2-clause-wide
+step-requires-2-clause-wide c =
+    let f : Vec ℕ Global → List ℕ = λ r. r.items in
+    omega (arith, c.requires.basis.wide, length-map c.args.self.now.rows.items f)
+
+pub step-requires-2-clause-size : goal.step-requires-2-clause-size
+step-requires-2-clause-size c =
+    let f : Vec ℕ Global → List ℕ = λ r. r.items in
+    omega (arith, c.requires.basis.size, length-map c.args.self.now.rows.items f)
+
+pub step-requires-2-clause-factors : goal.step-requires-2-clause-factors
+step-requires-2-clause-factors c =
+    let once = length-set c.set_factors.new.factors c.in-Some.p 1 in
+    let twice = length-set (set c.set_factors.new.factors c.in-Some.p 1) c.in-Some.p c.add.result in
+    omega (arith, once, twice, c.set_factors.auto.factors, c.requires.factors)
+
+pub step-requires-2-clause-inside : goal.step-requires-2-clause-inside
+step-requires-2-clause-inside c =
+    let f : Vec ℕ Global → List ℕ = λ r. r.items in
+    let long = length-take-le c.len.result c.values-values.result.now (omega (arith, c.len.ensures, c.requires.basis.size, c.requires.basis.wide, c.values-values.ensures.length, c.requires.window.0)) in
+    omega (arith, long, c.in-Some.ensures.inside, c.len.ensures, c.requires.basis.size, length-map c.args.self.now.rows.items f)

@@ -26,3 +26,12 @@ returns-clause-basis c = λ t.
           subst (λ e. IsLed t (member lanes rows j) e j) (sym (ap (λ es. get_or es j 0) zeros ∙ get_or-replicate n j 0 0 (omega (arith, l, all))))
           (led-power t lanes rows wide (λ k h. c.loop-j.invariant.each k (omega (arith, h, all))) j l);
     }
+
+pub overflow_add-lanes : goal.overflow_add-lanes
+overflow_add-lanes c = omega arith
+
+pub overflow_mul-lanes : goal.overflow_mul-lanes
+overflow_mul-lanes c = omega arith
+
+pub power_row-requires : goal.power_row-requires
+power_row-requires c = omega arith

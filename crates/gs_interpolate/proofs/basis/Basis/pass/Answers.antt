@@ -1,7 +1,10 @@
-use Rattle.std.proofs.Common.{ℕ, List, length, map, ap, subst, ◌∙◌, arith, take_at, Vec, Global}
+use Rattle.std.proofs.Common.{ℕ, List, length, map, ap, subst, ◌∙◌, arith, take_at, Vec, Global, ◌≡◌, ◌*◌, ◌%◌, ◌≤◌, ◌<◌, sym, mul-le-mul}
 use Rattle.gs_interpolate.specs.Window.{IsWindow}
 use Rattle.gs_interpolate.specs.Basis.{values, IsMeeting}
 use Rattle.gs_interpolate.proofs.Passing.{under-room, under-met, under-row, under-all}
+use Rattle.std.proofs.lemmas.List.{length-map}
+use Rattle.bi_poly.specs.Rows.{row}
+use Rattle.gs_interpolate.specs.declared.basis.TheConstants.{MOST_LANES}
 use Rattle.gs_interpolate.proofs.basis.Basis.pass.Goals as goal
 
 pub meet-requires-clause-room : goal.meet-requires-clause-room
@@ -66,3 +69,50 @@ returns-clause-passed c =
     let f : Vec ℕ Global → List ℕ = λ r. r.items in
     under-all c.args.t c.args.self.now.lanes (map f c.args.self.now.rows.items) c.args.self.now.exponents.items
     (map f c.rows.self.rows.items) c.rows.self.exponents.items c.args.a c.args.b c.args.m c.rows.v c.rows.invariant.under (omega arith)
+
+pub overflow_sub-u-end : goal.overflow_sub-u-end
+overflow_sub-u-end c = omega arith
+
+pub overflow_cast-u : goal.overflow_cast-u
+overflow_cast-u c = omega arith
+
+pub overflow_cast-v : goal.overflow_cast-v
+overflow_cast-v c = omega arith
+
+pub of-requires-clause-some : goal.of-requires-clause-some
+of-requires-clause-some c = omega arith
+
+pub of-requires-clause-terms : goal.of-requires-clause-terms
+of-requires-clause-terms c = omega arith
+
+pub meet-requires-clause-weight : goal.meet-requires-clause-weight
+meet-requires-clause-weight c = omega arith
+
+pub meet-requires-clause-lanes : goal.meet-requires-clause-lanes
+meet-requires-clause-lanes c = omega arith
+
+pub meet-requires-clause-factors : goal.meet-requires-clause-factors
+meet-requires-clause-factors c = omega arith
+
+pub of-requires-clause-wide : goal.of-requires-clause-wide
+of-requires-clause-wide c =
+    let f : Vec ℕ Global → List ℕ = λ r. r.items in
+    omega (arith, ap length c.deref.ensures.value, length-map c.args.self.now.rows.items f, c.requires.basis.wide)
+
+pub of-requires-clause-few : goal.of-requires-clause-few
+of-requires-clause-few c =
+    let m : c.args.m ≤ 255 = omega arith in
+    let row : c.args.m * c.args.self.now.lanes ≤ 255 * MOST_LANES = mul-le-mul m c.requires.lanes in
+    omega (arith, mul-le-mul m row)
+
+pub of-requires-clause-whole : goal.of-requires-clause-whole
+of-requires-clause-whole c =
+    let f : Vec ℕ Global → List ℕ = λ r. r.items in
+    let count = length-map c.args.self.now.rows.items f in
+    subst (λ (rows : List (Vec ℕ Global)). (j : ℕ) → j < length rows → length (row (map f rows) j) % c.args.self.now.lanes ≡ 0) (sym c.deref.ensures.value)
+    (λ j l. c.requires.basis.whole j (omega (arith, l, count)))
+
+pub meet-requires-clause-places : goal.meet-requires-clause-places
+meet-requires-clause-places c =
+    let f : Vec ℕ Global → List ℕ = λ r. r.items in
+    omega (arith, c.orders.invariant.under.size, length-map c.orders.self.rows.items f, length-map c.args.self.now.rows.items f, c.requires.places)

@@ -28,3 +28,9 @@ returns c =
           subst (λ q. IsCut q ns v) (sym c.from_rows.ensures)
           (subst (λ w. IsCut rows ns w) c.deref-3.ensures.value (subst (λ xs. IsCut rows xs c.deref-3.result.now) c.deref-4.ensures.value c.in_ok-rows.ensures));
     }
+
+pub row_lengths-requires-clause-weight : goal.row_lengths-requires-clause-weight
+row_lengths-requires-clause-weight c = omega arith
+
+pub row_lengths-requires-clause-degree : goal.row_lengths-requires-clause-degree
+row_lengths-requires-clause-degree c = omega arith

@@ -7,6 +7,7 @@ use Rattle.uni_poly.proofs.Taylor.{taylor_lt}
 use Rattle.bi_poly.specs.Rows.{row}
 use Rattle.gs_interpolate.specs.Family.{lane}
 use Rattle.gs_interpolate.proofs.Windows.{AreExpanded, row_values, expanded-none, expanded-next, expanded-at, values-none, values-next, is_window}
+use Rattle.std.proofs.Math.Nat.{mul-le-mul_right}
 use Rattle.gs_interpolate.proofs.window.Window.of.Goals as goal
 
 pub loop-j-init : goal.loop-j-init
@@ -78,3 +79,41 @@ returns-clause-window c =
     let none : c.loop-j.j ≡ 0 = omega arith in
     is_window c.args.lanes c.args.m c.args.a c.args.b c.loop-j.cells.items (map f c.args.rows.now) (omega (arith, c.requires.wide, length-map c.args.rows.now f)) c.loop-j.invariant.size
     (subst (λ i. AreExpanded (c.args.m * c.args.lanes) c.args.m c.args.b c.loop-j.cells.items (λ k. row_values c.args.lanes c.args.a k (drop i (map f c.args.rows.now)))) none c.loop-j.invariant.sums)
+
+pub overflow_mul-m : goal.overflow_mul-m
+overflow_mul-m c = omega arith
+
+pub overflow_mul-m-2 : goal.overflow_mul-m-2
+overflow_mul-m-2 c = omega arith
+
+pub overflow_step-j : goal.overflow_step-j
+overflow_step-j c = omega arith
+
+pub offset_bounds-rows-j : goal.offset_bounds-rows-j
+offset_bounds-rows-j c = omega arith
+
+pub bounds-rows-j : goal.bounds-rows-j
+bounds-rows-j c = omega arith
+
+pub expand-requires-clause-some : goal.expand-requires-clause-some
+expand-requires-clause-some c = omega arith
+
+pub expand-requires-clause-terms : goal.expand-requires-clause-terms
+expand-requires-clause-terms c = omega arith
+
+pub expand-requires-clause-size : goal.expand-requires-clause-size
+expand-requires-clause-size c = omega arith
+
+pub expand-requires-clause-room : goal.expand-requires-clause-room
+expand-requires-clause-room c = omega arith
+
+pub horner-requires-clause-same : goal.horner-requires-clause-same
+horner-requires-clause-same c = omega arith
+
+pub loop-j-smaller : goal.loop-j-smaller
+loop-j-smaller c = omega arith
+
+pub overflow_mul-size : goal.overflow_mul-size
+overflow_mul-size c =
+    let some = mul-le-mul_right (c.args.m * c.args.lanes) c.requires.terms in
+    omega (arith, some)

@@ -1,9 +1,12 @@
-use Rattle.std.proofs.Common.{◌≡◌, ◌-◌, ◌++◌, List, ℕ, length, map, drop, ◌∙◌, ap}
+use Rattle.std.proofs.Common.{◌≡◌, ◌-◌, ◌≤◌, ◌++◌, List, ℕ, length, map, drop, ◌∙◌, ap, subst, sym}
 use Rattle.std.specs.Option.{option_map}
 use Rattle.std.proofs.lemmas.List.{drop-append-le}
-use Rattle.wire_frames.specs.Records.{extended}
+use Rattle.wire_frames.specs.Records.{Kept, extended}
 use Rattle.wire_frames.proofs.Spans.{at_span, at_spans-append}
 use Rattle.wire_frames.proofs.records.Records.extend.Goals as goal
+
+pub overflow_sub-self : goal.overflow_sub-self
+overflow_sub-self c = subst (λ (k : Kept). length c.args.piece.now ≤ k.byte_room) (sym c.self.view_is) c.requires
 
 pub returns : goal.returns
 returns c =

@@ -1,0 +1,183 @@
+-- A demonstration from its first child to the verdict.
+use Rattle.std.proofs.Common.{◌≡◌, ◌∙◌, ◌⊎◌, inl, inr, ℕ, ◌+◌, ◌<◌, ◌≤◌, List, [], ◌∷◌, length, map, false, refl, lit<, sym, ap, subst, arith}
+use Rattle.std.specs.Prelude.{Some, None}
+use Rattle.std.specs.List.{range_with_len}
+use Rattle.std.proofs.lemmas.List.{length-map}
+use Rattle.std.proofs.lemmas.List.FromFn.{length-map-range_with_len}
+use Rattle.std.proofs.lemmas.Simd.{map-map}
+use Rattle.port_rules.specs.declared.port.TheConstants.{PORT_COUNT}
+use Rattle.port_rules.specs.World.{Cell, World}
+use Rattle.port_rules.specs.Number.{OUTPUT, COINS, link, child}
+use Rattle.port_rules.specs.Moves.{Rose, gave, named}
+use Rattle.port_rules.proofs.Ranges.{each_within}
+use Rattle.wire_frames.specs.Session.{Transcript}
+use Rattle.query_rounds.specs.Plan.{need}
+use Rattle.port_rules.specs.Tossed.{Tossed}
+use Rattle.commands.specs.Said.{whole_text}
+use Rattle.commands.specs.Told.{NoneRose, NoChildRose}
+use Rattle.commands.specs.FetchOrder.{FetchOrder}
+use Rattle.commands.specs.FetchOutcome.{InSession, FetchReported, FetchEnds, TouchesFetch}
+use Rattle.commands.specs.DemoOrder.{DemoOrder, plan_of, address_from, addresses_from, words_to_serve, words_of_children, fetch_from_children}
+use Rattle.commands.specs.DemoOutcome.{StartsAll, StartsSome, Demonstrated, DemoOutcome, DemoPromise, DemoReported, files}
+use Rattle.commands.specs.declared.status.Status.{Status}
+use Rattle.commands.specs.declared.status.Status.TheVariants.{One, Usage, NoBlock, Several, Absent, TooFew, TooWeak, TooCostly, ReadFault, WriteFault, BadInput, DoorFault, ChildFault, Memory}
+use Rattle.commands.specs.declared.status.Bad.TheVariants.{CoinsEnded}
+use Rattle.commands.proofs.Headline.{fetch_promised}
+use Rattle.commands.proofs.Fetching.{recorded_before}
+
+-- the addresses are as many as the children
+pub length-addresses : (port n : ℕ) → length (addresses_from port n) ≡ n
+unfolding addresses_from
+length-addresses port n = length-map-range_with_len (address_from port) 1 n
+
+-- the words that are made of the addresses are those of all children
+pub words_are : {X Y : Type 0} (f : X → List ℕ) (g : Y → List (List ℕ)) (database : List ℕ) (width port n : ℕ) (made given : List X) (lists taken : List Y) → map f made ≡ addresses_from port n → given ≡ made
+    → map g lists ≡ map (words_to_serve database width) (map f given) → taken ≡ lists → map g taken ≡ map (λ i. words_to_serve database width (address_from port i)) (range_with_len 1 n)
+unfolding addresses_from
+words_are f g database width port n made given lists taken at same words as_made =
+    ap (map g) as_made ∙ words ∙ ap (λ xs. map (words_to_serve database width) (map f xs)) same ∙ ap (map (words_to_serve database width)) at
+    ∙ map-map (words_to_serve database width) (address_from port) (range_with_len 1 n)
+
+-- so they are as many as the children
+pub size_of_words : {Y : Type 0} (g : Y → List (List ℕ)) (h : ℕ → List (List ℕ)) (lists : List Y) (n : ℕ) → map g lists ≡ map h (range_with_len 1 n) → length lists ≡ n
+size_of_words g h lists n words = sym (length-map lists g) ∙ ap length words ∙ length-map-range_with_len h 1 n
+
+-- and so are the addresses
+pub size_of_addresses : {X : Type 0} (f : X → List ℕ) (made given : List X) (port n : ℕ) → map f made ≡ addresses_from port n → given ≡ made → length given ≡ n
+size_of_addresses f made given port n at same = ap length same ∙ sym (length-map made f) ∙ ap length at ∙ length-addresses port n
+
+-- what a demonstration ends with is what its fetch ends with
+pub demonstrated_as : (o : DemoOrder) (status : Status) (old new : World) → Demonstrated o status old new → DemoOutcome o status old new
+demonstrated_as o One old new d = d
+demonstrated_as o Usage old new d = d
+demonstrated_as o NoBlock old new d = d
+demonstrated_as o Several old new d = d
+demonstrated_as o Absent old new d = d
+demonstrated_as o (TooFew k h) old new d = d
+demonstrated_as o (TooWeak k t h) old new d = d
+demonstrated_as o (TooCostly equations) old new d = d
+demonstrated_as o ReadFault old new d = d
+demonstrated_as o WriteFault old new d = d
+demonstrated_as o (BadInput bad) old new d = d
+demonstrated_as o DoorFault old new d = d
+demonstrated_as o ChildFault old new d = absurd d.fetched.ends
+demonstrated_as o Memory old new d = inr d
+
+-- the children were started with these words, and then a block was fetched from these addresses
+pub demonstrates : (o : DemoOrder) (addresses : List (List ℕ)) (lists : List (List (List ℕ))) (status : Status) (w v u : World) → addresses ≡ addresses_from o.port o.servers → lists ≡ words_of_children o
+    → StartsAll lists w v → FetchEnds (record { plan = plan_of o; blocks = o.block ∷ []; addresses = addresses; coins = o.coins; keep = None; report = false }) status v u → TouchesFetch o.servers v u → DemoOutcome o status w u
+demonstrates o addresses lists status w v u at words starts ends others = demonstrated_as o status w u record {
+  between = v;
+  starts = subst (λ l. StartsAll l w v) words starts;
+  fetched = record {
+    ends = subst (λ a. FetchEnds (record { plan = plan_of o; blocks = o.block ∷ []; addresses = a; coins = o.coins; keep = None; report = false }) status v u) at ends;
+    others = others;
+  };
+}
+
+-- no port is touched before the fetch
+module _ (o : FetchOrder) (w v z : World) (same : (q : ℕ) → q < PORT_COUNT → v.at q ≡ w.at q) (fits : (link 1) + o.plan.n ≤ PORT_COUNT) where
+  in_session_before : (coins : List ℕ) (session : Transcript) → InSession o coins session v z → InSession o coins session w z
+  in_session_before coins session s = record {
+    tossed = subst (λ (c : Cell). Tossed (need o.plan (length o.blocks)) coins (named o.coins c) (z.at COINS)) (same 3 (lit< tt)) s.tossed;
+    asked = record {
+      params = s.asked.params;
+      whole = s.asked.whole;
+      links = each_within _ (link 1) o.plan.n w v z z (λ i l. same ((link 1) + i) (omega arith)) (λ i l. refl) s.asked.links;
+    };
+  }
+
+  reported_before : (status : Status) → FetchReported o status v z → FetchReported o status w z
+  reported_before status r = record {
+    session = r.session;
+    verdict = r.verdict;
+    report = r.report;
+    settled = record {
+      coins = r.settled.coins;
+      fetched = in_session_before r.settled.coins r.session r.settled.fetched;
+      judged = r.settled.judged;
+      found = r.settled.found;
+      held = r.settled.held;
+    };
+    beside = r.beside;
+    liars = r.liars;
+    status_is = r.status_is;
+    recorded = recorded_before o.keep r.session w v z (same 4 (lit< tt)) r.recorded;
+    written = r.written ∙ ap (gave (whole_text r.session r.verdict r.report)) (same 1 (lit< tt));
+  }
+
+-- no call failed
+module _ (o : DemoOrder) (old new : World) (few : o.servers < 256) (none : NoneRose files old new) (ready : NoChildRose o.servers old new) where
+  -- so all children were started
+  started : StartsSome (words_of_children o) old new → ⊥
+  started s =
+      let fewer : s.before < o.servers = omega (arith, s.fewer, length-map-range_with_len (λ i. words_to_serve o.database o.width (address_from o.port i)) 1 o.servers) in
+      ready s.before fewer (subst (λ (c : Cell). Rose c.faults (new.at ((child 1) + s.before)).faults) (s.starts.ports ((child 1) + s.before) (omega (arith, fewer, few))) s.fails.rose)
+
+  none_after : (v : World) → ((q : ℕ) → q < PORT_COUNT → v.at q ≡ old.at q) → NoneRose files v new
+  none_after v same = (
+    λ rose. none.0 (subst (λ (c : Cell). Rose c.faults (new.at OUTPUT).faults) (same 1 (lit< tt)) rose),
+    (λ rose. none.1.0 (subst (λ (c : Cell). Rose c.faults (new.at COINS).faults) (same 3 (lit< tt)) rose), tt),
+  )
+
+  told_after : (v : World) (held : List ℕ) → ((q : ℕ) → q < PORT_COUNT → v.at q ≡ old.at q) → (old.at COINS).holds ≡ Some held → (v.at COINS).holds ≡ Some held
+  told_after v held same told = ap (λ (c : Cell). c.holds) (same 3 (lit< tt)) ∙ told
+
+  module _ (held : List ℕ) (told : (old.at COINS).holds ≡ Some held) where
+    reports : (status : Status) → need (plan_of o) 1 ≤ length held → Demonstrated o status old new → DemoReported o status old new ⊎ (status ≡ Memory)
+    reports status enough d =
+        let same = d.starts.ports in
+        elim ((fetch_promised (fetch_from_children o) status d.between new d.fetched.ends).reported held (told_after d.between held same told) enough (none_after d.between same)) [
+          | inl r ↦
+              inl record {
+                started = d.fetched.others.started ∙ d.starts.started;
+                reported = reported_before (fetch_from_children o) old d.between new same (omega (arith, few)) status r;
+              }
+          | inr m ↦ inr m
+        ]
+
+    lacks : (status : Status) → length held < need (plan_of o) 1 → Demonstrated o status old new → (status ≡ BadInput (CoinsEnded (length held))) ⊎ (status ≡ Memory)
+    lacks status short d =
+        let same = d.starts.ports in
+        (fetch_promised (fetch_from_children o) status d.between new d.fetched.ends).too_few_coins held (told_after d.between held same told) short (none_after d.between same)
+
+    -- where there are coins enough, the verdict is reported
+    demo_reported : (status : Status) → need (plan_of o) 1 ≤ length held → DemoOutcome o status old new → DemoReported o status old new ⊎ (status ≡ Memory)
+    demo_reported One enough d = reports One enough d
+    demo_reported Usage enough d = reports Usage enough d
+    demo_reported NoBlock enough d = reports NoBlock enough d
+    demo_reported Several enough d = reports Several enough d
+    demo_reported Absent enough d = reports Absent enough d
+    demo_reported (TooFew k h) enough d = reports (TooFew k h) enough d
+    demo_reported (TooWeak k t h) enough d = reports (TooWeak k t h) enough d
+    demo_reported (TooCostly equations) enough d = reports (TooCostly equations) enough d
+    demo_reported ReadFault enough d = reports ReadFault enough d
+    demo_reported WriteFault enough d = reports WriteFault enough d
+    demo_reported (BadInput bad) enough d = reports (BadInput bad) enough d
+    demo_reported DoorFault enough d = reports DoorFault enough d
+    demo_reported ChildFault enough d = absurd (started d)
+    demo_reported Memory enough d = inr refl
+
+    -- where there are fewer, that is said
+    demo_too_few : (status : Status) → length held < need (plan_of o) 1 → DemoOutcome o status old new → (status ≡ BadInput (CoinsEnded (length held))) ⊎ (status ≡ Memory)
+    demo_too_few One short d = lacks One short d
+    demo_too_few Usage short d = lacks Usage short d
+    demo_too_few NoBlock short d = lacks NoBlock short d
+    demo_too_few Several short d = lacks Several short d
+    demo_too_few Absent short d = lacks Absent short d
+    demo_too_few (TooFew k h) short d = lacks (TooFew k h) short d
+    demo_too_few (TooWeak k t h) short d = lacks (TooWeak k t h) short d
+    demo_too_few (TooCostly equations) short d = lacks (TooCostly equations) short d
+    demo_too_few ReadFault short d = lacks ReadFault short d
+    demo_too_few WriteFault short d = lacks WriteFault short d
+    demo_too_few (BadInput bad) short d = lacks (BadInput bad) short d
+    demo_too_few DoorFault short d = lacks DoorFault short d
+    demo_too_few ChildFault short d = absurd (started d)
+    demo_too_few Memory short d = inr refl
+
+-- what is promised of `demo`
+pub demo_promised : (o : DemoOrder) (status : Status) (old new : World) → o.servers < 256 → DemoOutcome o status old new → DemoPromise o status old new
+demo_promised o status old new few said = record {
+  reported = λ held told enough none ready. demo_reported o old new few none ready held told status enough said;
+  too_few_coins = λ held told short none ready. demo_too_few o old new few none ready held told status short said;
+}

@@ -1,0 +1,30 @@
+-- What a run says of a workload.
+use Rattle.std.proofs.Common.{◌≡◌, ◌⊎◌, inl, inr, [], ◌∷◌, refl}
+use Rattle.port_rules.specs.World.{World}
+use Rattle.port_rules.specs.Number.{OUTPUT}
+use Rattle.drawn_workload.specs.declared.order.Workload.{Workload}
+use Rattle.commands.specs.Told.{NoneRose}
+use Rattle.commands.specs.SelfrunOutcome.{SelfrunEnds, SelfrunPromise, SelfrunReported}
+use Rattle.commands.specs.declared.status.Status.{Status}
+use Rattle.commands.specs.declared.status.Status.TheVariants.{One, Usage, NoBlock, Several, Absent, TooFew, TooWeak, TooCostly, ReadFault, WriteFault, BadInput, DoorFault, ChildFault, Memory}
+
+-- where no call on Output failed, the verdict is reported
+selfrun_reported : (w : Workload) (status : Status) (old new : World) → NoneRose (OUTPUT ∷ []) old new → SelfrunEnds w status old new → SelfrunReported w status old new ⊎ (status ≡ Memory)
+selfrun_reported w One old new none said = inl said
+selfrun_reported w Usage old new none said = absurd said
+selfrun_reported w NoBlock old new none said = inl said
+selfrun_reported w Several old new none said = inl said
+selfrun_reported w Absent old new none said = absurd said
+selfrun_reported w (TooFew k h) old new none said = inl said
+selfrun_reported w (TooWeak k t h) old new none said = inl said
+selfrun_reported w (TooCostly equations) old new none said = inl said
+selfrun_reported w ReadFault old new none said = absurd said
+selfrun_reported w WriteFault old new none said = absurd (none.0 said.written.rose)
+selfrun_reported w (BadInput bad) old new none said = absurd said
+selfrun_reported w DoorFault old new none said = absurd said
+selfrun_reported w ChildFault old new none said = absurd said
+selfrun_reported w Memory old new none said = inr refl
+
+-- what is promised of `selfrun`
+pub selfrun_promised : (w : Workload) (status : Status) (old new : World) → SelfrunEnds w status old new → SelfrunPromise w status old new
+selfrun_promised w status old new said = record { reported = λ none. selfrun_reported w status old new none said }

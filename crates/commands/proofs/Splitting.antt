@@ -1,0 +1,113 @@
+-- A splitting from its first port to its last.
+use Rattle.std.proofs.Common.{◌≡◌, ◌∙◌, inl, inr, ℕ, ◌<◌, List, length, lit<, sym, ap, subst, arith}
+use Rattle.std.specs.Prelude.{Ok}
+use Rattle.port_rules.specs.World.{Cell, World}
+use Rattle.port_rules.specs.Number.{COINS, DATABASE, OUTPUT}
+use Rattle.port_rules.specs.Moves.{Rose, Touches, took, gave, named, counted}
+use Rattle.port_rules.specs.Files.{Unread}
+use Rattle.port_rules.specs.Tossed.{RunsOut}
+use Rattle.port_rules.proofs.Carried.{fails_writing_before}
+use Rattle.block_matrix.specs.Database.{Database}
+use Rattle.share_files.specs.Limit.{HoldsFew, LoadsFew}
+use Rattle.share_files.proofs.Carried.{part_before, whole_before}
+use Rattle.commands.specs.ServeSteps.{HasBegun}
+use Rattle.commands.specs.SplitOrder.{SplitOrder, plan_to_split}
+use Rattle.commands.specs.SplitSteps.{LoadedToShare, SharesNotAll, SharesOut, TouchesSharing, cells_of, coins_to_split, split_text}
+use Rattle.commands.specs.SplitOutcome.{SplitEnds, TouchesRead}
+use Rattle.commands.specs.declared.status.Status.{Status}
+use Rattle.commands.specs.declared.status.Status.TheVariants.{One, Usage, NoBlock, Several, Absent, TooFew, TooWeak, TooCostly, ReadFault, WriteFault, BadInput, DoorFault, ChildFault, Memory}
+use Rattle.commands.specs.declared.status.Bad.TheVariants.{Session, EmptyFile, TooBig, CoinsEnded}
+
+-- a file that can't be read, counted from before, where nothing had touched its port
+unread_before : (p : ℕ) (name : List ℕ) (most : ℕ) (w v u : World) → v.at p ≡ w.at p → Unread p name most v u → Unread p name most w u
+unread_before p name most w v u still cut = record {
+  n = cut.n;
+  fewer = cut.fewer;
+  cell = elim cut.cell [
+    | inl a ↦ inl (a ∙ ap (counted (u.at p).faults) still)
+    | inr b ↦ inr (b ∙ ap (λ (c : Cell). counted (u.at p).faults (took cut.n (named name c))) still)
+  ];
+  rose = subst (λ (c : Cell). Rose c.faults (u.at p).faults) still cut.rose;
+}
+
+-- the database was loaded, and then it was shared
+module _ (o : SplitOrder) (m : Database) (w v u : World) (few : o.servers < 256) (loaded : LoadedToShare o m w v) (touch : Touches DATABASE w v) (sharing : TouchesSharing o.servers v u) where
+  still_loaded : LoadedToShare o m w u
+  still_loaded = subst (λ (c : Cell). HoldsFew o.width o.tau m (named o.database (w.at DATABASE)) c)
+      (sym (sharing.others DATABASE (lit< tt) (λ e. omega (arith, e)) (λ e. omega (arith, e)) (λ lo hi. omega (arith, lo)))) loaded
+
+  output_still : v.at OUTPUT ≡ w.at OUTPUT
+  output_still = touch.others OUTPUT (lit< tt) (λ e. omega (arith, e))
+
+  coins_still : v.at COINS ≡ w.at COINS
+  coins_still = touch.others COINS (lit< tt) (λ e. omega (arith, e))
+
+  read_alone : Touches COINS v u → TouchesRead w u
+  read_alone b = record {
+    others = λ q l ne2 ne3. b.others q l ne3 ∙ touch.others q l ne2;
+    crowd = b.crowd ∙ touch.crowd;
+    started = b.started ∙ touch.started;
+  }
+
+  not_all : SharesNotAll o m v u → SharesNotAll o m w u
+  not_all cut = elim cut [
+    | inl part ↦ inl (part_before (plan_to_split o) (cells_of m) w v u few touch part.0, part.1 ∙ output_still)
+    | inr mute ↦ inr (whole_before (plan_to_split o) (cells_of m) w v u few touch mute.0, fails_writing_before OUTPUT w v u output_still (split_text o m) mute.1)
+  ]
+
+  begun : u ≡ v → HasBegun o.database o.width w u × Touches DATABASE w u
+  begun same =
+      let holds = still_loaded.holds in (
+        record { n = length holds.read; few = omega (arith, holds.file.few); cell = holds.cell },
+        subst (λ (x : World). Touches DATABASE w x) (sym same) touch,
+      )
+
+  -- it ends as the sharing did
+  pub split_ends : (status : Status) → SharesOut o m status v u → SplitEnds o status w u
+  split_ends One said = record {
+    database = m;
+    loaded = still_loaded;
+    shared = record {
+      shares = whole_before (plan_to_split o) (cells_of m) w v u few touch said.shares;
+      written = said.written ∙ ap (gave (split_text o m)) output_still;
+    };
+  }
+  split_ends Usage said = absurd said
+  split_ends NoBlock said = absurd said
+  split_ends Several said = absurd said
+  split_ends Absent said = absurd said
+  split_ends (TooFew k h) said = absurd said
+  split_ends (TooWeak k t h) said = absurd said
+  split_ends (TooCostly equations) said = absurd said
+  split_ends ReadFault said = inr (record {
+    database = m;
+    loaded = still_loaded;
+    unread = unread_before COINS o.coins (coins_to_split o m) w v u coins_still said.0;
+    others = read_alone said.1;
+  })
+  split_ends WriteFault said = record { database = m; loaded = still_loaded; cut = not_all said }
+  split_ends (BadInput (Session place)) said = absurd said
+  split_ends (BadInput EmptyFile) said = absurd said
+  split_ends (BadInput (TooBig most)) said = absurd said
+  split_ends (BadInput (CoinsEnded taken)) said = record {
+    database = m;
+    loaded = still_loaded;
+    short = subst (λ (c : Cell). RunsOut (coins_to_split o m) taken (named o.coins c) (u.at COINS)) coins_still said.0;
+    others = read_alone said.1;
+  }
+  split_ends DoorFault said = absurd said
+  split_ends ChildFault said = absurd said
+  split_ends Memory said = begun said
+
+-- Database was opened by its name, and then it was read
+module _ (o : SplitOrder) (w v u : World) (is_open : v.at DATABASE ≡ named o.database (w.at DATABASE)) (first : Touches DATABASE w v) (second : Touches DATABASE v u) where
+  pub both_touch : Touches DATABASE w u
+  both_touch = record {
+    others = λ q l ne. second.others q l ne ∙ first.others q l ne;
+    crowd = second.crowd ∙ first.crowd;
+    started = second.started ∙ first.started;
+  }
+
+  -- it was loaded
+  pub loaded_by : (m : Database) → LoadsFew o.width o.tau (Ok m) v u → LoadedToShare o m w u
+  loaded_by m loads = subst (λ (c : Cell). HoldsFew o.width o.tau m c (u.at DATABASE)) is_open loads

@@ -1,0 +1,158 @@
+//! The command `demo`.
+
+ghost use Rattle.std.specs.Prelude.{◌≡◌, ◌+◌, ◌<◌, length, map, string_bytes, IfOk, OnOk, OnErr};
+ghost use Rattle.query_rounds.specs.Plan.{IsPlan};
+ghost use Rattle.commands.specs.declared.orders.TheConstants.{TCP_PORTS};
+ghost use Rattle.commands.specs.DemoOrder.{address_from, addresses_from, plan_of, words_to_serve};
+ghost use Rattle.commands.specs.DemoOutcome.{DemoOutcome, StartsAll, StartsSome};
+
+use crate::fetch_command::fetch_block;
+use crate::orders::{Demonstration, Fetching};
+use crate::status::Status;
+use fetch_client::FetchPlan;
+use port_rules::{Failed, Ports};
+use std::alloc::{AllocError, Global};
+use wire_frames::SHAMIR;
+
+impl<'a> Demonstration<'a> {
+    /// The plan of the fetch, in Shamir's scheme, from servers that each hold the whole database.
+    fn plan(&self) -> FetchPlan
+        ensures plan { result ≡ plan_of self.now }
+        ensures ranges { IsPlan result }
+        ensures block { self.now.block < self.now.rows }
+    {
+        FetchPlan {
+            scheme: SHAMIR,
+            t: self.degree,
+            tau: 0,
+            h: self.agree,
+            n: self.servers,
+            r: self.rows,
+            s: self.width,
+        }
+    }
+}
+
+/// The address of child i, counted from 1.
+#[tactic(auto, unfolding(crate::specs::DemoOrder::address_from))]
+fn address_of_child(alloc: Global, port: u16, i: u8) -> Result<String, AllocError>
+    requires { port + i < TCP_PORTS }
+    ensures { IfOk result (λ address. string_bytes address ≡ address_from port i) }
+{
+    let own = port + u16::from(i);
+    format!(in alloc; "127.0.0.1:{own}")
+}
+
+/// The addresses of so many children, in their order.
+#[tactic(auto, unfolding(crate::specs::DemoOrder::addresses_from))]
+fn addresses_of_children(alloc: Global, port: u16, servers: u8) -> Result<Vec<String>, AllocError>
+    requires { port + servers < TCP_PORTS }
+    ensures { IfOk result (λ addresses. map string_bytes addresses.items ≡ addresses_from port servers) }
+{
+    let mut addresses = Vec::new(alloc);
+    'children: for i in 0..servers {
+        addresses.push(address_of_child(alloc, port, i + 1)?)?;
+    }
+    Ok(addresses)
+}
+
+/// These texts, each as a string of its own.
+fn strings_of(alloc: Global, texts: &[&str]) -> Result<Vec<String>, AllocError>
+    ensures { IfOk result (λ words. map string_bytes words.items ≡ map (λ text. text.now) texts.now) }
+{
+    let mut words = Vec::new(alloc);
+    'words: for text in texts {
+        words.push(String::from_str(alloc, text)?)?;
+    }
+    Ok(words)
+}
+
+/// The words of a child that serves the database, in rows of this width, to one guest at this address.
+#[tactic(auto, unfolding(crate::specs::DemoOrder::words_to_serve))]
+fn words_of_child(
+    alloc: Global,
+    database: &str,
+    width: u32,
+    address: &str,
+) -> Result<Vec<String>, AllocError>
+    ensures { IfOk result (λ words. map string_bytes words.items ≡ words_to_serve database.now width address.now) }
+{
+    let width = format!(in alloc; "{width}")?;
+    let texts = [
+        "serve",
+        "--database",
+        database,
+        "--width",
+        &width,
+        "--conns",
+        "1",
+        "--listen",
+        address,
+    ];
+    strings_of(alloc, &texts)
+}
+
+/// The words of the children at these addresses, in their order.
+fn words_of_children(
+    alloc: Global,
+    database: &str,
+    width: u32,
+    addresses: &[String],
+) -> Result<Vec<Vec<String>>, AllocError>
+    ensures { IfOk result (λ lists. map (λ words. map string_bytes words.items) lists.items
+        ≡ map (words_to_serve database.now width) (map string_bytes addresses.now)) }
+{
+    let mut lists = Vec::new(alloc);
+    'children: for address in addresses {
+        lists.push(words_of_child(alloc, database, width, address)?)?;
+    }
+    Ok(lists)
+}
+
+/// Starts a child with each list of words, in their order.
+///
+/// # Errors
+///
+/// `Failed` if a child could not be started. Those before it were, and no further one is.
+fn start_children<P: Ports>(ports: &mut P, lists: &[Vec<String>]) -> Result<(), Failed>
+    requires { length lists.now < 256 }
+    ensures ok { OnOk result
+        (StartsAll (map (λ words. map string_bytes words.items) lists.now) (P.world ports.old) (P.world ports.new)) }
+    ensures failed { OnErr result
+        (StartsSome (map (λ words. map string_bytes words.items) lists.now) (P.world ports.old) (P.world ports.new)) }
+{
+    let mut i = 0u8;
+    'children: for words in lists {
+        i += 1;
+        let Ok(()) = ports.start_child(i, words) else {
+            return Err(Failed);
+        };
+    }
+    Ok(())
+}
+
+/// Starts servers as children, each for one guest on loopback, and fetches a block from them, as `fetch` does, with no
+/// record. All texts are made before the first child is started.
+pub(crate) fn demonstrate<P: Ports>(alloc: Global, order: &Demonstration, ports: &mut P) -> Status
+    ensures { DemoOutcome order.now result (P.world ports.old) (P.world ports.new) }
+{
+    let Ok(addresses) = addresses_of_children(alloc, order.port, order.servers) else {
+        return Status::Memory;
+    };
+    let Ok(lists) = words_of_children(alloc, order.database, order.width, &addresses) else {
+        return Status::Memory;
+    };
+    let Ok(()) = start_children(ports, &lists) else {
+        return Status::ChildFault;
+    };
+    let blocks = [order.block];
+    let fetching = Fetching {
+        plan: order.plan(),
+        blocks: &blocks,
+        addresses: &addresses,
+        coins: order.coins,
+        record_name: None,
+        report: false,
+    };
+    fetch_block(alloc, &fetching, ports)
+}

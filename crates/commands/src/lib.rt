@@ -1,0 +1,23 @@
+//! What the program `pir` does for each of its commands, over ports that tell what goes in and out.
+//!
+//! Promised: what [`run`] says of each command, and the exit code and the line of each status. The laws of privacy, which
+//! join what clients send, stand above it in `pir_tool`, so that the program is built without their proofs.
+#![tactic(auto)]
+
+mod demo_command;
+mod faults;
+mod fetch_command;
+mod front_command;
+mod lookup_command;
+mod obey;
+mod orders;
+mod replay_command;
+mod report;
+mod selfrun_command;
+mod serve_command;
+mod split_command;
+mod status;
+mod top;
+
+pub use status::{Bad, Ending, Status, code, ending_of, line};
+pub use top::run;

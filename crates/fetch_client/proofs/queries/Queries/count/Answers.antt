@@ -1,6 +1,0 @@
-use Rattle.std.proofs.Common.{length, ap}
-use Rattle.fetch_client.specs.Queries.{Queries}
-use Rattle.fetch_client.proofs.queries.Queries.count.Goals as goal
-
-pub returns : goal.returns
-returns c = record { is = ap (λ (q : Queries). length q.blocks) c.self.view_is; some = c.self.invariant.blocks.some; few = c.self.invariant.blocks.few }

@@ -1,7 +1,0 @@
-use Rattle.pir_tool.proofs.fetch_command.fetch_block.Given as goal
-
-abbrev pub ghosts-fetch_once-C-Ledger : goal.ghosts-fetch_once-C-Ledger
-ghosts-fetch_once-C-Ledger g a = record { name = a.cols.name; parts = a.cols.parts }
-
-abbrev pub ghosts-fetch_once-N-Ledger : goal.ghosts-fetch_once-N-Ledger
-ghosts-fetch_once-N-Ledger g a = record { name = a.nodes.name; parts = a.nodes.parts }

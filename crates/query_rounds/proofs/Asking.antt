@@ -1,0 +1,110 @@
+-- Asking every server, and then taking the answer of each.
+use Rattle.std.proofs.Common.{◌≡◌, ◌∙◌, inl, inr, ℕ, ◌+◌, ◌≤◌, List, [], ◌++◌, length, take, slice_index_or, ap, ap₂, sym, subst, arith}
+use Rattle.std.specs.Prelude.{Bool, true, false, Option, Some, None, IfSome}
+use Rattle.port_rules.specs.World.{Cell, World}
+use Rattle.port_rules.specs.declared.port.TheConstants.{PORT_COUNT}
+use Rattle.port_rules.specs.Number.{COINS, link}
+use Rattle.port_rules.specs.Moves.{Rose, Touches, took, counted}
+use Rattle.port_rules.specs.Whole.{FailsShort}
+use Rattle.port_rules.specs.Each.{TouchesRange}
+use Rattle.port_rules.proofs.Ranges.{each_before, range_still}
+use Rattle.wire_frames.specs.Header.{query_header}
+use Rattle.wire_frames.specs.Session.{Transcript}
+use Rattle.wire_frames.specs.Sizes.{answer_len}
+use Rattle.query_rounds.specs.declared.plan.FetchPlan.{FetchPlan}
+use Rattle.query_rounds.specs.Plan.{need, params_of, query_params}
+use Rattle.query_rounds.specs.Sent.{sent, header_to, payload_for, queries_from, session_number}
+use Rattle.query_rounds.specs.Link.{LinkAsked, LinkBreaks, LinkSent, LinkTaken, FailsToHand}
+use Rattle.query_rounds.specs.Rounds.{SentEach, TakenEach}
+use Rattle.port_rules.specs.Tossed.{Tossed}
+use Rattle.query_rounds.specs.Gathered.{AskedEach, AsksWith}
+use Rattle.query_rounds.proofs.Schemes.{payload_of_session}
+
+-- a call failed before the whole answer came
+pub fails_to_hand : (p most : ℕ) (v u : World) → FailsShort p most v u → FailsToHand most (v.at p) (u.at p)
+fails_to_hand p most v u failed = record {
+  m = failed.after.n;
+  fewer = failed.fewer;
+  held = failed.after.held;
+  cell = failed.after.cell;
+  rose = failed.after.rose;
+}
+
+-- a link that was sent the frame, and whose answer was taken after that if it was reached, was asked
+pub asked_in_rounds : (address frame : List ℕ) (most : ℕ) (reached : Bool) (answer : Option (List ℕ)) (old mid new : Cell)
+    → LinkSent address frame reached old mid → LinkTaken most reached answer mid new
+    → LinkAsked address frame most answer old new
+asked_in_rounds address frame most true (Some bytes) old mid new sent taken = record {
+  cell = taken.cell ∙ ap (took (length bytes)) sent;
+  short = taken.short;
+  told = subst (λ (c : Cell). IfSome c.holds (λ held. bytes ≡ take most held)) sent taken.told;
+}
+asked_in_rounds address frame most true None old mid new sent taken = record {
+  how = inr (inr record {
+    m = taken.m;
+    fewer = taken.fewer;
+    held = subst (λ (c : Cell). IfSome c.holds (λ held. taken.m ≤ length held)) sent taken.held;
+    cell = taken.cell ∙ ap (λ (c : Cell). counted new.faults (took taken.m c)) sent;
+  });
+  rose = subst (λ (c : Cell). Rose c.faults new.faults) sent taken.rose;
+}
+asked_in_rounds address frame most false answer old mid new sent taken =
+    subst (λ (o : Option (List ℕ)). LinkAsked address frame most o old new) (sym taken.0)
+    (subst (λ (c : Cell). LinkBreaks address frame most old c) (sym taken.1) record {
+      how = elim sent.how [ inl unopened ↦ inl unopened | inr untaken ↦ inr (inl untaken) ];
+      rose = sent.rose;
+    })
+
+-- where each server was sent its query, and then the answer of each was taken, each was asked
+pub each_asked : (p : FetchPlan) (blocks : List ℕ) (addresses : List (List ℕ)) (coins : List ℕ) (n : ℕ) (reached : List Bool)
+    (session : Transcript) (w v u : World) → SentEach p blocks addresses coins n reached w v
+    → TakenEach (answer_len (length blocks) p.s) n reached session v u → AskedEach p blocks addresses coins n session w u
+each_asked p blocks addresses coins n reached session w v u first second = record {
+  each = λ i l. asked_in_rounds (slice_index_or addresses i []) (sent p blocks coins (i + 1)) (answer_len (length blocks) p.s)
+      (slice_index_or reached i false) (slice_index_or session.records i None)
+      (w.at (link 1 + i)) (v.at (link 1 + i)) (u.at (link 1 + i)) (first.each i l) (second.each i l);
+}
+
+-- two rounds over the same ports touch those alone
+pub range_again : (base n : ℕ) (w v u : World) → TouchesRange base n w v → TouchesRange base n v u → TouchesRange base n w u
+range_again base n w v u a b = record {
+  others = λ q l out. b.others q l out ∙ a.others q l out;
+  crowd = b.crowd ∙ a.crowd;
+  started = b.started ∙ a.started;
+}
+
+-- the coins were taken, each server was sent its query, and then the answer of each was taken: so each was asked
+pub asks_with : (p : FetchPlan) (blocks : List ℕ) (addresses : List (List ℕ)) (coins : List ℕ) (reached marks : List Bool)
+    (session : Transcript) (size n most : ℕ) (w v u z : World) → marks ≡ reached
+    → size ≡ need p (length blocks) → n ≡ p.n → most ≡ answer_len (length blocks) p.s → link 1 + p.n ≤ PORT_COUNT
+    → session.params ≡ params_of p (length blocks) (session_number coins) → length session.records ≡ n
+    → Tossed size coins (w.at COINS) (v.at COINS) → Touches COINS w v
+    → SentEach p blocks addresses coins p.n reached v u → TouchesRange (link 1) p.n v u
+    → TakenEach most n marks session u z → TouchesRange (link 1) n u z
+    → AsksWith p blocks addresses coins session w z
+asks_with p blocks addresses coins reached marks session size n most w v u z marks_are size_is n_is most_is fits params whole tossed touch first others second others2 =
+    let range = range_again (link 1) p.n v u z others (subst (λ (k : ℕ). TouchesRange (link 1) k u z) n_is others2) in
+    let still : z.at COINS ≡ v.at COINS = range_still (link 1) p.n COINS v z range (omega arith) (inl (omega arith)) in
+    let taken = subst (λ (m : ℕ). TakenEach m p.n reached session u z) most_is
+    (subst (λ (k : ℕ). TakenEach most k reached session u z) n_is
+    (subst (λ (l : List Bool). TakenEach most n l session u z) marks_are second)) in
+    record {
+      tossed = subst (λ (k : ℕ). Tossed k coins (w.at COINS) (z.at COINS)) size_is
+          record { size = tossed.size; bytes = tossed.bytes; cell = still ∙ tossed.cell; told = tossed.told };
+      asked = record {
+        params = params;
+        whole = whole ∙ n_is;
+        links = each_before
+            (λ i. LinkAsked (slice_index_or addresses i []) (sent p blocks coins (i + 1)) (answer_len (length blocks) p.s) (slice_index_or session.records i None))
+            (link 1) p.n COINS w v z fits (inl (omega arith)) touch
+            (each_asked p blocks addresses coins p.n reached session v u z first taken);
+      };
+    }
+
+-- a header and a payload are a frame; a payload doesn't depend on the session's number
+pub sent_is : (p : FetchPlan) (blocks coins : List ℕ) (i : ℕ) (header payload : List ℕ)
+    → header ≡ query_header (header_to p (length blocks) coins i)
+    → payload ≡ payload_for (query_params p 1 0) (queries_from coins) blocks i → header ++ payload ≡ sent p blocks coins i
+unfolding sent
+sent_is p blocks coins i header payload a b =
+    ap₂ (λ (x y : List ℕ). x ++ y) a (b ∙ payload_of_session p (length blocks) (session_number coins) (queries_from coins) blocks i)

@@ -1,0 +1,21 @@
+use Rattle.std.proofs.Common.{◌≡◌, ◌∙◌, ◌++◌, ℕ, List, length, take, drop, ap, sym, subst, arith}
+use Rattle.std.proofs.lemmas.List.{take_at}
+use Rattle.query_rounds.specs.Plan.{need}
+use Rattle.query_rounds.specs.Queries.{Queries}
+use Rattle.query_rounds.specs.Tossed.{TakesCoins}
+use Rattle.query_rounds.proofs.queries.Queries.take_coins.Goals as goal
+
+-- the coins that were taken are all that there are
+pub returns-clause-taken : goal.returns-clause-taken
+returns-clause-taken g c =
+    let new = c.take_coins.new.coins in
+    let len = c.self.inside.coins.len in
+    let given = length c.deref_mut.result.now in
+    let result = c.take_coins.result in
+    let before = g.P.Ports.world c.args.ports.now in
+    let after = g.P.Ports.world c.take_coins.new.ports in
+    let size : length new ≡ len = omega arith in
+    let needed : given ≡ need c.args.self.now.plan (length c.args.self.now.blocks) =
+    ap length c.deref_mut.ensures.value ∙ c.self.invariant.size ∙ ap (λ (q : Queries). need q.plan (length q.blocks)) c.self.view_is in
+    subst (λ (n : ℕ). TakesCoins n result (take len (new ++ drop (length new) c.self.inside.coins.items)) before after) needed
+    (subst (λ (coins : List ℕ). TakesCoins given result coins before after) (sym (take_at new (drop (length new) c.self.inside.coins.items) len size)) c.take_coins.ensures.taken)

@@ -1,0 +1,7 @@
+pub mod Plan
+pub mod Queries
+pub mod Sent
+pub mod Link
+pub mod Rounds
+pub mod Tossed
+pub mod Gathered

@@ -1,0 +1,16 @@
+-- What the servers of a fetch are asked.
+use Rattle.std.specs.Prelude.{ℕ, ◌≡◌, List, length}
+use Rattle.query_rounds.specs.declared.plan.FetchPlan.{FetchPlan}
+use Rattle.query_rounds.specs.Plan.{AreBlocks, IsPlan, need}
+
+-- a plan, the blocks that are asked for, and the coins for them
+pub record Queries : Type 0 where
+  pub plan : FetchPlan
+  pub blocks : List ℕ
+  pub coins : List ℕ
+
+-- it is a plan, the blocks may be asked for, and there are as many coins as that needs
+pub record AreQueries (q : Queries) : Type 0 where
+  pub plan : IsPlan q.plan
+  pub blocks : AreBlocks q.plan q.blocks
+  pub size : length q.coins ≡ need q.plan (length q.blocks)

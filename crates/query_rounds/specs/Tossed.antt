@@ -1,0 +1,15 @@
+-- The coins of a fetch.
+use Rattle.std.specs.Prelude.{ℕ, List, Result, Ok, Err}
+use Rattle.port_rules.specs.World.{World}
+use Rattle.port_rules.specs.Number.{COINS}
+use Rattle.port_rules.specs.Whole.{FailsShort}
+use Rattle.port_rules.specs.Tossed.{Tossed, RunsOut}
+use Rattle.query_rounds.specs.declared.plan.FetchFault.{FetchFault}
+use Rattle.query_rounds.specs.declared.plan.FetchFault.TheVariants.{CoinsFault, CoinsEnded, Memory}
+
+-- what taking so many coins from Coins answers. Where a call fails, fewer were taken
+abbrev pub TakesCoins : ℕ → Result (Unit {0}) FetchFault → List ℕ → World → World → Type 0
+TakesCoins need (Ok _) coins old new = Tossed need coins (old.at COINS) (new.at COINS)
+TakesCoins need (Err CoinsFault) coins old new = FailsShort COINS need old new
+TakesCoins need (Err (CoinsEnded taken)) coins old new = RunsOut need taken (old.at COINS) (new.at COINS)
+TakesCoins need (Err Memory) coins old new = ⊥

@@ -1,0 +1,118 @@
+//! All servers are asked, and what they answer is kept.
+
+ghost use Rattle.std.specs.Prelude.{◌≡◌, length, map, string_bytes, IfOk, vec_len, []};
+ghost use Rattle.wire_frames.specs.Sizes.{answer_len};
+ghost use Rattle.query_rounds.specs.Plan.{AreBlocks, IsPlan, params_of};
+ghost use Rattle.query_rounds.specs.Sent.{frame_len};
+ghost use Rattle.query_rounds.specs.Gathered.{AsksServers, FetchesTo, Gathers, TouchesLinks};
+
+use crate::plan::{FetchFault, FetchPlan};
+use crate::queries::Queries;
+use crate::rounds::{ask_all, take_all};
+use port_rules::Ports;
+use std::alloc::{AllocError, Global};
+use wire_frames::Session;
+
+/// The memory that a fetch takes, beside the coins, before anything is touched: a session with no record yet, room for
+/// one query and for one answer, and for each server a mark, whether it was reached.
+#[derive(Drop)]
+struct Room {
+    session: Session,
+    frame: Vec<u8>,
+    answer: Vec<u8>,
+    reached: Vec<bool>,
+}
+
+/// Takes that memory.
+fn room_for(alloc: Global, queries: &Queries) -> Result<Room, AllocError>
+    ensures session { IfOk result (λ room.
+        room.session ≡ record { params = params_of queries.now.plan (length queries.now.blocks) 0; records = [] }) }
+    ensures frame { IfOk result (λ room. vec_len room.frame ≡ frame_len queries.now.plan (length queries.now.blocks)) }
+    ensures answer { IfOk result (λ room. vec_len room.answer ≡ answer_len (length queries.now.blocks) queries.now.plan.s) }
+    ensures reached { IfOk result (λ room. vec_len room.reached ≡ queries.now.plan.n) }
+{
+    Ok(Room {
+        session: Session::new(alloc, queries.params())?,
+        frame: vec![in alloc; 0; queries.frame_len()]?,
+        answer: vec![in alloc; 0; queries.answer_len()]?,
+        reached: vec![in alloc; false; usize::from(queries.servers())]?,
+    })
+}
+
+/// Takes the coins, gives the session its number, asks every server, and then takes the answer of each. No server is
+/// left out of either round, whatever the others answer.
+///
+/// # Errors
+///
+/// `CoinsFault` and `CoinsEnded`, as [`gather`].
+fn ask_servers<P: Ports>(
+    queries: &mut Queries,
+    addresses: &[String],
+    ports: &mut P,
+    room: &mut Room,
+) -> Result<(), FetchFault>
+    requires addresses { length addresses.now ≡ queries.old.plan.n }
+    requires session { room.old.session
+        ≡ record { params = params_of queries.old.plan (length queries.old.blocks) 0; records = [] } }
+    requires frame { vec_len room.old.frame ≡ frame_len queries.old.plan (length queries.old.blocks) }
+    requires answer { vec_len room.old.answer ≡ answer_len (length queries.old.blocks) queries.old.plan.s }
+    requires reached { vec_len room.old.reached ≡ queries.old.plan.n }
+    ensures plan { queries.new.plan ≡ queries.old.plan }
+    ensures blocks { queries.new.blocks ≡ queries.old.blocks }
+    ensures asked { AsksServers queries.old.plan queries.old.blocks (map string_bytes addresses.now) result
+        queries.new.coins room.new.session (P.world ports.old) (P.world ports.new) }
+    ensures others { TouchesLinks queries.old.plan.n (P.world ports.old) (P.world ports.new) }
+{
+    queries.take_coins(ports)?;
+    room.session.set_session(queries.session_number());
+    ask_all(
+        queries,
+        addresses,
+        ports,
+        &mut room.frame,
+        &mut room.reached,
+    );
+    take_all(&room.reached, ports, &mut room.answer, &mut room.session);
+    Ok(())
+}
+
+/// What a fetch has when every server was asked.
+#[derive(Drop)]
+pub struct Gathered<'a> {
+    /// What the servers were asked.
+    pub queries: Queries<'a>,
+    /// What each of them answered, or that a call on its link failed.
+    pub session: Session,
+}
+
+/// Takes the memory and the coins, asks every server for these blocks, and takes the answer of each. Coins is open
+/// already; there is one address for each server, in the order of their indices. The memory is taken first. No server is left
+/// out, and no byte that is sent depends on an answer.
+///
+/// # Errors
+///
+/// `CoinsFault` only where the count of Coins rose, and then fewer coins were taken than are needed; `CoinsEnded`
+/// exactly where there are fewer coins, with their number; at both no server was asked. `Memory` for want of memory,
+/// before anything was touched.
+pub fn gather<'a, P: Ports>(
+    alloc: Global,
+    plan: &FetchPlan,
+    blocks: &'a [u32],
+    addresses: &[String],
+    ports: &mut P,
+) -> Result<Gathered<'a>, FetchFault>
+    requires plan { IsPlan plan.now }
+    requires blocks { AreBlocks plan.now blocks.now }
+    requires addresses { length addresses.now ≡ plan.now.n }
+    ensures gathered { FetchesTo (λ all. Gathers plan.now blocks.now (map string_bytes addresses.now) all.queries all.session)
+        plan.now blocks.now (map string_bytes addresses.now) result (P.world ports.old) (P.world ports.new) }
+    ensures others { TouchesLinks plan.now.n (P.world ports.old) (P.world ports.new) }
+{
+    let mut queries = Queries::with_room(alloc, plan, blocks)?;
+    let mut room = room_for(alloc, &queries)?;
+    ask_servers(&mut queries, addresses, ports, &mut room)?;
+    Ok(Gathered {
+        queries,
+        session: room.session,
+    })
+}
