@@ -93,7 +93,7 @@ pub struct Gathered<'a> {
 ///
 /// `CoinsFault` only where the count of Coins rose, and then fewer coins were taken than are needed; `CoinsEnded`
 /// exactly where there are fewer coins, with their number; at both no server was asked. `Memory` for want of memory,
-/// before anything was touched.
+/// before anything was touched or when all were asked.
 pub fn gather<'a, P: Ports>(
     alloc: Global,
     plan: &FetchPlan,
