@@ -3,6 +3,7 @@ use Rattle.std.proofs.Common.{bit_xor, take, ◌≡◌, ℕ, ◌+◌, ◌-◌, �
 use Rattle.std.specs.List.{range_with_len, slice_range}
 use Rattle.std.specs.Simd.Lanes.{zip2, chunk}
 use Rattle.std.proofs.lemmas.Simd.{length-zip2, get_or-zip2}
+use Rattle.std.proofs.Math.Nat.{add-mul, mul-le-mul_right}
 use Rattle.std.proofs.lemmas.Bool.{cases_lt}
 use Rattle.std.proofs.lemmas.List.{get_or_past, length-take-le, ext_get_or, get_or-take, get_or-drop, get_or_append_left, get_or-append_right, length-take}
 use Rattle.std.proofs.lemmas.List.FromFn.{length-map-range_with_len, get_or-map-range_with_len}
@@ -68,6 +69,15 @@ position_of_slice bytes coins tau m n j lt =
 
 pub length-slice : (xs : List ℕ) (m n : ℕ) → m + n ≤ length xs → length (slice_range xs m (m + n)) ≡ n
 length-slice xs m n enough = length-take (m + n - m) (drop m xs) ∙ omega (arith, length-drop m xs)
+
+-- as many coins are sliced as go with the bytes sliced
+pub length-slice_coins : (bytes coins : List ℕ) (tau m n : ℕ) → m + n ≤ length bytes → length coins ≡ length bytes * tau
+    → length (slice_range coins (m * tau) ((m + n) * tau)) ≡ length (slice_range bytes m (m + n)) * tau
+length-slice_coins bytes coins tau m n enough is =
+    let each = add-mul m n tau in
+    ap (λ e. length (slice_range coins (m * tau) e)) each
+    ∙ length-slice coins (m * tau) (n * tau) (omega (arith, mul-le-mul_right tau enough, each, is))
+    ∙ ap (λ k. k * tau) (sym (length-slice bytes m n enough))
 
 -- n more positions
 pub shares_more : (bytes coins : List ℕ) (tau m n a : ℕ) → m + n ≤ length bytes
