@@ -2,15 +2,9 @@
 use crate::port_name::PortName;
 use port_rules::Port;
 use std::alloc::{AllocError, Global};
+use std::collections::BTreeMap;
 use std::io::{self, Eprint};
 use std::net::SocketAddr;
-
-// What a port was opened by.
-#[derive(Drop)]
-struct Opened {
-    port: Port,
-    name: String,
-}
 
 /// Says on standard error why a call failed, where that is asked for: with the port, the file or address that it was opened
 /// by, and the system's words. Nothing that a port hands out or takes is ever said.
@@ -18,7 +12,8 @@ struct Opened {
 pub struct Explainer {
     is_asked: bool,
     alloc: Global,
-    opened: Vec<Opened>,
+    // By the ports' numbers, what each was last opened by.
+    names: BTreeMap<usize, String>,
     guest: Option<SocketAddr>,
 }
 
@@ -28,7 +23,7 @@ impl Explainer {
         Explainer {
             is_asked,
             alloc,
-            opened: Vec::new(alloc),
+            names: BTreeMap::new(alloc),
             guest: None,
         }
     }
@@ -47,17 +42,13 @@ impl Explainer {
 
     fn keep(&mut self, p: Port, name: &str) -> Result<(), AllocError> {
         let name = String::from_str(self.alloc, name)?;
-        match self.opened.iter_mut().find(|opened| opened.port == p) {
-            Some(opened) => opened.name = name,
-            None => self.opened.push(Opened { port: p, name })?,
-        }
+        self.names.insert(p.number(), name)?;
         Ok(())
     }
 
     // What the port was last opened by.
     fn name_of(&self, p: Port) -> Option<&str> {
-        let opened = self.opened.iter().find(|opened| opened.port == p)?;
-        Some(opened.name.as_str())
+        Some(self.names.get(&p.number())?.as_str())
     }
 
     /// Says that a call on the port failed with this error, where that is asked for. A name is that of a call which has
