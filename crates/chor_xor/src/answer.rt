@@ -37,11 +37,14 @@ pub fn add_chosen_rows(matrix: &Matrix, bitmap: &[u8], from: u32, to: u32, sum: 
     // Its contract bounds the number of rows, and says that they are bytes.
     let _rows = matrix.rows();
     let quarter = (to - from) / 4;
-    let mut a = next_set(bitmap, from, from + quarter);
-    let mut b = next_set(bitmap, from + quarter, from + 2 * quarter);
-    let mut c = next_set(bitmap, from + 2 * quarter, from + 3 * quarter);
-    let mut d = next_set(bitmap, from + 3 * quarter, to);
-    'fours: while a < from + quarter && b < from + 2 * quarter && c < from + 3 * quarter && d < to {
+    let second = from + quarter;
+    let third = from + 2 * quarter;
+    let fourth = from + 3 * quarter;
+    let mut a = next_set(bitmap, from, second);
+    let mut b = next_set(bitmap, second, third);
+    let mut c = next_set(bitmap, third, fourth);
+    let mut d = next_set(bitmap, fourth, to);
+    'fours: while a < second && b < third && c < fourth && d < to {
         add_four_rows(
             sum,
             matrix.row(a),
@@ -49,14 +52,14 @@ pub fn add_chosen_rows(matrix: &Matrix, bitmap: &[u8], from: u32, to: u32, sum: 
             matrix.row(c),
             matrix.row(d),
         );
-        a = next_set(bitmap, a + 1, from + quarter);
-        b = next_set(bitmap, b + 1, from + 2 * quarter);
-        c = next_set(bitmap, c + 1, from + 3 * quarter);
+        a = next_set(bitmap, a + 1, second);
+        b = next_set(bitmap, b + 1, third);
+        c = next_set(bitmap, c + 1, fourth);
         d = next_set(bitmap, d + 1, to);
     }
-    add_rows(matrix, bitmap, a, from + quarter, sum);
-    add_rows(matrix, bitmap, b, from + 2 * quarter, sum);
-    add_rows(matrix, bitmap, c, from + 3 * quarter, sum);
+    add_rows(matrix, bitmap, a, second, sum);
+    add_rows(matrix, bitmap, b, third, sum);
+    add_rows(matrix, bitmap, c, fourth, sum);
     add_rows(matrix, bitmap, d, to, sum);
 }
 

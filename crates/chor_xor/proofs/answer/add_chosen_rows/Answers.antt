@@ -71,8 +71,8 @@ fours-preserved c =
           (sym (quarters-next bitmap rows _ _ k from quarter c.fours.a c.fours.b c.fours.c c.fours.d a.result b.result third.result d.result
           ra.result.now rb.result.now rc.result.now rd.result.now c.rows-rows.ensures.matrix (omega arith) (omega arith) (omega arith) (omega arith)
           (record { begun = before.a_from; on = a.ensures.from; set = before.a_set c.fours-test.true; is = ra.ensures.is; others = a.ensures.others })
-          (record { begun = before.b_from; on = b.ensures.from; set = before.b_set c.if-b-from.true; is = rb.ensures.is; others = b.ensures.others })
-          (record { begun = before.c_from; on = third.ensures.from; set = before.c_set c.if-c-from.true; is = rc.ensures.is; others = third.ensures.others })
+          (record { begun = before.b_from; on = b.ensures.from; set = before.b_set c.if-b-third.true; is = rb.ensures.is; others = b.ensures.others })
+          (record { begun = before.c_from; on = third.ensures.from; set = before.c_set c.if-c-fourth.true; is = rc.ensures.is; others = third.ensures.others })
           (record { begun = before.d_from; on = d.ensures.from; set = before.d_set c.if-d-to.true; is = rd.ensures.is; others = d.ensures.others })));
     }
 
