@@ -141,6 +141,10 @@ WasTold-more s answers answer h =
     ∙ sym (fold-append standing_after (start_of s) answers (answer ∷ []))
     ∙ ap (λ (t : Standing). fold standing_after t (answers ++ answer ∷ [])) (sym (start_of-after s answer))
 
+pub WasTold-from : (s t : Standing) (answers : List (Option (List ℕ))) (answer : Option (List ℕ)) → t ≡ standing_after s answer → WasTold s answers
+    → WasTold t (answers ++ answer ∷ [])
+WasTold-from s t answers answer is h = subst (λ (u : Standing). WasTold u (answers ++ answer ∷ [])) (sym is) (WasTold-more s answers answer h)
+
 -- one more of the rows that are asked for
 AreRowsAsked-more : (rows : List (List ℕ)) (answers : List (Option (List ℕ))) (s : Standing) (answer : Option (List ℕ))
     → AreRowsAsked rows s answers → answer ≡ slice_get rows (asked_row (fold standing_after s answers))
