@@ -1,6 +1,9 @@
 -- What stands behind a value that was read step by step.
-use Rattle.std.proofs.Common.{◌≡◌, Bool, true, false, Option, Some, None, refl}
+use Rattle.std.proofs.Common.{◌≡◌, ◌∙◌, Bool, true, false, Option, Some, None, Result, Err, refl, sym, subst, ap}
 use Rattle.pir_words.specs.Chain.{◌>>=◌, ◌>>◌}
+use Rattle.pir_words.specs.Form.{IsReadAs}
+use Rattle.pir_words.specs.declared.asked.WordsFault.{WordsFault}
+use Rattle.pir_words.specs.declared.asked.WordsFault.TheVariants.{Memory, Usage}
 
 module _ {A B : Type 0} where
   -- the value that the rest was read with
@@ -18,3 +21,28 @@ module _ {B : Type 0} where
   pub test_of : (test : Bool) (rest : Option B) (b : B) → (test >> rest) ≡ Some b → (test ≡ true) × (rest ≡ Some b)
   test_of true rest b e = (refl, e)
   test_of false rest b e = cc
+
+module _ {A B : Type 0} {o : Option A} (next : A → Option B) where
+  -- the rest is read with the value that is given
+  pub given_on : {x : A} {r : Option B} → Some x ≡ o → next x ≡ r → (o >>= next) ≡ r
+  given_on e rest = ap (λ (p : Option A). p >>= next) (sym e) ∙ rest
+
+  -- without a value nothing is read
+  pub not_given : None ≡ o → (o >>= next) ≡ None
+  not_given e = ap (λ (p : Option A). p >>= next) (sym e)
+
+-- nor where the value itself is read from a faulty command line
+pub not_read : {A B : Type 0} (o : Option A) (next : A → Option B) (r : Result B WordsFault) {f g : WordsFault} → r ≡ Err f → f ≡ g → IsReadAs {A = A} o (Err g) → IsReadAs (o >>= next) r
+not_read {A} {B} o next r {f} {g} is same read =
+    let err : WordsFault → Result B WordsFault = λ w. Err w in
+    subst (IsReadAs (o >>= next)) (sym (is ∙ ap err same)) (by_fault g read)
+  where
+    by_fault : (g : WordsFault) → IsReadAs {A = A} o (Err g) → IsReadAs (o >>= next) (Err g)
+    by_fault Usage e = not_given next (sym e)
+    by_fault Memory e = tt
+
+-- want of memory may come whatever is wanted
+pub short_of_memory : {A : Type 0} (wanted : Option A) (r : Result A WordsFault) {f e : WordsFault} → r ≡ Err f → f ≡ e → e ≡ Memory → IsReadAs wanted r
+short_of_memory {A} wanted r is same memory =
+    let err : WordsFault → Result A WordsFault = λ w. Err w in
+    subst (IsReadAs wanted) (sym (is ∙ ap err (same ∙ memory))) tt

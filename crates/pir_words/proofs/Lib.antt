@@ -1,4 +1,5 @@
 pub mod Chains
+pub mod InTurn
 pub mod Digits
 pub mod Entered
 pub mod InRanges

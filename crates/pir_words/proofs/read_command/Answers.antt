@@ -1,0 +1,47 @@
+use Rattle.std.proofs.Common.{◌≡◌, None, Option, Result, Some, refl, subst, sym}
+use Rattle.std.specs.Option.{ok_or}
+use Rattle.pir_words.specs.Numbers.{given}
+use Rattle.pir_words.specs.Form.{IsReadAs, asked_by}
+use Rattle.pir_words.specs.declared.asked.WordsFault.{WordsFault}
+use Rattle.pir_words.specs.declared.asked.WordsFault.TheVariants.{Usage}
+use Rattle.pir_words.proofs.read_command.Goals as goal
+
+-- nothing is wanted where nothing is given
+read_or_usage : {A : Type 0} (wanted given : Option A) (r : Result A WordsFault) → given ≡ wanted → r ≡ ok_or given Usage → IsReadAs wanted r
+read_or_usage {A} wanted given r e is = subst (IsReadAs wanted) (sym is) (subst (λ (o : Option A). IsReadAs o (ok_or given Usage)) e (by_itself given))
+  where
+    by_itself : (o : Option A) → IsReadAs o (ok_or o Usage)
+    by_itself None = refl
+    by_itself (Some a) = refl
+
+pub returns-in-replay : goal.returns-in-replay
+unfolding asked_by
+returns-in-replay c = subst (λ name. IsReadAs (asked_by name (given c.args.matches.now)) c.read_replay.result) (sym c.in-replay.is) c.read_replay.ensures
+
+pub returns-in-fetch : goal.returns-in-fetch
+unfolding asked_by
+returns-in-fetch c = subst (λ name. IsReadAs (asked_by name (given c.args.matches.now)) c.read_fetch.result) (sym c.in-fetch.is) c.read_fetch.ensures
+
+pub returns-in-serve : goal.returns-in-serve
+unfolding asked_by
+returns-in-serve c = subst (λ name. IsReadAs (asked_by name (given c.args.matches.now)) c.read_serve.result) (sym c.in-serve.is) c.read_serve.ensures
+
+pub returns-in-selfrun : goal.returns-in-selfrun
+unfolding asked_by
+returns-in-selfrun c = subst (λ name. IsReadAs (asked_by name (given c.args.matches.now)) c.ok_or.result) (sym c.in-selfrun.is) (read_or_usage _ c.read_selfrun.result c.ok_or.result c.read_selfrun.ensures c.ok_or.ensures.value)
+
+pub returns-in-demo : goal.returns-in-demo
+unfolding asked_by
+returns-in-demo c = subst (λ name. IsReadAs (asked_by name (given c.args.matches.now)) c.read_demo.result) (sym c.in-demo.is) c.read_demo.ensures
+
+pub returns-in-lookup : goal.returns-in-lookup
+unfolding asked_by
+returns-in-lookup c = subst (λ name. IsReadAs (asked_by name (given c.args.matches.now)) c.read_lookup.result) (sym c.in-lookup.is) c.read_lookup.ensures
+
+pub returns-in-split : goal.returns-in-split
+unfolding asked_by
+returns-in-split c = subst (λ name. IsReadAs (asked_by name (given c.args.matches.now)) c.read_split.result) (sym c.in-split.is) c.read_split.ensures
+
+pub returns-in-front : goal.returns-in-front
+unfolding asked_by
+returns-in-front c = subst (λ name. IsReadAs (asked_by name (given c.args.matches.now)) c.read_front.result) (sym c.in-front.is) c.read_front.ensures
