@@ -15,3 +15,30 @@ returns-in_err-key-clause-looked g c =
     let w = g.P.Ports.world c.args.ports.now in
     subst (λ (r : Result Ended FetchFault). LooksUp o.plan o.key o.addresses r (w.at COINS) w w) (sym (fault.1 ∙ ap Err fault.2))
     (nothing_done o.plan o.key o.addresses w)
+
+pub new-cols-requires-clause-name : goal.new-cols-requires-clause-name
+new-cols-requires-clause-name g c = c.requires.cols.0
+
+pub new-cols-requires-clause-parts : goal.new-cols-requires-clause-parts
+new-cols-requires-clause-parts g c = c.requires.cols.1
+
+pub new-cols-requires-clause-some : goal.new-cols-requires-clause-some
+new-cols-requires-clause-some g c = c.requires.cols.2
+
+pub new-nodes-requires-clause-name : goal.new-nodes-requires-clause-name
+new-nodes-requires-clause-name g c = c.requires.nodes.0
+
+pub new-nodes-requires-clause-parts : goal.new-nodes-requires-clause-parts
+new-nodes-requires-clause-parts g c = c.requires.nodes.1
+
+pub new-nodes-requires-clause-some : goal.new-nodes-requires-clause-some
+new-nodes-requires-clause-some g c = c.requires.nodes.2
+
+pub look_up-requires-clause-plan : goal.look_up-requires-clause-plan
+look_up-requires-clause-plan g c = c.order.invariant.0
+
+pub look_up-requires-clause-shamir : goal.look_up-requires-clause-shamir
+look_up-requires-clause-shamir g c = c.order.invariant.1
+
+pub look_up-requires-clause-addresses : goal.look_up-requires-clause-addresses
+look_up-requires-clause-addresses g c = c.order.invariant.3
