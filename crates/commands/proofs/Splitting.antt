@@ -12,8 +12,11 @@ use Rattle.block_matrix.specs.Loading.{HoldsNone, Stopped, asked_for}
 use Rattle.block_matrix.specs.declared.matrix.LoadFault.{LoadFault}
 use Rattle.block_matrix.specs.declared.matrix.LoadFault.TheVariants.{EmptyFile as NoBytes, TooBig as TooManyBytes, ReadFault as Unloadable, Memory as NoRoom}
 use Rattle.share_files.specs.Limit.{HoldsFew, HoldsTooMany, LoadsFew}
+use Rattle.share_files.specs.Splits.{Splits, TouchesShares}
+use Rattle.share_files.specs.declared.fault.SplitFault.{SplitFault}
+use Rattle.share_files.specs.declared.fault.SplitFault.TheVariants.{CoinsFault as NoCoins, CoinsEnded as FewCoins, ShareFault, Memory as NoMemoryToSplit}
 use Rattle.share_files.proofs.Carried.{part_before, whole_before}
-use Rattle.commands.specs.Faults.{of_load}
+use Rattle.commands.specs.Faults.{of_load, of_split}
 use Rattle.commands.specs.ServeSteps.{HasBegun}
 use Rattle.commands.specs.SplitOrder.{SplitOrder, plan_to_split}
 use Rattle.commands.specs.SplitSteps.{LoadedToShare, SharesNotAll, SharesOut, TouchesSharing, cells_of, coins_to_split, split_text}
@@ -33,6 +36,13 @@ unread_before p name most w v u still cut = record {
   ];
   rose = subst (λ (c : Cell). Rose c.faults (u.at p).faults) still cut.rose;
 }
+
+-- not every share was written
+pub unshared : (o : SplitOrder) (m : Database) (fault : SplitFault) (w v : World) → Splits (plan_to_split o) (cells_of m) (Err fault) w v → TouchesShares o.servers w v → SharesOut o m (of_split fault) w v
+unshared o m NoCoins w v splits touch = splits
+unshared o m (FewCoins taken) w v splits touch = splits
+unshared o m ShareFault w v splits touch = inl (splits, touch.others OUTPUT (lit< tt) (λ e. omega (arith, e)) (λ lo hi. omega (arith, lo)))
+unshared o m NoMemoryToSplit w v splits touch = splits
 
 -- the database was loaded, and then it was shared
 module _ (o : SplitOrder) (m : Database) (w v u : World) (few : o.servers < 256) (loaded : LoadedToShare o m w v) (touch : Touches DATABASE w v) (sharing : TouchesSharing o.servers v u) where
