@@ -48,6 +48,13 @@ starts_more f xs i d w v u lt all one = record {
     join None = refl
     join (Some told) = ap (λ (starts : List (List (List ℕ))). Some starts) (append_assoc told _ _ ∙ ap (λ lists. told ++ lists) more)
 
+-- one list of words more is made
+pub made_more : {X Y : Type 0} (f : Y → List (List ℕ)) (h : X → List (List ℕ)) (made more : List Y) (y : Y) (xs : List X) (i : ℕ) (d : X) → i < length xs → map f made ≡ map h (take i xs)
+    → more ≡ made ++ y ∷ [] → f y ≡ h (get_or xs i d) → map f more ≡ map h (take (i + 1) xs)
+made_more f h made more y xs i d lt so_far behind next =
+    ap (map f) behind ∙ map-append f made (y ∷ []) ∙ ap (λ lists. lists ++ f y ∷ []) so_far ∙ ap (λ words. map h (take i xs) ++ words ∷ []) next
+    ∙ sym (ap (map h) (take_more xs i d lt) ∙ map-append h (take i xs) (get_or xs i d ∷ []))
+
 -- what each child is started with, by the addresses of all
 pub words_by_address : {X : Type 0} (f : List ℕ → List (List ℕ)) (g : X → List ℕ) (xs : List X) (n : ℕ) → n ≡ length xs → map (λ x. f (g x)) (take n xs) ≡ map f (map g xs)
 words_by_address f g xs n is = ap (map (λ x. f (g x))) (take_all n xs (omega (arith, is))) ∙ sym (map-map f g xs)
