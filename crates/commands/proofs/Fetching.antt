@@ -3,8 +3,10 @@ use Rattle.std.proofs.Common.{◌≡◌, ◌≢◌, ◌⊎◌, ◌∙◌, inl, i
 use Rattle.std.specs.Prelude.{Option, Some, None, IfSome, unwrap_or, Result, Ok, Err}
 use Rattle.port_rules.specs.declared.port.TheConstants.{PORT_COUNT}
 use Rattle.port_rules.specs.World.{Cell, World}
-use Rattle.port_rules.specs.Number.{COINS, RECORD, link}
-use Rattle.port_rules.specs.Moves.{Rose, Touches, took, gave, named, counted}
+use Rattle.port_rules.specs.Number.{COINS, OUTPUT, RECORD, link}
+use Rattle.port_rules.specs.Moves.{Fails, Rose, Touches, took, gave, named, counted}
+use Rattle.port_rules.specs.Tossed.{RunsOut}
+use Rattle.port_rules.proofs.Cells.{touches_more}
 use Rattle.port_rules.proofs.Ranges.{each_within}
 use Rattle.port_rules.proofs.Carried.{fails_writing_before}
 use Rattle.wire_frames.specs.Sizes.{answer_len}
@@ -23,14 +25,16 @@ use Rattle.query_rounds.specs.declared.plan.FetchFault.TheVariants.{CoinsFault, 
 use Rattle.wire_frames.specs.declared.session.SessionParams.{SessionParams}
 use Rattle.wire_frames.specs.declared.scheme.TheConstants.{SHAMIR, XOR}
 use Rattle.pir_words.specs.declared.asked.Asked.{Asked as Command}
+use Rattle.commands.specs.Faults.{of_fetch}
 use Rattle.commands.specs.Table.{status_of}
 use Rattle.commands.specs.FetchOrder.{FetchOrder}
 use Rattle.commands.specs.Outcome.{order_of}
-use Rattle.commands.specs.FetchOutcome.{ConcludesBeside, InSession, Settled, Recorded, Unrecorded, FetchReported, FetchEnds, Reports, TouchesFiles, with_none}
+use Rattle.commands.specs.FetchOutcome.{ConcludesBeside, InSession, Settled, Recorded, Unrecorded, FetchReported, FetchEnds, FetchesBeside, Reports, TouchesFiles, with_none}
 use Rattle.commands.specs.Said.{IsReportOf, whole_text}
 use Rattle.commands.proofs.HeldRow.{held_row}
 use Rattle.commands.proofs.Saying.{report_of}
 use Rattle.commands.specs.declared.status.Status.{Status}
+use Rattle.commands.specs.declared.status.Status.TheVariants.{ReadFault}
 
 -- words ask for one command
 pub one_command : (wanted : Option Command) (asked other : Command) → wanted ≡ Some asked → wanted ≡ Some other → asked ≡ other
@@ -105,6 +109,12 @@ report_of_fetch wanted p blocks addresses session verdict report old new plan fo
     let same = ap (λ (q : SessionParams). q.scheme) found.concludes.asked.asked.params in
     report_of session verdict (subst (λ (n : ℕ). (n ≡ SHAMIR) ⊎ (n ≡ XOR)) (sym same) plan.numbers.scheme) wanted report found.beside
 
+-- every server was asked, so the session has a record for each
+pub whole_of_fetch : (wanted : Bool) (p : FetchPlan) (blocks : List ℕ) (addresses : List (List ℕ)) (session : Transcript) (verdict : Verdict) (report : Option (List Agreement)) (old new : World)
+    → ConcludesBeside wanted p blocks addresses (session, verdict, report) old new → length session.records ≡ session.params.n
+whole_of_fetch wanted p blocks addresses session verdict report old new found =
+    found.concludes.asked.asked.whole ∙ sym (ap (λ (q : SessionParams). q.n) found.concludes.asked.asked.params)
+
 -- a fetch with no report
 pub fetches_plain : (p : FetchPlan) (blocks : List ℕ) (addresses : List (List ℕ)) (result : Result (Transcript × Verdict) FetchFault) (old new : World)
     → Fetches p blocks addresses result old new → FetchesTo (ConcludesBeside false p blocks addresses) p blocks addresses (with_none result) old new
@@ -176,3 +186,46 @@ ends_with_report o session verdict report status w v u z plan are is_open touch 
 
     still : (q : ℕ) → q < 256 → q ≢ COINS → u.at q ≡ w.at q
     still q l ne = links.others q (omega arith) ne (λ lo hi. omega (arith, lo, l)) ∙ touch.others q (omega arith) ne
+
+-- Coins can't be opened
+pub ends_unopened : (o : FetchOrder) (w v : World) → Fails COINS w v → Touches COINS w v → FetchEnds o ReadFault w v
+ends_unopened o w v fails touch = record {
+  unread = record { n = 0; fewer = omega arith; cell = inl fails.cell; rose = fails.rose };
+  others = touch;
+}
+
+-- Coins was opened, but no session came of it, or there was no memory to judge it
+module _ (o : FetchOrder) (w v u : World) (plan : IsPlan o.plan) (is_open : v.at COINS ≡ named o.coins (w.at COINS)) (touch : Touches COINS w v) (links : TouchesLinks o.plan.n v u) where
+  untouched : (q : ℕ) → q < 256 → q ≢ COINS → u.at q ≡ w.at q
+  untouched q l ne = links.others q (omega arith) ne (λ lo hi. omega (arith, lo, l)) ∙ touch.others q (omega arith) ne
+
+  pub ends_with_fault : (fault : FetchFault) → FetchesBeside o (Err fault) v u → FetchEnds o (of_fetch fault) w u
+  ends_with_fault CoinsFault fetched = record {
+    unread = record {
+      n = fetched.0.after.n;
+      fewer = fetched.0.fewer;
+      cell = inr (fetched.0.after.cell ∙ ap (λ (c : Cell). counted (u.at COINS).faults (took fetched.0.after.n c)) is_open);
+      rose = subst (λ (c : Cell). Rose c.faults (u.at COINS).faults) is_open fetched.0.after.rose;
+    };
+    others = touches_more _ _ _ _ touch fetched.1;
+  }
+  ends_with_fault (CoinsEnded taken) fetched = record {
+    short = subst (λ (c : Cell). RunsOut (need o.plan (length o.blocks)) taken c (u.at COINS)) is_open fetched.0;
+    others = touches_more _ _ _ _ touch fetched.1;
+  }
+  ends_with_fault NoMemory fetched = record {
+    part = elim fetched [
+      | inl same ↦ inl (
+        ap (λ (x : World). x.at COINS) same ∙ is_open,
+        subst (λ (x : World). Touches COINS w x) (sym same) touch,
+      )
+      | inr some ↦ inr (record {
+        coins = some.coins;
+        session = some.session;
+        fetched = asked_within o some.coins some.session w v u u (omega (arith, plan.numbers.few_servers)) is_open touch some.asked
+            (record { others = λ q l a b. refl; crowd = refl; started = refl });
+      })
+    ];
+    kept = untouched RECORD (lit< tt) (λ e. omega (arith, e));
+    output = untouched OUTPUT (lit< tt) (λ e. omega (arith, e));
+  }

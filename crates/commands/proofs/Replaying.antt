@@ -1,20 +1,24 @@
 -- A replay from its first port to its last.
-use Rattle.std.proofs.Common.{◌≡◌, ◌∙◌, inl, inr, ℕ, Bool, true, false, List, [], ◌∷◌, refl, lit<, sym, ap, subst, arith}
-use Rattle.std.specs.Prelude.{Option, None}
+use Rattle.std.proofs.Common.{◌≡◌, ◌⊎◌, ◌∙◌, inl, inr, ℕ, Bool, true, false, List, [], ◌∷◌, refl, lit<, sym, ap, subst, arith}
+use Rattle.std.specs.Prelude.{Option, None, Err}
 use Rattle.port_rules.specs.World.{Cell, World}
 use Rattle.port_rules.specs.Number.{INPUT, OUTPUT}
-use Rattle.port_rules.specs.Moves.{Touches, gave, named}
+use Rattle.port_rules.specs.Moves.{Fails, Rose, Touches, gave, named}
 use Rattle.port_rules.proofs.Carried.{fails_writing_before}
 use Rattle.wire_frames.specs.Session.{Transcript}
 use Rattle.block_decoder.specs.Report.{Agreement}
 use Rattle.block_decoder.specs.Text.{text}
 use Rattle.block_decoder.specs.declared.verdict.Verdict.{Verdict}
 use Rattle.block_decoder.specs.declared.verdict.Verdict.TheVariants.{Listed as IsListed, TooFew as IsTooFew, TooWeak as IsTooWeak, TooCostly as IsTooCostly}
-use Rattle.replay.specs.Replayed.{Judged, JudgedWhole, ReadsWhole}
+use Rattle.replay.specs.Replayed.{BreaksOff, Judged, JudgedWhole, ReadTo, ReadsLittle, ReadsWhole, Refuses, SpellsOne}
+use Rattle.replay.specs.declared.ReplayFault.{ReplayFault}
+use Rattle.replay.specs.declared.ReplayFault.TheVariants.{ReadFault as Unreadable, BadSession, Memory as Unfinished}
+use Rattle.commands.specs.Faults.{of_replay}
 use Rattle.commands.specs.Table.{status_of}
 use Rattle.commands.specs.Said.{ToldAs, whole_text}
 use Rattle.commands.specs.ReplayOutcome.{Concluded, ReplayEnds, Reported}
 use Rattle.commands.specs.declared.status.Status.{Status}
+use Rattle.commands.specs.declared.status.Status.TheVariants.{ReadFault}
 
 -- a replay that reports a verdict ends with its status
 ends_as : (name : List ℕ) (wanted : Bool) (verdict : Verdict) (w z : World) → Reported name wanted (status_of verdict) w z → ReplayEnds name wanted (status_of verdict) w z
@@ -76,3 +80,28 @@ whole_told name session verdict report status w v u z is_open touch read touched
       all = read.all;
       is = record { whole = read.is.whole; judged = read.is.judged; beside = read.is.report };
     } touched told last
+
+-- Input can't be opened
+pub unopened : (name : List ℕ) (wanted : Bool) (w v : World) → Fails INPUT w v → Touches INPUT w v → ReplayEnds name wanted ReadFault w v
+unopened name wanted w v fails touch = record {
+  input = inl fails.cell;
+  rose = fails.rose;
+  output = touch.others 1 (lit< tt) (λ e. omega (arith, e));
+}
+
+-- Input was opened, but nothing was judged
+module _ (name : List ℕ) (wanted : Bool) (w v u : World) (is_open : v.at INPUT ≡ named name (w.at INPUT)) (touch : Touches INPUT w v) (touched : Touches INPUT v u) where
+  still : u.at OUTPUT ≡ w.at OUTPUT
+  still = touched.others 1 (lit< tt) (λ e. omega (arith, e)) ∙ touch.others 1 (lit< tt) (λ e. omega (arith, e))
+
+  pub unjudged : {T : Type 0} → (P : T → List ℕ → Type 0) (fault : ReplayFault) → ReadTo P (Err fault) v u → ReplayEnds name wanted (of_replay fault) w u
+  unjudged P Unreadable read = record {
+    input = inr (subst (λ (c : Cell). BreaksOff c (u.at INPUT)) is_open read);
+    rose = subst (λ (c : Cell). Rose c.faults (u.at INPUT).faults) is_open read.rose;
+    output = still;
+  }
+  unjudged P (BadSession place) read = record { read = subst (λ (c : Cell). Refuses place c (u.at INPUT)) is_open read; output = still }
+  unjudged P Unfinished read = record {
+    read = subst (λ (c : Cell). ReadsLittle c (u.at INPUT) ⊎ ReadsWhole SpellsOne c (u.at INPUT)) is_open read;
+    output = still;
+  }

@@ -1,6 +1,6 @@
 -- A splitting from its first port to its last.
 use Rattle.std.proofs.Common.{◌≡◌, ◌∙◌, inl, inr, ℕ, ◌<◌, List, length, lit<, sym, ap, subst, arith}
-use Rattle.std.specs.Prelude.{Ok}
+use Rattle.std.specs.Prelude.{Ok, Err}
 use Rattle.port_rules.specs.World.{Cell, World}
 use Rattle.port_rules.specs.Number.{COINS, DATABASE, OUTPUT}
 use Rattle.port_rules.specs.Moves.{Rose, Touches, took, gave, named, counted}
@@ -8,8 +8,15 @@ use Rattle.port_rules.specs.Files.{Unread}
 use Rattle.port_rules.specs.Tossed.{RunsOut}
 use Rattle.port_rules.proofs.Carried.{fails_writing_before}
 use Rattle.block_matrix.specs.Database.{Database}
-use Rattle.share_files.specs.Limit.{HoldsFew, LoadsFew}
+use Rattle.block_matrix.specs.Loading.{HoldsNone, Stopped, asked_for}
+use Rattle.block_matrix.specs.declared.matrix.LoadFault.{LoadFault}
+use Rattle.block_matrix.specs.declared.matrix.LoadFault.TheVariants.{EmptyFile as NoBytes, TooBig as TooManyBytes, ReadFault as Unloadable, Memory as NoRoom}
+use Rattle.share_files.specs.Limit.{HoldsFew, HoldsTooMany, LoadsFew}
+use Rattle.share_files.specs.Splits.{Splits, TouchesShares}
+use Rattle.share_files.specs.declared.fault.SplitFault.{SplitFault}
+use Rattle.share_files.specs.declared.fault.SplitFault.TheVariants.{CoinsFault as NoCoins, CoinsEnded as FewCoins, ShareFault, Memory as NoMemoryToSplit}
 use Rattle.share_files.proofs.Carried.{part_before, whole_before}
+use Rattle.commands.specs.Faults.{of_load, of_split}
 use Rattle.commands.specs.ServeSteps.{HasBegun}
 use Rattle.commands.specs.SplitOrder.{SplitOrder, plan_to_split}
 use Rattle.commands.specs.SplitSteps.{LoadedToShare, SharesNotAll, SharesOut, TouchesSharing, cells_of, coins_to_split, split_text}
@@ -29,6 +36,13 @@ unread_before p name most w v u still cut = record {
   ];
   rose = subst (λ (c : Cell). Rose c.faults (u.at p).faults) still cut.rose;
 }
+
+-- not every share was written
+pub unshared : (o : SplitOrder) (m : Database) (fault : SplitFault) (w v : World) → Splits (plan_to_split o) (cells_of m) (Err fault) w v → TouchesShares o.servers w v → SharesOut o m (of_split fault) w v
+unshared o m NoCoins w v splits touch = splits
+unshared o m (FewCoins taken) w v splits touch = splits
+unshared o m ShareFault w v splits touch = inl (splits, touch.others OUTPUT (lit< tt) (λ e. omega (arith, e)) (λ lo hi. omega (arith, lo)))
+unshared o m NoMemoryToSplit w v splits touch = splits
 
 -- the database was loaded, and then it was shared
 module _ (o : SplitOrder) (m : Database) (w v u : World) (few : o.servers < 256) (loaded : LoadedToShare o m w v) (touch : Touches DATABASE w v) (sharing : TouchesSharing o.servers v u) where
@@ -111,3 +125,21 @@ module _ (o : SplitOrder) (w v u : World) (is_open : v.at DATABASE ≡ named o.d
   -- it was loaded
   pub loaded_by : (m : Database) → LoadsFew o.width o.tau (Ok m) v u → LoadedToShare o m w u
   loaded_by m loads = subst (λ (c : Cell). HoldsFew o.width o.tau m c (u.at DATABASE)) is_open loads
+
+  -- it holds none that can be shared
+  pub unloaded : (fault : LoadFault) → LoadsFew o.width o.tau (Err fault) v u → SplitEnds o (of_load fault) w u
+  unloaded NoBytes loads = (subst (λ (c : Cell). HoldsNone c (u.at DATABASE)) is_open loads, both_touch)
+  unloaded (TooManyBytes most) loads = (
+    (loads.0, subst (λ (c : Cell). HoldsTooMany o.width o.tau c (u.at DATABASE)) is_open loads.1),
+    both_touch,
+  )
+  unloaded Unloadable loads = inl (
+    record {
+      n = loads.after.n;
+      fewer = loads.fewer;
+      cell = inr (loads.after.cell ∙ ap (λ (c : Cell). counted (u.at DATABASE).faults (took loads.after.n c)) is_open);
+      rose = subst (λ (c : Cell). Rose c.faults (u.at DATABASE).faults) is_open loads.after.rose;
+    },
+    both_touch,
+  )
+  unloaded NoRoom loads = (subst (λ (c : Cell). Stopped (asked_for o.width) c (u.at DATABASE)) is_open loads, both_touch)

@@ -3,7 +3,7 @@
 ghost use Rattle.std.specs.Prelude.{◌≡◌, ◌+◌, ◌<◌, length, map, string_bytes, IfOk, OnOk, OnErr};
 ghost use Rattle.query_rounds.specs.Plan.{IsPlan};
 ghost use Rattle.commands.specs.declared.orders.TheConstants.{TCP_PORTS};
-ghost use Rattle.commands.specs.DemoOrder.{address_from, addresses_from, plan_of, words_to_serve};
+ghost use Rattle.commands.specs.DemoOrder.{address_from, addresses_from, plan_of, words_of_children, words_to_serve};
 ghost use Rattle.commands.specs.DemoOutcome.{DemoOutcome, StartsAll, StartsSome};
 
 use crate::fetch_command::fetch_block;
@@ -131,6 +131,33 @@ fn start_children<P: Ports>(ports: &mut P, lists: &[Vec<String>]) -> Result<(), 
     Ok(())
 }
 
+/// Starts a child with each list of words, and fetches the block from them at these addresses.
+fn fetch_from_children<P: Ports>(
+    alloc: Global,
+    order: &Demonstration,
+    addresses: &[String],
+    lists: &[Vec<String>],
+    ports: &mut P,
+) -> Status
+    requires addresses { map string_bytes addresses.now ≡ addresses_from order.now.port order.now.servers }
+    requires words { map (λ words. map string_bytes words.items) lists.now ≡ words_of_children order.now }
+    ensures { DemoOutcome order.now result (P.world ports.old) (P.world ports.new) }
+{
+    let blocks = [order.block];
+    let Ok(()) = start_children(ports, lists) else {
+        return Status::ChildFault;
+    };
+    let fetching = Fetching {
+        plan: order.plan(),
+        blocks: &blocks,
+        addresses,
+        coins: order.coins,
+        record_name: None,
+        report: false,
+    };
+    fetch_block(alloc, &fetching, ports)
+}
+
 /// Starts servers as children, each for one guest on loopback, and fetches a block from them, as `fetch` does, with no
 /// record. All texts are made before the first child is started.
 pub(crate) fn demonstrate<P: Ports>(alloc: Global, order: &Demonstration, ports: &mut P) -> Status
@@ -142,17 +169,5 @@ pub(crate) fn demonstrate<P: Ports>(alloc: Global, order: &Demonstration, ports:
     let Ok(lists) = words_of_children(alloc, order.database, order.width, &addresses) else {
         return Status::Memory;
     };
-    let Ok(()) = start_children(ports, &lists) else {
-        return Status::ChildFault;
-    };
-    let blocks = [order.block];
-    let fetching = Fetching {
-        plan: order.plan(),
-        blocks: &blocks,
-        addresses: &addresses,
-        coins: order.coins,
-        record_name: None,
-        report: false,
-    };
-    fetch_block(alloc, &fetching, ports)
+    fetch_from_children(alloc, order, &addresses, &lists, ports)
 }

@@ -37,8 +37,26 @@ fn without_report(
     }
 }
 
-/// Fetches the blocks, with a report where one is wanted, and with counters of columns and of nodes that nobody reads, made of
-/// the blanks.
+/// Fetches the blocks, with a report where one is wanted, and counts the columns and the nodes of its decoding.
+fn fetch_counted<C: Ledger, N: Ledger, P: Ports>(
+    alloc: Global,
+    order: &Fetching,
+    ports: &mut P,
+    cols: &mut Steps<C>,
+    nodes: &mut Steps<N>,
+) -> Result<(Session, Verdict, Option<Report>), FetchFault>
+    ensures fetched { FetchesBeside order.now result (P.world ports.old) (P.world ports.new) }
+    ensures others { TouchesLinks order.now.plan.n (P.world ports.old) (P.world ports.new) }
+{
+    let (plan, blocks, addresses) = (&order.plan, order.blocks, order.addresses);
+    if order.report {
+        fetch_report(alloc, &Koetter, plan, blocks, addresses, ports, cols, nodes)
+    } else {
+        without_report(fetch(alloc, &Koetter, plan, blocks, addresses, ports, cols, nodes))
+    }
+}
+
+/// The same, with counters of columns and of nodes that nobody reads, made of the blanks.
 fn fetch_once<C: Ledger, N: Ledger, P: Ports>(
     alloc: Global,
     cols: Blank,
@@ -53,16 +71,7 @@ fn fetch_once<C: Ledger, N: Ledger, P: Ports>(
 {
     let mut cols: Steps<C> = Steps::new(cols);
     let mut nodes: Steps<N> = Steps::new(nodes);
-    let (plan, blocks, addresses) = (&order.plan, order.blocks, order.addresses);
-    if order.report {
-        fetch_report(
-            alloc, &Koetter, plan, blocks, addresses, ports, &mut cols, &mut nodes,
-        )
-    } else {
-        without_report(fetch(
-            alloc, &Koetter, plan, blocks, addresses, ports, &mut cols, &mut nodes,
-        ))
-    }
+    fetch_counted(alloc, order, ports, &mut cols, &mut nodes)
 }
 
 /// Records the session in the file of this name, where one is given.

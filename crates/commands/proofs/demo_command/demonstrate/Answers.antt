@@ -1,59 +1,17 @@
-use Rattle.std.proofs.Common.{[], ◌∷◌, ◌∙◌, ap, map, string_bytes, false, subst, sym, arith}
-use Rattle.std.specs.Prelude.{None}
-use Rattle.query_rounds.specs.declared.plan.FetchPlan.{FetchPlan}
-use Rattle.query_rounds.proofs.Ranges.{one_block}
-use Rattle.commands.specs.DemoOrder.{DemoOrder, plan_of, words_of_children}
-use Rattle.commands.specs.DemoOutcome.{DemoOutcome, StartsSome}
-use Rattle.commands.specs.FetchOutcome.{FetchEnds, TouchesFetch}
-use Rattle.commands.proofs.Demonstrating.{demonstrates, size_of_addresses, size_of_words, words_are}
+use Rattle.std.proofs.Common.{◌≡◌, ◌∙◌, ap, map, string_bytes, subst}
+use Rattle.commands.specs.DemoOrder.{DemoOrder, addresses_from, words_of_children}
+use Rattle.commands.proofs.Demonstrating.{words_are}
 use Rattle.commands.proofs.demo_command.demonstrate.Goals as goal
 
--- as many lists of words as there are children
-pub start_children-requires : goal.start_children-requires
-start_children-requires g c =
+pub fetch_from_children-requires : goal.fetch_from_children-requires
+fetch_from_children-requires g c =
     let o = c.order.inside in
-    let words = words_are string_bytes (λ w. map string_bytes w.items) o.database.now o.width o.port o.servers c.in-Ok.addresses.items c.deref.result.now c.in-Ok-words_of_children.lists.items c.deref-2.result.now c.in-Ok.ensures c.deref.ensures.value c.in-Ok-words_of_children.ensures c.deref-2.ensures.value in
-    let size = size_of_words (λ w. map string_bytes w.items) _ c.deref-2.result.now o.servers words in
-    omega (arith, size, c.order.invariant.1.numbers.few_servers)
-
-pub returns-in_default-start_children : goal.returns-in_default-start_children
-returns-in_default-start_children g c =
-    let o = c.order.inside in
-    let start = g.P.Ports.world c.args.ports.now in
-    let end = g.P.Ports.world c.start_children.new.ports in
-    let words = words_are string_bytes (λ w. map string_bytes w.items) o.database.now o.width o.port o.servers c.in-Ok.addresses.items c.deref.result.now c.in-Ok-words_of_children.lists.items c.deref-2.result.now c.in-Ok.ensures c.deref.ensures.value c.in-Ok-words_of_children.ensures c.deref-2.ensures.value in
-    subst (λ (d : DemoOrder). StartsSome (words_of_children d) start end) c.order.view_is
-    (subst (λ l. StartsSome l start end) words c.in_default-start_children.ensures.failed)
-
--- the plan is one, of as many servers as there are addresses
-pub invariant_of-fetching : goal.invariant_of-fetching
-invariant_of-fetching g c =
-    let o = c.order.inside in
-    let size = size_of_addresses string_bytes c.in-Ok.addresses.items c.deref-3.result.now o.port o.servers c.in-Ok.ensures c.deref-3.ensures.value in
-    let same = ap (λ (p : FetchPlan). p.n) (c.plan.ensures.plan ∙ ap plan_of (sym c.order.view_is)) in
-    let rows = ap (λ (p : FetchPlan). p.r) (c.plan.ensures.plan ∙ ap plan_of (sym c.order.view_is)) in
-    (c.plan.ensures.ranges, one_block c.plan.result o.block c.plan.ensures.ranges (omega (arith, c.order.invariant.2, rows)), size ∙ sym same)
+    let at = ap (map string_bytes) c.deref-2.ensures.value ∙ c.in-Ok.ensures in
+    let words = words_are string_bytes (λ w. map string_bytes w.items) o.database.now o.width o.port o.servers c.in-Ok.addresses.items c.deref.result.now c.in-Ok-words_of_children.lists.items c.deref-3.result.now c.in-Ok.ensures c.deref.ensures.value c.in-Ok-words_of_children.ensures c.deref-3.ensures.value in
+    record {
+      addresses = subst (λ (d : DemoOrder). map string_bytes c.deref-2.result.now ≡ addresses_from d.port d.servers) c.order.view_is at;
+      words = subst (λ (d : DemoOrder). map (λ w. map string_bytes w.items) c.deref-3.result.now ≡ words_of_children d) c.order.view_is words;
+    }
 
 pub returns : goal.returns
-returns g c =
-    let o = c.order.inside in
-    let start = g.P.Ports.world c.args.ports.now in
-    let mid = g.P.Ports.world c.start_children.new.ports in
-    let end = g.P.Ports.world c.fetch_block.new.ports in
-    let view : DemoOrder = record {
-      port = o.port;
-      database = o.database.now;
-      rows = o.rows;
-      width = o.width;
-      block = o.block;
-      servers = o.servers;
-      degree = o.degree;
-      agree = o.agree;
-      coins = o.coins.now;
-    } in
-    let words = words_are string_bytes (λ w. map string_bytes w.items) o.database.now o.width o.port o.servers c.in-Ok.addresses.items c.deref.result.now c.in-Ok-words_of_children.lists.items c.deref-2.result.now c.in-Ok.ensures c.deref.ensures.value c.in-Ok-words_of_children.ensures c.deref-2.ensures.value in
-    let plan = c.plan.ensures.plan ∙ ap plan_of (sym c.order.view_is) in
-    let ends = subst (λ (p : FetchPlan). FetchEnds (record { plan = p; blocks = o.block ∷ []; addresses = map string_bytes c.deref-3.result.now; coins = o.coins.now; keep = None; report = false }) c.fetch_block.result mid end) plan c.fetch_block.ensures.ends in
-    let others = subst (λ (p : FetchPlan). TouchesFetch p.n mid end) plan c.fetch_block.ensures.others in
-    subst (λ (d : DemoOrder). DemoOutcome d c.fetch_block.result start end) c.order.view_is
-    (demonstrates view (map string_bytes c.deref-3.result.now) _ c.fetch_block.result start mid end (ap (map string_bytes) c.deref-3.ensures.value ∙ c.in-Ok.ensures) words c.in-Ok-start_children.ensures.ok ends others)
+returns g c = c.fetch_from_children.ensures

@@ -53,3 +53,12 @@ pub returns-clause-guests : goal.returns-clause-guests
 returns-clause-guests g c =
     let all : c.guests.counter ≡ c.args.guests = omega arith in
     subst (λ (n : ℕ). FrontsGuests c.args.front.now n (g.P.Ports.world c.args.ports.now) (g.P.Ports.world c.guests.ports)) all c.guests.invariant.guests
+
+pub returns-clause-door : goal.returns-clause-door
+returns-clause-door g c = c.guests.invariant.door
+
+pub returns-clause-unnamed : goal.returns-clause-unnamed
+returns-clause-unnamed g c = c.guests.invariant.unnamed
+
+pub returns-clause-others : goal.returns-clause-others
+returns-clause-others g c = c.guests.invariant.others

@@ -1,6 +1,6 @@
-use Rattle.std.proofs.Common.{sym, subst}
+use Rattle.std.proofs.Common.{◌∙◌, inl, lit<, sym, subst, arith}
 use Rattle.std.specs.Prelude.{Err}
-use Rattle.port_rules.specs.Number.{COINS}
+use Rattle.port_rules.specs.Number.{COINS, OUTPUT}
 use Rattle.key_fetches.specs.LookedUp.{LooksUp}
 use Rattle.commands.specs.Faults.{of_fetch}
 use Rattle.commands.specs.LookUpOrder.{LookUpOrder}
@@ -27,3 +27,35 @@ returns-in-Err-clause-ends g c =
     subst (λ (s : Status). LookUpEnds c.args.order.now s old new) (sym c.into.ensures)
     (subst (λ (o : LookUpOrder). LookUpEnds o (of_fetch c.in-Err.fault) old new) c.order.view_is
     (ends_with_fault _ _ _ _ c.order.invariant.0 c.in-Ok.ensures.ok c.open.ensures.others links c.in-Err.fault looked))
+
+pub returns-in_default-clause-ends : goal.returns-in_default-clause-ends
+returns-in_default-clause-ends g c = record {
+  part = inl (c.in_default.ensures.failed, c.open.ensures.others);
+  output = c.open.ensures.others.others OUTPUT (lit< tt) (λ e. omega (arith, e));
+}
+
+pub returns-in_default-clause-others : goal.returns-in_default-clause-others
+returns-in_default-clause-others g c =
+    let first = c.open.ensures.others in
+    record { others = λ q l to_tell to_toss to_ask. first.others q l to_toss; crowd = first.crowd; started = first.started }
+
+pub returns-in-Err-clause-others : goal.returns-in-Err-clause-others
+returns-in-Err-clause-others g c =
+    let first = c.open.ensures.others in
+    let asked = c.look_up_once.ensures.others in
+    record {
+      others = λ q l to_tell to_toss to_ask. asked.others q l to_toss to_ask ∙ first.others q l to_toss;
+      crowd = asked.crowd ∙ first.crowd;
+      started = asked.started ∙ first.started;
+    }
+
+pub returns-in-Ok-look_up_once-clause-others : goal.returns-in-Ok-look_up_once-clause-others
+returns-in-Ok-look_up_once-clause-others g c =
+    let first = c.open.ensures.others in
+    let asked = c.look_up_once.ensures.others in
+    let told = c.report_end.ensures.others in
+    record {
+      others = λ q l to_tell to_toss to_ask. told.others q l to_tell ∙ asked.others q l to_toss to_ask ∙ first.others q l to_toss;
+      crowd = told.crowd ∙ asked.crowd ∙ first.crowd;
+      started = told.started ∙ asked.started ∙ first.started;
+    }

@@ -143,3 +143,12 @@ returns-in-Front g c =
     subst (λ (a : Asked). Outcome a c.relay_shards.result old new) (sym c.in-Front.is)
     (subst (λ (o : FrontOrder). FrontOutcome o c.relay_shards.result old new) c.new-in-Front.ensures
     (record { ends = c.relay_shards.ensures.ends; others = c.relay_shards.ensures.others; unnamed = c.relay_shards.ensures.unnamed }))
+
+pub new-requires-in-Serve : goal.new-requires-in-Serve
+new-requires-in-Serve g c = subst InRange c.in-Serve.is c.requires
+
+pub new-requires-in-Split : goal.new-requires-in-Split
+new-requires-in-Split g c = subst InRange c.in-Split.is c.requires
+
+pub new-requires-in-Front : goal.new-requires-in-Front
+new-requires-in-Front g c = subst InRange c.in-Front.is c.requires

@@ -1,5 +1,7 @@
+use Rattle.std.proofs.lemmas.Result.{err_from_is_err_and}
 use Rattle.block_decoder.specs.Text.{text}
-use Rattle.port_rules.proofs.Pieces.{written_next, written_both}
+use Rattle.port_rules.proofs.Cells.{touches_more}
+use Rattle.port_rules.proofs.Pieces.{written_both, written_first, written_next}
 use Rattle.commands.proofs.selfrun_command.write_report.Goals as goal
 
 pub returns-clause-written : goal.returns-clause-written
@@ -8,3 +10,17 @@ returns-clause-written g c =
     let after = g.P.Ports.world c.write_all.new.ports in
     let end = written_both 1 c.as_bytes.result.now c.write_all.result between after c.write_all.ensures.ok c.write_all.ensures.failed in
     rw (← c.as_bytes.ensures.value) (written_next 1 (text c.args.verdict.now) c.as_bytes.result.now c.write_all.result _ between after c.in_ok-write_verdict.ensures.written end)
+
+pub returns-in_err-write_verdict-clause-written : goal.returns-in_err-write_verdict-clause-written
+returns-in_err-write_verdict-clause-written g c =
+    let p = err_from_is_err_and c.from_residual.result c.from_residual.ensures.1 in
+    rw p.1 (written_first 1 (text c.args.verdict.now) _ _ _ c.in_err-write_verdict.ensures.written)
+
+pub returns-in_err-write_verdict-clause-others : goal.returns-in_err-write_verdict-clause-others
+returns-in_err-write_verdict-clause-others g c = c.in_err-write_verdict.ensures.others
+
+pub returns-then-is_empty-clause-others : goal.returns-then-is_empty-clause-others
+returns-then-is_empty-clause-others g c = c.in_ok-write_verdict.ensures.others
+
+pub returns-clause-others : goal.returns-clause-others
+returns-clause-others g c = touches_more _ _ _ _ c.in_ok-write_verdict.ensures.others c.write_all.ensures.others

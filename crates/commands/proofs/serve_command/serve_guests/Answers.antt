@@ -57,3 +57,12 @@ pub returns-clause-turns : goal.returns-clause-turns
 returns-clause-turns g c =
     let all : c.guests.counter ≡ c.args.guests = omega arith in
     subst (λ (n : ℕ). AttendsInTurn c.args.desk.now n (g.P.Ports.world c.args.ports.now) (g.P.Ports.world c.guests.ports)) all c.guests.invariant.turns
+
+pub returns-clause-door : goal.returns-clause-door
+returns-clause-door g c = c.guests.invariant.door
+
+pub returns-clause-unnamed : goal.returns-clause-unnamed
+returns-clause-unnamed g c = c.guests.invariant.unnamed
+
+pub returns-clause-others : goal.returns-clause-others
+returns-clause-others g c = c.guests.invariant.others
