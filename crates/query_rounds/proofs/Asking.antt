@@ -1,13 +1,14 @@
 -- Asking every server, and then taking the answer of each.
-use Rattle.std.proofs.Common.{◌≡◌, ◌∙◌, inl, inr, ℕ, ◌+◌, ◌≤◌, List, [], ◌++◌, length, take, slice_index_or, ap, ap₂, sym, subst, arith}
+use Rattle.std.proofs.Common.{◌≡◌, ◌∙◌, inl, inr, ℕ, ◌+◌, ◌≤◌, ◌<◌, List, [], ◌++◌, length, take, set, slice_index_or, ap, ap₂, sym, subst, arith}
 use Rattle.std.specs.Prelude.{Bool, true, false, Option, Some, None, IfSome}
+use Rattle.std.proofs.lemmas.List.{get_or-set_other, get_or-set_same}
 use Rattle.port_rules.specs.World.{Cell, World}
 use Rattle.port_rules.specs.declared.port.TheConstants.{PORT_COUNT}
 use Rattle.port_rules.specs.Number.{COINS, link}
 use Rattle.port_rules.specs.Moves.{Rose, Touches, took, counted}
 use Rattle.port_rules.specs.Whole.{FailsShort}
 use Rattle.port_rules.specs.Each.{TouchesRange}
-use Rattle.port_rules.proofs.Ranges.{each_before, range_still}
+use Rattle.port_rules.proofs.Ranges.{each_as, each_before, each_more, range_still}
 use Rattle.wire_frames.specs.Header.{query_header}
 use Rattle.wire_frames.specs.Session.{Transcript}
 use Rattle.wire_frames.specs.Sizes.{answer_len}
@@ -64,6 +65,19 @@ each_asked p blocks addresses coins n reached session w v u first second = recor
       (slice_index_or reached i false) (slice_index_or session.records i None)
       (w.at (link 1 + i)) (v.at (link 1 + i)) (u.at (link 1 + i)) (first.each i l) (second.each i l);
 }
+
+-- one more server was sent its query
+pub sent_more : (p : FetchPlan) (blocks : List ℕ) (addresses : List (List ℕ)) (coins : List ℕ) (n at : ℕ) (reached : List Bool) (mark : Bool)
+    (w v u : World) → at ≡ n → at < length reached → n < 255 → SentEach p blocks addresses coins n reached w v → TouchesRange (link 1) n w v
+    → LinkSent (slice_index_or addresses n []) (sent p blocks coins (n + 1)) mark (v.at (link 1 + n)) (u.at (link 1 + n)) → Touches (link 1 + n) v u
+    → SentEach p blocks addresses coins (n + 1) (set reached at mark) w u
+sent_more p blocks addresses coins n at reached mark w v u here within few first range last touch =
+    let Sends = λ (i : ℕ) (was : Bool). LinkSent (slice_index_or addresses i []) (sent p blocks coins (i + 1)) was in
+    let marked : slice_index_or (set reached at mark) n false ≡ mark = ap (λ (k : ℕ). slice_index_or (set reached at mark) k false) (sym here) ∙ get_or-set_same reached at mark false within in
+    each_more (λ i. Sends i (slice_index_or (set reached at mark) i false)) (link 1) n w v u (omega (arith, few))
+    (each_as (λ i. Sends i (slice_index_or reached i false)) (λ i. Sends i (slice_index_or (set reached at mark) i false)) (link 1) n w v
+    (λ i l c d s. subst (λ (was : Bool). Sends i was c d) (sym (get_or-set_other reached at i mark false (λ e. omega (arith, e, here, l)))) s) first)
+    range touch (subst (λ (was : Bool). Sends n was (v.at (link 1 + n)) (u.at (link 1 + n))) (sym marked) last)
 
 -- two rounds over the same ports touch those alone
 pub range_again : (base n : ℕ) (w v u : World) → TouchesRange base n w v → TouchesRange base n v u → TouchesRange base n w u
