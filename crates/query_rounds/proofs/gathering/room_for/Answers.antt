@@ -10,28 +10,28 @@ abbrev fresh : SessionParams → Transcript
 fresh params = record { params = params; records = [] }
 
 pub returns-in_err-new-clause-session : goal.returns-in_err-new-clause-session
-returns-in_err-new-clause-session c = IfOk-from_err c.from_residual.result _ c.from_residual.ensures.0
+returns-in_err-new-clause-session c = IfOk-from_err c.from_residual-in_err-new.result _ c.from_residual-in_err-new.ensures.0
 
 pub returns-in_err-new-clause-frame : goal.returns-in_err-new-clause-frame
-returns-in_err-new-clause-frame c = IfOk-from_err c.from_residual.result _ c.from_residual.ensures.0
+returns-in_err-new-clause-frame c = IfOk-from_err c.from_residual-in_err-new.result _ c.from_residual-in_err-new.ensures.0
 
 pub returns-in_err-new-clause-answer : goal.returns-in_err-new-clause-answer
-returns-in_err-new-clause-answer c = IfOk-from_err c.from_residual.result _ c.from_residual.ensures.0
+returns-in_err-new-clause-answer c = IfOk-from_err c.from_residual-in_err-new.result _ c.from_residual-in_err-new.ensures.0
 
 pub returns-in_err-new-clause-reached : goal.returns-in_err-new-clause-reached
-returns-in_err-new-clause-reached c = IfOk-from_err c.from_residual.result _ c.from_residual.ensures.0
+returns-in_err-new-clause-reached c = IfOk-from_err c.from_residual-in_err-new.result _ c.from_residual-in_err-new.ensures.0
 
 pub returns-in_err-vec-clause-session : goal.returns-in_err-vec-clause-session
-returns-in_err-vec-clause-session c = IfOk-from_err c.from_residual-in_err-vec.result _ c.from_residual-in_err-vec.ensures.0
+returns-in_err-vec-clause-session c = IfOk-from_err c.from_residual.result _ c.from_residual.ensures.0
 
 pub returns-in_err-vec-clause-frame : goal.returns-in_err-vec-clause-frame
-returns-in_err-vec-clause-frame c = IfOk-from_err c.from_residual-in_err-vec.result _ c.from_residual-in_err-vec.ensures.0
+returns-in_err-vec-clause-frame c = IfOk-from_err c.from_residual.result _ c.from_residual.ensures.0
 
 pub returns-in_err-vec-clause-answer : goal.returns-in_err-vec-clause-answer
-returns-in_err-vec-clause-answer c = IfOk-from_err c.from_residual-in_err-vec.result _ c.from_residual-in_err-vec.ensures.0
+returns-in_err-vec-clause-answer c = IfOk-from_err c.from_residual.result _ c.from_residual.ensures.0
 
 pub returns-in_err-vec-clause-reached : goal.returns-in_err-vec-clause-reached
-returns-in_err-vec-clause-reached c = IfOk-from_err c.from_residual-in_err-vec.result _ c.from_residual-in_err-vec.ensures.0
+returns-in_err-vec-clause-reached c = IfOk-from_err c.from_residual.result _ c.from_residual.ensures.0
 
 pub returns-in_err-vec-2-clause-session : goal.returns-in_err-vec-2-clause-session
 returns-in_err-vec-2-clause-session c = IfOk-from_err c.from_residual-in_err-vec-2.result _ c.from_residual-in_err-vec-2.ensures.0
