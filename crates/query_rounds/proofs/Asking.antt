@@ -1,13 +1,14 @@
 -- Asking every server, and then taking the answer of each.
-use Rattle.std.proofs.Common.{◌≡◌, ◌∙◌, inl, inr, ℕ, ◌+◌, ◌≤◌, List, [], ◌++◌, length, take, slice_index_or, ap, ap₂, sym, subst, arith}
+use Rattle.std.proofs.Common.{◌≡◌, ◌∙◌, inl, inr, ℕ, ◌+◌, ◌≤◌, ◌<◌, List, [], ◌∷◌, ◌++◌, length, take, set, slice_index_or, ap, ap₂, sym, subst, arith}
 use Rattle.std.specs.Prelude.{Bool, true, false, Option, Some, None, IfSome}
+use Rattle.std.proofs.lemmas.List.{get_or-append-add, get_or-set_other, get_or-set_same, get_or_append_left}
 use Rattle.port_rules.specs.World.{Cell, World}
 use Rattle.port_rules.specs.declared.port.TheConstants.{PORT_COUNT}
 use Rattle.port_rules.specs.Number.{COINS, link}
 use Rattle.port_rules.specs.Moves.{Rose, Touches, took, counted}
 use Rattle.port_rules.specs.Whole.{FailsShort}
 use Rattle.port_rules.specs.Each.{TouchesRange}
-use Rattle.port_rules.proofs.Ranges.{each_before, range_still}
+use Rattle.port_rules.proofs.Ranges.{each_as, each_before, each_more, range_still}
 use Rattle.wire_frames.specs.Header.{query_header}
 use Rattle.wire_frames.specs.Session.{Transcript}
 use Rattle.wire_frames.specs.Sizes.{answer_len}
@@ -15,7 +16,7 @@ use Rattle.query_rounds.specs.declared.plan.FetchPlan.{FetchPlan}
 use Rattle.query_rounds.specs.Plan.{need, params_of, query_params}
 use Rattle.query_rounds.specs.Sent.{sent, header_to, payload_for, queries_from, session_number}
 use Rattle.query_rounds.specs.Link.{LinkAsked, LinkBreaks, LinkSent, LinkTaken, FailsToHand}
-use Rattle.query_rounds.specs.Rounds.{SentEach, TakenEach}
+use Rattle.query_rounds.specs.Rounds.{SentEach, TakenEach, TakesNext}
 use Rattle.port_rules.specs.Tossed.{Tossed}
 use Rattle.query_rounds.specs.Gathered.{AskedEach, AsksWith}
 use Rattle.query_rounds.proofs.Schemes.{payload_of_session}
@@ -64,6 +65,37 @@ each_asked p blocks addresses coins n reached session w v u first second = recor
       (slice_index_or reached i false) (slice_index_or session.records i None)
       (w.at (link 1 + i)) (v.at (link 1 + i)) (u.at (link 1 + i)) (first.each i l) (second.each i l);
 }
+
+-- one more server was sent its query
+pub sent_more : (p : FetchPlan) (blocks : List ℕ) (addresses : List (List ℕ)) (coins : List ℕ) (n at : ℕ) (reached : List Bool) (mark : Bool)
+    (w v u : World) → at ≡ n → at < length reached → n < 255 → SentEach p blocks addresses coins n reached w v → TouchesRange (link 1) n w v
+    → LinkSent (slice_index_or addresses n []) (sent p blocks coins (n + 1)) mark (v.at (link 1 + n)) (u.at (link 1 + n)) → Touches (link 1 + n) v u
+    → SentEach p blocks addresses coins (n + 1) (set reached at mark) w u
+sent_more p blocks addresses coins n at reached mark w v u here within few first range last touch =
+    let Sends = λ (i : ℕ) (was : Bool). LinkSent (slice_index_or addresses i []) (sent p blocks coins (i + 1)) was in
+    let marked : slice_index_or (set reached at mark) n false ≡ mark = ap (λ (k : ℕ). slice_index_or (set reached at mark) k false) (sym here) ∙ get_or-set_same reached at mark false within in
+    each_more (λ i. Sends i (slice_index_or (set reached at mark) i false)) (link 1) n w v u (omega (arith, few))
+    (each_as (λ i. Sends i (slice_index_or reached i false)) (λ i. Sends i (slice_index_or (set reached at mark) i false)) (link 1) n w v
+    (λ i l c d s. subst (λ (was : Bool). Sends i was c d) (sym (get_or-set_other reached at i mark false (λ e. omega (arith, e, here, l)))) s) first)
+    range touch (subst (λ (was : Bool). Sends n was (v.at (link 1 + n)) (u.at (link 1 + n))) (sym marked) last)
+
+-- one more server's answer was taken
+pub taken_more : (most n at : ℕ) (reached : List Bool) (was : Bool) (before after : Transcript) (w v u : World) → at ≡ n → was ≡ slice_index_or reached at false → length before.records ≡ n → n < 255
+    → TakenEach most n reached before w v → TouchesRange (link 1) n w v → TakesNext most was before after v u → Touches (link 1 + n) v u
+    → TakenEach most (n + 1) reached after w u
+taken_more most n at reached was before after w v u here was_is count few each range next touch =
+    let Takes = λ (i : ℕ) (answer : Option (List ℕ)). LinkTaken most (slice_index_or reached i false) answer in
+    let records = ap (λ (t : Transcript). t.records) next.session in
+    let mark : was ≡ slice_index_or reached n false = was_is ∙ ap (λ (k : ℕ). slice_index_or reached k false) here in
+    let last : slice_index_or after.records n None ≡ next.answer =
+    ap (λ (l : List (Option (List ℕ))). slice_index_or l n None) records ∙ ap (λ (k : ℕ). slice_index_or (before.records ++ next.answer ∷ []) k None) (omega (arith, count)) ∙ get_or-append-add before.records (next.answer ∷ []) 0 None in
+    let taken = subst (λ (k : ℕ). LinkTaken most was next.answer (v.at (link 1 + k)) (u.at (link 1 + k))) count next.taken in
+    each_more (λ i. Takes i (slice_index_or after.records i None)) (link 1) n w v u (omega (arith, few))
+    (each_as (λ i. Takes i (slice_index_or before.records i None)) (λ i. Takes i (slice_index_or after.records i None)) (link 1) n w v
+    (λ i l c d s. subst (λ (o : Option (List ℕ)). Takes i o c d) (sym (ap (λ (rs : List (Option (List ℕ))). slice_index_or rs i None) records ∙ get_or_append_left before.records (next.answer ∷ []) None i (omega (arith, l, count)))) s) each)
+    range touch
+    (subst (λ (o : Option (List ℕ)). Takes n o (v.at (link 1 + n)) (u.at (link 1 + n))) (sym last)
+    (subst (λ (b : Bool). LinkTaken most b next.answer (v.at (link 1 + n)) (u.at (link 1 + n))) mark taken))
 
 -- two rounds over the same ports touch those alone
 pub range_again : (base n : ℕ) (w v u : World) → TouchesRange base n w v → TouchesRange base n v u → TouchesRange base n w u

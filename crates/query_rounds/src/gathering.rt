@@ -13,14 +13,14 @@ use port_rules::Ports;
 use std::alloc::{AllocError, Global};
 use wire_frames::Session;
 
-/// The memory that a fetch takes, beside the coins, before anything is touched: a session with no record yet, room for
-/// one query and for one answer, and for each server a mark, whether it was reached.
+/// The memory that a fetch takes, beside the coins, before anything is touched: room for one query and for one answer,
+/// for each server a mark, whether it was reached, and a session with no record yet.
 #[derive(Drop)]
 struct Room {
-    session: Session,
     frame: Vec<u8>,
     answer: Vec<u8>,
     reached: Vec<bool>,
+    session: Session,
 }
 
 /// Takes that memory.
@@ -32,10 +32,10 @@ fn room_for(alloc: Global, queries: &Queries) -> Result<Room, AllocError>
     ensures reached { IfOk result (λ room. vec_len room.reached ≡ queries.now.plan.n) }
 {
     Ok(Room {
-        session: Session::new(alloc, queries.params())?,
         frame: vec![in alloc; 0; queries.frame_len()]?,
         answer: vec![in alloc; 0; queries.answer_len()]?,
         reached: vec![in alloc; false; usize::from(queries.servers())]?,
+        session: Session::new(alloc, queries.params())?,
     })
 }
 

@@ -1,7 +1,7 @@
 -- The header of a session that comes in pieces, and what is read behind it.
-use Rattle.std.proofs.Common.{◌≡◌, ℕ, ◌+◌, ◌-◌, ◌<◌, ◌≤◌, List, [], ◌++◌, length, take, drop, min, sym, subst, ap, ◌∙◌, arith, append_assoc, length-append}
+use Rattle.std.proofs.Common.{◌≡◌, ℕ, ◌+◌, ◌-◌, ◌<◌, ◌≤◌, List, [], ◌++◌, length, take, drop, min, sym, subst, ap, ap₂, ◌∙◌, arith, append_assoc, length-append}
 use Rattle.std.specs.Prelude.{Result, Err}
-use Rattle.std.proofs.lemmas.List.{length-take, take-append-drop, take_all, take_rest}
+use Rattle.std.proofs.lemmas.List.{length-take, take-append-drop, take-append-le, take_all, take_rest}
 use Rattle.wire_frames.specs.declared.sizes.TheConstants.{SESSION_HEADER_LEN}
 use Rattle.wire_frames.specs.declared.session.SessionParams.{SessionParams}
 use Rattle.wire_frames.specs.Form.{Starts, Reads}
@@ -52,6 +52,14 @@ piece_goes_on old piece count head read place t e h all =
     let goes = head_goes_on 28 head place header_behind.sized reads.0 all reads.1 in
     let whole : take count piece ≡ piece = take_all count piece (omega (arith, t.count_is, goes.0, ap length t.head_is, length-append old (take count piece), length-take count piece)) in
     (t.head_is ∙ ap (λ (l : List ℕ). old ++ l) whole, goes.0, goes.1)
+
+-- it is whole, and is given back for want of memory
+pub none_taken : (old piece filled read new : List ℕ) (count before : ℕ) (params : SessionParams) → new ≡ take before filled → before ≡ length old → filled ≡ old ++ take count piece → read ≡ filled → IsHeader read params
+    → (new ≡ old) × (SESSION_HEADER_LEN ≤ length (old ++ piece))
+none_taken old piece filled read new count before params cut is_before is is_read header = (
+  cut ∙ ap₂ (λ (n : ℕ) (l : List ℕ). take n l) is_before is ∙ take-append-le (length old) old (take count piece) (omega arith) ∙ take_all (length old) old (omega arith),
+  omega (arith, ap length header.spelled ∙ length-header params, ap length is_read, ap length is, length-append old (take count piece), length-append old piece, length-take count piece),
+)
 
 -- THE HEADER IS WHOLE, and the records behind it are read: what they make of the rest of the piece
 pub record IsWhole (old piece : List ℕ) (count : ℕ) (head read seen : List ℕ) (params : SessionParams) : Type 0 where

@@ -1,8 +1,8 @@
 -- A header that comes in pieces, behind bytes that begin a session: how far a piece is right.
-use Rattle.std.proofs.Common.{◌≡◌, ℕ, suc, ◌+◌, ◌-◌, ◌<◌, ◌≤◌, List, [], ◌++◌, length, take, drop, refl, sym, subst, ap, ◌∙◌, inl, inr, arith, append_assoc, length-append, length-drop}
+use Rattle.std.proofs.Common.{◌≡◌, ℕ, suc, ◌+◌, ◌-◌, ◌<◌, ◌≤◌, List, [], ◌++◌, length, take, drop, min, refl, sym, subst, ap, ◌∙◌, inl, inr, arith, append_assoc, length-append, length-drop}
 use Rattle.std.proofs.Math.Seq.{take-add, take-append-add}
 use Rattle.std.proofs.lemmas.Bool.{cases_lt}
-use Rattle.std.proofs.lemmas.List.{append-nil, length-take-le, nil_from_length, take-append-le, take_all}
+use Rattle.std.proofs.lemmas.List.{append-nil, length-take, length-take-le, nil_from_length, take-append-le, take_all}
 use Rattle.wire_frames.specs.Form.{Starts, StopsAt}
 use Rattle.wire_frames.specs.RecordsReader.{Refuses}
 use Rattle.wire_frames.specs.Session.{IsSession}
@@ -19,6 +19,11 @@ take-behind_first : (first more : List ℕ) (n : ℕ) → length first ≤ n →
 take-behind_first first more n h =
     let split : n ≡ length first + (n - length first) = omega arith in
     ap (λ (m : ℕ). take m (first ++ more)) split ∙ take-append-add first more (n - length first)
+
+-- a header is filled up to its size, and no further
+pub filled_short : (old piece read filled : List ℕ) (count size : ℕ) → read ≡ filled → filled ≡ old ++ take count piece → count ≡ min (size - length old) (length piece) → length old < size → length read ≤ size
+filled_short old piece read filled count size is_read is count_is short =
+    omega (arith, ap length is_read, ap length is, length-append old (take count piece), length-take count piece, count_is, short)
 
 -- the bytes before a piece were right
 pub place_behind : {A : Type 0} {F : List ℕ → A → Type 0} (head more : List ℕ) (place : ℕ) → Starts F head → StopsAt F (head ++ more) place → length head ≤ place

@@ -13,11 +13,12 @@ use Rattle.wire_frames.specs.Layout.{IsRecordHeader, record_header}
 use Rattle.wire_frames.specs.Limits.{IsInRange}
 use Rattle.wire_frames.specs.Records.{Kept, nothing_kept, closed_by, extended}
 use Rattle.wire_frames.specs.RecordsReader.{Advances, IsOpen, IsSteady, IsInHeader, IsInBytes, Refuses, bytes_so_far}
-use Rattle.wire_frames.specs.Session.{Transcript, IsSession, Fits, record_bytes, session_bytes}
+use Rattle.wire_frames.specs.Session.{Transcript, IsSession, IsUnderWay, Fits, record_bytes, session_bytes}
 use Rattle.wire_frames.proofs.Beginnings.{so_far, AllFit, records_begin, record_begins, record_part, bytes_begin, nothing_behind, record_short, bytes_short, session_bytes-push}
 use Rattle.wire_frames.proofs.Digits.{IsByte}
 use Rattle.wire_frames.proofs.PartialHeaders.{IsBehind, place_behind, head_refuses, head_goes_on}
 use Rattle.wire_frames.proofs.Parsing.{length-record_header}
+use Rattle.wire_frames.proofs.UnderWay.{under_way_whole}
 
 -- what stands last stands behind all before it
 last_behind : (a b c : List ℕ) → a ++ (b ++ c) ≡ (a ++ b) ++ c
@@ -74,6 +75,24 @@ open_short r is_open few t h = elim is_open.part [
   | inr part ↦
       bytes_short r.params r.records.closed r.records.current r.left t is_open.steady.range is_open.steady.fits few part.0.most part.1
       (subst (λ (l : List ℕ). IsSession l t) (seen_bytes r part.0) h)
+]
+
+-- it is a session once all records have come
+pub open_whole : (r : RecordsReader) → IsOpen r → r.params.n ≤ length r.records.closed → IsUnderWay r.params r.records × IsSession (bytes_so_far r) (so_far r.params r.records.closed)
+open_whole r is_open all = elim is_open.part [
+  | inl part ↦
+      let steady = is_open.steady in
+      let same : length r.records.closed ≡ r.params.n = omega (arith, all, steady.few) in
+      let front = session_bytes (so_far r.params r.records.closed) in (
+        under_way_whole r.params r.records steady.range same steady.fits part.none_begun,
+        record {
+          range = steady.range;
+          all = same;
+          fits = steady.fits;
+          spelled = seen_header r part.none_begun ∙ ap (λ (l : List ℕ). front ++ l) (part.nothing same) ∙ append-nil front;
+        },
+      )
+  | inr part ↦ absurd (omega (arith, part.0.few, all))
 ]
 
 -- THE NEXT RECORD IS WHOLE: with it the reader is before the header of another

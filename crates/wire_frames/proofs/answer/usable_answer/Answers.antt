@@ -1,5 +1,8 @@
-use Rattle.std.proofs.Common.{◌≡◌, ◌∙◌, ℕ, ◌*◌, ◌+◌, Bool, true, false, List, length, take, bytes_eq, refl, sym, ap, ap₂, arith, ne_eqb}
-use Rattle.std.specs.Prelude.{◌==◌, ◌&&◌, if◌then◌else◌, Option, None}
+use Rattle.std.proofs.Common.{◌≡◌, ◌∙◌, ℕ, ◌*◌, ◌+◌, ◌^◌, ◌<◌, Fits, w64, Bool, true, false, List, length, take, drop, bytes_eq, refl, sym, ap, ap₂, arith, ne_eqb, lit<}
+use Rattle.std.proofs.lemmas.Bool.{eq-eqb}
+use Rattle.std.proofs.lemmas.Nat.{mul-le}
+use Rattle.std.specs.Option.{option_copied}
+use Rattle.std.specs.Prelude.{◌==◌, ◌&&◌, if◌then◌else◌, Option, Some, None}
 use Rattle.wire_frames.specs.Answer.{usable}
 use Rattle.wire_frames.specs.Header.{answer_header}
 use Rattle.wire_frames.specs.Sizes.{answer_len}
@@ -27,6 +30,41 @@ other_length bytes payload q count whole is other =
 other_header : (bytes start header : List ℕ) (q : QueryHeader) → start ≡ take FRAME_HEADER_LEN bytes → header ≡ answer_header q 0 → bytes_eq start header ≡ false → None ≡ usable bytes q
 other_header bytes start header q begins is other =
     fails_first _ _ _ (ap₂ bytes_eq (sym begins) (sym is) ∙ other)
+
+-- nor are too few bytes
+too_short : (bytes : List ℕ) (q : QueryHeader) → length bytes < FRAME_HEADER_LEN → None ≡ usable bytes q
+too_short bytes q short = fails_second _ (length bytes == answer_len q.count q.s) _ (ne_eqb _ _ (λ e. omega (arith, e, short)))
+
+-- a test of two parts that both hold
+holds : {A : Type 0} (a b : Bool) (o : Option A) → a ≡ true → b ≡ true → o ≡ (if a && b then o else None)
+holds true true o e e' = refl
+holds true false o e e' = cc
+holds false b o e e' = cc
+
+-- bytes with the right header and length are a usable answer
+whole_answer : (bytes start payload header : List ℕ) (q : QueryHeader) (count : ℕ) → start ≡ take FRAME_HEADER_LEN bytes → payload ≡ drop FRAME_HEADER_LEN bytes → length payload + FRAME_HEADER_LEN ≡ length bytes
+    → header ≡ answer_header q 0 → bytes_eq start header ≡ true → count ≡ q.count → length payload ≡ count * q.s → Some payload ≡ usable bytes q
+whole_answer bytes start payload header q count begins ends whole is same is_count size =
+    let long : length bytes ≡ answer_len q.count q.s = omega (arith, whole, size, ap (λ (n : ℕ). n * q.s) is_count) in
+    ap (λ (l : List ℕ). Some l) ends ∙ holds _ _ (Some (drop FRAME_HEADER_LEN bytes)) (ap₂ bytes_eq (sym begins) (sym is) ∙ same) (eq-eqb _ _ long)
+
+-- as many bytes as a header asks for are a word's number
+fits_len : (count blocks width : ℕ) → count ≡ blocks → blocks < 2 ^ 8 → width < 2 ^ 32 → Fits w64 (count * width)
+fits_len count blocks width is few narrow = omega (arith, mul-le count width (2 ^ 8) (2 ^ 32) (omega (arith, is, few)) (omega (arith, narrow)))
+
+pub split_first_chunk-requires : goal.split_first_chunk-requires
+split_first_chunk-requires c = lit< tt
+
+pub returns-in_err-start : goal.returns-in_err-start
+returns-in_err-start c = ap option_copied c.from_residual.ensures ∙ too_short c.args.bytes.now c.args.header.now c.in_err-start.ensures.cases
+
+pub overflow_mul-len : goal.overflow_mul-len
+overflow_mul-len c = fits_len c.from.result c.args.header.now.count c.args.header.now.s c.from.ensures (omega arith) (omega arith)
+
+pub returns-then-payload-len : goal.returns-then-payload-len
+returns-then-payload-len c =
+    whole_answer c.args.bytes.now c.in_ok-start.start.now c.in_ok-start.payload.now c.answer_header.result c.args.header.now c.from.result c.in_ok-start.ensures.cases.0 c.in_ok-start.ensures.cases.1
+    c.in_ok-start.ensures.cases.2 c.answer_header.ensures (sym c.eq.ensures ∙ c.if-eq.true) c.from.ensures c.if-payload-len.true
 
 pub returns-else-eq : goal.returns-else-eq
 returns-else-eq c = elim c.else-eq.branch [

@@ -1,9 +1,25 @@
-use Rattle.std.proofs.Common.{◌≡◌, ℕ, subst, arith}
+use Rattle.std.proofs.Common.{◌≡◌, ℕ, ◌≤◌, ◌<◌, ◌^◌, Fits, w32, subst, arith, lit≤, lit<}
 use Rattle.wire_frames.specs.Layout.{IsRecordHeader}
 use Rattle.wire_frames.proofs.Chains.{Leads, leads-start, leads-stop, no_more}
+use Rattle.wire_frames.proofs.Spellings.{is_field}
 use Rattle.wire_frames.proofs.Prefixes.{reads-exit}
 use Rattle.wire_frames.proofs.RecordLayout.{at_len, record_into, record_back, some_present, some_len, to_present, to_len}
 use Rattle.wire_frames.proofs.layout.read_record_header.Goals as goal
+
+fits_word : {n m : ℕ} → n ≤ m → m < 2 ^ 32 → Fits w32 n
+fits_word few small = omega (arith, few, small)
+
+pub number_at-requires-2 : goal.number_at-requires-2
+number_at-requires-2 c = is_field _ _ _ (lit≤ tt) (lit≤ tt) (lit< tt)
+
+pub number_at-requires-3 : goal.number_at-requires-3
+number_at-requires-3 c = is_field _ _ _ (lit≤ tt) (omega arith) c.ranges.most.fits
+
+pub number_at-requires-then-present-eq0 : goal.number_at-requires-then-present-eq0
+number_at-requires-then-present-eq0 c = is_field _ _ _ (lit≤ tt) (lit≤ tt) (lit< tt)
+
+pub overflow_cast-result : goal.overflow_cast-result
+overflow_cast-result c = fits_word c.in_ok-len.ensures.most c.ranges.most.fits
 
 pub returns-in_err-number_at : goal.returns-in_err-number_at
 returns-in_err-number_at c =

@@ -1,7 +1,40 @@
-use Rattle.std.proofs.Common.{ℕ, ◌<◌, ◌≤◌, subst, arith}
+use Rattle.std.proofs.Common.{ℕ, ◌≡◌, ◌++◌, ◌<◌, ◌≤◌, List, length, min, take, ap, subst, arith, length-append, length-drop}
+use Rattle.std.proofs.lemmas.List.{take_rest}
 use Rattle.wire_frames.specs.RecordsReader.{bytes_so_far}
-use Rattle.wire_frames.proofs.HeaderPieces.{piece_after, piece_refuses, piece_goes_on, whole_feeds, whole_refuses}
+use Rattle.wire_frames.proofs.HeaderPieces.{piece_after, piece_refuses, piece_goes_on, none_taken, whole_feeds, whole_refuses}
+use Rattle.wire_frames.proofs.PartialHeaders.{filled_short}
 use Rattle.wire_frames.proofs.reader.feed_header.Goals as goal
+
+-- no byte before the piece is lost
+before_filled : (old piece filled : List ℕ) (count before : ℕ) → before ≡ length old → filled ≡ old ++ take count piece → before ≤ length filled
+before_filled old piece filled count before is_before is = omega (arith, is_before, ap length is, length-append old (take count piece))
+
+few_taken : (count size len : ℕ) → count ≡ min size len → count ≤ len
+few_taken count size len is = omega (arith, is)
+
+pub read_header-requires : goal.read_header-requires
+read_header-requires c = filled_short c.args.head.now c.args.piece.now c.as_slice.result.now c.fill-count.new.self c.fill-count.result _ c.as_slice.ensures c.fill-count.ensures.bytes c.fill-count.ensures.count c.requires.short
+
+pub new-requires : goal.new-requires
+new-requires c = c.in-Ok.ensures.range
+
+pub truncate-requires : goal.truncate-requires
+truncate-requires c = before_filled c.args.head.now c.args.piece.now c.fill-count.new.self c.fill-count.result c.len-before.result c.len-before.ensures c.fill-count.ensures.bytes
+
+pub slice_bounds-feed-start : goal.slice_bounds-feed-start
+slice_bounds-feed-start c = few_taken _ _ _ c.fill-count.ensures.count
+
+pub feed-requires : goal.feed-requires
+feed-requires c = c.in-Ok-new.ensures.«open»
+
+pub overflow_add-result : goal.overflow_add-result
+overflow_add-result c =
+    omega (arith, c.in-Err-feed.ensures.bytes.before, ap length (take_rest c.args.piece.now c.fill-count.result), length-drop c.fill-count.result c.args.piece.now, c.fill-count.ensures.count)
+
+pub returns-in_default : goal.returns-in_default
+returns-in_default c =
+    none_taken c.args.head.now c.args.piece.now c.fill-count.new.self c.as_slice.result.now c.truncate.new.self c.fill-count.result c.len-before.result c.in-Ok.params
+    c.truncate.ensures c.len-before.ensures c.fill-count.ensures.bytes c.as_slice.ensures c.in-Ok.ensures
 
 pub overflow_sub-result : goal.overflow_sub-result
 overflow_sub-result c =

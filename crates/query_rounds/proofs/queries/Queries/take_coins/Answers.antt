@@ -1,9 +1,14 @@
-use Rattle.std.proofs.Common.{◌≡◌, ◌∙◌, ◌++◌, ℕ, List, length, take, drop, ap, sym, subst, arith}
+use Rattle.std.proofs.Common.{◌≡◌, ◌∙◌, ◌++◌, ◌<◌, ℕ, List, length, take, drop, ap, sym, subst, arith}
 use Rattle.std.proofs.lemmas.List.{take_at}
+use Rattle.query_rounds.specs.declared.plan.FetchPlan.{FetchPlan}
 use Rattle.query_rounds.specs.Plan.{need}
 use Rattle.query_rounds.specs.Queries.{Queries}
 use Rattle.query_rounds.specs.Tossed.{TakesCoins}
 use Rattle.query_rounds.proofs.queries.Queries.take_coins.Goals as goal
+
+-- a plan needs some coins
+some_needed : (given : ℕ) (plan : FetchPlan) (count : ℕ) → given ≡ need plan count → 0 < given
+some_needed given plan count is = omega (arith, is)
 
 -- the coins that were taken are all that there are
 pub returns-clause-taken : goal.returns-clause-taken
@@ -19,3 +24,26 @@ returns-clause-taken g c =
     ap length c.deref_mut.ensures.value ∙ c.self.invariant.size ∙ ap (λ (q : Queries). need q.plan (length q.blocks)) c.self.view_is in
     subst (λ (n : ℕ). TakesCoins n result (take len (new ++ drop (length new) c.self.inside.coins.items)) before after) needed
     (subst (λ (coins : List ℕ). TakesCoins given result coins before after) (sym (take_at new (drop (length new) c.self.inside.coins.items) len size)) c.take_coins.ensures.taken)
+
+pub take_coins-requires : goal.take_coins-requires
+take_coins-requires g c = some_needed _ c.self.inside.plan (length c.self.inside.blocks.now) (ap length c.deref_mut.ensures.value ∙ c.self.invariant.size)
+
+pub invariant_of-self : goal.invariant_of-self
+invariant_of-self g c =
+    let new = c.take_coins.new.coins in
+    let len = c.self.inside.coins.len in
+    let size : length new ≡ len = omega arith in
+    record {
+      plan = c.self.invariant.plan;
+      blocks = c.self.invariant.blocks;
+      size = ap length (take_at new (drop (length new) c.self.inside.coins.items) len size) ∙ c.take_coins.auto.coins ∙ ap length c.deref_mut.ensures.value ∙ c.self.invariant.size;
+    }
+
+pub returns-clause-plan : goal.returns-clause-plan
+returns-clause-plan g c = ap (λ (q : Queries). q.plan) c.self.view_is
+
+pub returns-clause-blocks : goal.returns-clause-blocks
+returns-clause-blocks g c = ap (λ (q : Queries). q.blocks) c.self.view_is
+
+pub returns-clause-others : goal.returns-clause-others
+returns-clause-others g c = c.take_coins.ensures.others

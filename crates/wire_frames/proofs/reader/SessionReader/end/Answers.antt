@@ -1,6 +1,8 @@
-use Rattle.std.proofs.Common.{inl, inr, subst, sym, ap, ◌∙◌}
+use Rattle.std.proofs.Common.{◌≡◌, inl, inr, subst, sym, ap, ◌∙◌}
 use Rattle.std.specs.Prelude.{Err, MatchOption}
+use Rattle.wire_frames.specs.declared.head.Head.{Head}
 use Rattle.wire_frames.specs.declared.reader.State.{State}
+use Rattle.wire_frames.specs.declared.reader.State.TheVariants.{Header, Records, Stopped}
 use Rattle.wire_frames.specs.declared.records_reader.RecordsReader.{RecordsReader}
 use Rattle.wire_frames.specs.RecordsReader.{bytes_so_far}
 use Rattle.wire_frames.specs.Session.{Transcript, IsSession}
@@ -8,6 +10,13 @@ use Rattle.wire_frames.specs.Reading.{Reading, Ends}
 use Rattle.wire_frames.specs.SessionReader.{IsSound, reading_of}
 use Rattle.wire_frames.proofs.SessionStates.{ends_records, ends_before}
 use Rattle.wire_frames.proofs.reader.SessionReader.end.Goals as goal
+
+-- records are no header, and not the end
+not_header : (state : State) (head : Head) (r : RecordsReader) → state ≡ Header head → state ≡ Records r → ⊥
+not_header state head r e e' = cc
+
+not_stopped : (state : State) (r : RecordsReader) → state ≡ Stopped → state ≡ Records r → ⊥
+not_stopped state r e e' = cc
 
 pub returns-in-Records : goal.returns-in-Records
 returns-in-Records c =
@@ -21,6 +30,6 @@ pub returns-in-Header : goal.returns-in-Header
 returns-in-Header c =
     subst (λ (reading : Reading). Ends reading (Err (record { place = c.self.inside.taken }))) c.self.view_is
     (ends_before c.self.inside.taken c.self.inside.state c.self.invariant (λ r is. elim c.in-Header.is [
-      | inl header ↦ cc
-      | inr stopped ↦ cc
+      | inl header ↦ not_header c.self.inside.state header.0 r header.1 is
+      | inr stopped ↦ not_stopped c.self.inside.state r stopped is
     ]))
