@@ -21,13 +21,13 @@ yields : (t : ℕ) (es values : List ℕ) (p n : ℕ) → IsFirst t es values p 
 yields t es values p n first lighter =
     below_more (λ k. get_or values k 0 ≢ 0 → k ≢ n → IsBefore t (get_or es n 0) n (get_or es k 0) k) n
     (λ k l some _.
-        elim (cases_eq k p) [
-          | inl same ↦ inl (subst (λ i. get_or es n 0 + t * n < get_or es i 0 + t * i) (sym same) lighter)
-          | inr other ↦ elim (first k l some other) [
-              | inl less ↦ inl (omega (arith, less, lighter))
-              | inr as_light ↦ inl (omega (arith, as_light.0, lighter))
-            ]
-        ])
+    elim (cases_eq k p) [
+      | inl same ↦ inl (subst (λ i. get_or es n 0 + t * n < get_or es i 0 + t * i) (sym same) lighter)
+      | inr other ↦ elim (first k l some other) [
+        | inl less ↦ inl (omega (arith, less, lighter))
+        | inr as_light ↦ inl (omega (arith, as_light.0, lighter))
+      ]
+    ])
     (λ _ other. absurd (other refl))
 
 -- one that is not lighter, and stands later, comes later

@@ -157,8 +157,12 @@ returns-in_err-spare-clause-window c = IfOk-from_err c.from_residual-in_err-spar
 
 pub horner-requires-clause-room : goal.horner-requires-clause-room
 horner-requires-clause-room c =
-    omega (arith, ap length c.deref-in-loop-j-2.ensures.value ∙ c.expand.ensures.size, ap length c.deref-in-loop-j.ensures.value ∙ c.loop-j.invariant.size,
-    mul-le-mul_right (c.args.m * c.args.lanes) c.requires.terms)
+    omega (
+      arith,
+      ap length c.deref-in-loop-j-2.ensures.value ∙ c.expand.ensures.size,
+      ap length c.deref-in-loop-j.ensures.value ∙ c.loop-j.invariant.size,
+      mul-le-mul_right (c.args.m * c.args.lanes) c.requires.terms,
+    )
 
 pub returns-clause-lanes : goal.returns-clause-lanes
 returns-clause-lanes c = refl
