@@ -1,4 +1,5 @@
 use Rattle.std.proofs.Common.{◌≡◌, ◌≢◌, ◌<◌, ◌≤◌, ◌+◌, ◌-◌, ℕ, List, [], ◌∷◌, ◌++◌, length, map, take, drop, vec_len, inl, inr, refl, sym, ap, subst, ◌∙◌, arith, Vec, Global}
+use Rattle.std.proofs.Math.Nat.{le_refl}
 use Rattle.std.proofs.Math.Seq.{take-append_seam}
 use Rattle.std.proofs.lemmas.Bool.{cases_lt}
 use Rattle.std.proofs.lemmas.List.{length-append, length-map, get_or_default}
@@ -9,7 +10,7 @@ use Rattle.rr_roots.proofs.Children.{IsStripped, first_byte, child-nonzero, chil
 use Rattle.rr_roots.proofs.Levels.{HoldsBelow, appends-nothing, appends-skip, appends-more, appends-same}
 use Rattle.rr_roots.proofs.Multiplicities.{multiplicity}
 use Rattle.rr_roots.proofs.ByteValues.{value-tested}
-use Rattle.rr_roots.proofs.Nodes.{none_begins, child-share, nodes-skip, nodes-more, nodes-most, nodes-spent}
+use Rattle.rr_roots.proofs.Nodes.{no_step, none_begins, child-share, nodes-skip, nodes-more, nodes-most, nodes-spent}
 use Rattle.std.proofs.lemmas.Result.{on_ok_weaker}
 use Rattle.rr_roots.proofs.descent.+descend.Goals as goal
 
@@ -32,13 +33,6 @@ fits_in a b c d same fits rows = omega (arith, same, fits, rows)
 
 in_place : (n b : ℕ) → n ≡ 256 → b < 256 → b < n
 in_place n b size less = omega (arith, size, less)
-
--- with no step, the steps are as few as they may be
-no_step : (n more : ℕ) → n ≤ n + more
-no_step n more = omega arith
-
-not_fewer : (n : ℕ) → n ≤ n
-not_fewer n = omega arith
 
 ticked : (n m k l : ℕ) → n ≤ m → k ≡ m + 1 → k ≤ l → n ≤ l
 ticked n m k l up one more = omega (arith, up, one, more)
@@ -176,19 +170,19 @@ pub returns-then-left-eq0-clause-most : goal.returns-then-left-eq0-clause-most
 returns-then-left-eq0-clause-most g t c = λ d h. no_step c.args.nodes.now _
 
 pub returns-then-left-eq0-clause-rises : goal.returns-then-left-eq0-clause-rises
-returns-then-left-eq0-clause-rises g t c = not_fewer c.args.nodes.now
+returns-then-left-eq0-clause-rises g t c = le_refl c.args.nodes.now
 
 pub returns-in_err-constants-clause-most : goal.returns-in_err-constants-clause-most
 returns-in_err-constants-clause-most g t c = λ d h. no_step c.args.nodes.now _
 
 pub returns-in_err-constants-clause-rises : goal.returns-in_err-constants-clause-rises
-returns-in_err-constants-clause-rises g t c = not_fewer c.args.nodes.now
+returns-in_err-constants-clause-rises g t c = le_refl c.args.nodes.now
 
 pub returns-in_err-values-clause-most : goal.returns-in_err-values-clause-most
 returns-in_err-values-clause-most g t c = λ d h. no_step c.args.nodes.now _
 
 pub returns-in_err-values-clause-rises : goal.returns-in_err-values-clause-rises
-returns-in_err-values-clause-rises g t c = not_fewer c.args.nodes.now
+returns-in_err-values-clause-rises g t c = le_refl c.args.nodes.now
 
 pub returns-in_err-child-clause-rises : goal.returns-in_err-child-clause-rises
 returns-in_err-child-clause-rises g t c = c.loop-byte.invariant.rises
