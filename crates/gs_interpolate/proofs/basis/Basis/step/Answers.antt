@@ -1,4 +1,4 @@
-use Rattle.std.proofs.Common.{◌≡◌, ◌≤◌, ◌*◌, ◌^◌, ◌+◌, ◌<◌, ℕ, List, Vec, Global, length, map, set, get_or, sum, refl, sym, ap, subst, ◌∙◌, arith, mul-le-mul, take_at}
+use Rattle.std.proofs.Common.{◌≡◌, ◌≤◌, ◌*◌, ◌^◌, ◌+◌, ◌<◌, ℕ, List, Vec, Global, length, map, set, get_or, refl, sym, ap, subst, ◌∙◌, arith, mul-le-mul, take_at}
 use Rattle.std.proofs.lemmas.Result.{IfOk-from_err}
 use Rattle.std.proofs.lemmas.List.{get_or_default}
 use Rattle.std.proofs.lemmas.List.Sums.{get_or-le-sum_by}

@@ -1,4 +1,4 @@
-use Rattle.std.proofs.Common.{◌≡◌, ℕ, length, get_or, ap, ◌∙◌, arith}
+use Rattle.std.proofs.Common.{◌≡◌, length, get_or, ap, ◌∙◌, arith}
 use borrow.Author.Count.{falls, below_none}
 use Rattle.gs_interpolate.proofs.Pushed.{pushed_size, pushed_each}
 use Rattle.gs_interpolate.proofs.family.Tables.new.Goals as goal

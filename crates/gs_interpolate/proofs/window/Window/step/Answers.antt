@@ -1,4 +1,4 @@
-use Rattle.std.proofs.Common.{◌≡◌, ◌*◌, length, refl, ap, sym, subst, ◌∙◌, arith, take_at}
+use Rattle.std.proofs.Common.{◌*◌, length, refl, ap, sym, subst, ◌∙◌, arith, take_at}
 use Rattle.gs_interpolate.specs.Family.{multiplier}
 use Rattle.gs_interpolate.specs.Window.{IsWindowStep}
 use Rattle.gs_interpolate.proofs.window.Window.step.Goals as goal
