@@ -11,3 +11,4 @@ pub mod Windows
 pub mod FamilySteps
 pub mod Passing
 pub mod Lightest
+pub mod Pushed

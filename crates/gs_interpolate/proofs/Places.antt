@@ -56,6 +56,12 @@ part_before xs a n g l = get_or-take n (drop a xs) g 0 l ∙ get_or-drop a xs g 
 pub length-part : (xs : List ℕ) (a n : ℕ) → a + n ≤ length xs → length (take n (drop a xs)) ≡ n
 length-part xs a n room = length-take-le n (drop a xs) (omega (arith, room, length-drop a xs))
 
+-- as is the part of a row with one power of x, of those below some count for which it has room
+pub length-power : (row : List ℕ) (n i count len : ℕ) → i < count → count * n ≤ len → length row ≡ len → length (take (i * n + n - i * n) (drop (i * n) row)) ≡ n
+length-power row n i count len l room size =
+    let whole : i * n + n - i * n ≡ n = omega arith in
+    ap (λ k. length (take k (drop (i * n) row))) whole ∙ length-part row (i * n) n (omega (arith, places_fit i count n l, room, size))
+
 -- a part that was written, as a list
 pub part_written : (xs ys : List ℕ) (a n : ℕ) → a + n ≤ length xs → length ys ≡ n → take n (drop a (put_mid a n xs ys)) ≡ ys
 part_written xs ys a n room size =

@@ -79,7 +79,7 @@ module _ (n : ℕ) (row before factors part : List ℕ) (p a carry i : ℕ) (ins
   carried_on = held p inside ∙ sym (preceding-next n p before i)
 
 -- zeros alone
-zeros : (k j : ℕ) → get_or (replicate {A = ℕ} k 0) j 0 ≡ 0
+pub zeros : (k j : ℕ) → get_or (replicate {A = ℕ} k 0) j 0 ≡ 0
 zeros k j =
     elim (cases_lt j k) [
       | inl l ↦ get_or-replicate k j 0 0 l

@@ -9,6 +9,10 @@ use Rattle.rr_roots.specs.Descent.{IsRootOfSize, HasLowestColumnDegreeAtMost}
 use Rattle.rr_roots.proofs.Multiplicities.{multiplicity, multiplicity_root, roots_below, roots_below-more, roots_below-le}
 use Rattle.rr_roots.proofs.Children.{IsStripped, constants-bytes, constants-nonzero, constants-degree, begins_with_root, child-degree}
 
+-- with no step, the steps are as few as they may be
+pub no_step : (n more : ℕ) → n ≤ n + more
+no_step n more = omega arith
+
 -- a child's nodes, and itself
 one_more : (left start now more roots often : ℕ) → 0 < left → 1 ≤ often → now ≤ start + left * roots → more ≤ now + 1 + (left - 1) * often → more ≤ start + left * (often + roots)
 one_more left start now more roots often some once h m =

@@ -1,15 +1,14 @@
-use Rattle.std.proofs.Common.{ℕ, ◌+◌, ◌≤◌, map, sym, subst, arith}
+use Rattle.std.proofs.Common.{◌<◌, ℕ, List, length, map, sym, ap, subst, arith, Vec, Global}
+use Rattle.bi_poly.specs.Rows.{IsZero}
+use Rattle.rr_roots.specs.Values.{ArePowers}
 use Rattle.rr_roots.specs.Roots.{HasDegreeInYAtMost}
+use Rattle.std.proofs.Math.Nat.{le_refl}
+use Rattle.std.proofs.lemmas.List.{length-map}
+use Rattle.std.proofs.lemmas.Result.{IfOk-from_err}
 use Rattle.rr_roots.proofs.Children.{lowest_degree}
 use Rattle.rr_roots.proofs.Levels.{listed}
+use Rattle.rr_roots.proofs.Nodes.{no_step}
 use Rattle.rr_roots.proofs.y_roots.Goals as goal
-
--- with no step, the steps are as few as they may be
-no_step : (n more : ℕ) → n ≤ n + more
-no_step n more = omega arith
-
-not_fewer : (n : ℕ) → n ≤ n
-not_fewer n = omega arith
 
 pub returns-in_err-descend-clause-most : goal.returns-in_err-descend-clause-most
 returns-in_err-descend-clause-most g c = λ d h.
@@ -30,16 +29,57 @@ pub returns-in_err-whole-clause-most : goal.returns-in_err-whole-clause-most
 returns-in_err-whole-clause-most g c = λ d h. no_step c.args.nodes.now _
 
 pub returns-in_err-whole-clause-rises : goal.returns-in_err-whole-clause-rises
-returns-in_err-whole-clause-rises g c = not_fewer c.args.nodes.now
+returns-in_err-whole-clause-rises g c = le_refl c.args.nodes.now
 
 pub returns-in_err-powers-clause-most : goal.returns-in_err-powers-clause-most
 returns-in_err-powers-clause-most g c = λ d h. no_step c.args.nodes.now _
 
 pub returns-in_err-powers-clause-rises : goal.returns-in_err-powers-clause-rises
-returns-in_err-powers-clause-rises g c = not_fewer c.args.nodes.now
+returns-in_err-powers-clause-rises g c = le_refl c.args.nodes.now
 
 pub returns-in_err-descend-clause-rises : goal.returns-in_err-descend-clause-rises
 returns-in_err-descend-clause-rises g c = c.in_err-descend.ensures.rises
 
 pub returns-clause-rises : goal.returns-clause-rises
 returns-clause-rises g c = c.in_ok-descend.ensures.rises
+
+pub returns-in_err-whole-clause-exact : goal.returns-in_err-whole-clause-exact
+returns-in_err-whole-clause-exact g c = IfOk-from_err c.from_residual.result _ c.from_residual.ensures.0
+
+pub returns-in_err-whole-clause-least : goal.returns-in_err-whole-clause-least
+returns-in_err-whole-clause-least g c = IfOk-from_err c.from_residual.result _ c.from_residual.ensures.0
+
+pub returns-in_err-powers-clause-exact : goal.returns-in_err-powers-clause-exact
+returns-in_err-powers-clause-exact g c = IfOk-from_err c.from_residual-in_err-powers.result _ c.from_residual-in_err-powers.ensures.0
+
+pub returns-in_err-powers-clause-least : goal.returns-in_err-powers-clause-least
+returns-in_err-powers-clause-least g c = IfOk-from_err c.from_residual-in_err-powers.result _ c.from_residual-in_err-powers.ensures.0
+
+pub returns-in_err-descend-clause-exact : goal.returns-in_err-descend-clause-exact
+returns-in_err-descend-clause-exact g c = IfOk-from_err c.from_residual-in_err-descend.result _ c.from_residual-in_err-descend.ensures.0
+
+pub returns-in_err-descend-clause-least : goal.returns-in_err-descend-clause-least
+returns-in_err-descend-clause-least g c = IfOk-from_err c.from_residual-in_err-descend.result _ c.from_residual-in_err-descend.ensures.0
+
+pub returns-clause-least : goal.returns-clause-least
+returns-clause-least g c = λ some.
+    c.in_ok-descend.ensures.least (subst (λ n. n < length c.descend.new.roots.items) (sym (ap length c.new-roots.ensures.items)) some)
+
+pub descend-requires : goal.descend-requires
+descend-requires g c =
+    let f : Vec ℕ Global → List ℕ = λ r. r.items in
+    let held = c.deref.ensures.value in
+    record {
+      nonzero = λ z. c.requires.nonzero (subst IsZero c.in_ok-whole.ensures z);
+      enough =
+          omega (
+            arith,
+            length-map c.deref.result.now f,
+            ap length held,
+            c.in_ok-powers.ensures.size,
+            length-map c.rows.result.now f,
+            ap length c.rows.ensures,
+            ap length c.in_ok-whole.ensures,
+          );
+      powers_are = subst (λ rows. ArePowers (map f rows)) (sym held) c.in_ok-powers.ensures.powers;
+    }

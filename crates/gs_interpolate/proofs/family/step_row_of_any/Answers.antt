@@ -1,8 +1,9 @@
 use Rattle.std.proofs.Common.{◌≡◌, ◌≢◌, ◌<◌, ℕ, ◌+◌, ◌-◌, ◌*◌, ◌≤◌, length, get_or, take, drop, refl, sym, ap, subst, ◌∙◌, arith}
 use borrow.Rule.Slice.PartMut.{put_mid}
+use borrow.Author.Count.{falls}
 use Rattle.gf256.specs.Field.{◌⊕◌, ◌⊗◌}
 use Rattle.gs_interpolate.specs.Family.{multiplier, IsRowStep}
-use Rattle.gs_interpolate.proofs.Places.{places_fit, length-part}
+use Rattle.gs_interpolate.proofs.Places.{places_fit, length-part, length-power}
 use Rattle.gs_interpolate.proofs.Steps.{with_own_multiple, row_step-none, row_step-next, carried_on}
 use Rattle.gs_interpolate.proofs.family.step_row_of_any.Goals as goal
 
@@ -36,3 +37,34 @@ loop-i-preserved c =
       done = subst (λ k. IsRowStep n (put_mid (i * n) k row part) before c.args.factors.now c.args.p (multiplier c.args.factors.now c.args.p) (i + 1)) (sym whole)
           (row_step-next n row before c.args.factors.now part c.args.p (multiplier c.args.factors.now c.args.p) c.loop-i.carry i c.requires.inside c.loop-i.auto.row room c.loop-i.invariant.done c.loop-i.invariant.carry size pivot others);
     }
+
+pub overflow_mul-start : goal.overflow_mul-start
+overflow_mul-start c = omega (arith, places_fit c.loop-i.i c.args.count (length c.args.factors.now) c.loop-i-test.true, c.requires.room)
+
+pub overflow_add-start : goal.overflow_add-start
+overflow_add-start c = omega (arith, places_fit c.loop-i.i c.args.count (length c.args.factors.now) c.loop-i-test.true, c.requires.room)
+
+pub slice_bounds-step_cell-count : goal.slice_bounds-step_cell-count
+slice_bounds-step_cell-count c = omega arith
+
+pub slice_bounds-step_cell-start : goal.slice_bounds-step_cell-start
+slice_bounds-step_cell-start c = omega arith
+
+pub slice_bounds-step_cell-end : goal.slice_bounds-step_cell-end
+slice_bounds-step_cell-end c = omega (arith, places_fit c.loop-i.i c.args.count (length c.args.factors.now) c.loop-i-test.true, c.requires.room, c.loop-i.auto.row)
+
+pub step_cell-carry-requires-clause-size : goal.step_cell-carry-requires-clause-size
+step_cell-carry-requires-clause-size c =
+    sym (length-power c.loop-i.row (length c.args.factors.now) c.loop-i.i c.args.count _ c.loop-i-test.true c.requires.room c.loop-i.auto.row)
+
+pub step_cell-carry-requires-clause-inside : goal.step_cell-carry-requires-clause-inside
+step_cell-carry-requires-clause-inside c =
+    subst (λ n. c.args.p < n) (sym (length-power c.loop-i.row (length c.args.factors.now) c.loop-i.i c.args.count _ c.loop-i-test.true c.requires.room c.loop-i.auto.row)) c.requires.inside
+
+pub loop-i-smaller : goal.loop-i-smaller
+loop-i-smaller c = falls c.args.count c.loop-i.i c.loop-i-test.true
+
+pub returns : goal.returns
+returns c =
+    let all : c.loop-i.i ≡ c.args.count = omega arith in
+    subst (λ i. IsRowStep (length c.args.factors.now) c.loop-i.row c.args.row.now c.args.factors.now c.args.p (multiplier c.args.factors.now c.args.p) i) all c.loop-i.invariant.done

@@ -1,4 +1,5 @@
 use Rattle.std.proofs.Common.{◌≡◌, ◌≢◌, ◌<◌, ◌≤◌, ◌+◌, ◌-◌, ℕ, List, [], ◌∷◌, ◌++◌, length, map, take, drop, vec_len, inl, inr, refl, sym, ap, subst, ◌∙◌, arith, Vec, Global}
+use Rattle.std.proofs.Math.Nat.{le_refl}
 use Rattle.std.proofs.Math.Seq.{take-append_seam}
 use Rattle.std.proofs.lemmas.Bool.{cases_lt}
 use Rattle.std.proofs.lemmas.List.{length-append, length-map, get_or_default}
@@ -9,8 +10,9 @@ use Rattle.rr_roots.proofs.Children.{IsStripped, first_byte, child-nonzero, chil
 use Rattle.rr_roots.proofs.Levels.{HoldsBelow, appends-nothing, appends-skip, appends-more, appends-same}
 use Rattle.rr_roots.proofs.Multiplicities.{multiplicity}
 use Rattle.rr_roots.proofs.ByteValues.{value-tested}
-use Rattle.rr_roots.proofs.Nodes.{none_begins, child-share, nodes-skip, nodes-more, nodes-most, nodes-spent}
-use Rattle.std.proofs.lemmas.Result.{on_ok_weaker}
+use borrow.Author.Count.{falls}
+use Rattle.rr_roots.proofs.Nodes.{no_step, none_begins, child-share, nodes-skip, nodes-more, nodes-most, nodes-spent}
+use Rattle.std.proofs.lemmas.Result.{on_ok_weaker, IfOk-from_err}
 use Rattle.rr_roots.proofs.descent.+descend.Goals as goal
 
 -- what is left after the strip
@@ -32,13 +34,6 @@ fits_in a b c d same fits rows = omega (arith, same, fits, rows)
 
 in_place : (n b : ℕ) → n ≡ 256 → b < 256 → b < n
 in_place n b size less = omega (arith, size, less)
-
--- with no step, the steps are as few as they may be
-no_step : (n more : ℕ) → n ≤ n + more
-no_step n more = omega arith
-
-not_fewer : (n : ℕ) → n ≤ n
-not_fewer n = omega arith
 
 ticked : (n m k l : ℕ) → n ≤ m → k ≡ m + 1 → k ≤ l → n ≤ l
 ticked n m k l up one more = omega (arith, up, one, more)
@@ -176,19 +171,19 @@ pub returns-then-left-eq0-clause-most : goal.returns-then-left-eq0-clause-most
 returns-then-left-eq0-clause-most g t c = λ d h. no_step c.args.nodes.now _
 
 pub returns-then-left-eq0-clause-rises : goal.returns-then-left-eq0-clause-rises
-returns-then-left-eq0-clause-rises g t c = not_fewer c.args.nodes.now
+returns-then-left-eq0-clause-rises g t c = le_refl c.args.nodes.now
 
 pub returns-in_err-constants-clause-most : goal.returns-in_err-constants-clause-most
 returns-in_err-constants-clause-most g t c = λ d h. no_step c.args.nodes.now _
 
 pub returns-in_err-constants-clause-rises : goal.returns-in_err-constants-clause-rises
-returns-in_err-constants-clause-rises g t c = not_fewer c.args.nodes.now
+returns-in_err-constants-clause-rises g t c = le_refl c.args.nodes.now
 
 pub returns-in_err-values-clause-most : goal.returns-in_err-values-clause-most
 returns-in_err-values-clause-most g t c = λ d h. no_step c.args.nodes.now _
 
 pub returns-in_err-values-clause-rises : goal.returns-in_err-values-clause-rises
-returns-in_err-values-clause-rises g t c = not_fewer c.args.nodes.now
+returns-in_err-values-clause-rises g t c = le_refl c.args.nodes.now
 
 pub returns-in_err-child-clause-rises : goal.returns-in_err-child-clause-rises
 returns-in_err-child-clause-rises g t c = c.loop-byte.invariant.rises
@@ -221,3 +216,54 @@ pub values_at_bytes-requires-clause-enough : goal.values_at_bytes-requires-claus
 values_at_bytes-requires-clause-enough g t c = let there = ap length (c.deref-2.ensures.value ∙ c.in_ok-constants.ensures) ∙ length-map c.strip_x.new.self _ ∙ ap length c.strip_x.ensures.quotient ∙ length-map c.args.q (drop _) in
     let rows = length-map c.args.powers.now (λ (r : Vec ℕ Global). r.items) in
     fits_in _ _ _ _ there c.requires.enough rows
+
+pub returns-in_err-constants-clause-kept : goal.returns-in_err-constants-clause-kept
+returns-in_err-constants-clause-kept g t c = IfOk-from_err c.from_residual.result _ c.from_residual.ensures.0
+
+pub returns-in_err-constants-clause-exact : goal.returns-in_err-constants-clause-exact
+returns-in_err-constants-clause-exact g t c = IfOk-from_err c.from_residual.result _ c.from_residual.ensures.0
+
+pub returns-in_err-constants-clause-least : goal.returns-in_err-constants-clause-least
+returns-in_err-constants-clause-least g t c = IfOk-from_err c.from_residual.result _ c.from_residual.ensures.0
+
+pub returns-in_err-values-clause-kept : goal.returns-in_err-values-clause-kept
+returns-in_err-values-clause-kept g t c = IfOk-from_err c.from_residual-in_err-values.result _ c.from_residual-in_err-values.ensures.0
+
+pub returns-in_err-values-clause-exact : goal.returns-in_err-values-clause-exact
+returns-in_err-values-clause-exact g t c = IfOk-from_err c.from_residual-in_err-values.result _ c.from_residual-in_err-values.ensures.0
+
+pub returns-in_err-values-clause-least : goal.returns-in_err-values-clause-least
+returns-in_err-values-clause-least g t c = IfOk-from_err c.from_residual-in_err-values.result _ c.from_residual-in_err-values.ensures.0
+
+pub returns-in_err-child-clause-kept : goal.returns-in_err-child-clause-kept
+returns-in_err-child-clause-kept g t c = IfOk-from_err c.from_residual-in_err-child.result _ c.from_residual-in_err-child.ensures.0
+
+pub returns-in_err-child-clause-exact : goal.returns-in_err-child-clause-exact
+returns-in_err-child-clause-exact g t c = IfOk-from_err c.from_residual-in_err-child.result _ c.from_residual-in_err-child.ensures.0
+
+pub returns-in_err-child-clause-least : goal.returns-in_err-child-clause-least
+returns-in_err-child-clause-least g t c = IfOk-from_err c.from_residual-in_err-child.result _ c.from_residual-in_err-child.ensures.0
+
+pub returns-in_err-push-clause-kept : goal.returns-in_err-push-clause-kept
+returns-in_err-push-clause-kept g t c = IfOk-from_err c.from_residual-in_err-push.result _ c.from_residual-in_err-push.ensures.0
+
+pub returns-in_err-push-clause-exact : goal.returns-in_err-push-clause-exact
+returns-in_err-push-clause-exact g t c = IfOk-from_err c.from_residual-in_err-push.result _ c.from_residual-in_err-push.ensures.0
+
+pub returns-in_err-push-clause-least : goal.returns-in_err-push-clause-least
+returns-in_err-push-clause-least g t c = IfOk-from_err c.from_residual-in_err-push.result _ c.from_residual-in_err-push.ensures.0
+
+pub returns-in_err-descend-clause-kept : goal.returns-in_err-descend-clause-kept
+returns-in_err-descend-clause-kept g t c = IfOk-from_err c.from_residual-in_err-descend.result _ c.from_residual-in_err-descend.ensures.0
+
+pub returns-in_err-descend-clause-exact : goal.returns-in_err-descend-clause-exact
+returns-in_err-descend-clause-exact g t c = IfOk-from_err c.from_residual-in_err-descend.result _ c.from_residual-in_err-descend.ensures.0
+
+pub returns-in_err-descend-clause-least : goal.returns-in_err-descend-clause-least
+returns-in_err-descend-clause-least g t c = IfOk-from_err c.from_residual-in_err-descend.result _ c.from_residual-in_err-descend.ensures.0
+
+pub loop-byte-smaller : goal.loop-byte-smaller
+loop-byte-smaller g t c = falls 256 c.loop-byte.byte c.loop-byte-test.true
+
+pub loop-byte-smaller-then-index-ne0 : goal.loop-byte-smaller-then-index-ne0
+loop-byte-smaller-then-index-ne0 g t c = falls 256 c.loop-byte.byte c.loop-byte-test.true

@@ -1,7 +1,9 @@
-use Rattle.std.proofs.Common.{◌≡◌, ℕ, ◌+◌, ◌-◌, ◌*◌, ◌<◌, List, [], ◌∷◌, ◌++◌, length, map, get_or, sym, ap, subst, ◌∙◌, arith, inl, inr, Vec, Global, length-append, ◌≤◌, mul-le-mul}
+use Rattle.std.proofs.Common.{◌≡◌, ℕ, ◌+◌, ◌-◌, ◌*◌, ◌<◌, List, [], ◌∷◌, ◌++◌, length, map, get_or, sym, ap, subst, ◌∙◌, arith, inl, inr, Vec, Global, length-append, ◌≤◌, mul-le-mul, ◌^◌}
 use Rattle.std.proofs.lemmas.Bool.{cases_lt}
 use Rattle.std.proofs.lemmas.List.{length-map, map-append, get_or-map, get_or_append_left, get_or_default}
 use Rattle.std.proofs.Math.Seq.{get_or-append_seam}
+use Rattle.std.proofs.lemmas.Result.{IfOk-from_err}
+use borrow.Author.Count.{falls, below_none}
 use Rattle.bi_poly.specs.Rows.{row}
 use Rattle.gs_interpolate.specs.Basis.{IsLightest}
 use Rattle.gs_interpolate.proofs.Lightest.{is_lightest}
@@ -102,3 +104,30 @@ pub lightest-place-requires-clause-size : goal.lightest-place-requires-clause-si
 lightest-place-requires-clause-size c =
     let f : Vec ℕ Global → List ℕ = λ r. r.items in
     omega (arith, length-map c.args.self.rows.items f, c.requires.basis.size)
+
+pub index-requires : goal.index-requires
+index-requires c =
+    let f : Vec ℕ Global → List ℕ = λ r. r.items in
+    omega (arith, length-map c.args.self.rows.items f, c.requires.basis.size)
+
+pub loop-j-init : goal.loop-j-init
+loop-j-init c = record {
+  size = ap length c.new-rows.ensures.items;
+  each = below_none _;
+  cells = λ k i l _. below_none (λ k. get_or (row (map (λ r. r.items) c.new-rows.result.items) k) i 0 ≡ get_or (row (map (λ r. r.items) c.args.self.rows.items) k) (i * c.args.self.lanes + c.lightest-place.result) 0) k l;
+}
+
+pub loop-j-smaller : goal.loop-j-smaller
+loop-j-smaller c = falls c.len-j-end.result c.loop-j.j c.loop-j-test.true
+
+pub coefficients-requires : goal.coefficients-requires
+coefficients-requires c =
+    let place : c.lightest-place.result ≤ MOST_PLACES = omega (arith, c.lightest-place.ensures.inside) in
+    let count : c.saturating_sub-count.result ≤ 2 ^ 33 = omega (arith, c.saturating_sub-count.ensures, mul-le-mul c.requires.weight place, c.weight-most.ensures) in
+    record { small = omega (arith, mul-le-mul count c.requires.lanes, place) }
+
+pub returns-in_err-coefficients : goal.returns-in_err-coefficients
+returns-in_err-coefficients c = IfOk-from_err c.from_residual.result _ c.from_residual.ensures.0
+
+pub returns-in_err-push : goal.returns-in_err-push
+returns-in_err-push c = IfOk-from_err c.from_residual-in_err-push.result _ c.from_residual-in_err-push.ensures.0

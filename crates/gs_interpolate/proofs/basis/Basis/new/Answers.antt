@@ -1,9 +1,14 @@
-use Rattle.std.proofs.Common.{◌≡◌, ◌+◌, ◌*◌, ◌/◌, ◌%◌, ◌≤◌, List, ℕ, length, map, get_or, sym, ap, subst, ◌∙◌, arith, Vec, Global}
+use Rattle.std.proofs.Common.{◌≡◌, ◌+◌, ◌*◌, ◌/◌, ◌%◌, ◌≤◌, List, [], ◌∷◌, ℕ, length, map, sum, get_or, sym, ap, subst, ◌∙◌, arith, Vec, Global}
 use Rattle.std.proofs.Math.Nat.{mul-mod_left}
-use Rattle.std.proofs.lemmas.List.{length-map, length-replicate, get_or-replicate}
+use Rattle.std.proofs.lemmas.List.{length-map, map-append, length-replicate, get_or-replicate}
+use Rattle.std.proofs.lemmas.List.Folds.{sum_by-replicate}
+use Rattle.std.proofs.lemmas.Result.{IfOk-from_err}
+use borrow.Author.Count.{falls, below_none}
+use Rattle.bi_poly.specs.Rows.{row}
 use Rattle.gs_interpolate.specs.Family.{member}
-use Rattle.gs_interpolate.specs.Basis.{IsLed}
+use Rattle.gs_interpolate.specs.Basis.{IsLed, IsPowerRow}
 use Rattle.gs_interpolate.proofs.Leading.{led-power}
+use Rattle.gs_interpolate.proofs.Pushed.{pushed_size, pushed_each}
 use Rattle.gs_interpolate.proofs.basis.Basis.new.Goals as goal
 
 pub returns-clause-basis : goal.returns-clause-basis
@@ -35,3 +40,70 @@ overflow_mul-lanes c = omega arith
 
 pub power_row-requires : goal.power_row-requires
 power_row-requires c = omega arith
+
+pub loop-j-init : goal.loop-j-init
+loop-j-init c = record {
+  size = ap length c.new-rows.ensures.items;
+  each = below_none (λ k. IsPowerRow ((c.args.n + 15) / 16 * 16) (row (map (λ r. r.items) c.new-rows.result.items) k) k);
+}
+
+pub loop-j-smaller : goal.loop-j-smaller
+loop-j-smaller c = falls c.args.n c.loop-j.j c.loop-j-test.true
+
+pub loop-j-preserved : goal.loop-j-preserved
+loop-j-preserved c =
+    let f : Vec ℕ Global → List ℕ = λ r. r.items in
+    let made = c.in_ok-power_row.field-0 in
+    let old = c.loop-j.rows.items in
+    let new = c.push.new.self.items in
+    record {
+      size = pushed_size old new made c.loop-j.j c.in_ok-push.ensures.items c.loop-j.invariant.size;
+      each = pushed_each (λ k r. IsPowerRow ((c.args.n + 15) / 16 * 16) r k) [] (map f old) (map f new) made.items c.loop-j.j
+          (ap (map f) c.in_ok-push.ensures.items ∙ map-append f old (made ∷ []))
+          (length-map old f ∙ c.loop-j.invariant.size) c.loop-j.invariant.each c.in_ok-power_row.ensures;
+    }
+
+pub returns-in_err-power_row-clause-size : goal.returns-in_err-power_row-clause-size
+returns-in_err-power_row-clause-size c = IfOk-from_err c.from_residual.result _ c.from_residual.ensures.0
+
+pub returns-in_err-power_row-clause-lanes : goal.returns-in_err-power_row-clause-lanes
+returns-in_err-power_row-clause-lanes c = IfOk-from_err c.from_residual.result _ c.from_residual.ensures.0
+
+pub returns-in_err-power_row-clause-basis : goal.returns-in_err-power_row-clause-basis
+returns-in_err-power_row-clause-basis c = IfOk-from_err c.from_residual.result _ c.from_residual.ensures.0
+
+pub returns-in_err-power_row-clause-sum : goal.returns-in_err-power_row-clause-sum
+returns-in_err-power_row-clause-sum c = IfOk-from_err c.from_residual.result _ c.from_residual.ensures.0
+
+pub returns-in_err-push-clause-size : goal.returns-in_err-push-clause-size
+returns-in_err-push-clause-size c = IfOk-from_err c.from_residual-in_err-push.result _ c.from_residual-in_err-push.ensures.0
+
+pub returns-in_err-push-clause-lanes : goal.returns-in_err-push-clause-lanes
+returns-in_err-push-clause-lanes c = IfOk-from_err c.from_residual-in_err-push.result _ c.from_residual-in_err-push.ensures.0
+
+pub returns-in_err-push-clause-basis : goal.returns-in_err-push-clause-basis
+returns-in_err-push-clause-basis c = IfOk-from_err c.from_residual-in_err-push.result _ c.from_residual-in_err-push.ensures.0
+
+pub returns-in_err-push-clause-sum : goal.returns-in_err-push-clause-sum
+returns-in_err-push-clause-sum c = IfOk-from_err c.from_residual-in_err-push.result _ c.from_residual-in_err-push.ensures.0
+
+pub returns-in_err-exponents-clause-size : goal.returns-in_err-exponents-clause-size
+returns-in_err-exponents-clause-size c = IfOk-from_err c.from_residual-in_err-exponents.result _ c.from_residual-in_err-exponents.ensures.0
+
+pub returns-in_err-exponents-clause-lanes : goal.returns-in_err-exponents-clause-lanes
+returns-in_err-exponents-clause-lanes c = IfOk-from_err c.from_residual-in_err-exponents.result _ c.from_residual-in_err-exponents.ensures.0
+
+pub returns-in_err-exponents-clause-basis : goal.returns-in_err-exponents-clause-basis
+returns-in_err-exponents-clause-basis c = IfOk-from_err c.from_residual-in_err-exponents.result _ c.from_residual-in_err-exponents.ensures.0
+
+pub returns-in_err-exponents-clause-sum : goal.returns-in_err-exponents-clause-sum
+returns-in_err-exponents-clause-sum c = IfOk-from_err c.from_residual-in_err-exponents.result _ c.from_residual-in_err-exponents.ensures.0
+
+pub returns-clause-size : goal.returns-clause-size
+returns-clause-size c = omega arith
+
+pub returns-clause-lanes : goal.returns-clause-lanes
+returns-clause-lanes c = omega arith
+
+pub returns-clause-sum : goal.returns-clause-sum
+returns-clause-sum c = ap sum (c.in_ok-exponents.ensures.items_if_clones_equal (λ y e. e)) ∙ sum_by-replicate (λ (x : ℕ). x) c.args.n 0 ∙ (let none : c.args.n * 0 ≡ 0 = omega arith in none)

@@ -1,8 +1,10 @@
-use Rattle.std.proofs.Common.{ℕ, List, length, map, ap, subst, ◌∙◌, arith, take_at, Vec, Global, ◌≡◌, ◌*◌, ◌%◌, ◌≤◌, ◌<◌, sym, mul-le-mul}
+use Rattle.std.proofs.Common.{ℕ, List, length, map, refl, ap, subst, ◌∙◌, arith, take_at, Vec, Global, ◌≡◌, ◌*◌, ◌-◌, ◌%◌, ◌≤◌, ◌<◌, sym, mul-le-mul}
 use Rattle.gs_interpolate.specs.Window.{IsWindow}
-use Rattle.gs_interpolate.specs.Basis.{values, IsMeeting}
-use Rattle.gs_interpolate.proofs.Passing.{under-room, under-met, under-row, under-all}
-use Rattle.std.proofs.lemmas.List.{length-map}
+use Rattle.gs_interpolate.specs.Basis.{values, IsBasis, IsMeeting}
+use Rattle.gs_interpolate.proofs.Passing.{under-none, under-room, under-met, under-row, under-all}
+use Rattle.std.proofs.lemmas.List.{length-map, length-replicate}
+use Rattle.std.proofs.lemmas.Result.{IfOk-from_err}
+use borrow.Author.Count.{falls}
 use Rattle.bi_poly.specs.Rows.{row}
 use Rattle.gs_interpolate.specs.declared.basis.TheConstants.{MOST_LANES}
 use Rattle.gs_interpolate.proofs.basis.Basis.pass.Goals as goal
@@ -116,3 +118,59 @@ pub meet-requires-clause-places : goal.meet-requires-clause-places
 meet-requires-clause-places c =
     let f : Vec ℕ Global → List ℕ = λ r. r.items in
     omega (arith, c.orders.invariant.under.size, length-map c.orders.self.rows.items f, length-map c.args.self.now.rows.items f, c.requires.places)
+
+pub returns-in_err-window-clause-lanes : goal.returns-in_err-window-clause-lanes
+returns-in_err-window-clause-lanes c = IfOk-from_err c.from_residual.result _ c.from_residual.ensures.0
+
+pub returns-in_err-window-clause-passed : goal.returns-in_err-window-clause-passed
+returns-in_err-window-clause-passed c = IfOk-from_err c.from_residual.result _ c.from_residual.ensures.0
+
+pub returns-in_err-factors-clause-lanes : goal.returns-in_err-factors-clause-lanes
+returns-in_err-factors-clause-lanes c = IfOk-from_err c.from_residual-in_err-factors.result _ c.from_residual-in_err-factors.ensures.0
+
+pub returns-in_err-factors-clause-passed : goal.returns-in_err-factors-clause-passed
+returns-in_err-factors-clause-passed c = IfOk-from_err c.from_residual-in_err-factors.result _ c.from_residual-in_err-factors.ensures.0
+
+pub returns-in_err-meet-clause-lanes : goal.returns-in_err-meet-clause-lanes
+returns-in_err-meet-clause-lanes c = IfOk-from_err c.from_residual-in_err-meet.result _ c.from_residual-in_err-meet.ensures.0
+
+pub returns-in_err-meet-clause-passed : goal.returns-in_err-meet-clause-passed
+returns-in_err-meet-clause-passed c = IfOk-from_err c.from_residual-in_err-meet.result _ c.from_residual-in_err-meet.ensures.0
+
+pub rows-init : goal.rows-init
+rows-init c =
+    let f : Vec ℕ Global → List ℕ = λ r. r.items in
+    let made = c.in_ok-window.ensures in
+    let rows = map f c.args.self.now.rows.items in
+    record {
+      lanes = refl;
+      side = made.lanes;
+      order = made.order;
+      room = ap length (c.in_ok-factors.ensures.items_if_clones_equal (λ y e. e)) ∙ length-replicate c.args.self.now.lanes 0;
+      window = subst (λ rows. IsWindow c.args.self.now.lanes c.args.m c.in_ok-window.window.cells.items (map f rows) c.args.a c.args.b 0) c.deref.ensures.value made.window;
+      under = under-none c.args.t c.args.self.now.lanes rows c.args.self.now.exponents.items c.args.a c.args.b c.args.m c.requires.basis;
+    }
+
+pub orders-init : goal.orders-init
+orders-init c = record {
+  lanes = c.rows.invariant.lanes;
+  side = c.rows.invariant.side;
+  order = c.rows.invariant.order;
+  room = c.rows.invariant.room;
+  window = c.rows.invariant.window;
+  under = c.rows.invariant.under;
+}
+
+pub orders-smaller : goal.orders-smaller
+orders-smaller c = falls (c.args.m - c.rows.v) c.orders.u c.orders-test.true
+
+pub rows-smaller : goal.rows-smaller
+rows-smaller c = falls c.args.m c.rows.v c.rows-test.true
+
+pub returns-clause-lanes : goal.returns-clause-lanes
+returns-clause-lanes c = c.rows.invariant.lanes
+
+pub meet-requires-clause-basis : goal.meet-requires-clause-basis
+meet-requires-clause-basis c =
+    let f : Vec ℕ Global → List ℕ = λ r. r.items in
+    subst (λ n. IsBasis c.args.t n (map f c.orders.self.rows.items) c.orders.self.exponents.items) (sym c.orders.invariant.lanes) c.orders.invariant.under.basis

@@ -1,5 +1,6 @@
-use Rattle.std.proofs.Common.{◌≡◌, ◌+◌, ◌-◌, ◌*◌, ◌/◌, ◌%◌, ◌<◌, ◌++◌, List, ℕ, [], length, map, get_or, drop, sym, ap, subst, ◌∙◌, arith, take_at, Vec, Global}
+use Rattle.std.proofs.Common.{◌≡◌, ◌+◌, ◌-◌, ◌*◌, ◌/◌, ◌%◌, ◌<◌, ◌++◌, List, ℕ, [], length, map, get_or, drop, refl, sym, ap, subst, ◌∙◌, arith, take_at, Vec, Global}
 use Rattle.std.proofs.lemmas.List.{length-replicate, get_or-replicate, length-map, get_or-map}
+use Rattle.std.proofs.lemmas.Result.{IfOk-from_err}
 use Rattle.gf256.specs.Field.{◌⊕◌, ◌⊗◌}
 use Rattle.gf256.specs.Polynomial.{coef}
 use Rattle.uni_poly.specs.Taylor.{taylor}
@@ -117,3 +118,54 @@ pub overflow_mul-size : goal.overflow_mul-size
 overflow_mul-size c =
     let some = mul-le-mul_right (c.args.m * c.args.lanes) c.requires.terms in
     omega (arith, some)
+
+pub returns-in_err-cells-clause-lanes : goal.returns-in_err-cells-clause-lanes
+returns-in_err-cells-clause-lanes c = IfOk-from_err c.from_residual.result _ c.from_residual.ensures.0
+
+pub returns-in_err-cells-clause-order : goal.returns-in_err-cells-clause-order
+returns-in_err-cells-clause-order c = IfOk-from_err c.from_residual.result _ c.from_residual.ensures.0
+
+pub returns-in_err-cells-clause-window : goal.returns-in_err-cells-clause-window
+returns-in_err-cells-clause-window c = IfOk-from_err c.from_residual.result _ c.from_residual.ensures.0
+
+pub returns-in_err-next-clause-lanes : goal.returns-in_err-next-clause-lanes
+returns-in_err-next-clause-lanes c = IfOk-from_err c.from_residual-in_err-next.result _ c.from_residual-in_err-next.ensures.0
+
+pub returns-in_err-next-clause-order : goal.returns-in_err-next-clause-order
+returns-in_err-next-clause-order c = IfOk-from_err c.from_residual-in_err-next.result _ c.from_residual-in_err-next.ensures.0
+
+pub returns-in_err-next-clause-window : goal.returns-in_err-next-clause-window
+returns-in_err-next-clause-window c = IfOk-from_err c.from_residual-in_err-next.result _ c.from_residual-in_err-next.ensures.0
+
+pub returns-in_err-first-clause-lanes : goal.returns-in_err-first-clause-lanes
+returns-in_err-first-clause-lanes c = IfOk-from_err c.from_residual-in_err-first.result _ c.from_residual-in_err-first.ensures.0
+
+pub returns-in_err-first-clause-order : goal.returns-in_err-first-clause-order
+returns-in_err-first-clause-order c = IfOk-from_err c.from_residual-in_err-first.result _ c.from_residual-in_err-first.ensures.0
+
+pub returns-in_err-first-clause-window : goal.returns-in_err-first-clause-window
+returns-in_err-first-clause-window c = IfOk-from_err c.from_residual-in_err-first.result _ c.from_residual-in_err-first.ensures.0
+
+pub returns-in_err-spare-clause-lanes : goal.returns-in_err-spare-clause-lanes
+returns-in_err-spare-clause-lanes c = IfOk-from_err c.from_residual-in_err-spare.result _ c.from_residual-in_err-spare.ensures.0
+
+pub returns-in_err-spare-clause-order : goal.returns-in_err-spare-clause-order
+returns-in_err-spare-clause-order c = IfOk-from_err c.from_residual-in_err-spare.result _ c.from_residual-in_err-spare.ensures.0
+
+pub returns-in_err-spare-clause-window : goal.returns-in_err-spare-clause-window
+returns-in_err-spare-clause-window c = IfOk-from_err c.from_residual-in_err-spare.result _ c.from_residual-in_err-spare.ensures.0
+
+pub horner-requires-clause-room : goal.horner-requires-clause-room
+horner-requires-clause-room c =
+    omega (
+      arith,
+      ap length c.deref-in-loop-j-2.ensures.value ∙ c.expand.ensures.size,
+      ap length c.deref-in-loop-j.ensures.value ∙ c.loop-j.invariant.size,
+      mul-le-mul_right (c.args.m * c.args.lanes) c.requires.terms,
+    )
+
+pub returns-clause-lanes : goal.returns-clause-lanes
+returns-clause-lanes c = refl
+
+pub returns-clause-order : goal.returns-clause-order
+returns-clause-order c = refl
