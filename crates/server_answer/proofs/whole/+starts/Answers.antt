@@ -99,3 +99,26 @@ sum_both-back-returns g t c = c.sum_from.ensures
 
 pub fn::sum_both::back+FnMut::call_mut-returns : goal.fn::sum_both::back+FnMut::call_mut-returns
 fn::sum_both::back+FnMut::call_mut-returns g t c = c.back.ensures
+
+pub fn::sum_both::back+FnOnce::call_once-returns : goal.fn::sum_both::back+FnOnce::call_once-returns
+fn::sum_both::back+FnOnce::call_once-returns g t c = (c.back.new.arg1, (c.back.kept-captures, c.back.ensures))
+
+pub sum_both-join_mut-requires-after_bounds : goal.sum_both-join_mut-requires-after_bounds
+sum_both-join_mut-requires-after_bounds g t c κs within =
+    let needs = c.requires in
+    (
+      (search rules, needs.rows, needs.few, omega arith, needs.few_bitmaps, needs.bitmaps, needs.own),
+      (
+        omega arith,
+        (
+          λ a m. m,
+          (
+            λ a m. m,
+            (
+              (search rules, search rules, needs.rows, needs.few, needs.more, needs.few_bitmaps, needs.bitmaps, needs.others),
+              (search rules, search rules),
+            ),
+          ),
+        ),
+      ),
+    )
