@@ -122,3 +122,13 @@ sum_both-join_mut-requires-after_bounds g t c κs within =
         ),
       ),
     )
+
+pub fn::sum_both::back+FnMut::call_mut-back-requires : goal.fn::sum_both::back+FnMut::call_mut-back-requires
+fn::sum_both::back+FnMut::call_mut-back-requires g t c κs within =
+    let needs = c.requires.1.1 in
+    (omega arith, (within.0, (within.1, (needs.1.0, (needs.1.1, needs.0)))))
+
+pub fn::sum_both::back+FnOnce::call_once-back-requires : goal.fn::sum_both::back+FnOnce::call_once-back-requires
+fn::sum_both::back+FnOnce::call_once-back-requires g t c κs within =
+    let needs = c.requires.1.1 in
+    (omega arith, (within.0, (within.1, (needs.1.0, (needs.1.1, needs.0)))))
