@@ -56,8 +56,7 @@ sum_from-split_at_mut-own-requires g t c =
 pub sum_from-sum_both-requires : goal.sum_from-sum_both-requires
 sum_from-sum_both-requires g t c κs within =
     let places = c.args.count * c.args.matrix.now.width in
-    let more : (c.args.first + 1) * places ≤ c.args.workers * places = mul-le-mul_right places (omega arith) in
-    (
+    let more : (c.args.first + 1) * places ≤ c.args.workers * places = mul-le-mul_right places (omega arith) in (
       omega arith,
       (
         within.0,
@@ -105,8 +104,7 @@ fn::sum_both::back+FnOnce::call_once-returns g t c = (c.back.new.arg1, (c.back.k
 
 pub sum_both-join_mut-requires-after_bounds : goal.sum_both-join_mut-requires-after_bounds
 sum_both-join_mut-requires-after_bounds g t c κs within =
-    let needs = c.requires in
-    (
+    let needs = c.requires in (
       (search rules, needs.rows, needs.few, omega arith, needs.few_bitmaps, needs.bitmaps, needs.own),
       (
         omega arith,

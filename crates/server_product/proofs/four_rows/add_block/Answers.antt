@@ -103,7 +103,7 @@ pub loop-v-smaller : goal.loop-v-smaller
 loop-v-smaller c = omega arith
 
 pub returns : goal.returns
-returns c = 
+returns c =
     let g = four_at c.args.a.now c.args.b.now c.args.c.now c.args.d.now c.args.factors.now (length c.args.a.now) c.args.count in
     let b = c.args.i * c.args.count in
     let end : c.loop-v.v ≡ c.args.count = omega arith in

@@ -101,7 +101,7 @@ pub hold-requires-clause-held : goal.hold-requires-clause-held
 hold-requires-clause-held c = c.requires.held
 
 pub hold-requires-clause-three : goal.hold-requires-clause-three
-hold-requires-clause-three c = 
+hold-requires-clause-three c =
     let q = c.args.q.now in
     let factor = c.from-factor.result in
     alike q factor c.in-All.three (subst (FewAreOf q factor) c.in-All.is (c.requires.waiting factor (omega arith)))
@@ -110,21 +110,21 @@ pub returns-in-All-clause-held : goal.returns-in-All-clause-held
 returns-in-All-clause-held c = c.hold.ensures.held
 
 pub returns-in-All-clause-waiting : goal.returns-in-All-clause-waiting
-returns-in-All-clause-waiting c = 
+returns-in-All-clause-waiting c =
     set-are-of c.args.q.now c.args.waiting.now c.from-factor.result 256 (One c.args.j) (omega arith) (omega arith, sym c.from-factor.ensures) c.requires.waiting
 
 pub returns-in-Empty-clause-held : goal.returns-in-Empty-clause-held
 returns-in-Empty-clause-held c = c.requires.held
 
 pub returns-in-Empty-clause-waiting : goal.returns-in-Empty-clause-waiting
-returns-in-Empty-clause-waiting c = 
+returns-in-Empty-clause-waiting c =
     set-are-of c.args.q.now c.args.waiting.now c.from-factor.result 256 (One c.args.j) (omega arith) (omega arith, sym c.from-factor.ensures) c.requires.waiting
 
 pub returns-in-One-clause-held : goal.returns-in-One-clause-held
 returns-in-One-clause-held c = c.requires.held
 
 pub returns-in-One-clause-waiting : goal.returns-in-One-clause-waiting
-returns-in-One-clause-waiting c = 
+returns-in-One-clause-waiting c =
     let q = c.args.q.now in
     let factor = c.from-factor.result in
     let one = subst (FewAreOf q factor) c.in-One.is (c.requires.waiting factor (omega arith)) in
@@ -134,7 +134,7 @@ pub returns-in-Two-clause-held : goal.returns-in-Two-clause-held
 returns-in-Two-clause-held c = c.requires.held
 
 pub returns-in-Two-clause-waiting : goal.returns-in-Two-clause-waiting
-returns-in-Two-clause-waiting c = 
+returns-in-Two-clause-waiting c =
     let q = c.args.q.now in
     let factor = c.from-factor.result in
     let two = subst (FewAreOf q factor) c.in-Two.is (c.requires.waiting factor (omega arith)) in
