@@ -1,5 +1,7 @@
 -- Rows that wait, and what they give.
-use Rattle.std.proofs.Common.{◌≡◌, ℕ, zero, suc, ◌+◌, ◌<◌, List, [], ◌∷◌, length, slice_index, slice_index_or, slice_set, drop, replicate, Option, None, Some, refl, sym, ap, ap₂, subst, ◌∙◌, arith, add-one}
+use Rattle.std.proofs.Common.{◌≡◌, ◌≢◌, ℕ, zero, suc, ◌+◌, ◌<◌, List, [], ◌∷◌, length, slice_index, slice_index_or, slice_set, drop, replicate, Option, None, Some, refl, sym, ap, ap₂, subst, ◌∙◌, arith, add-one, inl, inr}
+use Rattle.std.proofs.lemmas.Bool.{cases_lt}
+use Rattle.std.proofs.lemmas.List.{get_or-set_same, get_or-set_other}
 use Rattle.gf256.specs.Field.{◌⊕◌, ◌⊗◌}
 use Rattle.gf256.proofs.Xor.{sums, add_assoc, add_zero}
 use Rattle.gf256.proofs.FieldLaws.{mul_add}
@@ -59,6 +61,28 @@ none-are q f n = subst (FewAreOf q f) (sym (none_at n f)) (record {}) where
   none_at zero f = refl
   none_at (suc n) zero = refl
   none_at (suc n) (suc f) = none_at n f
+
+-- where a few come in that are of the factor of their place, all are of theirs
+pub set-are-of : (q : List ℕ) (waiting : List Few) (i n : ℕ) (few : Few) → i < length waiting → FewAreOf q i few
+    → ((f : ℕ) → f < n → FewAreOf q f (slice_index_or waiting f Empty)) → (f : ℕ) → f < n → FewAreOf q f (slice_index_or (slice_set waiting i few) f Empty)
+set-are-of q waiting i n few room here before f l =
+    elim (cases_lt f i) [
+      | inl low ↦ other f (λ same. omega arith) (before f l)
+      | inr high ↦
+          elim (cases_lt i f) [
+            | inl above ↦ other f (λ same. omega arith) (before f l)
+            | inr back ↦
+                let same : i ≡ f = omega arith in
+                subst (λ k. FewAreOf q k (slice_index_or (slice_set waiting i few) k Empty)) same
+                (subst (FewAreOf q i) (sym (get_or-set_same waiting i few Empty room)) here)
+          ]
+    ] where
+      other : (f : ℕ) → f ≢ i → FewAreOf q f (slice_index_or waiting f Empty) → FewAreOf q f (slice_index_or (slice_set waiting i few) f Empty)
+      other f apart are = subst (FewAreOf q f) (sym (get_or-set_other waiting i f few Empty apart)) are
+
+-- three rows of one factor are of that of the first
+pub alike : (q : List ℕ) (f : ℕ) (three : Three) → AreOf q f three → AreOf q (slice_index q three.a) three
+alike q f three are = subst (λ g. AreOf q g three) (sym are.a.1) are
 
 -- three rows of one factor are rows
 pub are-rows : (q : List ℕ) (held : Option Three) → HeldAreAlike q held → HeldAreRows q held

@@ -23,3 +23,15 @@ returns c = λ v k l m.
     ≡ slice_index c.args.sums.now (v * w + k) ⊕ bit_at c.args.pattern (c.args.count - 1 - v) * slice_index c.put_few.new.sum k)
     size c.add_to_asked.ensures v k l m
     ∙ ap (λ s. slice_index c.args.sums.now (v * c.args.matrix.now.width + k) ⊕ bit * s) (c.put_few.ensures k)
+
+pub put_few-requires-clause-rows : goal.put_few-requires-clause-rows
+put_few-requires-clause-rows c = c.requires.rows
+
+pub put_few-requires-clause-room : goal.put_few-requires-clause-room
+put_few-requires-clause-room c = c.requires.eight
+
+pub add_to_asked-requires-clause-few : goal.add_to_asked-requires-clause-few
+add_to_asked-requires-clause-few c = c.requires.few
+
+pub add_to_asked-requires-clause-room : goal.add_to_asked-requires-clause-room
+add_to_asked-requires-clause-room c = c.requires.room ∙ ap (λ w. c.args.count * w) (sym (c.put_few.auto.sum ∙ c.requires.eight))

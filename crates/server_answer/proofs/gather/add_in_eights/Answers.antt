@@ -47,3 +47,51 @@ returns c = λ v k l m.
     let size = c.div_ceil-size.ensures ∙ ap size_of c.rows.ensures.is in
     c.add_waiting.ensures v k l m ∙ c.loop-j.invariant.sum v k l m
     ∙ ap₂ (λ s j. run_sum (given (piece s c.args.bitmaps.now v) matrix.rows k) c.args.from j) size end
+
+pub div_ceil-size-requires : goal.div_ceil-size-requires
+div_ceil-size-requires c = omega arith
+
+pub overflow_cast-size : goal.overflow_cast-size
+overflow_cast-size c = omega arith
+
+pub pattern_of-pattern-requires-clause-few : goal.pattern_of-pattern-requires-clause-few
+pattern_of-pattern-requires-clause-few c = c.requires.few
+
+pub pattern_of-pattern-requires-clause-within : goal.pattern_of-pattern-requires-clause-within
+pattern_of-pattern-requires-clause-within c = omega arith
+
+pub pattern_of-pattern-requires-clause-memory : goal.pattern_of-pattern-requires-clause-memory
+pattern_of-pattern-requires-clause-memory c = omega arith
+
+pub pattern_of-pattern-requires-clause-bitmaps : goal.pattern_of-pattern-requires-clause-bitmaps
+pattern_of-pattern-requires-clause-bitmaps c = c.requires.bitmaps ∙ ap (λ s. c.args.count * s) (sym (c.div_ceil-size.ensures ∙ ap size_of c.rows.ensures.is))
+
+pub gather-requires-clause-few : goal.gather-requires-clause-few
+gather-requires-clause-few c = c.requires.few
+
+pub gather-requires-clause-row : goal.gather-requires-clause-row
+gather-requires-clause-row c = omega arith
+
+pub gather-requires-clause-waiting : goal.gather-requires-clause-waiting
+gather-requires-clause-waiting c = c.loop-j.invariant.waiting
+
+pub gather-requires-clause-eight : goal.gather-requires-clause-eight
+gather-requires-clause-eight c = c.loop-j.auto.eight ∙ c.requires.eight
+
+pub gather-requires-clause-room : goal.gather-requires-clause-room
+gather-requires-clause-room c = c.loop-j.auto.sums ∙ c.requires.room
+
+pub loop-j-smaller : goal.loop-j-smaller
+loop-j-smaller c = omega arith
+
+pub add_waiting-requires-clause-few : goal.add_waiting-requires-clause-few
+add_waiting-requires-clause-few c = c.requires.few
+
+pub add_waiting-requires-clause-waiting : goal.add_waiting-requires-clause-waiting
+add_waiting-requires-clause-waiting c = c.loop-j.invariant.waiting
+
+pub add_waiting-requires-clause-eight : goal.add_waiting-requires-clause-eight
+add_waiting-requires-clause-eight c = c.loop-j.auto.eight ∙ c.requires.eight
+
+pub add_waiting-requires-clause-room : goal.add_waiting-requires-clause-room
+add_waiting-requires-clause-room c = c.loop-j.auto.sums ∙ c.requires.room

@@ -3,7 +3,7 @@ use Rattle.std.specs.Int.{bit_at}
 use Rattle.std.proofs.lemmas.Nat.Bits.{bit_at-lt}
 use Rattle.gf256.specs.Field.{◌⊕◌}
 use Rattle.gf256.proofs.Xor.{add_self}
-use Rattle.server_answer.specs.Waiting.{column, no_rows, few_sum, waiting_at}
+use Rattle.server_answer.specs.Waiting.{column, no_rows, few_sum, waiting_at, AreRows}
 use Rattle.server_answer.proofs.WaitingSums.{waiting-set, joined, none-sum, none-are, are-set, eight-gone, none-asked}
 use Rattle.server_answer.proofs.gather.gather.Goals as goal
 
@@ -52,3 +52,47 @@ pub returns-then-pattern-eq0-clause-sum : goal.returns-then-pattern-eq0-clause-s
 returns-then-pattern-eq0-clause-sum c = λ v k l m.
     none-asked (slice_index c.args.sums.now (v * c.args.matrix.now.width + k))
     (waiting_at c.args.matrix.now.rows c.args.waiting.now (c.args.count - 1 - v) k) c.args.pattern _ _ c.if-pattern-eq0.true
+
+pub returns-then-pattern-eq0-clause-waiting : goal.returns-then-pattern-eq0-clause-waiting
+returns-then-pattern-eq0-clause-waiting c = c.requires.waiting
+
+pub offset_bounds-waiting-place : goal.offset_bounds-waiting-place
+offset_bounds-waiting-place c = omega arith
+
+pub bounds-waiting-place : goal.bounds-waiting-place
+bounds-waiting-place c = omega arith
+
+pub with-requires : goal.with-requires
+with-requires c = omega arith
+
+pub offset_bounds-waiting-place-then-few-lt7 : goal.offset_bounds-waiting-place-then-few-lt7
+offset_bounds-waiting-place-then-few-lt7 c = omega arith
+
+pub bounds-waiting-place-then-few-lt7 : goal.bounds-waiting-place-then-few-lt7
+bounds-waiting-place-then-few-lt7 c = omega arith
+
+pub offset_bounds-waiting-place-else-few-lt7 : goal.offset_bounds-waiting-place-else-few-lt7
+offset_bounds-waiting-place-else-few-lt7 c = omega arith
+
+pub bounds-waiting-place-else-few-lt7 : goal.bounds-waiting-place-else-few-lt7
+bounds-waiting-place-else-few-lt7 c = omega arith
+
+pub put_all-requires-clause-seven : goal.put_all-requires-clause-seven
+put_all-requires-clause-seven c =
+    let rows : AreRows (length c.args.matrix.now.rows) (slice_index_or c.args.waiting.now c.args.pattern no_rows) = c.requires.waiting c.args.pattern (omega arith) in
+    omega (arith, rows.most)
+
+pub put_all-requires-clause-rows : goal.put_all-requires-clause-rows
+put_all-requires-clause-rows c = c.requires.waiting c.args.pattern (omega arith)
+
+pub put_all-requires-clause-row : goal.put_all-requires-clause-row
+put_all-requires-clause-row c = c.requires.row
+
+pub put_all-requires-clause-room : goal.put_all-requires-clause-room
+put_all-requires-clause-room c = c.requires.eight
+
+pub add_to_asked-requires-clause-few : goal.add_to_asked-requires-clause-few
+add_to_asked-requires-clause-few c = c.requires.few
+
+pub add_to_asked-requires-clause-room : goal.add_to_asked-requires-clause-room
+add_to_asked-requires-clause-room c = c.requires.room ∙ ap (λ w. c.args.count * w) (sym (c.put_all.auto.sum ∙ c.requires.eight))

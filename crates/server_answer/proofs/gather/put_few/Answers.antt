@@ -19,3 +19,21 @@ unfolding few_sum
 returns c = λ k.
     let end : c.loop-i.i ≡ c.args.few.count = omega arith in
     c.loop-i.invariant k ∙ ap (sum_to (λ i. column c.args.matrix.now.rows k (slice_index c.args.few.rows i))) end
+
+pub overflow_cast-i-end : goal.overflow_cast-i-end
+overflow_cast-i-end c = omega arith
+
+pub offset_bounds-few-i : goal.offset_bounds-few-i
+offset_bounds-few-i c = omega arith
+
+pub bounds-few-i : goal.bounds-few-i
+bounds-few-i c = omega arith
+
+pub row-requires : goal.row-requires
+row-requires c = c.requires.rows.rows c.loop-i.i (omega arith)
+
+pub add_row-requires : goal.add_row-requires
+add_row-requires c = omega arith
+
+pub loop-i-smaller : goal.loop-i-smaller
+loop-i-smaller c = omega arith

@@ -12,3 +12,15 @@ returns-clause-rows c = λ n are small. record {
 pub returns-clause-sum : goal.returns-clause-sum
 unfolding few_sum
 returns-clause-sum c = λ rows k. sum-with rows c.args.few.rows c.args.few.count c.args.j k (omega arith)
+
+pub overflow_cast-more : goal.overflow_cast-more
+overflow_cast-more c = omega arith
+
+pub offset_bounds-more-few : goal.offset_bounds-more-few
+offset_bounds-more-few c = omega arith
+
+pub bounds-more-few : goal.bounds-more-few
+bounds-more-few c = omega arith
+
+pub overflow_add-more : goal.overflow_add-more
+overflow_add-more c = omega arith

@@ -1,4 +1,5 @@
-use Rattle.std.proofs.Common.{◌≡◌, ◌∙◌, slice_index, sym, ap, arith}
+use Rattle.std.specs.Int.{div_ceil}
+use Rattle.std.proofs.Common.{◌≡◌, ◌∙◌, slice_index, sym, ap, arith, ◌*◌}
 use Rattle.gf256.specs.Field.{◌⊕◌}
 use Rattle.gf256.proofs.Xor.{add_zero}
 use Rattle.server_answer.specs.Masked.{block_asked}
@@ -30,3 +31,103 @@ returns c = λ p l.
     let end : c.loop-i.i ≡ c.args.quarter = omega arith in
     c.loop-i.invariant p l
     ∙ ap (◌⊕◌ (slice_index c.args.sums.now p)) (ap (quarters f c.args.from c.args.quarter) end ∙ quarters-all f c.args.from c.args.quarter)
+
+pub div_ceil-size-requires : goal.div_ceil-size-requires
+div_ceil-size-requires c = omega arith
+
+pub overflow_cast-size : goal.overflow_cast-size
+overflow_cast-size c = omega arith
+
+pub slice_bounds-set_masks-end : goal.slice_bounds-set_masks-end
+slice_bounds-set_masks-end c = omega arith
+
+pub overflow_add-from : goal.overflow_add-from
+overflow_add-from c = omega arith
+
+pub set_masks-requires-clause-room : goal.set_masks-requires-clause-room
+set_masks-requires-clause-room c = omega arith
+
+pub set_masks-requires-clause-few : goal.set_masks-requires-clause-few
+set_masks-requires-clause-few c = c.requires.few
+
+pub set_masks-requires-clause-within : goal.set_masks-requires-clause-within
+set_masks-requires-clause-within c = omega arith
+
+pub set_masks-requires-clause-memory : goal.set_masks-requires-clause-memory
+set_masks-requires-clause-memory c = omega arith
+
+pub set_masks-requires-clause-bitmaps : goal.set_masks-requires-clause-bitmaps
+set_masks-requires-clause-bitmaps c = c.requires.bitmaps ∙ ap (λ s. c.args.count * s) (sym (c.div_ceil-size.ensures ∙ ap size_of c.rows.ensures.is))
+
+pub overflow_add-from-in-loop-i : goal.overflow_add-from-in-loop-i
+overflow_add-from-in-loop-i c = omega arith
+
+pub row-requires : goal.row-requires
+row-requires c = omega arith
+
+pub overflow_add-from-in-loop-i-2 : goal.overflow_add-from-in-loop-i-2
+overflow_add-from-in-loop-i-2 c = omega arith
+
+pub overflow_add-from-in-loop-i-3 : goal.overflow_add-from-in-loop-i-3
+overflow_add-from-in-loop-i-3 c = omega arith
+
+pub row-requires-in-loop-i : goal.row-requires-in-loop-i
+row-requires-in-loop-i c = omega arith
+
+pub overflow_mul-quarter : goal.overflow_mul-quarter
+overflow_mul-quarter c = omega arith
+
+pub overflow_add-from-in-loop-i-4 : goal.overflow_add-from-in-loop-i-4
+overflow_add-from-in-loop-i-4 c = omega arith
+
+pub overflow_add-from-in-loop-i-5 : goal.overflow_add-from-in-loop-i-5
+overflow_add-from-in-loop-i-5 c = omega arith
+
+pub row-requires-in-loop-i-2 : goal.row-requires-in-loop-i-2
+row-requires-in-loop-i-2 c = omega arith
+
+pub overflow_mul-quarter-in-loop-i : goal.overflow_mul-quarter-in-loop-i
+overflow_mul-quarter-in-loop-i c = omega arith
+
+pub overflow_add-from-in-loop-i-6 : goal.overflow_add-from-in-loop-i-6
+overflow_add-from-in-loop-i-6 c = omega arith
+
+pub overflow_add-from-in-loop-i-7 : goal.overflow_add-from-in-loop-i-7
+overflow_add-from-in-loop-i-7 c = omega arith
+
+pub row-requires-in-loop-i-3 : goal.row-requires-in-loop-i-3
+row-requires-in-loop-i-3 c = omega arith
+
+pub slice_bounds-add_four_rows-end : goal.slice_bounds-add_four_rows-end
+slice_bounds-add_four_rows-end c = omega arith
+
+pub add_four_rows-requires-clause-wide : goal.add_four_rows-requires-clause-wide
+add_four_rows-requires-clause-wide c = omega arith
+
+pub add_four_rows-requires-clause-memory : goal.add_four_rows-requires-clause-memory
+add_four_rows-requires-clause-memory c = omega arith
+
+pub add_four_rows-requires-clause-b : goal.add_four_rows-requires-clause-b
+add_four_rows-requires-clause-b c = omega arith
+
+pub add_four_rows-requires-clause-c : goal.add_four_rows-requires-clause-c
+add_four_rows-requires-clause-c c = omega arith
+
+pub add_four_rows-requires-clause-d : goal.add_four_rows-requires-clause-d
+add_four_rows-requires-clause-d c = omega arith
+
+pub add_four_rows-requires-clause-masks : goal.add_four_rows-requires-clause-masks
+add_four_rows-requires-clause-masks c = omega arith
+
+pub add_four_rows-requires-clause-some : goal.add_four_rows-requires-clause-some
+add_four_rows-requires-clause-some c = c.requires.some
+
+pub add_four_rows-requires-clause-few : goal.add_four_rows-requires-clause-few
+add_four_rows-requires-clause-few c = c.requires.few
+
+pub add_four_rows-requires-clause-room : goal.add_four_rows-requires-clause-room
+add_four_rows-requires-clause-room c =
+    c.loop-i.auto.sums ∙ c.requires.room ∙ ap (λ w. 16 * (div_ceil w 16 * c.args.count)) (sym c.row.ensures.size)
+
+pub loop-i-smaller : goal.loop-i-smaller
+loop-i-smaller c = omega arith

@@ -1,4 +1,4 @@
-use Rattle.std.proofs.Common.{◌≡◌, ◌-◌, ◌<◌, ap, ap₂, sym, subst, ◌∙◌, arith}
+use Rattle.std.proofs.Common.{◌≡◌, ◌-◌, ◌<◌, ap, ap₂, sym, subst, ◌∙◌, arith, ◌*◌}
 use Rattle.gf256.specs.Field.{◌⊕◌}
 use Rattle.gf256.specs.Sums.{run_sum}
 use Rattle.gf256.proofs.RunSums.{run-none, run-next}
@@ -36,3 +36,30 @@ returns c = λ v k l m.
     let size = c.div_ceil-size.ensures ∙ ap size_of c.rows.ensures.is in
     c.loop-j.invariant v k l m
     ∙ ap₂ (λ s j. run_sum (given (piece s c.args.bitmaps.now v) matrix.rows k) c.args.from j) size end
+
+pub div_ceil-size-requires : goal.div_ceil-size-requires
+div_ceil-size-requires c = omega arith
+
+pub overflow_cast-size : goal.overflow_cast-size
+overflow_cast-size c = omega arith
+
+pub pattern_of-requires-clause-few : goal.pattern_of-requires-clause-few
+pattern_of-requires-clause-few c = c.requires.few
+
+pub pattern_of-requires-clause-within : goal.pattern_of-requires-clause-within
+pattern_of-requires-clause-within c = omega arith
+
+pub pattern_of-requires-clause-memory : goal.pattern_of-requires-clause-memory
+pattern_of-requires-clause-memory c = omega arith
+
+pub pattern_of-requires-clause-bitmaps : goal.pattern_of-requires-clause-bitmaps
+pattern_of-requires-clause-bitmaps c = c.requires.bitmaps ∙ ap (λ s. c.args.count * s) (sym (c.div_ceil-size.ensures ∙ ap size_of c.rows.ensures.is))
+
+pub row-requires : goal.row-requires
+row-requires c = omega arith
+
+pub add_to_pattern-requires : goal.add_to_pattern-requires
+add_to_pattern-requires c = omega (arith, c.row.ensures.size, c.loop-j.auto.patterns, c.requires.room)
+
+pub loop-j-smaller : goal.loop-j-smaller
+loop-j-smaller c = omega arith

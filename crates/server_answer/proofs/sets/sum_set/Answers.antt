@@ -59,3 +59,6 @@ slice_bounds-patterns-end c = sym (stack_part (256 * c.width-width.result) 65536
 
 pub add_by_pattern-requires-clause-room : goal.add_by_pattern-requires-clause-room
 add_by_pattern-requires-clause-room c = stack_part (256 * c.width-width.result) 65536 (omega arith) ∙ ap (λ w. 256 * w) c.width-width.ensures.is
+
+pub spread-requires-clause-patterns : goal.spread-requires-clause-patterns
+spread-requires-clause-patterns c = c.add_by_pattern.auto.patterns ∙ stack_part (256 * c.width-width.result) 65536 (omega arith)

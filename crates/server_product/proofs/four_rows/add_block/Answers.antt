@@ -1,4 +1,4 @@
-use Rattle.std.proofs.Common.{◌≡◌, ◌≤◌, ◌+◌, ◌*◌, length, subst, refl, arith}
+use Rattle.std.proofs.Common.{◌≡◌, ◌≤◌, ◌+◌, ◌*◌, length, subst, refl, arith, mul-le-mul}
 use Rattle.gf256.specs.Rows.{IsAdded}
 use Rattle.gf256.proofs.Added.{added-none}
 use Rattle.server_product.specs.Blocks.{four_at}
@@ -26,3 +26,85 @@ loop-v-preserved c =
     c.requires.wide refl c.requires.b c.requires.c c.requires.d (omega arith) room (omega arith) c.start_of-start.ensures refl refl refl refl
     c.at-in_a.ensures c.at-in_b.ensures c.at-in_c.ensures c.at-in_d.ensures
     c.times.ensures c.times-in-loop-v.ensures c.times-in-loop-v-2.ensures c.times-in-loop-v-3.ensures c.loop-v.invariant)
+
+pub start_of-start-requires-clause-wide : goal.start_of-start-requires-clause-wide
+start_of-start-requires-clause-wide c = omega arith
+
+pub start_of-start-requires-clause-memory : goal.start_of-start-requires-clause-memory
+start_of-start-requires-clause-memory c = omega arith
+
+pub at-in_a-requires : goal.at-in_a-requires
+at-in_a-requires c = omega arith
+
+pub at-in_b-requires : goal.at-in_b-requires
+at-in_b-requires c = omega arith
+
+pub at-in_c-requires : goal.at-in_c-requires
+at-in_c-requires c = omega arith
+
+pub at-in_d-requires : goal.at-in_d-requires
+at-in_d-requires c = omega arith
+
+pub overflow_mul-at : goal.overflow_mul-at
+overflow_mul-at c =
+    let most : c.args.i ≤ 4096 = omega arith in
+    omega (arith, mul-le-mul most c.requires.few)
+
+pub overflow_add-at : goal.overflow_add-at
+overflow_add-at c =
+    let most : c.args.i ≤ 4096 = omega arith in
+    omega (arith, mul-le-mul most c.requires.few)
+
+pub overflow_mul-at-in-loop-v : goal.overflow_mul-at-in-loop-v
+overflow_mul-at-in-loop-v c =
+    let most : c.args.i ≤ 4096 = omega arith in
+    omega (arith, mul-le-mul most c.requires.few)
+
+pub load-sums : goal.load-sums
+load-sums c = omega arith
+
+pub overflow_mul-v : goal.overflow_mul-v
+overflow_mul-v c = omega arith
+
+pub bounds-factors-v : goal.bounds-factors-v
+bounds-factors-v c = omega arith
+
+pub overflow_mul-v-in-loop-v : goal.overflow_mul-v-in-loop-v
+overflow_mul-v-in-loop-v c = omega arith
+
+pub overflow_add-v : goal.overflow_add-v
+overflow_add-v c = omega arith
+
+pub bounds-factors-v-in-loop-v : goal.bounds-factors-v-in-loop-v
+bounds-factors-v-in-loop-v c = omega arith
+
+pub overflow_mul-v-in-loop-v-2 : goal.overflow_mul-v-in-loop-v-2
+overflow_mul-v-in-loop-v-2 c = omega arith
+
+pub overflow_add-v-in-loop-v : goal.overflow_add-v-in-loop-v
+overflow_add-v-in-loop-v c = omega arith
+
+pub bounds-factors-v-in-loop-v-2 : goal.bounds-factors-v-in-loop-v-2
+bounds-factors-v-in-loop-v-2 c = omega arith
+
+pub overflow_mul-v-in-loop-v-3 : goal.overflow_mul-v-in-loop-v-3
+overflow_mul-v-in-loop-v-3 c = omega arith
+
+pub overflow_add-v-in-loop-v-2 : goal.overflow_add-v-in-loop-v-2
+overflow_add-v-in-loop-v-2 c = omega arith
+
+pub bounds-factors-v-in-loop-v-3 : goal.bounds-factors-v-in-loop-v-3
+bounds-factors-v-in-loop-v-3 c = omega arith
+
+pub store-sums : goal.store-sums
+store-sums c = omega arith
+
+pub loop-v-smaller : goal.loop-v-smaller
+loop-v-smaller c = omega arith
+
+pub returns : goal.returns
+returns c =
+    let g = four_at c.args.a.now c.args.b.now c.args.c.now c.args.d.now c.args.factors.now (length c.args.a.now) c.args.count in
+    let b = c.args.i * c.args.count in
+    let end : c.loop-v.v ≡ c.args.count = omega arith in
+    subst (λ v. IsAdded c.loop-v.sums c.args.sums.now g (16 * b) (16 * (b + v))) end c.loop-v.invariant

@@ -3,6 +3,7 @@ use Rattle.std.specs.Int.{div_ceil}
 use Rattle.gf256.specs.Rows.{IsAdded}
 use Rattle.gf256.proofs.Added.{added-none, added-on}
 use Rattle.server_product.specs.Blocks.{four_at}
+use Rattle.server_product.proofs.Workers.{end-within}
 use Rattle.server_product.proofs.four_rows.add_four_rows.Goals as goal
 
 pub loop-i-init : goal.loop-i-init
@@ -25,3 +26,34 @@ returns c = λ p l.
     let end : c.loop-i.i ≡ div_ceil (length c.args.a.now) 16 = omega arith in
     let places = ap (λ i. 16 * (i * c.args.count)) end in
     c.loop-i.invariant.added p (omega arith) (omega (arith, l, places))
+
+pub div_ceil-i-end-requires : goal.div_ceil-i-end-requires
+div_ceil-i-end-requires c = omega arith
+
+pub add_block-requires-clause-wide : goal.add_block-requires-clause-wide
+add_block-requires-clause-wide c = c.requires.wide
+
+pub add_block-requires-clause-b : goal.add_block-requires-clause-b
+add_block-requires-clause-b c = c.requires.b
+
+pub add_block-requires-clause-c : goal.add_block-requires-clause-c
+add_block-requires-clause-c c = c.requires.c
+
+pub add_block-requires-clause-d : goal.add_block-requires-clause-d
+add_block-requires-clause-d c = c.requires.d
+
+pub add_block-requires-clause-some : goal.add_block-requires-clause-some
+add_block-requires-clause-some c = c.requires.some
+
+pub add_block-requires-clause-few : goal.add_block-requires-clause-few
+add_block-requires-clause-few c = c.requires.few
+
+pub add_block-requires-clause-memory : goal.add_block-requires-clause-memory
+add_block-requires-clause-memory c = omega arith
+
+pub add_block-requires-clause-room : goal.add_block-requires-clause-room
+add_block-requires-clause-room c =
+    omega (arith, end-within c.loop-i.i (div_ceil (length c.args.a.now) 16) c.args.count (omega arith), c.requires.room)
+
+pub loop-i-smaller : goal.loop-i-smaller
+loop-i-smaller c = omega arith

@@ -60,3 +60,51 @@ returns c = λ k.
 
 pub add_few-requires-2-clause-few : goal.add_few-requires-2-clause-few
 add_few-requires-2-clause-few c = c.few_of-2.ensures.rows c.args.q.now c.loop-factor.invariant.rest.0
+
+pub overflow_cast-factor : goal.overflow_cast-factor
+overflow_cast-factor c = omega arith
+
+pub offset_bounds-waiting-factor : goal.offset_bounds-waiting-factor
+offset_bounds-waiting-factor c = omega arith
+
+pub bounds-waiting-factor : goal.bounds-waiting-factor
+bounds-waiting-factor c = omega arith
+
+pub add_or_leave-left-requires-clause-query : goal.add_or_leave-left-requires-clause-query
+add_or_leave-left-requires-clause-query c = c.requires.query
+
+pub add_or_leave-left-requires-clause-room : goal.add_or_leave-left-requires-clause-room
+add_or_leave-left-requires-clause-room c = omega arith
+
+pub add_or_leave-left-requires-clause-few : goal.add_or_leave-left-requires-clause-few
+add_or_leave-left-requires-clause-few c = c.requires.waiting c.loop-factor.factor (omega arith)
+
+pub add_or_leave-left-requires-clause-held : goal.add_or_leave-left-requires-clause-held
+add_or_leave-left-requires-clause-held c = c.loop-factor.invariant.held
+
+pub add_or_leave-left-requires-clause-rest : goal.add_or_leave-left-requires-clause-rest
+add_or_leave-left-requires-clause-rest c = c.loop-factor.invariant.rest
+
+pub loop-factor-smaller : goal.loop-factor-smaller
+loop-factor-smaller c = omega arith
+
+pub add_few-requires-clause-query : goal.add_few-requires-clause-query
+add_few-requires-clause-query c = c.requires.query
+
+pub add_few-requires-clause-room : goal.add_few-requires-clause-room
+add_few-requires-clause-room c = omega arith
+
+pub add_few-requires-2-clause-query : goal.add_few-requires-2-clause-query
+add_few-requires-2-clause-query c = c.requires.query
+
+pub add_few-requires-2-clause-room : goal.add_few-requires-2-clause-room
+add_few-requires-2-clause-room c = omega arith
+
+pub add_few-requires-3-clause-query : goal.add_few-requires-3-clause-query
+add_few-requires-3-clause-query c = c.requires.query
+
+pub add_few-requires-3-clause-room : goal.add_few-requires-3-clause-room
+add_few-requires-3-clause-room c = omega arith
+
+pub add_few-requires-3-clause-few : goal.add_few-requires-3-clause-few
+add_few-requires-3-clause-few c = c.loop-factor.invariant.rest.1

@@ -1,6 +1,7 @@
-use Rattle.std.proofs.Common.{◌≡◌, ℕ, ◌+◌, ◌*◌, ◌/◌, ◌%◌, ◌<◌, slice_index, ap, ap₂, ◌∙◌, refl, arith}
+use Rattle.std.proofs.Common.{◌≡◌, ℕ, ◌+◌, ◌*◌, ◌/◌, ◌%◌, ◌<◌, ◌≤◌, slice_index, ap, ap₂, ◌∙◌, refl, arith, mul-le-mul}
 use Rattle.std.proofs.Math.ListN.{length-set}
 use Rattle.server_product.proofs.QuerySums.{filled-four}
+use Rattle.server_product.proofs.Workers.{end-within}
 use Rattle.server_product.proofs.group.factors_of.Goals as goal
 
 pub loop-v-preserved : goal.loop-v-preserved
@@ -68,3 +69,46 @@ overflow_add-factors-in-loop-v-5 c = omega arith
 
 pub bounds-factors-v-in-loop-v-3 : goal.bounds-factors-v-in-loop-v-3
 bounds-factors-v-in-loop-v-3 c = omega arith
+
+pub loop-v-init : goal.loop-v-init
+loop-v-init c = record { size = refl; filled = λ p l. absurd (omega arith) }
+
+pub overflow_mul-from : goal.overflow_mul-from
+overflow_mul-from c =
+    let most : c.loop-v.v ≤ 16 = omega arith in
+    omega (arith, mul-le-mul most c.requires.memory)
+
+pub overflow_add-from : goal.overflow_add-from
+overflow_add-from c =
+    let most : c.loop-v.v ≤ 16 = omega arith in
+    omega (arith, mul-le-mul most c.requires.memory)
+
+pub bounds-queries-from : goal.bounds-queries-from
+bounds-queries-from c = omega (arith, end-within c.loop-v.v c.args.count c.args.rows (omega arith), c.requires.queries)
+
+pub overflow_add-factors : goal.overflow_add-factors
+overflow_add-factors c =
+    let most : c.loop-v.v ≤ 16 = omega arith in
+    omega (arith, mul-le-mul most c.requires.memory)
+
+pub bounds-queries-from-in-loop-v : goal.bounds-queries-from-in-loop-v
+bounds-queries-from-in-loop-v c = omega (arith, end-within c.loop-v.v c.args.count c.args.rows (omega arith), c.requires.queries)
+
+pub overflow_add-factors-in-loop-v-2 : goal.overflow_add-factors-in-loop-v-2
+overflow_add-factors-in-loop-v-2 c =
+    let most : c.loop-v.v ≤ 16 = omega arith in
+    omega (arith, mul-le-mul most c.requires.memory)
+
+pub bounds-queries-from-in-loop-v-2 : goal.bounds-queries-from-in-loop-v-2
+bounds-queries-from-in-loop-v-2 c = omega (arith, end-within c.loop-v.v c.args.count c.args.rows (omega arith), c.requires.queries)
+
+pub overflow_add-factors-in-loop-v-4 : goal.overflow_add-factors-in-loop-v-4
+overflow_add-factors-in-loop-v-4 c =
+    let most : c.loop-v.v ≤ 16 = omega arith in
+    omega (arith, mul-le-mul most c.requires.memory)
+
+pub bounds-queries-from-in-loop-v-3 : goal.bounds-queries-from-in-loop-v-3
+bounds-queries-from-in-loop-v-3 c = omega (arith, end-within c.loop-v.v c.args.count c.args.rows (omega arith), c.requires.queries)
+
+pub loop-v-smaller : goal.loop-v-smaller
+loop-v-smaller c = omega arith

@@ -65,3 +65,81 @@ returns-else-at-acc c = λ k.
     c.args.a.factor c.args.b.factor c.args.c.factor c.args.d.factor c.args.e.factor c.args.f.factor
     c.of-by_a.result c.of-by_b.result c.of-by_c.result c.of-by_d.result c.of-by_e.result c.of-by_f.result k
     c.of-by_a.ensures c.of-by_b.ensures c.of-by_c.ensures c.of-by_d.ensures c.of-by_e.ensures c.of-by_f.ensures)
+
+pub add_six_short-requires-clause-a : goal.add_six_short-requires-clause-a
+add_six_short-requires-clause-a c = c.requires.a
+
+pub add_six_short-requires-clause-b : goal.add_six_short-requires-clause-b
+add_six_short-requires-clause-b c = c.requires.b
+
+pub add_six_short-requires-clause-c : goal.add_six_short-requires-clause-c
+add_six_short-requires-clause-c c = c.requires.c
+
+pub add_six_short-requires-clause-d : goal.add_six_short-requires-clause-d
+add_six_short-requires-clause-d c = c.requires.d
+
+pub add_six_short-requires-clause-e : goal.add_six_short-requires-clause-e
+add_six_short-requires-clause-e c = c.requires.e
+
+pub add_six_short-requires-clause-f : goal.add_six_short-requires-clause-f
+add_six_short-requires-clause-f c = c.requires.f
+
+pub returns-then-acc-lt16 : goal.returns-then-acc-lt16
+returns-then-acc-lt16 c = c.add_six_short.ensures
+
+pub overflow_sub-last : goal.overflow_sub-last
+overflow_sub-last c = omega arith
+
+pub load-acc : goal.load-acc
+load-acc c = omega arith
+
+pub load-acc-in-lanes : goal.load-acc-in-lanes
+load-acc-in-lanes c = omega arith
+
+pub products_at-requires : goal.products_at-requires
+products_at-requires c = omega arith
+
+pub products_at-requires-in-lanes : goal.products_at-requires-in-lanes
+products_at-requires-in-lanes c = omega arith
+
+pub products_at-requires-in-lanes-2 : goal.products_at-requires-in-lanes-2
+products_at-requires-in-lanes-2 c = omega arith
+
+pub products_at-requires-in-lanes-3 : goal.products_at-requires-in-lanes-3
+products_at-requires-in-lanes-3 c = omega arith
+
+pub products_at-requires-in-lanes-4 : goal.products_at-requires-in-lanes-4
+products_at-requires-in-lanes-4 c = omega arith
+
+pub products_at-requires-in-lanes-5 : goal.products_at-requires-in-lanes-5
+products_at-requires-in-lanes-5 c = omega arith
+
+pub store-acc : goal.store-acc
+store-acc c = omega arith
+
+pub overflow_add-at : goal.overflow_add-at
+overflow_add-at c = omega arith
+
+pub lanes-smaller : goal.lanes-smaller
+lanes-smaller c = omega arith
+
+pub products_at-requires-then-at-acc : goal.products_at-requires-then-at-acc
+products_at-requires-then-at-acc c = omega arith
+
+pub products_at-requires-then-at-acc-2 : goal.products_at-requires-then-at-acc-2
+products_at-requires-then-at-acc-2 c = omega arith
+
+pub products_at-requires-then-at-acc-3 : goal.products_at-requires-then-at-acc-3
+products_at-requires-then-at-acc-3 c = omega arith
+
+pub products_at-requires-then-at-acc-4 : goal.products_at-requires-then-at-acc-4
+products_at-requires-then-at-acc-4 c = omega arith
+
+pub products_at-requires-then-at-acc-5 : goal.products_at-requires-then-at-acc-5
+products_at-requires-then-at-acc-5 c = omega arith
+
+pub products_at-requires-then-at-acc-6 : goal.products_at-requires-then-at-acc-6
+products_at-requires-then-at-acc-6 c = omega arith
+
+pub store-acc-then-at-acc : goal.store-acc-then-at-acc
+store-acc-then-at-acc c = omega arith

@@ -32,3 +32,30 @@ returns c =
     (six-past c.args.a.row.now c.args.b.row.now c.args.c.row.now c.args.d.row.now c.args.e.row.now c.args.f.row.now
     c.args.a.factor c.args.b.factor c.args.c.factor c.args.d.factor c.args.e.factor c.args.f.factor n c.requires.a c.requires.b c.requires.c c.requires.d c.requires.e c.requires.f)
     (subst (IsAdded c.loop-i.acc c.args.acc.now g 0) end c.loop-i.invariant)
+
+pub bounds-a-i : goal.bounds-a-i
+bounds-a-i c = omega arith
+
+pub bounds-b-i : goal.bounds-b-i
+bounds-b-i c = omega arith
+
+pub bounds-c-i : goal.bounds-c-i
+bounds-c-i c = omega arith
+
+pub bounds-d-i : goal.bounds-d-i
+bounds-d-i c = omega arith
+
+pub bounds-e-i : goal.bounds-e-i
+bounds-e-i c = omega arith
+
+pub bounds-f-i : goal.bounds-f-i
+bounds-f-i c = omega arith
+
+pub bounds-acc-i : goal.bounds-acc-i
+bounds-acc-i c = omega arith
+
+pub bounds-acc-i-in-loop-i : goal.bounds-acc-i-in-loop-i
+bounds-acc-i-in-loop-i c = omega arith
+
+pub loop-i-smaller : goal.loop-i-smaller
+loop-i-smaller c = omega arith

@@ -34,3 +34,45 @@ returns c =
     let trio = c.args.trio in
     let end : c.loop-i.i ≡ c.args.to = omega (arith, c.lanes.invariant.within) in
     subst (IsAdded c.loop-i.acc c.args.acc.now (trio_at trio.a.now trio.b.now trio.c.now c.args.products.now) c.args.from) end c.loop-i.invariant
+
+pub overflow_sub-to : goal.overflow_sub-to
+overflow_sub-to c = omega arith
+
+pub add_lanes-requires-clause-a : goal.add_lanes-requires-clause-a
+add_lanes-requires-clause-a c = omega arith
+
+pub add_lanes-requires-clause-b : goal.add_lanes-requires-clause-b
+add_lanes-requires-clause-b c = omega arith
+
+pub add_lanes-requires-clause-c : goal.add_lanes-requires-clause-c
+add_lanes-requires-clause-c c = omega arith
+
+pub add_lanes-requires-clause-within : goal.add_lanes-requires-clause-within
+add_lanes-requires-clause-within c = omega arith
+
+pub overflow_add-at : goal.overflow_add-at
+overflow_add-at c = omega arith
+
+pub lanes-smaller : goal.lanes-smaller
+lanes-smaller c = omega arith
+
+pub loop-i-init : goal.loop-i-init
+loop-i-init c = omega arith
+
+pub bounds-trio-i : goal.bounds-trio-i
+bounds-trio-i c = omega arith
+
+pub bounds-trio-i-in-loop-i : goal.bounds-trio-i-in-loop-i
+bounds-trio-i-in-loop-i c = omega arith
+
+pub bounds-trio-i-in-loop-i-2 : goal.bounds-trio-i-in-loop-i-2
+bounds-trio-i-in-loop-i-2 c = omega arith
+
+pub bounds-acc-i : goal.bounds-acc-i
+bounds-acc-i c = omega arith
+
+pub bounds-acc-i-in-loop-i : goal.bounds-acc-i-in-loop-i
+bounds-acc-i-in-loop-i c = omega arith
+
+pub loop-i-smaller : goal.loop-i-smaller
+loop-i-smaller c = omega arith

@@ -1,4 +1,4 @@
-use Rattle.std.proofs.Common.{◌≡◌, ◌≤◌, ◌+◌, ◌*◌, length, ap, arith}
+use Rattle.std.proofs.Common.{◌≡◌, ◌≤◌, ◌+◌, ◌*◌, length, ap, add-mul, arith, rules}
 use Rattle.std.proofs.Math.Nat.{mul-le-mul_right}
 use Rattle.server_product.specs.Queries.{entry}
 use Rattle.server_product.proofs.Workers.{joined, last}
@@ -52,3 +52,81 @@ sum_from-split_at_mut-own-requires g t c =
     let places = c.args.count * c.args.matrix.now.width in
     let more : (c.args.first + 1) * places ≤ c.args.workers * places = mul-le-mul_right places (omega arith) in
     omega (arith, more, c.requires.scratch, c.places_of.ensures)
+
+pub sum_from-sum_both-requires : goal.sum_from-sum_both-requires
+sum_from-sum_both-requires g t c κs within =
+    let places = c.args.count * c.args.matrix.now.width in
+    let more : (c.args.first + 1) * places ≤ c.args.workers * places = mul-le-mul_right places (omega arith) in (
+      omega arith,
+      (
+        within.0,
+        (
+          within.1,
+          (
+            search rules,
+            (
+              search rules,
+              (
+                c.requires.rows,
+                (
+                  c.requires.few,
+                  (
+                    omega arith,
+                    (
+                      c.requires.few_queries,
+                      (
+                        c.requires.queries,
+                        (omega (arith, more, c.requires.scratch, c.split_at_mut-own.ensures.front_len, c.places_of.ensures), omega (arith, more, add-mul c.args.first 1 places, c.requires.scratch, c.split_at_mut-own.ensures.back_len, c.places_of.ensures)),
+                      ),
+                    ),
+                  ),
+                ),
+              ),
+            ),
+          ),
+        ),
+      ),
+    )
+
+pub sum_both-back-sum_from-requires : goal.sum_both-back-sum_from-requires
+sum_both-back-sum_from-requires g t c κs within =
+    let needs = c.requires in
+    (omega arith, (within.0, (within.1, (needs.0, (needs.1, (needs.2, (needs.3, (needs.4, (needs.5, (needs.6, needs.7))))))))))
+
+pub sum_both-back-returns : goal.sum_both-back-returns
+sum_both-back-returns g t c = c.sum_from.ensures
+
+pub fn::sum_both::back+FnMut::call_mut-returns : goal.fn::sum_both::back+FnMut::call_mut-returns
+fn::sum_both::back+FnMut::call_mut-returns g t c = c.back.ensures
+
+pub fn::sum_both::back+FnOnce::call_once-returns : goal.fn::sum_both::back+FnOnce::call_once-returns
+fn::sum_both::back+FnOnce::call_once-returns g t c = (c.back.new.arg1, (c.back.kept-captures, c.back.ensures))
+
+pub sum_both-join_mut-requires-after_bounds : goal.sum_both-join_mut-requires-after_bounds
+sum_both-join_mut-requires-after_bounds g t c κs within =
+    let needs = c.requires in (
+      (search rules, needs.rows, needs.few, omega arith, needs.few_queries, needs.queries, needs.own),
+      (
+        omega arith,
+        (
+          λ a m. m,
+          (
+            λ a m. m,
+            (
+              (search rules, search rules, needs.rows, needs.few, needs.more, needs.few_queries, needs.queries, needs.others),
+              (search rules, search rules),
+            ),
+          ),
+        ),
+      ),
+    )
+
+pub fn::sum_both::back+FnMut::call_mut-back-requires : goal.fn::sum_both::back+FnMut::call_mut-back-requires
+fn::sum_both::back+FnMut::call_mut-back-requires g t c κs within =
+    let needs = c.requires.1.1 in
+    (omega arith, (within.0, (within.1, (needs.1.0, (needs.1.1, needs.0)))))
+
+pub fn::sum_both::back+FnOnce::call_once-back-requires : goal.fn::sum_both::back+FnOnce::call_once-back-requires
+fn::sum_both::back+FnOnce::call_once-back-requires g t c κs within =
+    let needs = c.requires.1.1 in
+    (omega arith, (within.0, (within.1, (needs.1.0, (needs.1.1, needs.0)))))
