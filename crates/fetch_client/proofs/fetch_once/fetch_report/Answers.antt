@@ -149,3 +149,6 @@ returns-in_err-all-clause-listed g c = λ one. IfOk-from_err c.from_residual.res
 
 pub returns-in_err-verdict-clause-listed : goal.returns-in_err-verdict-clause-listed
 returns-in_err-verdict-clause-listed g c = λ one. IfOk-from_err c.from_residual-in_err-verdict.result _ c.from_residual-in_err-verdict.ensures.0
+
+pub gather-requires : goal.gather-requires
+gather-requires g c = c.requires
