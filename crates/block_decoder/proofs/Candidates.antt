@@ -18,7 +18,7 @@ use Rattle.column_runs.specs.OnOne.{LieOnOne}
 use Rattle.column_runs.specs.Run.{IsConstant, IsRun}
 use Rattle.block_decoder.specs.Agreed.{constants_of, holds_first, weight, HasColumns}
 use Rattle.block_decoder.specs.Gains.{Gains}
-use Rattle.block_decoder.specs.Narrowing.{agreement_on, holding, meets, points_of, IsCandidate, ContinuesFrom, ContinuesBy, CountsFrom}
+use Rattle.block_decoder.specs.Narrowing.{agreement_on, holding, meets, points_of, IsCandidate, ContinuesFrom, ContinuesBy, CountsFrom, CountsBy}
 use Rattle.block_decoder.specs.Report.{Agreement, indices_of}
 use Rattle.block_decoder.proofs.Continued.{continues-whole, continues-by}
 use Rattle.block_decoder.proofs.Continues.{Gains-same}
@@ -27,7 +27,7 @@ use Rattle.block_decoder.proofs.Holding.{filter-all, holding-more, weight-more}
 use Rattle.block_decoder.proofs.Kept.{points_at-is}
 use Rattle.block_decoder.proofs.Members.{not_before_itself}
 use Rattle.block_decoder.proofs.Runs.{HasRun, has_run, run-candidate}
-use Rattle.block_decoder.proofs.Visits.{CountsBy, counts-more, counts-run, counts-whole}
+use Rattle.block_decoder.proofs.Visits.{counts-more, counts-run, counts-whole}
 use Rattle.block_decoder.proofs.Weight.{holds_first-true}
 
 -- ---- lists

@@ -14,9 +14,6 @@ use Rattle.block_decoder.proofs.Kept.{part-few, part-All, part-different}
 pub no_step : (n more : ℕ) → n ≤ n + more
 no_step n more = omega arith
 
-pub not_fewer : (n : ℕ) → n ≤ n
-not_fewer n = omega arith
-
 -- where answers can be listed, they are not refused
 pub not_unlisted : (k t h : ℕ) → (h ≤ k) × (k * t < h * h) × (cost k t h ≤ MOST_COST) → ¬ IsUnlisted k t h
 not_unlisted k t h is none = apart h k (k * t) (h * h) (cost k t h) is none

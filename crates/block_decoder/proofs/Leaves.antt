@@ -9,7 +9,7 @@ use Rattle.gf256.specs.Polynomial.{IsPolynomial}
 use Rattle.wire_frames.specs.Answer.{Answer}
 use Rattle.block_decoder.specs.Agreed.{holds_first, weight, HasColumns}
 use Rattle.block_decoder.specs.Numbers.{bound_of}
-use Rattle.block_decoder.specs.Leaves.{shared, IsLeaf, NodesFrom}
+use Rattle.block_decoder.specs.Leaves.{shared, IsLeaf, NodesFrom, IsLeafBy, NodesBy}
 use Rattle.block_decoder.proofs.Counting.{one_if}
 use Rattle.block_decoder.proofs.HeavyVectors.{few_shared}
 use Rattle.block_decoder.proofs.Johnson.{few_pass}
@@ -54,20 +54,6 @@ one_product_more a x y most n0 n1 n2 some l f g =
     omega (arith, f, g, m, r)
 
 -- ---- what is below each next polynomial, and below all of them
-
--- a leaf that begins with v and one of these polynomials
-pub record IsLeafBy (nexts : List (List ℕ)) (answers : List Answer) (h : ℕ) (v vector : List (List ℕ)) : Type 0 where
-  pub next : List ℕ
-  pub listed : Contains nexts next
-  pub leaf : IsLeaf answers h (v ++ next ∷ []) vector
-
--- so many nodes at most for each of some such leaves and each number of answers from h to one less than v has
-pub record NodesBy (nexts : List (List ℕ)) (answers : List Answer) (t h most : ℕ) (v : List (List ℕ))
-    (old new : ℕ) : Type 0 where
-  pub leaves : List (List (List ℕ))
-  pub each : All (IsLeafBy nexts answers h v) leaves
-  pub apart : AllPairs (λ v w. shared answers v w ≤ t) leaves
-  pub nodes : new ≤ old + length leaves * (weight v answers - h) * most
 
 module _ (answers : List Answer) (t h most : ℕ) (v : List (List ℕ)) where
   -- no column

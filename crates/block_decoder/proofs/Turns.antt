@@ -1,41 +1,21 @@
 -- The narrowing of a candidate: what has come of the first polynomials of a column, of one more, and of all.
-use Rattle.std.proofs.Common.{◌≡◌, ◌≢◌, ◌↔◌, ◌⊎◌, ℕ, ◌+◌, ◌-◌, ◌<◌, ◌≤◌, List, [], ◌∷◌, ◌++◌, length, get_or, map, take, drop, All, AllPairs, Contains, refl, sym, ap, subst, ◌∙◌, inl, inr, arith}
+use Rattle.std.proofs.Common.{◌≡◌, ◌≢◌, ◌↔◌, ◌⊎◌, ℕ, ◌+◌, ◌<◌, ◌≤◌, List, [], ◌∷◌, ◌++◌, length, get_or, map, take, drop, All, AllPairs, Contains, refl, sym, ap, subst, ◌∙◌, inl, inr, arith}
 use Rattle.std.specs.List.{filter}
 use Rattle.std.proofs.lemmas.List.{length-take-le, take_more, take_at, take-take}
 use Rattle.std.proofs.lemmas.List.Elements.{Contains-get_or}
 use Rattle.wire_frames.specs.Answer.{Answer}
 use Rattle.column_lists.specs.Agreement.{ListsAgreeing}
-use Rattle.column_runs.specs.OnOne.{LieOnOne}
 use Rattle.column_runs.specs.Run.{IsRun}
 use Rattle.block_decoder.specs.Agreed.{holds_first, Filled, HasColumns}
 use Rattle.block_decoder.specs.Gains.{Gains}
-use Rattle.block_decoder.specs.Narrowing.{agreement_on, meets, points_of, IsCandidate, IsCounted, IsExtended, IsPart, ContinuesFrom, ContinuesBy}
+use Rattle.block_decoder.specs.Narrowing.{agreement_on, meets, points_of, CountsBy, IsCandidate, IsCounted, IsExtended, IsPart, ContinuesFrom, ContinuesBy, HaveParted, TurnsCounted, TurnsGained}
 use Rattle.block_decoder.specs.Numbers.{column_nodes}
 use Rattle.block_decoder.specs.Report.{Agreement, indices_of}
 use Rattle.block_decoder.proofs.Candidates.{apart_after, run-fits, after, exact-end, counts-end, exact-below, counts-below, counts-next, not_before, with_next, fewer}
 use Rattle.block_decoder.proofs.Continued.{continues-by_none, continues-by_more}
 use Rattle.block_decoder.proofs.Continues.{Gains-none, Gains-same, Gains-both}
 use Rattle.block_decoder.proofs.Kept.{part-All, part-different}
-use Rattle.block_decoder.proofs.Visits.{CountsBy, counts-nothing, counts-none}
-
--- what was counted below a column's first polynomials
-pub record TurnsCounted (nexts : List (List ℕ)) (answers : List Answer) (width t h : ℕ) (kept : List Answer) (column : ℕ) (block : List ℕ) (c0 c1 n0 n1 : ℕ) : Type 0 where
-  pub counts : (c : IsCandidate answers t h kept column block)
-      → CountsBy nexts answers width t h (column_nodes (length answers) t h) c.polynomials c0 c1 n0 n1
-  pub cols : c0 ≤ c1
-  pub nodes : n0 ≤ n1
-
--- the agreements below them
-pub record TurnsGained (nexts : List (List ℕ)) (answers : List Answer) (width t h : ℕ) (kept : List Answer) (column : ℕ) (block : List ℕ) (r0 r1 : List Agreement) (c0 c1 : ℕ) : Type 0 where
-  pub gains : (c : IsCandidate answers t h kept column block)
-      → Gains (ContinuesBy (agreement_on answers) nexts answers width t h c.polynomials) r0 r1
-  pub found : (r1 ≡ r0) ⊎ (c0 + (width - (column + 1)) ≤ c1)
-
--- a column in which the answers lie on no one polynomial, and all polynomials on which enough of them lie
-pub record HaveParted (width t h : ℕ) (kept : List Answer) (column : ℕ) (nexts : List (List ℕ)) : Type 0 where
-  pub short : column < width
-  pub lists : ListsAgreeing nexts (points_of kept column) t h
-  pub apart : ¬ LieOnOne (points_of kept column) t
+use Rattle.block_decoder.proofs.Visits.{counts-nothing, counts-none}
 
 -- ---- the answers that are kept
 

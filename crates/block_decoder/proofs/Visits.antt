@@ -1,5 +1,5 @@
 -- The vectors that the decoder visits, put together from those below each next polynomial.
-use Rattle.std.proofs.Common.{◌≡◌, ◌≢◌, ℕ, ◌+◌, ◌-◌, ◌*◌, ◌<◌, ◌≤◌, List, [], ◌∷◌, ◌++◌, length, All, AllPairs, Contains, refl, sym, ap, subst, ◌∙◌, arith, append_assoc}
+use Rattle.std.proofs.Common.{◌≡◌, ◌≢◌, ℕ, ◌+◌, ◌-◌, ◌*◌, ◌<◌, ◌≤◌, List, [], ◌∷◌, ◌++◌, length, All, Contains, refl, sym, ap, subst, ◌∙◌, arith, append_assoc}
 use Rattle.std.proofs.lemmas.List.{length-append}
 use Rattle.std.proofs.lemmas.List.Elements.{All-nil, All-cons, All-append, All-weaker, Contains-append_left, Contains-append_right}
 use Rattle.std.proofs.lemmas.List.Kept.{AllPairs-cons}
@@ -8,26 +8,12 @@ use Rattle.gf256.specs.Polynomial.{IsPolynomial}
 use Rattle.wire_frames.specs.Answer.{Answer}
 use Rattle.block_decoder.specs.Agreed.{holds_first, weight, HasColumns}
 use Rattle.block_decoder.specs.Numbers.{bound_of, column_nodes, most_columns, most_nodes}
-use Rattle.block_decoder.specs.Narrowing.{IsVisited, AreVisited, CountsFrom}
+use Rattle.block_decoder.specs.Narrowing.{IsVisited, IsVisitedBy, AreVisited, CountsFrom, CountsBy}
 use Rattle.block_decoder.proofs.HeavyByLength.{few_by_length}
-use Rattle.block_decoder.proofs.Leaves.{NodesBy, few_nodes, nodes-nothing, nodes-none, nodes-after, nodes-more, nodes-whole}
+use Rattle.block_decoder.proofs.Leaves.{few_nodes, nodes-nothing, nodes-none, nodes-after, nodes-more, nodes-whole}
 use Rattle.block_decoder.proofs.Pairs.{AllPairs-nil, AllPairs-append}
 use Rattle.block_decoder.proofs.Runs.{HasRun, visits}
 use Rattle.block_decoder.proofs.Vectors.{differ_by_beginning, differ_by_last}
-
--- a visited vector that begins with v and one of these polynomials
-pub record IsVisitedBy (nexts : List (List ℕ)) (answers : List Answer) (width t h : ℕ) (v vector : List (List ℕ)) : Type 0 where
-  pub next : List ℕ
-  pub listed : Contains nexts next
-  pub visited : IsVisited answers width t h (v ++ next ∷ []) vector
-
--- no more columns were decoded than there are different such vectors, and the nodes of few lists were counted
-pub record CountsBy (nexts : List (List ℕ)) (answers : List Answer) (width t h most : ℕ) (v : List (List ℕ)) (old_cols new_cols old_nodes new_nodes : ℕ) : Type 0 where
-  pub visited : List (List (List ℕ))
-  pub different : AllPairs (λ v w. v ≢ w) visited
-  pub each : All (IsVisitedBy nexts answers width t h v) visited
-  pub cols : new_cols ≤ old_cols + length visited
-  pub nodes : NodesBy nexts answers t h most v old_nodes new_nodes
 
 module _ (answers : List Answer) (width t h most : ℕ) (v : List (List ℕ)) where
   -- nothing is visited yet

@@ -4,11 +4,13 @@ use Rattle.std.specs.List.{filter}
 use Rattle.gf256.specs.Polynomial.{val, IsPolynomial}
 use Rattle.column_lists.specs.declared.TheConstants.{MOST_COST}
 use Rattle.column_lists.specs.Numbers.{cost}
+use Rattle.column_lists.specs.Agreement.{ListsAgreeing}
+use Rattle.column_runs.specs.OnOne.{LieOnOne}
 use Rattle.wire_frames.specs.Answer.{Answer}
 use Rattle.quantity_limits.specs.declared.TheConstants.{MOST_SERVERS}
 use Rattle.block_decoder.specs.Agreed.{holds_first, weight, constants_of}
 use Rattle.block_decoder.specs.Gains.{Gains}
-use Rattle.block_decoder.specs.Leaves.{NodesFrom}
+use Rattle.block_decoder.specs.Leaves.{NodesFrom, NodesBy}
 use Rattle.block_decoder.specs.Numbers.{column_nodes}
 use Rattle.block_decoder.specs.Report.{Agreement, indices_of}
 use Rattle.block_decoder.specs.Vectors.{IsHeavyVector}
@@ -110,3 +112,49 @@ pub record IsExtended (answers : List Answer) (width t h : ℕ) (kept : List Ans
       → Gains (ContinuesFrom (agreement_on answers) answers width t h c.polynomials) old_report new_report
   pub some : column < width → old_cols < new_cols
   pub found : (new_report ≡ old_report) ⊎ (old_cols + (width - column) ≤ new_cols)
+
+-- ---- what comes of the first polynomials of a column
+
+-- a visited vector that begins with v and one of these polynomials
+pub record IsVisitedBy (nexts : List (List ℕ)) (answers : List Answer) (width t h : ℕ) (v vector : List (List ℕ)) : Type 0 where
+  pub next : List ℕ
+  pub listed : Contains nexts next
+  pub visited : IsVisited answers width t h (v ++ next ∷ []) vector
+
+-- no more columns were decoded than there are different such vectors, and the nodes of few lists were counted
+pub record CountsBy (nexts : List (List ℕ)) (answers : List Answer) (width t h most : ℕ) (v : List (List ℕ)) (old_cols new_cols old_nodes new_nodes : ℕ) : Type 0 where
+  pub visited : List (List (List ℕ))
+  pub different : AllPairs (λ v w. v ≢ w) visited
+  pub each : All (IsVisitedBy nexts answers width t h v) visited
+  pub cols : new_cols ≤ old_cols + length visited
+  pub nodes : NodesBy nexts answers t h most v old_nodes new_nodes
+
+-- what was counted below a column's first polynomials
+pub record TurnsCounted (nexts : List (List ℕ)) (answers : List Answer) (width t h : ℕ) (kept : List Answer) (column : ℕ) (block : List ℕ) (c0 c1 n0 n1 : ℕ) : Type 0 where
+  pub counts : (c : IsCandidate answers t h kept column block)
+      → CountsBy nexts answers width t h (column_nodes (length answers) t h) c.polynomials c0 c1 n0 n1
+  pub cols : c0 ≤ c1
+  pub nodes : n0 ≤ n1
+
+-- the agreements below them
+pub record TurnsGained (nexts : List (List ℕ)) (answers : List Answer) (width t h : ℕ) (kept : List Answer) (column : ℕ) (block : List ℕ) (r0 r1 : List Agreement) (c0 c1 : ℕ) : Type 0 where
+  pub gains : (c : IsCandidate answers t h kept column block)
+      → Gains (ContinuesBy (agreement_on answers) nexts answers width t h c.polynomials) r0 r1
+  pub found : (r1 ≡ r0) ⊎ (c0 + (width - (column + 1)) ≤ c1)
+
+-- a column in which the answers lie on no one polynomial, and all polynomials on which enough of them lie
+pub record HaveParted (width t h : ℕ) (kept : List Answer) (column : ℕ) (nexts : List (List ℕ)) : Type 0 where
+  pub short : column < width
+  pub lists : ListsAgreeing nexts (points_of kept column) t h
+  pub apart : ¬ LieOnOne (points_of kept column) t
+
+-- whatever came of it: what was counted below the first of them
+pub record HaveCounted (nexts : List (List ℕ)) (answers : List Answer) (width t h : ℕ) (kept : List Answer) (column : ℕ) (block : List ℕ) (c0 c1 n0 n1 : ℕ) : Type 0 where
+  pub count : ℕ
+  pub counted : TurnsCounted (take count nexts) answers width t h kept column block c0 c1 n0 n1
+
+-- all of them were followed to the end, and the columns before are as they were
+pub record HaveExtended (nexts : List (List ℕ)) (answers : List Answer) (width t h : ℕ) (kept : List Answer) (column : ℕ) (old_block new_block : List ℕ)
+    (r0 r1 : List Agreement) (c0 c1 : ℕ) : Type 0 where
+  pub block : take column new_block ≡ take column old_block
+  pub gained : TurnsGained nexts answers width t h kept column old_block r0 r1 c0 c1

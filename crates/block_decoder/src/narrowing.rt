@@ -9,7 +9,7 @@ ghost use Rattle.column_lists.specs.Numbers.{cost};
 ghost use Rattle.column_runs.specs.Run.{IsRun};
 ghost use Rattle.quantity_limits.specs.declared.TheConstants.{MOST_SERVERS};
 ghost use Rattle.block_decoder.specs.Agreed.{HasColumns};
-ghost use Rattle.block_decoder.specs.Narrowing.{meets, points_of as points_in, CanBeListed, IsCandidate, IsCounted, IsExtended};
+ghost use Rattle.block_decoder.specs.Narrowing.{meets, points_of as points_in, CanBeListed, HaveCounted, HaveExtended, HaveParted, IsCandidate, IsCounted, IsExtended};
 ghost use Rattle.block_decoder.specs.Report.{agreement_cmp, IsReport};
 ghost use Rattle.block_decoder.specs.Numbers.{column_nodes, most_columns, most_nodes};
 
@@ -87,6 +87,7 @@ impl<'a, I: Interpolate> Narrowing<'a, I> {
     ///
     /// As long as all of these answers lie on one polynomial of small degree, there is no other way to go on. Where they
     /// don't, each polynomial on which enough of them lie makes a candidate of its own, with fewer answers.
+    #[cycle(extend)]
     fn extend<C: Ledger, N: Ledger>(
         &self,
         alloc: Global,
@@ -122,7 +123,36 @@ impl<'a, I: Interpolate> Narrowing<'a, I> {
             cols,
             nodes,
         )?;
-        for polynomial in &list {
+        self.extend_by_each(alloc, kept, &list, next, block, report, cols, nodes)
+    }
+
+    /// Reports the agreements of a candidate whose answers part in the column `next`: those of the candidates that the
+    /// polynomials of this column make, on which enough of them lie, each with fewer answers.
+    #[cycle(extend)]
+    fn extend_by_each<C: Ledger, N: Ledger>(
+        &self,
+        alloc: Global,
+        kept: &AnswerSet<'_>,
+        polynomials: &[Vec<u8>],
+        next: usize,
+        block: &mut [u8],
+        report: &mut Report,
+        cols: &mut Steps<C>,
+        nodes: &mut Steps<N>,
+    ) -> Result<(), AllocError>
+        requires width { length block.old ≡ self.now.width }
+        requires parted { HaveParted self.now.width self.now.degree self.now.agreement kept.now next
+            (map (λ p. p.items) polynomials.now) }
+        requires candidate { IsCandidate self.now.answers self.now.degree self.now.agreement kept.now next block.old }
+        requires ascending { IsStrictlySortedBy agreement_cmp report.old }
+        ensures size { length block.new ≡ length block.old }
+        ensures ascending { IsStrictlySortedBy agreement_cmp report.new }
+        ensures counted { HaveCounted (map (λ p. p.items) polynomials.now) self.now.answers self.now.width self.now.degree
+            self.now.agreement kept.now next block.old cols.old cols.new nodes.old nodes.new }
+        ensures extended { OnOk result (HaveExtended (map (λ p. p.items) polynomials.now) self.now.answers self.now.width
+            self.now.degree self.now.agreement kept.now next block.old block.new report.old report.new cols.old cols.new) }
+    {
+        for polynomial in polynomials {
             let fewer = follow(alloc, kept, polynomial, next, block)?;
             self.extend(alloc, &fewer, next + 1, block, report, cols, nodes)?;
         }

@@ -5,6 +5,7 @@ use Rattle.wire_frames.specs.declared.session.SessionParams.{SessionParams}
 use Rattle.wire_frames.specs.Answer.{asked, block_len}
 use Rattle.block_decoder.proofs.Collected.{size_if_some}
 use Rattle.block_decoder.proofs.Combined.{HasCombined, combined_none, combined_absent, combined_present, combined_all}
+use Rattle.std.proofs.lemmas.Result.{IfOk-from_err}
 use Rattle.block_decoder.proofs.combining.combine_all.Goals as goal
 use Rattle.block_decoder.proofs.combining.combine_all.Goals.{in-Some, in_default}
 
@@ -58,3 +59,9 @@ returns c =
     let done = combined_all c.args.session.now c.loop-place.sum.items c.loop-place.k c.requires (subst (HasCombined c.args.session.now c.loop-place.sum.items c.loop-place.k) end c.loop-place.invariant) in
     let k = done.0 in
     (omega (arith, n, k), c.in_ok-of_one.ensures ∙ ap (λ (block : List ℕ). block ∷ []) done.1)
+
+pub returns-in_err-sum : goal.returns-in_err-sum
+returns-in_err-sum c = IfOk-from_err c.from_residual.result _ c.from_residual.ensures.0
+
+pub returns-in_err-of_one : goal.returns-in_err-of_one
+returns-in_err-of_one c = IfOk-from_err c.from_residual-in_err-of_one.result _ c.from_residual-in_err-of_one.ensures.0

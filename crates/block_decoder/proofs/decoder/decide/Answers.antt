@@ -1,4 +1,4 @@
-use Rattle.std.proofs.Common.{◌≢◌, ◌+◌, ◌≤◌, ℕ, List, All, length, sym, subst, ap, ◌∙◌, arith, refl}
+use Rattle.std.proofs.Common.{◌≢◌, ◌+◌, ◌≤◌, ℕ, List, All, length, sym, subst, ap, ◌∙◌, arith, refl, le_refl}
 use Rattle.uni_poly.proofs.Coefficients.{bytes_from_get_or}
 use Rattle.wire_frames.specs.Answer.{Answer}
 use Rattle.block_decoder.specs.Agreed.{HasColumns}
@@ -6,7 +6,8 @@ use Rattle.block_decoder.specs.Numbers.{bound_of, most_columns, most_nodes}
 use Rattle.block_decoder.specs.Verdict.{IsDecided, IsUnlisted, ListsNoMoreThan}
 use Rattle.block_decoder.proofs.Agreed.{length-answers_of}
 use Rattle.block_decoder.proofs.Columns.{indices-answers_of, columns-answers_of}
-use Rattle.block_decoder.proofs.Costs.{no_step, not_fewer}
+use Rattle.block_decoder.proofs.Costs.{no_step}
+use Rattle.std.proofs.lemmas.Result.{IfOk-from_err}
 use Rattle.block_decoder.proofs.decoder.decide.Goals as goal
 
 pub decide_among-requires-clause-columns : goal.decide_among-requires-clause-columns
@@ -69,10 +70,10 @@ pub returns-in_err-answers-clause-nodes : goal.returns-in_err-answers-clause-nod
 returns-in_err-answers-clause-nodes g c = no_step c.args.nodes.now _
 
 pub returns-in_err-answers-clause-least : goal.returns-in_err-answers-clause-least
-returns-in_err-answers-clause-least g c = not_fewer c.args.cols.now
+returns-in_err-answers-clause-least g c = le_refl c.args.cols.now
 
 pub returns-in_err-answers-clause-least_nodes : goal.returns-in_err-answers-clause-least_nodes
-returns-in_err-answers-clause-least_nodes g c = not_fewer c.args.nodes.now
+returns-in_err-answers-clause-least_nodes g c = le_refl c.args.nodes.now
 
 pub returns-in_err-answers-clause-unlisted : goal.returns-in_err-answers-clause-unlisted
 returns-in_err-answers-clause-unlisted g c = λ none. (refl, refl)
@@ -91,3 +92,30 @@ returns-clause-least_nodes g c = c.in_ok-verdict.ensures.least_nodes
 
 pub returns-clause-listed : goal.returns-clause-listed
 returns-clause-listed g c = c.in_ok-verdict.ensures.listed
+
+pub new-requires : goal.new-requires
+new-requires g c = c.requires.fit
+
+pub returns-in_err-answers-clause-verdict : goal.returns-in_err-answers-clause-verdict
+returns-in_err-answers-clause-verdict g c = IfOk-from_err c.from_residual.result _ c.from_residual.ensures.0
+
+pub returns-in_err-answers-clause-listed : goal.returns-in_err-answers-clause-listed
+returns-in_err-answers-clause-listed g c = IfOk-from_err c.from_residual.result _ c.from_residual.ensures.0
+
+pub returns-in_err-answers-clause-few : goal.returns-in_err-answers-clause-few
+returns-in_err-answers-clause-few g c = IfOk-from_err c.from_residual.result _ c.from_residual.ensures.0
+
+pub decide_among-requires-clause-agreement : goal.decide_among-requires-clause-agreement
+decide_among-requires-clause-agreement g c = c.requires.agreement
+
+pub decide_among-requires-clause-width : goal.decide_among-requires-clause-width
+decide_among-requires-clause-width g c = c.requires.width
+
+pub returns-in_err-verdict-clause-verdict : goal.returns-in_err-verdict-clause-verdict
+returns-in_err-verdict-clause-verdict g c = IfOk-from_err c.from_residual-in_err-verdict.result _ c.from_residual-in_err-verdict.ensures.0
+
+pub returns-in_err-verdict-clause-listed : goal.returns-in_err-verdict-clause-listed
+returns-in_err-verdict-clause-listed g c = IfOk-from_err c.from_residual-in_err-verdict.result _ c.from_residual-in_err-verdict.ensures.0
+
+pub returns-in_err-verdict-clause-few : goal.returns-in_err-verdict-clause-few
+returns-in_err-verdict-clause-few g c = IfOk-from_err c.from_residual-in_err-verdict.result _ c.from_residual-in_err-verdict.ensures.0

@@ -1,5 +1,5 @@
-use Rattle.std.proofs.Common.{◌≤◌, ◌+◌, ◌≡◌, ℕ, true, List, Option, length, refl, sym, subst, ◌<◌, ◌*◌, arith}
-use Rattle.std.proofs.lemmas.Result.{IfOk-weaker}
+use Rattle.std.proofs.Common.{◌≤◌, ◌+◌, ◌≡◌, ℕ, true, List, Option, length, refl, sym, subst, ◌<◌, ◌*◌, arith, le_refl}
+use Rattle.std.proofs.lemmas.Result.{IfOk-weaker, IfOk-from_err}
 use Rattle.column_lists.specs.Numbers.{cost}
 use Rattle.column_lists.specs.declared.TheConstants.{MOST_COST}
 use Rattle.block_decoder.specs.Numbers.{bound_of}
@@ -9,7 +9,8 @@ use Rattle.block_decoder.specs.Verdict.{IsDecided, IsRefusal, IsUnlisted, ListsN
 use Rattle.block_decoder.specs.declared.verdict.Verdict.{Verdict}
 use Rattle.block_decoder.proofs.Beside.{decided, beside, few_beside, least_listed, refused}
 use Rattle.block_decoder.proofs.FewBlocks.{few_decided}
-use Rattle.block_decoder.proofs.Costs.{no_step, not_fewer, not_unlisted}
+use Rattle.block_decoder.proofs.Costs.{no_step, not_unlisted}
+use Rattle.quantity_limits.specs.declared.TheConstants.{MOST_SERVERS}
 use Rattle.block_decoder.proofs.decoder.decide_among.Goals as goal
 
 pub returns-in-Some-clause-verdict : goal.returns-in-Some-clause-verdict
@@ -87,10 +88,10 @@ pub returns-in-Some-clause-nodes : goal.returns-in-Some-clause-nodes
 returns-in-Some-clause-nodes g c = no_step c.args.nodes.now _
 
 pub returns-in-Some-clause-least : goal.returns-in-Some-clause-least
-returns-in-Some-clause-least g c = not_fewer c.args.cols.now
+returns-in-Some-clause-least g c = le_refl c.args.cols.now
 
 pub returns-in-Some-clause-least_nodes : goal.returns-in-Some-clause-least_nodes
-returns-in-Some-clause-least_nodes g c = not_fewer c.args.nodes.now
+returns-in-Some-clause-least_nodes g c = le_refl c.args.nodes.now
 
 pub returns-in-Some-clause-unlisted : goal.returns-in-Some-clause-unlisted
 returns-in-Some-clause-unlisted g c = λ none. (refl, refl)
@@ -124,3 +125,30 @@ returns-clause-least_nodes g c = c.in_ok-report.ensures.least.1
 
 pub returns-clause-unlisted : goal.returns-clause-unlisted
 returns-clause-unlisted g c = λ none. absurd (not_unlisted c.len.result c.args.t c.args.h c.in_default.ensures.listed (subst (λ (k : ℕ). IsUnlisted k c.args.t c.args.h) (sym c.len.ensures) none))
+
+pub overflow_cast-len : goal.overflow_cast-len
+overflow_cast-len g c = omega (arith, c.len.ensures, c.requires.few)
+
+pub refusal-requires-clause-few : goal.refusal-requires-clause-few
+refusal-requires-clause-few g c = subst (λ (n : ℕ). n ≤ MOST_SERVERS) (sym c.len.ensures) c.requires.few
+
+pub refusal-requires-clause-agreement : goal.refusal-requires-clause-agreement
+refusal-requires-clause-agreement g c = c.requires.agreement
+
+pub returns-in-Some-clause-few_agree : goal.returns-in-Some-clause-few_agree
+returns-in-Some-clause-few_agree g c = λ agreements none. (cc)
+
+pub returns-in_err-report-clause-verdict : goal.returns-in_err-report-clause-verdict
+returns-in_err-report-clause-verdict g c = IfOk-from_err c.from_residual.result _ c.from_residual.ensures.0
+
+pub returns-in_err-report-clause-report : goal.returns-in_err-report-clause-report
+returns-in_err-report-clause-report g c = IfOk-from_err c.from_residual.result _ c.from_residual.ensures.0
+
+pub returns-in_err-report-clause-listed : goal.returns-in_err-report-clause-listed
+returns-in_err-report-clause-listed g c = IfOk-from_err c.from_residual.result _ c.from_residual.ensures.0
+
+pub returns-in_err-report-clause-few : goal.returns-in_err-report-clause-few
+returns-in_err-report-clause-few g c = IfOk-from_err c.from_residual.result _ c.from_residual.ensures.0
+
+pub returns-in_err-report-clause-few_agree : goal.returns-in_err-report-clause-few_agree
+returns-in_err-report-clause-few_agree g c = IfOk-from_err c.from_residual.result _ c.from_residual.ensures.0

@@ -1,5 +1,5 @@
-use Rattle.std.proofs.Common.{◌≢◌, ◌+◌, ◌*◌, ◌<◌, ◌≤◌, ℕ, List, All, length, IfOk, sym, subst, ap, ◌∙◌, arith}
-use Rattle.std.proofs.lemmas.Result.{IfOk-weaker}
+use Rattle.std.proofs.Common.{◌≢◌, ◌+◌, ◌*◌, ◌<◌, ◌≤◌, ℕ, List, All, length, IfOk, sym, subst, ap, ◌∙◌, arith, le_refl}
+use Rattle.std.proofs.lemmas.Result.{IfOk-weaker, IfOk-from_err}
 use Rattle.uni_poly.proofs.Coefficients.{bytes_from_get_or}
 use Rattle.wire_frames.specs.Answer.{Answer}
 use Rattle.column_lists.specs.declared.TheConstants.{MOST_COST}
@@ -11,7 +11,7 @@ use Rattle.block_decoder.proofs.Agreed.{length-answers_of}
 use Rattle.block_decoder.proofs.Columns.{indices-answers_of, columns-answers_of}
 use Rattle.block_decoder.proofs.FewBlocks.{few_agreements}
 use Rattle.block_decoder.proofs.Reported.{listed-reported}
-use Rattle.block_decoder.proofs.Costs.{no_step, not_fewer}
+use Rattle.block_decoder.proofs.Costs.{no_step}
 use Rattle.block_decoder.proofs.decoder.report.Goals as goal
 
 pub find_agreements-requires-clause-columns : goal.find_agreements-requires-clause-columns
@@ -85,10 +85,10 @@ pub returns-in_err-answers-clause-nodes : goal.returns-in_err-answers-clause-nod
 returns-in_err-answers-clause-nodes g c = no_step c.args.nodes.now _
 
 pub returns-in_err-answers-clause-least : goal.returns-in_err-answers-clause-least
-returns-in_err-answers-clause-least g c = not_fewer c.args.cols.now
+returns-in_err-answers-clause-least g c = le_refl c.args.cols.now
 
 pub returns-in_err-answers-clause-least_nodes : goal.returns-in_err-answers-clause-least_nodes
-returns-in_err-answers-clause-least_nodes g c = not_fewer c.args.nodes.now
+returns-in_err-answers-clause-least_nodes g c = le_refl c.args.nodes.now
 
 pub returns-clause-least : goal.returns-clause-least
 returns-clause-least g c = c.find_agreements.ensures.least.0
@@ -101,3 +101,27 @@ returns-clause-tried g c = c.find_agreements.ensures.tried
 
 pub returns-clause-found : goal.returns-clause-found
 returns-clause-found g c = c.find_agreements.ensures.found
+
+pub new-requires : goal.new-requires
+new-requires g c = c.requires.fit
+
+pub returns-in_err-answers-clause-report : goal.returns-in_err-answers-clause-report
+returns-in_err-answers-clause-report g c = IfOk-from_err c.from_residual.result _ c.from_residual.ensures.0
+
+pub returns-in_err-answers-clause-blocks : goal.returns-in_err-answers-clause-blocks
+returns-in_err-answers-clause-blocks g c = IfOk-from_err c.from_residual.result _ c.from_residual.ensures.0
+
+pub returns-in_err-answers-clause-tried : goal.returns-in_err-answers-clause-tried
+returns-in_err-answers-clause-tried g c = IfOk-from_err c.from_residual.result _ c.from_residual.ensures.0
+
+pub returns-in_err-answers-clause-found : goal.returns-in_err-answers-clause-found
+returns-in_err-answers-clause-found g c = IfOk-from_err c.from_residual.result _ c.from_residual.ensures.0
+
+pub returns-in_err-answers-clause-few : goal.returns-in_err-answers-clause-few
+returns-in_err-answers-clause-few g c = IfOk-from_err c.from_residual.result _ c.from_residual.ensures.0
+
+pub find_agreements-requires-clause-redundant : goal.find_agreements-requires-clause-redundant
+find_agreements-requires-clause-redundant g c = c.requires.agreement
+
+pub find_agreements-requires-clause-some : goal.find_agreements-requires-clause-some
+find_agreements-requires-clause-some g c = c.requires.width

@@ -1,3 +1,4 @@
+use Rattle.std.proofs.lemmas.Result.{IfOk-from_err}
 use Rattle.block_decoder.proofs.judging.judge.Goals as goal
 
 pub returns-in_err-verdict-clause-cols : goal.returns-in_err-verdict-clause-cols
@@ -44,3 +45,15 @@ returns-clause-listed g c = c.in_ok-verdict.ensures.listed
 
 pub returns-clause-few : goal.returns-clause-few
 returns-clause-few g c = c.in_ok-verdict.ensures.few
+
+pub judge_with-requires : goal.judge_with-requires
+judge_with-requires g c = c.requires
+
+pub returns-in_err-verdict-clause-verdict : goal.returns-in_err-verdict-clause-verdict
+returns-in_err-verdict-clause-verdict g c = IfOk-from_err c.from_residual.result _ c.from_residual.ensures.0
+
+pub returns-in_err-verdict-clause-listed : goal.returns-in_err-verdict-clause-listed
+returns-in_err-verdict-clause-listed g c = λ _. IfOk-from_err c.from_residual.result _ c.from_residual.ensures.0
+
+pub returns-in_err-verdict-clause-few : goal.returns-in_err-verdict-clause-few
+returns-in_err-verdict-clause-few g c = λ _. IfOk-from_err c.from_residual.result _ c.from_residual.ensures.0

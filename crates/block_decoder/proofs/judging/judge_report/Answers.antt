@@ -29,3 +29,6 @@ returns-clause-few g c = c.judge_with.ensures.few
 
 pub returns-clause-few_agree : goal.returns-clause-few_agree
 returns-clause-few_agree g c = c.judge_with.ensures.few_agree
+
+pub judge_with-requires : goal.judge_with-requires
+judge_with-requires g c = c.requires

@@ -1,5 +1,5 @@
-use Rattle.std.proofs.Common.{◌≡◌, ℕ, true, List, Option, length, IfOk, refl, sym, ap, subst, ◌∙◌, arith}
-use Rattle.std.proofs.lemmas.Result.{IfOk-weaker}
+use Rattle.std.proofs.Common.{◌≡◌, ℕ, true, List, Option, length, IfOk, refl, sym, ap, subst, ◌∙◌, arith, ◌+◌, ◌≤◌, le_refl}
+use Rattle.std.proofs.lemmas.Result.{IfOk-weaker, IfOk-from_err}
 use Rattle.wire_frames.specs.declared.session.SessionParams.{SessionParams}
 use Rattle.wire_frames.specs.Answer.{Answer, answers, block_len}
 use Rattle.wire_frames.proofs.Schemes.{number_of_xor, number_of_shamir}
@@ -7,9 +7,9 @@ use Rattle.block_decoder.specs.Agreed.{HasColumns}
 use Rattle.block_decoder.specs.Numbers.{bound_of, most_columns, most_nodes}
 use Rattle.block_decoder.specs.Report.{Agreement}
 use Rattle.block_decoder.specs.Reported.{IsReportBeside, IsReportOn, ReportsNoMoreThan}
-use Rattle.block_decoder.specs.Verdict.{IsDecided, IsUnlisted, IsVerdict, ListsNoMoreThan}
+use Rattle.block_decoder.specs.Verdict.{IsDecided, IsUnlisted, IsVerdict, ListsNoMoreThan, least_columns}
 use Rattle.block_decoder.specs.declared.verdict.Verdict.{Verdict}
-use Rattle.block_decoder.proofs.Costs.{no_step, not_fewer}
+use Rattle.block_decoder.proofs.Costs.{no_step}
 use Rattle.block_decoder.proofs.judging.judge_with.Goals as goal
 
 -- ---- the numbers of the session are those that are handed on
@@ -157,10 +157,10 @@ pub returns-in_err-usable-in-Shamir-clause-nodes : goal.returns-in_err-usable-in
 returns-in_err-usable-in-Shamir-clause-nodes g c = no_step c.args.nodes.now _
 
 pub returns-in_err-usable-in-Shamir-clause-least : goal.returns-in_err-usable-in-Shamir-clause-least
-returns-in_err-usable-in-Shamir-clause-least g c = not_fewer c.args.cols.now
+returns-in_err-usable-in-Shamir-clause-least g c = le_refl c.args.cols.now
 
 pub returns-in_err-usable-in-Shamir-clause-least_nodes : goal.returns-in_err-usable-in-Shamir-clause-least_nodes
-returns-in_err-usable-in-Shamir-clause-least_nodes g c = not_fewer c.args.nodes.now
+returns-in_err-usable-in-Shamir-clause-least_nodes g c = le_refl c.args.nodes.now
 
 pub returns-in_err-usable-in-Shamir-clause-unlisted : goal.returns-in_err-usable-in-Shamir-clause-unlisted
 returns-in_err-usable-in-Shamir-clause-unlisted g c = λ none. (refl, refl)
@@ -175,10 +175,10 @@ pub returns-in_err-combine_all-in-Xor-clause-nodes : goal.returns-in_err-combine
 returns-in_err-combine_all-in-Xor-clause-nodes g c = no_step c.args.nodes.now _
 
 pub returns-in_err-combine_all-in-Xor-clause-least : goal.returns-in_err-combine_all-in-Xor-clause-least
-returns-in_err-combine_all-in-Xor-clause-least g c = not_fewer c.args.cols.now
+returns-in_err-combine_all-in-Xor-clause-least g c = le_refl c.args.cols.now
 
 pub returns-in_err-combine_all-in-Xor-clause-least_nodes : goal.returns-in_err-combine_all-in-Xor-clause-least_nodes
-returns-in_err-combine_all-in-Xor-clause-least_nodes g c = not_fewer c.args.nodes.now
+returns-in_err-combine_all-in-Xor-clause-least_nodes g c = le_refl c.args.nodes.now
 
 pub returns-in_err-combine_all-in-Xor-clause-unlisted : goal.returns-in_err-combine_all-in-Xor-clause-unlisted
 returns-in_err-combine_all-in-Xor-clause-unlisted g c = λ none. (refl, refl)
@@ -193,10 +193,10 @@ pub returns-in_ok-combine_all-in-Xor-clause-nodes : goal.returns-in_ok-combine_a
 returns-in_ok-combine_all-in-Xor-clause-nodes g c = no_step c.args.nodes.now _
 
 pub returns-in_ok-combine_all-in-Xor-clause-least : goal.returns-in_ok-combine_all-in-Xor-clause-least
-returns-in_ok-combine_all-in-Xor-clause-least g c = not_fewer c.args.cols.now
+returns-in_ok-combine_all-in-Xor-clause-least g c = le_refl c.args.cols.now
 
 pub returns-in_ok-combine_all-in-Xor-clause-least_nodes : goal.returns-in_ok-combine_all-in-Xor-clause-least_nodes
-returns-in_ok-combine_all-in-Xor-clause-least_nodes g c = not_fewer c.args.nodes.now
+returns-in_ok-combine_all-in-Xor-clause-least_nodes g c = le_refl c.args.nodes.now
 
 pub returns-in_ok-combine_all-in-Xor-clause-unlisted : goal.returns-in_ok-combine_all-in-Xor-clause-unlisted
 returns-in_ok-combine_all-in-Xor-clause-unlisted g c = λ none. (refl, refl)
@@ -209,3 +209,50 @@ returns-in_ok-usable-in-Shamir-clause-least g c = c.decide_among.ensures.least
 
 pub returns-in_ok-usable-in-Shamir-clause-least_nodes : goal.returns-in_ok-usable-in-Shamir-clause-least_nodes
 returns-in_ok-usable-in-Shamir-clause-least_nodes g c = c.decide_among.ensures.least_nodes
+
+pub usable_answers-requires : goal.usable_answers-requires
+usable_answers-requires g c = c.requires
+
+pub returns-in_err-usable-in-Shamir-clause-verdict : goal.returns-in_err-usable-in-Shamir-clause-verdict
+returns-in_err-usable-in-Shamir-clause-verdict g c = IfOk-from_err c.from_residual.result _ c.from_residual.ensures.0
+
+pub returns-in_err-usable-in-Shamir-clause-report : goal.returns-in_err-usable-in-Shamir-clause-report
+returns-in_err-usable-in-Shamir-clause-report g c = IfOk-from_err c.from_residual.result _ c.from_residual.ensures.0
+
+pub returns-in_err-usable-in-Shamir-clause-listed : goal.returns-in_err-usable-in-Shamir-clause-listed
+returns-in_err-usable-in-Shamir-clause-listed g c = λ _. IfOk-from_err c.from_residual.result _ c.from_residual.ensures.0
+
+pub returns-in_err-usable-in-Shamir-clause-few : goal.returns-in_err-usable-in-Shamir-clause-few
+returns-in_err-usable-in-Shamir-clause-few g c = λ _. IfOk-from_err c.from_residual.result _ c.from_residual.ensures.0
+
+pub returns-in_err-usable-in-Shamir-clause-few_agree : goal.returns-in_err-usable-in-Shamir-clause-few_agree
+returns-in_err-usable-in-Shamir-clause-few_agree g c = λ _. IfOk-from_err c.from_residual.result _ c.from_residual.ensures.0
+
+pub decide_among-requires-clause-nonzero : goal.decide_among-requires-clause-nonzero
+decide_among-requires-clause-nonzero g c = c.in_ok-usable-in-Shamir.ensures.nonzero
+
+pub combine_all-requires : goal.combine_all-requires
+combine_all-requires g c = c.requires.all
+
+pub returns-in_err-combine_all-in-Xor-clause-verdict : goal.returns-in_err-combine_all-in-Xor-clause-verdict
+returns-in_err-combine_all-in-Xor-clause-verdict g c = IfOk-from_err c.from_residual-in_err-combine_all-in-Xor.result _ c.from_residual-in_err-combine_all-in-Xor.ensures.0
+
+pub returns-in_err-combine_all-in-Xor-clause-report : goal.returns-in_err-combine_all-in-Xor-clause-report
+returns-in_err-combine_all-in-Xor-clause-report g c = IfOk-from_err c.from_residual-in_err-combine_all-in-Xor.result _ c.from_residual-in_err-combine_all-in-Xor.ensures.0
+
+pub returns-in_err-combine_all-in-Xor-clause-listed : goal.returns-in_err-combine_all-in-Xor-clause-listed
+returns-in_err-combine_all-in-Xor-clause-listed g c = λ _. IfOk-from_err c.from_residual-in_err-combine_all-in-Xor.result _ c.from_residual-in_err-combine_all-in-Xor.ensures.0
+
+pub returns-in_err-combine_all-in-Xor-clause-few : goal.returns-in_err-combine_all-in-Xor-clause-few
+returns-in_err-combine_all-in-Xor-clause-few g c = λ _. IfOk-from_err c.from_residual-in_err-combine_all-in-Xor.result _ c.from_residual-in_err-combine_all-in-Xor.ensures.0
+
+pub returns-in_err-combine_all-in-Xor-clause-few_agree : goal.returns-in_err-combine_all-in-Xor-clause-few_agree
+returns-in_err-combine_all-in-Xor-clause-few_agree g c = λ _. IfOk-from_err c.from_residual-in_err-combine_all-in-Xor.result _ c.from_residual-in_err-combine_all-in-Xor.ensures.0
+
+pub returns-in_ok-usable-in-Shamir-clause-listed : goal.returns-in_ok-usable-in-Shamir-clause-listed
+returns-in_ok-usable-in-Shamir-clause-listed g c =
+    λ _. subst (λ (s : ℕ). IfOk c.decide_among.result (λ (found : Verdict × Option (List Agreement)). c.args.cols.now + least_columns s found.0 ≤ c.decide_among.new.cols))
+    (c.block_len.ensures.is ∙ ap block_len c.params-params.ensures.value) c.decide_among.ensures.listed
+
+pub returns-in_ok-combine_all-in-Xor-clause-few_agree : goal.returns-in_ok-combine_all-in-Xor-clause-few_agree
+returns-in_ok-combine_all-in-Xor-clause-few_agree g c = λ shamir agreements none. (cc)

@@ -5,6 +5,7 @@ use Rattle.wire_frames.specs.declared.session.SessionParams.{SessionParams}
 use Rattle.block_decoder.specs.Agreed.{HasColumns}
 use Rattle.block_decoder.proofs.Collected.{HasCollected, collected_none, collected_absent, collected_present, collected_all}
 use Rattle.block_decoder.proofs.UsableAnswers.{columns-answers, nonzero-answers, bytes_from_fits, length-answers_from-le}
+use Rattle.std.proofs.lemmas.Result.{IfOk-from_err}
 use Rattle.block_decoder.proofs.judging.usable_answers.Goals as goal
 use Rattle.block_decoder.proofs.judging.usable_answers.Goals.{in-Some+in_ok-push, in_default}
 
@@ -52,3 +53,27 @@ returns-clause-few c =
     let few = length-answers_from-le 1 session.params session.records in
     let is = ap length (returns-clause-answers c) in
     omega (arith, few, is, c.requires.all)
+
+pub returns-in_err-usable-clause-answers : goal.returns-in_err-usable-clause-answers
+returns-in_err-usable-clause-answers c = IfOk-from_err c.from_residual.result _ c.from_residual.ensures.0
+
+pub returns-in_err-usable-clause-columns : goal.returns-in_err-usable-clause-columns
+returns-in_err-usable-clause-columns c = IfOk-from_err c.from_residual.result _ c.from_residual.ensures.0
+
+pub returns-in_err-usable-clause-nonzero : goal.returns-in_err-usable-clause-nonzero
+returns-in_err-usable-clause-nonzero c = IfOk-from_err c.from_residual.result _ c.from_residual.ensures.0
+
+pub returns-in_err-usable-clause-few : goal.returns-in_err-usable-clause-few
+returns-in_err-usable-clause-few c = IfOk-from_err c.from_residual.result _ c.from_residual.ensures.0
+
+pub returns-in_err-push-clause-answers : goal.returns-in_err-push-clause-answers
+returns-in_err-push-clause-answers c = IfOk-from_err c.from_residual-in_err-push.result _ c.from_residual-in_err-push.ensures.0
+
+pub returns-in_err-push-clause-columns : goal.returns-in_err-push-clause-columns
+returns-in_err-push-clause-columns c = IfOk-from_err c.from_residual-in_err-push.result _ c.from_residual-in_err-push.ensures.0
+
+pub returns-in_err-push-clause-nonzero : goal.returns-in_err-push-clause-nonzero
+returns-in_err-push-clause-nonzero c = IfOk-from_err c.from_residual-in_err-push.result _ c.from_residual-in_err-push.ensures.0
+
+pub returns-in_err-push-clause-few : goal.returns-in_err-push-clause-few
+returns-in_err-push-clause-few c = IfOk-from_err c.from_residual-in_err-push.result _ c.from_residual-in_err-push.ensures.0

@@ -1,9 +1,10 @@
-use Rattle.std.proofs.Common.{◌≢◌, ◌+◌, ◌≤◌, ℕ, List, length, map, All, AllPairs, IfOk, sym, ap, subst, ◌∙◌, arith}
+use Rattle.std.proofs.Common.{◌≢◌, ◌+◌, ◌≤◌, ℕ, List, length, map, All, AllPairs, IfOk, sym, ap, subst, ◌∙◌, arith, refl}
 use Rattle.std.proofs.lemmas.List.{length-map}
 use Rattle.std.proofs.lemmas.List.Elements.{All-map}
 use Rattle.wire_frames.specs.Answer.{Answer}
 use Rattle.column_runs.specs.Run.{IsRun}
 use Rattle.block_decoder.proofs.Pairs.{AllPairs-map}
+use Rattle.std.proofs.lemmas.Result.{IfOk-from_err, MatchResult-from_err}
 use Rattle.block_decoder.proofs.narrowing.decode_into.Goals as goal
 
 pub decode_run-requires-clause-enough : goal.decode_run-requires-clause-enough
@@ -40,3 +41,15 @@ returns-clause-run g c =
 
 pub returns-clause-cols : goal.returns-clause-cols
 returns-clause-cols g c = c.decode_run.ensures.cols
+
+pub returns-in_err-indices-clause-run : goal.returns-in_err-indices-clause-run
+returns-in_err-indices-clause-run g c = IfOk-from_err c.from_residual.result _ c.from_residual.ensures.0
+
+pub returns-in_err-indices-clause-cols : goal.returns-in_err-indices-clause-cols
+returns-in_err-indices-clause-cols g c = MatchResult-from_err c.from_residual.result _ _ c.from_residual.ensures.0 (λ _. refl)
+
+pub returns-in_err-payloads-clause-run : goal.returns-in_err-payloads-clause-run
+returns-in_err-payloads-clause-run g c = IfOk-from_err c.from_residual-in_err-payloads.result _ c.from_residual-in_err-payloads.ensures.0
+
+pub returns-in_err-payloads-clause-cols : goal.returns-in_err-payloads-clause-cols
+returns-in_err-payloads-clause-cols g c = MatchResult-from_err c.from_residual-in_err-payloads.result _ _ c.from_residual-in_err-payloads.ensures.0 (λ _. refl)

@@ -1,10 +1,24 @@
-use Rattle.std.proofs.Common.{◌≢◌, ◌+◌, ◌*◌, ◌<◌, ◌≤◌, ℕ, length, All, AllPairs, sym, ap, subst, ◌∙◌, arith}
+use Rattle.std.proofs.Common.{Result, Ok, Err, OnOk, ◌≢◌, ◌+◌, ◌*◌, ◌<◌, ◌≤◌, ℕ, length, All, AllPairs, sym, ap, subst, ◌∙◌, arith, ◌≡◌, List, map, IfOk, Vec, Global, le_refl}
 use Rattle.column_lists.specs.declared.TheConstants.{MOST_COST}
 use Rattle.column_lists.specs.Numbers.{cost}
 use Rattle.block_decoder.specs.Numbers.{column_nodes}
 use Rattle.block_decoder.proofs.Kept.{length-points, points-All, points-different}
-use Rattle.block_decoder.proofs.Costs.{no_step, not_fewer}
+use Rattle.block_decoder.proofs.Costs.{no_step}
+use Rattle.std.proofs.lemmas.Result.{IfOk-from_err}
+use Rattle.column_lists.specs.Agreement.{ListsAgreeing}
 use Rattle.block_decoder.proofs.narrowing.list.Goals as goal
+
+-- a step more
+one_more : (old new : ℕ) → new ≡ old + 1 → (new ≤ old + 1) × (old < new)
+one_more old new e = (omega (arith, e), omega (arith, e))
+
+-- what holds however it went
+either_way : {T E P : Type 0} (r : Result T E) → P → OnOk r P
+either_way (Ok x) p = p
+either_way (Err e) p = tt
+
+lt-le : {a b : ℕ} → a < b → a ≤ b
+lt-le l = omega (arith, l)
 
 pub column_list-requires-clause-agreement : goal.column_list-requires-clause-agreement
 column_list-requires-clause-agreement g c =
@@ -48,4 +62,33 @@ pub returns-in_err-points-clause-nodes : goal.returns-in_err-points-clause-nodes
 returns-in_err-points-clause-nodes g c = no_step c.args.nodes.now _
 
 pub returns-in_err-points-clause-rises : goal.returns-in_err-points-clause-rises
-returns-in_err-points-clause-rises g c = (not_fewer c.args.cols.now, not_fewer c.args.nodes.now)
+returns-in_err-points-clause-rises g c = (le_refl c.args.cols.now, le_refl c.args.nodes.now)
+
+pub points-requires : goal.points-requires
+points-requires g c = c.requires.column
+
+pub returns-in_err-points-clause-exact : goal.returns-in_err-points-clause-exact
+returns-in_err-points-clause-exact g c = IfOk-from_err c.from_residual.result _ c.from_residual.ensures.0
+
+pub returns-in_err-points-clause-some : goal.returns-in_err-points-clause-some
+returns-in_err-points-clause-some g c = IfOk-from_err c.from_residual.result _ c.from_residual.ensures.0
+
+pub column_list-requires-clause-degree : goal.column_list-requires-clause-degree
+column_list-requires-clause-degree g c = c.requires.listed.some
+
+pub column_list-requires-clause-redundant : goal.column_list-requires-clause-redundant
+column_list-requires-clause-redundant g c = c.requires.listed.redundant
+
+pub returns-clause-exact : goal.returns-clause-exact
+returns-clause-exact g c =
+    subst (λ (points : List (ℕ × ℕ)). IfOk c.column_list.result (λ list. ListsAgreeing (map (λ (r : Vec ℕ Global). r.items) list.items) points c.args.t c.args.h))
+    (c.deref.ensures.value ∙ c.in_ok-points.ensures) c.column_list.ensures.exact
+
+pub returns-clause-cols : goal.returns-clause-cols
+returns-clause-cols g c = (one_more c.args.cols.now c.column_list.new.cols c.column_list.ensures.cols).0
+
+pub returns-clause-some : goal.returns-clause-some
+returns-clause-some g c = either_way c.column_list.result (one_more c.args.cols.now c.column_list.new.cols c.column_list.ensures.cols).1
+
+pub returns-clause-rises : goal.returns-clause-rises
+returns-clause-rises g c = (lt-le (one_more c.args.cols.now c.column_list.new.cols c.column_list.ensures.cols).1, c.column_list.ensures.rises)

@@ -1,4 +1,4 @@
-use Rattle.std.proofs.Common.{◌≡◌, ◌+◌, ◌≤◌, ℕ, List, length, sym, ap, subst, ◌∙◌}
+use Rattle.std.proofs.Common.{◌≡◌, ◌+◌, ◌≤◌, ℕ, List, length, sym, ap, subst, ◌∙◌, ◌<◌, All}
 use Rattle.wire_frames.specs.declared.session.SessionParams.{SessionParams}
 use Rattle.wire_frames.specs.Answer.{answers, block_len}
 use Rattle.block_decoder.specs.Numbers.{most_columns, most_nodes}
@@ -7,6 +7,7 @@ use Rattle.query_rounds.specs.declared.plan.FetchPlan.{FetchPlan}
 use Rattle.query_rounds.specs.Sent.{queries_from, session_number}
 use Rattle.fetch_client.specs.Honest.{FindsHonestBlock, NamesLiarsIn}
 use Rattle.query_rounds.proofs.Schemes.{coins_of_rows}
+use Rattle.std.proofs.lemmas.Result.{IfOk-from_err}
 use Rattle.fetch_client.proofs.fetch_once.conclude_report.Goals as goal
 
 pub honest_block_is_found-requires-clause-count : goal.honest_block_is_found-requires-clause-count
@@ -112,3 +113,37 @@ returns-clause-least_nodes g c = c.in_ok-verdict.ensures.least_nodes
 
 pub returns-clause-report : goal.returns-clause-report
 returns-clause-report g c = c.in_ok-verdict.ensures.report
+
+pub judge_report-requires : goal.judge_report-requires
+judge_report-requires g c = record { all = c.requires.all ∙ sym (ap (λ (p : SessionParams). p.n) c.requires.params) }
+
+pub returns-in_err-verdict-clause-judged : goal.returns-in_err-verdict-clause-judged
+returns-in_err-verdict-clause-judged g c = IfOk-from_err c.from_residual.result _ c.from_residual.ensures.0
+
+pub returns-in_err-verdict-clause-found : goal.returns-in_err-verdict-clause-found
+returns-in_err-verdict-clause-found g c = IfOk-from_err c.from_residual.result _ c.from_residual.ensures.0
+
+pub returns-in_err-verdict-clause-report : goal.returns-in_err-verdict-clause-report
+returns-in_err-verdict-clause-report g c = IfOk-from_err c.from_residual.result _ c.from_residual.ensures.0
+
+pub returns-in_err-verdict-clause-liars : goal.returns-in_err-verdict-clause-liars
+returns-in_err-verdict-clause-liars g c = IfOk-from_err c.from_residual.result _ c.from_residual.ensures.0
+
+pub returns-in_err-verdict-clause-listed : goal.returns-in_err-verdict-clause-listed
+returns-in_err-verdict-clause-listed g c = λ one. IfOk-from_err c.from_residual.result _ c.from_residual.ensures.0
+
+pub honest_block_is_found-requires-clause-verdict : goal.honest_block_is_found-requires-clause-verdict
+honest_block_is_found-requires-clause-verdict g c = c.in_ok-verdict.ensures.verdict
+
+pub liars_are_named-requires-clause-report : goal.liars_are_named-requires-clause-report
+liars_are_named-requires-clause-report g c = c.in_ok-verdict.ensures.report
+
+pub honest_block_is_found-requires-clause-blocks : goal.honest_block_is_found-requires-clause-blocks
+honest_block_is_found-requires-clause-blocks g c =
+    subst (All (λ (b : ℕ). b < c.args.session.now.params.r)) (sym c.blocks-rows.ensures.is)
+    (subst (λ (r : ℕ). All (λ (b : ℕ). b < r) c.args.queries.now.blocks) (sym (ap (λ (p : SessionParams). p.r) c.requires.params)) c.blocks-rows.ensures.may_be_asked.each)
+
+pub liars_are_named-requires-clause-blocks : goal.liars_are_named-requires-clause-blocks
+liars_are_named-requires-clause-blocks g c =
+    subst (All (λ (b : ℕ). b < c.args.session.now.params.r)) (sym c.blocks-rows.ensures.is)
+    (subst (λ (r : ℕ). All (λ (b : ℕ). b < r) c.args.queries.now.blocks) (sym (ap (λ (p : SessionParams). p.r) c.requires.params)) c.blocks-rows.ensures.may_be_asked.each)

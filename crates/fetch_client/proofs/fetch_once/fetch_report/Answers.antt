@@ -1,8 +1,8 @@
-use Rattle.std.proofs.Common.{◌∙◌, ◌+◌, ◌*◌, ◌≤◌, ℕ, List, Option, length, map, string_bytes, inr, sym, ap, subst, refl, ap₂, arith}
+use Rattle.std.proofs.Common.{◌∙◌, ◌+◌, ◌*◌, ◌≤◌, ℕ, List, Option, length, map, string_bytes, inr, sym, ap, subst, refl, ap₂, le_refl}
 use Rattle.wire_frames.specs.Answer.{answers}
 use Rattle.wire_frames.specs.Session.{Transcript}
 use Rattle.std.specs.Prelude.{Result, Err}
-use Rattle.std.proofs.lemmas.Result.{err_from_is_err_and}
+use Rattle.std.proofs.lemmas.Result.{err_from_is_err_and, IfOk-from_err}
 use Rattle.block_decoder.specs.Numbers.{most_columns, most_nodes}
 use Rattle.block_decoder.specs.Report.{Agreement}
 use Rattle.block_decoder.specs.Verdict.{least_columns}
@@ -17,9 +17,6 @@ use Rattle.fetch_client.specs.Fetched.{ConcludesWhole, FetchesWhole}
 use Rattle.fetch_client.proofs.Counts.{counts_none, counts_of_all, failed_alike, same_bound, same_width}
 use Rattle.query_rounds.specs.Plan.{params_of}
 use Rattle.fetch_client.proofs.fetch_once.fetch_report.Goals as goal
-
-not_fewer : (n : ℕ) → n ≤ n
-not_fewer n = omega arith
 
 -- memory ran out when every server was asked
 pub returns-in_err-verdict-clause-cols : goal.returns-in_err-verdict-clause-cols
@@ -113,10 +110,10 @@ pub returns-in_err-all-clause-others : goal.returns-in_err-all-clause-others
 returns-in_err-all-clause-others g c = c.in_err-all.ensures.others
 
 pub returns-in_err-all-clause-least : goal.returns-in_err-all-clause-least
-returns-in_err-all-clause-least g c = not_fewer c.args.cols.now
+returns-in_err-all-clause-least g c = le_refl c.args.cols.now
 
 pub returns-in_err-all-clause-least_nodes : goal.returns-in_err-all-clause-least_nodes
-returns-in_err-all-clause-least_nodes g c = not_fewer c.args.nodes.now
+returns-in_err-all-clause-least_nodes g c = le_refl c.args.nodes.now
 
 pub returns-in_err-all-clause-xor : goal.returns-in_err-all-clause-xor
 returns-in_err-all-clause-xor g c = λ two. (refl, refl)
@@ -146,3 +143,12 @@ conclude_report-requires-clause-params g c = let all = c.in_ok-all.ensures.gathe
 pub conclude_report-requires-clause-all : goal.conclude_report-requires-clause-all
 conclude_report-requires-clause-all g c = let all = c.in_ok-all.ensures.gathered in
     all.asked.asked.whole ∙ ap (λ (p : FetchPlan). p.n) (sym all.plan_is)
+
+pub returns-in_err-all-clause-listed : goal.returns-in_err-all-clause-listed
+returns-in_err-all-clause-listed g c = λ one. IfOk-from_err c.from_residual.result _ c.from_residual.ensures.0
+
+pub returns-in_err-verdict-clause-listed : goal.returns-in_err-verdict-clause-listed
+returns-in_err-verdict-clause-listed g c = λ one. IfOk-from_err c.from_residual-in_err-verdict.result _ c.from_residual-in_err-verdict.ensures.0
+
+pub gather-requires : goal.gather-requires
+gather-requires g c = c.requires

@@ -1,7 +1,10 @@
-use Rattle.std.proofs.Common.{Contains, sym, subst, inl, inr}
+use Rattle.std.proofs.Common.{Contains, sym, subst, inl, inr, ℕ, ◌≤◌, ◌∙◌, List}
 use Rattle.std.specs.Result.{is_ok}
 use Rattle.block_decoder.proofs.Ascending.{Contains-insert}
 use Rattle.block_decoder.proofs.Reported.{same_agreements, Contains-at, rise, put_in}
+use Rattle.std.proofs.lemmas.Result.{IfOk-from_err, MatchResult-from_err}
+use Rattle.std.specs.List.Sorted.{IsStrictlySortedBy}
+use Rattle.block_decoder.specs.Report.{Agreement, agreement_cmp}
 use Rattle.block_decoder.proofs.agreements.Report.insert.Goals as goal
 
 pub returns-in-Ok-clause-ok : goal.returns-in-Ok-clause-ok
@@ -29,3 +32,21 @@ returns-in_ok-insert-in-Err-clause-ok c = λ b.
 
 pub returns-in_ok-insert-in-Err-clause-ascending : goal.returns-in_ok-insert-in-Err-clause-ascending
 returns-in_ok-insert-in-Err-clause-ascending c = invariant_of-self-in-Err c
+
+pub insert-requires : goal.insert-requires
+insert-requires c = subst (λ (n : ℕ). c.in-Err.place ≤ n) c.deref.ensures.len c.in-Err.ensures.range
+
+pub invariant_of-self : goal.invariant_of-self
+invariant_of-self c = subst (λ (agreements : List Agreement). IsStrictlySortedBy agreement_cmp agreements) (sym c.in_err-insert-in-Err.ensures.items) c.self.invariant
+
+pub returns-in_err-insert-in-Err-clause-ascending : goal.returns-in_err-insert-in-Err-clause-ascending
+returns-in_err-insert-in-Err-clause-ascending c = invariant_of-self c
+
+pub returns-in_err-insert-in-Err-clause-ok : goal.returns-in_err-insert-in-Err-clause-ok
+returns-in_err-insert-in-Err-clause-ok c = IfOk-from_err c.from_residual.result _ c.from_residual.ensures.0
+
+pub returns-in_err-insert-in-Err-clause-err : goal.returns-in_err-insert-in-Err-clause-err
+returns-in_err-insert-in-Err-clause-err c = MatchResult-from_err c.from_residual.result _ _ c.from_residual.ensures.0 (λ _. c.in_err-insert-in-Err.ensures.items ∙ c.self.view_is)
+
+pub returns-in-Ok-clause-ascending : goal.returns-in-Ok-clause-ascending
+returns-in-Ok-clause-ascending c = subst (IsStrictlySortedBy agreement_cmp) c.self.view_is c.self.invariant

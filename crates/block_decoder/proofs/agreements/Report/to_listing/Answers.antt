@@ -2,6 +2,7 @@ use Rattle.std.proofs.Common.{[], ◌∷◌, ◌++◌, take, sym, ap, subst, ◌
 use Rattle.std.proofs.lemmas.List.{take_all, take_more}
 use Rattle.block_decoder.specs.Report.{HasBlocks}
 use Rattle.block_decoder.proofs.Reported.{blocks-more}
+use Rattle.std.proofs.lemmas.Result.{IfOk-from_err}
 use Rattle.block_decoder.proofs.agreements.Report.to_listing.Goals as goal
 
 pub loop-agreement-preserved : goal.loop-agreement-preserved
@@ -22,3 +23,18 @@ returns-clause-blocks c =
     let agreements = c.deref-agreement-items.result.now in
     let whole = take_all c.loop-agreement.agreement-index agreements (omega (arith, c.loop-agreement-test.false)) in
     subst (HasBlocks c.loop-agreement.listing) (whole ∙ c.deref-agreement-items.ensures.value ∙ c.self.view_is) c.loop-agreement.invariant.blocks
+
+pub returns-in_err-from_slice-clause-ascending : goal.returns-in_err-from_slice-clause-ascending
+returns-in_err-from_slice-clause-ascending c = IfOk-from_err c.from_residual.result _ c.from_residual.ensures.0
+
+pub returns-in_err-from_slice-clause-blocks : goal.returns-in_err-from_slice-clause-blocks
+returns-in_err-from_slice-clause-blocks c = IfOk-from_err c.from_residual.result _ c.from_residual.ensures.0
+
+pub returns-in_err-insert-clause-ascending : goal.returns-in_err-insert-clause-ascending
+returns-in_err-insert-clause-ascending c = IfOk-from_err c.from_residual-in_err-insert.result _ c.from_residual-in_err-insert.ensures.0
+
+pub returns-in_err-insert-clause-blocks : goal.returns-in_err-insert-clause-blocks
+returns-in_err-insert-clause-blocks c = IfOk-from_err c.from_residual-in_err-insert.result _ c.from_residual-in_err-insert.ensures.0
+
+pub returns-clause-ascending : goal.returns-clause-ascending
+returns-clause-ascending c = c.loop-agreement.invariant.ascending
