@@ -28,7 +28,7 @@ use Rattle.pir_words.specs.declared.asked.Asked.{Asked as Command}
 use Rattle.commands.specs.Faults.{of_fetch}
 use Rattle.commands.specs.Table.{status_of}
 use Rattle.commands.specs.FetchOrder.{FetchOrder}
-use Rattle.commands.specs.Outcome.{order_of}
+use Rattle.commands.specs.Outcome.{Outcome, order_of}
 use Rattle.commands.specs.FetchOutcome.{ConcludesBeside, InSession, Settled, Recorded, Unrecorded, FetchReported, FetchEnds, FetchesBeside, Reports, TouchesFiles, with_none}
 use Rattle.commands.specs.Said.{IsReportOf, whole_text}
 use Rattle.commands.proofs.HeldRow.{held_row}
@@ -39,6 +39,10 @@ use Rattle.commands.specs.declared.status.Status.TheVariants.{ReadFault}
 -- words ask for one command
 pub one_command : (wanted : Option Command) (asked other : Command) → wanted ≡ Some asked → wanted ≡ Some other → asked ≡ other
 one_command wanted asked other a b = ap (λ (o : Option Command). unwrap_or o asked) (sym a ∙ b)
+
+-- and what was done by the one was done by the other
+pub outcome_of_one : (wanted : Option Command) (asked other : Command) (status : Status) (old new : World) → wanted ≡ Some asked → wanted ≡ Some other → Outcome asked status old new → Outcome other status old new
+outcome_of_one wanted asked other status old new a b outcome = subst (λ (c : Command). Outcome c status old new) (one_command wanted asked other a b) outcome
 
 -- an order for as many servers as it has addresses is the one that its command gives
 pub order_is : (o : FetchOrder) → o.plan.n ≡ length o.addresses

@@ -78,7 +78,12 @@ pub(crate) fn look_up_row<P: Ports>(alloc: Global, order: &LookingUp, ports: &mu
     };
     let (cols, nodes) = (Blank::new(1), Blank::new(1));
     match look_up_once::<Brand, Brand, P>(alloc, cols, nodes, order, ports) {
-        Ok(look_up) => report_end(ports, &look_up),
+        Ok(look_up) => {
+            let status = report_end(ports, &look_up);
+            // Named, it is one step to the borrow checker; at the brace it is one for each field.
+            drop(look_up);
+            status
+        }
         Err(fault) => fault.into(),
     }
 }

@@ -1,4 +1,7 @@
-use Rattle.std.proofs.Common.{◌≡◌, None, Option, Result, Some, refl, subst, sym}
+use Rattle.std.proofs.Common.{◌≡◌, ◌∙◌, if◌then◌else◌, ℕ, List, None, Option, Result, Some, refl, rules, subst, sym}
+use Rattle.std.specs.Str.{bytes_eq}
+use Rattle.std.proofs.lemmas.Bool.{cond-false, false_from_ne_true}
+use Rattle.std.proofs.lemmas.Slice.Eq.{bytes_eq-Decides}
 use Rattle.std.specs.Option.{ok_or}
 use Rattle.pir_words.specs.Numbers.{given}
 use Rattle.pir_words.specs.Form.{IsReadAs, asked_by}
@@ -13,6 +16,10 @@ read_or_usage {A} wanted given r e is = subst (IsReadAs wanted) (sym is) (subst 
     by_itself : (o : Option A) → IsReadAs o (ok_or o Usage)
     by_itself None = refl
     by_itself (Some a) = refl
+
+-- a text that isn't the name asks for what the other names do
+otherwise : {A : Type 0} (name key : List ℕ) (a b : A) → (name ≡ key → ⊥) → (if bytes_eq name key then a else b) ≡ b
+otherwise name key a b ne = cond-false _ a b (false_from_ne_true _ (λ same. ne (search (rules, bytes_eq-Decides, same))))
 
 pub returns-in-replay : goal.returns-in-replay
 unfolding asked_by
@@ -45,3 +52,7 @@ returns-in-split c = subst (λ name. IsReadAs (asked_by name (given c.args.match
 pub returns-in-front : goal.returns-in-front
 unfolding asked_by
 returns-in-front c = subst (λ name. IsReadAs (asked_by name (given c.args.matches.now)) c.read_front.result) (sym c.in-front.is) c.read_front.ensures
+
+pub returns-in_default : goal.returns-in_default
+unfolding asked_by
+returns-in_default c = otherwise _ _ _ _ c.in_default.not-replay ∙ otherwise _ _ _ _ c.in_default.not-fetch ∙ otherwise _ _ _ _ c.in_default.not-serve ∙ otherwise _ _ _ _ c.in_default.not-selfrun ∙ otherwise _ _ _ _ c.in_default.not-demo ∙ otherwise _ _ _ _ c.in_default.not-lookup ∙ otherwise _ _ _ _ c.in_default.not-split ∙ otherwise _ _ _ _ c.in_default.not-front

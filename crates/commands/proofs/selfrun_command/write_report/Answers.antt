@@ -1,8 +1,23 @@
+use Rattle.std.proofs.Common.{◌≡◌, ◌∙◌, true, false, ℕ, ◌<◌, List, [], ◌∷◌, ◌++◌, length, ap, sym, subst, arith}
+use Rattle.std.specs.Bool.{◌==◌}
+use Rattle.std.proofs.lemmas.List.{append-nil}
 use Rattle.std.proofs.lemmas.Result.{err_from_is_err_and}
 use Rattle.block_decoder.specs.Text.{text}
+use Rattle.port_rules.specs.Number.{OUTPUT}
+use Rattle.port_rules.specs.Moves.{gave}
 use Rattle.port_rules.proofs.Cells.{touches_more}
 use Rattle.port_rules.proofs.Pieces.{written_both, written_first, written_next}
 use Rattle.commands.proofs.selfrun_command.write_report.Goals as goal
+
+-- nothing follows
+with_nothing : (a b : List ℕ) → true ≡ (length b == 0) → a ≡ a ++ b
+with_nothing a [] e = sym (append-nil a)
+with_nothing a (x ∷ xs) e = grind arith
+
+-- something does
+is_some : (b : List ℕ) → false ≡ (length b == 0) → 0 < length b
+is_some [] e = absurd cc
+is_some (x ∷ xs) e = omega arith
 
 pub returns-clause-written : goal.returns-clause-written
 returns-clause-written g c =
@@ -24,3 +39,10 @@ returns-then-is_empty-clause-others g c = c.in_ok-write_verdict.ensures.others
 
 pub returns-clause-others : goal.returns-clause-others
 returns-clause-others g c = touches_more _ _ _ _ c.in_ok-write_verdict.ensures.others c.write_all.ensures.others
+
+pub returns-then-is_empty-clause-written : goal.returns-then-is_empty-clause-written
+returns-then-is_empty-clause-written g c =
+    c.in_ok-write_verdict.ensures.written ∙ ap (λ (l : List ℕ). gave l ((g.P.Ports.world c.args.ports.now).at OUTPUT)) (with_nothing _ _ c.if-is_empty.ensures)
+
+pub write_all-requires : goal.write_all-requires
+write_all-requires g c = subst (λ (l : List ℕ). 0 < length l) (sym c.as_bytes.ensures.value) (is_some _ c.if-is_empty.ensures)

@@ -1,4 +1,4 @@
-use Rattle.std.proofs.Common.{Err, refl, sym, subst}
+use Rattle.std.proofs.Common.{◌∙◌, ◌<◌, ℕ, List, Err, length, refl, sym, subst, arith}
 use Rattle.share_files.specs.SplitPlan.{SplitPlan}
 use Rattle.share_files.specs.Splits.{Splits, TouchesShares}
 use Rattle.commands.specs.SplitSteps.{SharesOut, cells_of}
@@ -28,3 +28,16 @@ returns-clause-others g c =
     let new = g.P.Ports.world c.split.new.ports in
     let shares = subst (λ (p : SplitPlan). TouchesShares p.servers old new) c.plan.ensures c.split.ensures.others in
     record { others = λ q l to_tell to_toss to_share. shares.others q l to_toss to_share; crowd = shares.crowd; started = shares.started }
+
+pub returns-in-Ok-split-clause-others : goal.returns-in-Ok-split-clause-others
+returns-in-Ok-split-clause-others g c =
+    let shares = subst (λ (p : SplitPlan). TouchesShares p.servers (g.P.Ports.world c.args.ports.now) (g.P.Ports.world c.split.new.ports)) c.plan.ensures c.split.ensures.others in
+    let told = c.say.ensures.others in
+    record {
+      others = λ q l to_tell to_toss to_share. told.others q l to_tell ∙ shares.others q l to_toss to_share;
+      crowd = told.crowd ∙ shares.crowd;
+      started = told.started ∙ shares.started;
+    }
+
+pub say-requires : goal.say-requires
+say-requires g c = subst (λ (l : List ℕ). 0 < length l) (sym (c.deref.ensures ∙ c.in-Ok.ensures)) (omega arith)

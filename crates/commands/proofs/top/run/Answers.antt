@@ -6,7 +6,7 @@ use Rattle.commands.proofs.Formless.{no_demo, no_fetch, no_front, no_look_up, no
 use Rattle.commands.proofs.Headline.{answered, replay_promised, fetch_promised}
 use Rattle.commands.proofs.SelfrunHeadline.{selfrun_promised}
 use Rattle.commands.proofs.ServeHeadline.{serve_promised}
-use Rattle.commands.proofs.Fetching.{one_command, order_is}
+use Rattle.commands.proofs.Fetching.{one_command, order_is, outcome_of_one}
 use Rattle.commands.specs.LookUpOutcome.{LookUpOutcome}
 use Rattle.commands.proofs.LookingUp.{look_up_is, look_up_promised}
 use Rattle.commands.proofs.SplitHeadline.{split_promised}
@@ -59,41 +59,41 @@ returns-in-Ok-clause-words g c =
 
 pub returns-in-Ok-clause-outcome : goal.returns-in-Ok-clause-outcome
 returns-in-Ok-clause-outcome g c = λ asked command.
-    inr (subst (λ a. Outcome a c.obey-status.result (g.P.Ports.world c.args.ports.now) (g.P.Ports.world c.obey-status.new.ports)) (one_command _ _ _ c.in-Ok.ensures.form command) c.obey-status.ensures)
+    inr (outcome_of_one _ _ asked _ _ _ c.in-Ok.ensures.form command c.obey-status.ensures)
 
 pub returns-in-Ok-clause-headline : goal.returns-in-Ok-clause-headline
 returns-in-Ok-clause-headline g c = λ file bytes wanted session command told whole none.
     let old = g.P.Ports.world c.args.ports.now in
     let new = g.P.Ports.world c.obey-status.new.ports in
-    let outcome = subst (λ a. Outcome a c.obey-status.result old new) (one_command _ _ _ c.in-Ok.ensures.form command) c.obey-status.ensures in
+    let outcome = outcome_of_one _ _ _ _ old new c.in-Ok.ensures.form command c.obey-status.ensures in
     answered file wanted c.obey-status.result old new bytes session told whole none outcome.ends
 
 pub returns-in-Ok-clause-replay : goal.returns-in-Ok-clause-replay
 returns-in-Ok-clause-replay g c = λ file wanted command.
     let old = g.P.Ports.world c.args.ports.now in
     let new = g.P.Ports.world c.obey-status.new.ports in
-    let outcome = subst (λ a. Outcome a c.obey-status.result old new) (one_command _ _ _ c.in-Ok.ensures.form command) c.obey-status.ensures in
+    let outcome = outcome_of_one _ _ _ _ old new c.in-Ok.ensures.form command c.obey-status.ensures in
     replay_promised file wanted c.obey-status.result old new outcome.ends
 
 pub returns-in-Ok-clause-fetch : goal.returns-in-Ok-clause-fetch
 returns-in-Ok-clause-fetch g c = λ order orders.
     let old = g.P.Ports.world c.args.ports.now in
     let new = g.P.Ports.world c.obey-status.new.ports in
-    let outcome = subst (λ a. Outcome a c.obey-status.result old new) (one_command _ _ _ c.in-Ok.ensures.form orders.command) c.obey-status.ensures in
+    let outcome = outcome_of_one _ _ _ _ old new c.in-Ok.ensures.form orders.command c.obey-status.ensures in
     fetch_promised order c.obey-status.result old new (subst (λ o. FetchOutcome o c.obey-status.result old new) (order_is order orders.servers) outcome).ends
 
 pub returns-in-Ok-clause-serve : goal.returns-in-Ok-clause-serve
 returns-in-Ok-clause-serve g c = λ order command.
     let old = g.P.Ports.world c.args.ports.now in
     let new = g.P.Ports.world c.obey-status.new.ports in
-    let outcome = subst (λ a. Outcome a c.obey-status.result old new) (one_command _ _ _ c.in-Ok.ensures.form command) c.obey-status.ensures in
+    let outcome = outcome_of_one _ _ _ _ old new c.in-Ok.ensures.form command c.obey-status.ensures in
     serve_promised order c.obey-status.result old new outcome.ends
 
 pub returns-in-Ok-clause-selfrun : goal.returns-in-Ok-clause-selfrun
 returns-in-Ok-clause-selfrun g c = λ order command.
     let old = g.P.Ports.world c.args.ports.now in
     let new = g.P.Ports.world c.obey-status.new.ports in
-    let outcome = subst (λ a. Outcome a c.obey-status.result old new) (one_command _ _ _ c.in-Ok.ensures.form command) c.obey-status.ensures in
+    let outcome = outcome_of_one _ _ _ _ old new c.in-Ok.ensures.form command c.obey-status.ensures in
     selfrun_promised order.load c.obey-status.result old new outcome.ends
 
 pub returns-in-Ok-clause-demo : goal.returns-in-Ok-clause-demo
@@ -102,13 +102,13 @@ returns-in-Ok-clause-demo g c = λ order command.
     let new = g.P.Ports.world c.obey-status.new.ports in
     let same = one_command _ _ _ c.in-Ok.ensures.form command in
     let ranges = subst InRange same c.in-Ok.ensures.ranges in
-    demo_promised order c.obey-status.result old new (omega (arith, ranges.numbers.few_servers)) (subst (λ a. Outcome a c.obey-status.result old new) same c.obey-status.ensures)
+    demo_promised order c.obey-status.result old new (omega (arith, ranges.numbers.few_servers)) (outcome_of_one _ _ _ _ old new c.in-Ok.ensures.form command c.obey-status.ensures)
 
 pub returns-in-Ok-clause-lookup : goal.returns-in-Ok-clause-lookup
 returns-in-Ok-clause-lookup g c = λ order orders.
     let old = g.P.Ports.world c.args.ports.now in
     let new = g.P.Ports.world c.obey-status.new.ports in
-    let outcome = subst (λ a. Outcome a c.obey-status.result old new) (one_command _ _ _ c.in-Ok.ensures.form orders.command) c.obey-status.ensures in
+    let outcome = outcome_of_one _ _ _ _ old new c.in-Ok.ensures.form orders.command c.obey-status.ensures in
     look_up_promised order c.obey-status.result old new
     (subst (λ o. LookUpOutcome o c.obey-status.result old new) (look_up_is order orders.scheme orders.whole orders.servers) outcome).ends
 
@@ -118,12 +118,12 @@ returns-in-Ok-clause-split g c = λ order command.
     let new = g.P.Ports.world c.obey-status.new.ports in
     let same = one_command _ _ _ c.in-Ok.ensures.form command in
     let ranges = subst InRange same c.in-Ok.ensures.ranges in
-    let outcome = subst (λ a. Outcome a c.obey-status.result old new) same c.obey-status.ensures in
+    let outcome = outcome_of_one _ _ _ _ old new c.in-Ok.ensures.form command c.obey-status.ensures in
     split_promised order c.obey-status.result old new (omega (arith, ranges.some_bytes)) outcome.ends
 
 pub returns-in-Ok-clause-front : goal.returns-in-Ok-clause-front
 returns-in-Ok-clause-front g c = λ order command.
     let old = g.P.Ports.world c.args.ports.now in
     let new = g.P.Ports.world c.obey-status.new.ports in
-    let outcome = subst (λ a. Outcome a c.obey-status.result old new) (one_command _ _ _ c.in-Ok.ensures.form command) c.obey-status.ensures in
+    let outcome = outcome_of_one _ _ _ _ old new c.in-Ok.ensures.form command c.obey-status.ensures in
     front_promised order c.obey-status.result old new outcome.ends
