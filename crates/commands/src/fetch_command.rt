@@ -122,12 +122,8 @@ pub(crate) fn fetch_block<P: Ports>(alloc: Global, order: &Fetching, ports: &mut
     };
     let (cols, nodes) = (Blank::new(1), Blank::new(1));
     match fetch_once::<Brand, Brand, P>(alloc, cols, nodes, order, ports) {
-        Ok(fetched) => {
-            let (session, verdict, found) = &fetched;
-            let status = report_session(ports, order.record_name, session, verdict, found);
-            // Named, it is one step to the borrow checker; at the brace it is one for each field.
-            drop(fetched);
-            status
+        Ok((session, verdict, found)) => {
+            report_session(ports, order.record_name, &session, &verdict, &found)
         }
         Err(fault) => fault.into(),
     }

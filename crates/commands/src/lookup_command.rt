@@ -78,12 +78,7 @@ pub(crate) fn look_up_row<P: Ports>(alloc: Global, order: &LookingUp, ports: &mu
     };
     let (cols, nodes) = (Blank::new(1), Blank::new(1));
     match look_up_once::<Brand, Brand, P>(alloc, cols, nodes, order, ports) {
-        Ok(look_up) => {
-            let status = report_end(ports, &look_up);
-            // Named, it is one step to the borrow checker; at the brace it is one for each field.
-            drop(look_up);
-            status
-        }
+        Ok(look_up) => report_end(ports, &look_up),
         Err(fault) => fault.into(),
     }
 }

@@ -76,13 +76,7 @@ fn replay_whole<P: Ports>(alloc: Global, name: &str, ports: &mut P) -> Status
         return Status::ReadFault;
     };
     match replay_whole_once::<Brand, Brand, P>(alloc, Blank::new(1), Blank::new(1), ports) {
-        Ok(replayed) => {
-            let (session, verdict, found) = &replayed;
-            let status = report_whole(ports, session, verdict, found);
-            // Named, it is one step to the borrow checker; at the brace it is one for each field.
-            drop(replayed);
-            status
-        }
+        Ok((session, verdict, found)) => report_whole(ports, &session, &verdict, &found),
         Err(fault) => fault.into(),
     }
 }

@@ -85,12 +85,7 @@ pub fn run<R: Threads + Sync, P: Ports>(
         → FrontPromise order result (P.world ports.old) (P.world ports.new) }
 {
     match read_words(alloc, words) {
-        Ok(asked) => {
-            let status = obey(rt, alloc, &asked, ports);
-            // Named, it is one step to the borrow checker; at the brace it is one for each field of each command.
-            drop(asked);
-            status
-        }
+        Ok(asked) => obey(rt, alloc, &asked, ports),
         Err(fault) => fault.into(),
     }
 }

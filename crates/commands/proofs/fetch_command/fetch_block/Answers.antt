@@ -6,8 +6,8 @@ use Rattle.commands.specs.declared.status.Status.{Status}
 use Rattle.commands.proofs.Fetching.{ends_unopened, ends_with_fault, ends_with_report, report_of_fetch, whole_of_fetch}
 use Rattle.commands.proofs.fetch_command.fetch_block.Goals as goal
 
-pub report_session-status-requires-clause-report : goal.report_session-status-requires-clause-report
-report_session-status-requires-clause-report g c =
+pub report_session-requires-clause-report : goal.report_session-requires-clause-report
+report_session-requires-clause-report g c =
     let fetched = rw (← c.order.view_is) at c.in-Ok-fetch_once.ensures.fetched in
     report_of_fetch _ _ _ _ _ _ _ _ _ c.order.invariant.0 fetched
 
@@ -15,11 +15,11 @@ pub returns-in-Ok-fetch_once-clause-ends : goal.returns-in-Ok-fetch_once-clause-
 returns-in-Ok-fetch_once-clause-ends g c =
     let fetched = rw (← c.order.view_is) at c.in-Ok-fetch_once.ensures.fetched in
     let links = rw (← c.order.view_is) at c.fetch_once.ensures.others in
-    subst (λ (o : FetchOrder). FetchEnds o c.report_session-status.result (g.P.Ports.world c.args.ports.now) (g.P.Ports.world c.report_session-status.new.ports)) c.order.view_is
-    (ends_with_report _ _ _ _ _ _ _ _ _ c.order.invariant.0 c.order.invariant.1 c.in-Ok.ensures.ok c.open.ensures.others fetched links c.report_session-status.ensures.reports c.report_session-status.ensures.others)
+    subst (λ (o : FetchOrder). FetchEnds o c.report_session.result (g.P.Ports.world c.args.ports.now) (g.P.Ports.world c.report_session.new.ports)) c.order.view_is
+    (ends_with_report _ _ _ _ _ _ _ _ _ c.order.invariant.0 c.order.invariant.1 c.in-Ok.ensures.ok c.open.ensures.others fetched links c.report_session.ensures.reports c.report_session.ensures.others)
 
-pub report_session-status-requires-clause-all : goal.report_session-status-requires-clause-all
-report_session-status-requires-clause-all g c = whole_of_fetch _ _ _ _ _ _ _ _ _ c.in-Ok-fetch_once.ensures.fetched
+pub report_session-requires-clause-all : goal.report_session-requires-clause-all
+report_session-requires-clause-all g c = whole_of_fetch _ _ _ _ _ _ _ _ _ c.in-Ok-fetch_once.ensures.fetched
 
 pub returns-in_default-clause-ends : goal.returns-in_default-clause-ends
 returns-in_default-clause-ends g c = ends_unopened _ _ _ c.in_default.ensures.failed c.open.ensures.others
@@ -54,7 +54,7 @@ pub returns-in-Ok-fetch_once-clause-others : goal.returns-in-Ok-fetch_once-claus
 returns-in-Ok-fetch_once-clause-others g c =
     let first = c.open.ensures.others in
     let asked = c.fetch_once.ensures.others in
-    let told = c.report_session-status.ensures.others in
+    let told = c.report_session.ensures.others in
     record {
       others = λ q l to_tell to_toss to_keep to_ask. told.others q l to_tell to_keep ∙ asked.others q l to_toss to_ask ∙ first.others q l to_toss;
       crowd = told.crowd ∙ asked.crowd ∙ first.crowd;

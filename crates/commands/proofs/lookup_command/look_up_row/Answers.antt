@@ -13,8 +13,8 @@ pub returns-in-Ok-look_up_once-clause-ends : goal.returns-in-Ok-look_up_once-cla
 returns-in-Ok-look_up_once-clause-ends g c =
     let looked = rw (← c.order.view_is) at c.in-Ok-look_up_once.ensures.looked in
     let links = rw (← c.order.view_is) at c.look_up_once.ensures.others in
-    subst (λ (o : LookUpOrder). LookUpEnds o c.report_end-status.result (g.P.Ports.world c.args.ports.now) (g.P.Ports.world c.report_end-status.new.ports)) c.order.view_is
-    (ends_with_end _ _ _ _ c.order.invariant.0 c.in-Ok.ensures.ok c.open.ensures.others links _ _ _ looked c.report_end-status.ensures.told c.report_end-status.ensures.others)
+    subst (λ (o : LookUpOrder). LookUpEnds o c.report_end.result (g.P.Ports.world c.args.ports.now) (g.P.Ports.world c.report_end.new.ports)) c.order.view_is
+    (ends_with_end _ _ _ _ c.order.invariant.0 c.in-Ok.ensures.ok c.open.ensures.others links _ _ _ looked c.report_end.ensures.told c.report_end.ensures.others)
 
 pub returns-in-Err-clause-ends : goal.returns-in-Err-clause-ends
 returns-in-Err-clause-ends g c =
@@ -53,7 +53,7 @@ pub returns-in-Ok-look_up_once-clause-others : goal.returns-in-Ok-look_up_once-c
 returns-in-Ok-look_up_once-clause-others g c =
     let first = c.open.ensures.others in
     let asked = c.look_up_once.ensures.others in
-    let told = c.report_end-status.ensures.others in
+    let told = c.report_end.ensures.others in
     record {
       others = λ q l to_tell to_toss to_ask. told.others q l to_tell ∙ asked.others q l to_toss to_ask ∙ first.others q l to_toss;
       crowd = told.crowd ∙ asked.crowd ∙ first.crowd;

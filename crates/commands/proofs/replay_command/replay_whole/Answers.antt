@@ -6,14 +6,14 @@ use Rattle.commands.proofs.Replaying.{unjudged, unopened, whole_told}
 use Rattle.commands.proofs.Saying.{report_of}
 use Rattle.commands.proofs.replay_command.replay_whole.Goals as goal
 
-pub report_whole-status-requires : goal.report_whole-status-requires
-report_whole-status-requires g c =
+pub report_whole-requires : goal.report_whole-requires
+report_whole-requires g c =
     let read = c.in-Ok-replay_whole_once.ensures.replayed in
     report_of _ _ read.is.whole.range.scheme true _ read.is.report
 
 pub returns-in-Ok-replay_whole_once-clause-ends : goal.returns-in-Ok-replay_whole_once-clause-ends
 returns-in-Ok-replay_whole_once-clause-ends g c =
-    whole_told _ _ _ _ _ _ _ _ _ c.in-Ok.ensures.ok c.open.ensures.others c.in-Ok-replay_whole_once.ensures.replayed c.replay_whole_once.ensures.others c.report_whole-status.ensures.told c.report_whole-status.ensures.others
+    whole_told _ _ _ _ _ _ _ _ _ c.in-Ok.ensures.ok c.open.ensures.others c.in-Ok-replay_whole_once.ensures.replayed c.replay_whole_once.ensures.others c.report_whole.ensures.told c.report_whole.ensures.others
 
 pub returns-in_default-clause-ends : goal.returns-in_default-clause-ends
 returns-in_default-clause-ends g c = unopened _ true _ _ c.in_default.ensures.failed c.open.ensures.others
@@ -42,7 +42,7 @@ pub returns-in-Ok-replay_whole_once-clause-others : goal.returns-in-Ok-replay_wh
 returns-in-Ok-replay_whole_once-clause-others g c =
     let first = c.open.ensures.others in
     let read = c.replay_whole_once.ensures.others in
-    let told = c.report_whole-status.ensures.others in
+    let told = c.report_whole.ensures.others in
     record {
       others = λ q l to_read to_tell. told.others q l to_tell ∙ read.others q l to_read ∙ first.others q l to_read;
       crowd = told.crowd ∙ read.crowd ∙ first.crowd;

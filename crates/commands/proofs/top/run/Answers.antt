@@ -52,78 +52,78 @@ pub returns-in-Ok-clause-words : goal.returns-in-Ok-clause-words
 returns-in-Ok-clause-words g c =
     let form = c.in-Ok.ensures.form in
     record {
-      formless = λ usage. absurd (no_usage _ _ _ (subst (λ (s : Status). Outcome c.in-Ok.asked s (g.P.Ports.world c.args.ports.now) (g.P.Ports.world c.obey-status.new.ports)) usage c.obey-status.ensures));
+      formless = λ usage. absurd (no_usage _ _ _ (subst (λ (s : Status). Outcome c.in-Ok.asked s (g.P.Ports.world c.args.ports.now) (g.P.Ports.world c.obey.new.ports)) usage c.obey.ensures));
       said = λ none. absurd cc;
       untouched = λ none. absurd cc;
     }
 
 pub returns-in-Ok-clause-outcome : goal.returns-in-Ok-clause-outcome
 returns-in-Ok-clause-outcome g c = λ asked command.
-    inr (outcome_of_one _ _ asked _ _ _ c.in-Ok.ensures.form command c.obey-status.ensures)
+    inr (outcome_of_one _ _ asked _ _ _ c.in-Ok.ensures.form command c.obey.ensures)
 
 pub returns-in-Ok-clause-headline : goal.returns-in-Ok-clause-headline
 returns-in-Ok-clause-headline g c = λ file bytes wanted session command told whole none.
     let old = g.P.Ports.world c.args.ports.now in
-    let new = g.P.Ports.world c.obey-status.new.ports in
-    let outcome = outcome_of_one _ _ _ _ old new c.in-Ok.ensures.form command c.obey-status.ensures in
-    answered file wanted c.obey-status.result old new bytes session told whole none outcome.ends
+    let new = g.P.Ports.world c.obey.new.ports in
+    let outcome = outcome_of_one _ _ _ _ old new c.in-Ok.ensures.form command c.obey.ensures in
+    answered file wanted c.obey.result old new bytes session told whole none outcome.ends
 
 pub returns-in-Ok-clause-replay : goal.returns-in-Ok-clause-replay
 returns-in-Ok-clause-replay g c = λ file wanted command.
     let old = g.P.Ports.world c.args.ports.now in
-    let new = g.P.Ports.world c.obey-status.new.ports in
-    let outcome = outcome_of_one _ _ _ _ old new c.in-Ok.ensures.form command c.obey-status.ensures in
-    replay_promised file wanted c.obey-status.result old new outcome.ends
+    let new = g.P.Ports.world c.obey.new.ports in
+    let outcome = outcome_of_one _ _ _ _ old new c.in-Ok.ensures.form command c.obey.ensures in
+    replay_promised file wanted c.obey.result old new outcome.ends
 
 pub returns-in-Ok-clause-fetch : goal.returns-in-Ok-clause-fetch
 returns-in-Ok-clause-fetch g c = λ order orders.
     let old = g.P.Ports.world c.args.ports.now in
-    let new = g.P.Ports.world c.obey-status.new.ports in
-    let outcome = outcome_of_one _ _ _ _ old new c.in-Ok.ensures.form orders.command c.obey-status.ensures in
-    fetch_promised order c.obey-status.result old new (subst (λ o. FetchOutcome o c.obey-status.result old new) (order_is order orders.servers) outcome).ends
+    let new = g.P.Ports.world c.obey.new.ports in
+    let outcome = outcome_of_one _ _ _ _ old new c.in-Ok.ensures.form orders.command c.obey.ensures in
+    fetch_promised order c.obey.result old new (subst (λ o. FetchOutcome o c.obey.result old new) (order_is order orders.servers) outcome).ends
 
 pub returns-in-Ok-clause-serve : goal.returns-in-Ok-clause-serve
 returns-in-Ok-clause-serve g c = λ order command.
     let old = g.P.Ports.world c.args.ports.now in
-    let new = g.P.Ports.world c.obey-status.new.ports in
-    let outcome = outcome_of_one _ _ _ _ old new c.in-Ok.ensures.form command c.obey-status.ensures in
-    serve_promised order c.obey-status.result old new outcome.ends
+    let new = g.P.Ports.world c.obey.new.ports in
+    let outcome = outcome_of_one _ _ _ _ old new c.in-Ok.ensures.form command c.obey.ensures in
+    serve_promised order c.obey.result old new outcome.ends
 
 pub returns-in-Ok-clause-selfrun : goal.returns-in-Ok-clause-selfrun
 returns-in-Ok-clause-selfrun g c = λ order command.
     let old = g.P.Ports.world c.args.ports.now in
-    let new = g.P.Ports.world c.obey-status.new.ports in
-    let outcome = outcome_of_one _ _ _ _ old new c.in-Ok.ensures.form command c.obey-status.ensures in
-    selfrun_promised order.load c.obey-status.result old new outcome.ends
+    let new = g.P.Ports.world c.obey.new.ports in
+    let outcome = outcome_of_one _ _ _ _ old new c.in-Ok.ensures.form command c.obey.ensures in
+    selfrun_promised order.load c.obey.result old new outcome.ends
 
 pub returns-in-Ok-clause-demo : goal.returns-in-Ok-clause-demo
 returns-in-Ok-clause-demo g c = λ order command.
     let old = g.P.Ports.world c.args.ports.now in
-    let new = g.P.Ports.world c.obey-status.new.ports in
+    let new = g.P.Ports.world c.obey.new.ports in
     let same = one_command _ _ _ c.in-Ok.ensures.form command in
     let ranges = subst InRange same c.in-Ok.ensures.ranges in
-    demo_promised order c.obey-status.result old new (omega (arith, ranges.numbers.few_servers)) (outcome_of_one _ _ _ _ old new c.in-Ok.ensures.form command c.obey-status.ensures)
+    demo_promised order c.obey.result old new (omega (arith, ranges.numbers.few_servers)) (outcome_of_one _ _ _ _ old new c.in-Ok.ensures.form command c.obey.ensures)
 
 pub returns-in-Ok-clause-lookup : goal.returns-in-Ok-clause-lookup
 returns-in-Ok-clause-lookup g c = λ order orders.
     let old = g.P.Ports.world c.args.ports.now in
-    let new = g.P.Ports.world c.obey-status.new.ports in
-    let outcome = outcome_of_one _ _ _ _ old new c.in-Ok.ensures.form orders.command c.obey-status.ensures in
-    look_up_promised order c.obey-status.result old new
-    (subst (λ o. LookUpOutcome o c.obey-status.result old new) (look_up_is order orders.scheme orders.whole orders.servers) outcome).ends
+    let new = g.P.Ports.world c.obey.new.ports in
+    let outcome = outcome_of_one _ _ _ _ old new c.in-Ok.ensures.form orders.command c.obey.ensures in
+    look_up_promised order c.obey.result old new
+    (subst (λ o. LookUpOutcome o c.obey.result old new) (look_up_is order orders.scheme orders.whole orders.servers) outcome).ends
 
 pub returns-in-Ok-clause-split : goal.returns-in-Ok-clause-split
 returns-in-Ok-clause-split g c = λ order command.
     let old = g.P.Ports.world c.args.ports.now in
-    let new = g.P.Ports.world c.obey-status.new.ports in
+    let new = g.P.Ports.world c.obey.new.ports in
     let same = one_command _ _ _ c.in-Ok.ensures.form command in
     let ranges = subst InRange same c.in-Ok.ensures.ranges in
-    let outcome = outcome_of_one _ _ _ _ old new c.in-Ok.ensures.form command c.obey-status.ensures in
-    split_promised order c.obey-status.result old new (omega (arith, ranges.some_bytes)) outcome.ends
+    let outcome = outcome_of_one _ _ _ _ old new c.in-Ok.ensures.form command c.obey.ensures in
+    split_promised order c.obey.result old new (omega (arith, ranges.some_bytes)) outcome.ends
 
 pub returns-in-Ok-clause-front : goal.returns-in-Ok-clause-front
 returns-in-Ok-clause-front g c = λ order command.
     let old = g.P.Ports.world c.args.ports.now in
-    let new = g.P.Ports.world c.obey-status.new.ports in
-    let outcome = outcome_of_one _ _ _ _ old new c.in-Ok.ensures.form command c.obey-status.ensures in
-    front_promised order c.obey-status.result old new outcome.ends
+    let new = g.P.Ports.world c.obey.new.ports in
+    let outcome = outcome_of_one _ _ _ _ old new c.in-Ok.ensures.form command c.obey.ensures in
+    front_promised order c.obey.result old new outcome.ends
