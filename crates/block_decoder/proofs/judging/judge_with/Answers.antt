@@ -1,7 +1,8 @@
-use Rattle.std.proofs.Common.{◌≡◌, ℕ, true, List, Option, length, IfOk, refl, sym, ap, subst, ◌∙◌, arith, ◌+◌, ◌≤◌, le_refl}
+use Rattle.std.proofs.Common.{◌≡◌, ℕ, true, List, Option, length, IfOk, refl, sym, ap, subst, ◌∙◌, arith, ◌+◌, ◌<◌, ◌≤◌, le_refl}
 use Rattle.std.proofs.lemmas.Result.{IfOk-weaker, IfOk-from_err}
 use Rattle.wire_frames.specs.declared.session.SessionParams.{SessionParams}
 use Rattle.wire_frames.specs.Answer.{Answer, answers, block_len}
+use Rattle.wire_frames.specs.Limits.{IsInRange}
 use Rattle.wire_frames.proofs.Schemes.{number_of_xor, number_of_shamir}
 use Rattle.block_decoder.specs.Agreed.{HasColumns}
 use Rattle.block_decoder.specs.Numbers.{bound_of, most_columns, most_nodes}
@@ -24,6 +25,12 @@ same_decided P all others s w t u h i a b c d v is =
 same_number : (f : ℕ → ℕ → ℕ → ℕ → ℕ) (k j t u h i s w : ℕ) → k ≡ j → t ≡ u → h ≡ i → s ≡ w → f k t h s ≡ f j u i w
 same_number f k j t u h i s w a b c d =
     ap (λ x. f x t h s) a ∙ ap (λ x. f j x h s) b ∙ ap (λ x. f j u x s) c ∙ ap (λ x. f j u i x) d
+
+at_most : {a b c : ℕ} → a ≤ b → b ≤ c → a ≤ c
+at_most l m = omega (arith, l, m)
+
+less_than : {t u h i : ℕ} → t ≡ u → h ≡ i → u < i → t < h
+less_than a b l = omega (arith, a, b, l)
 
 pub decide_among-requires-clause-columns : goal.decide_among-requires-clause-columns
 decide_among-requires-clause-columns g c =
@@ -256,3 +263,19 @@ returns-in_ok-usable-in-Shamir-clause-listed g c =
 
 pub returns-in_ok-combine_all-in-Xor-clause-few_agree : goal.returns-in_ok-combine_all-in-Xor-clause-few_agree
 returns-in_ok-combine_all-in-Xor-clause-few_agree g c = λ shamir agreements none. (cc)
+
+pub block_len-requires : goal.block_len-requires
+block_len-requires g c = subst IsInRange (sym c.params-params.ensures.value) c.params-params.ensures.range
+
+pub decide_among-requires-clause-few : goal.decide_among-requires-clause-few
+decide_among-requires-clause-few g c = at_most c.in_ok-usable-in-Shamir.ensures.few c.params-params.ensures.range.few_servers
+
+pub decide_among-requires-clause-agreement : goal.decide_among-requires-clause-agreement
+decide_among-requires-clause-agreement g c =
+    let params = c.params-params.ensures.value in
+    let t = c.from.ensures ∙ ap (λ (p : SessionParams). p.t) params in
+    let h = c.from-in-Shamir.ensures ∙ ap (λ (p : SessionParams). p.h) params in
+    (subst (λ (t : ℕ). 1 ≤ t) (sym t) c.params-params.ensures.range.private, less_than t h c.params-params.ensures.range.agreement)
+
+pub decide_among-requires-clause-width : goal.decide_among-requires-clause-width
+decide_among-requires-clause-width g c = c.block_len.ensures.some
