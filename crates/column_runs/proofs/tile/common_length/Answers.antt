@@ -83,3 +83,24 @@ same_lanes-requires-clause-a c = length-lanes c.args.a.now c.lanes.at (omega (ar
 
 pub same_lanes-requires-clause-b : goal.same_lanes-requires-clause-b
 same_lanes-requires-clause-b c = length-lanes c.args.b.now c.lanes.at (omega (arith, c.lanes-test.true, c.requires))
+
+pub overflow_add-at : goal.overflow_add-at
+overflow_add-at c = omega arith
+
+pub overflow_add-at-in-lanes : goal.overflow_add-at-in-lanes
+overflow_add-at-in-lanes c = omega arith
+
+pub overflow_add-at-in-lanes-2 : goal.overflow_add-at-in-lanes-2
+overflow_add-at-in-lanes-2 c = omega arith
+
+pub slice_bounds-same_lanes-start : goal.slice_bounds-same_lanes-start
+slice_bounds-same_lanes-start c = omega arith
+
+pub slice_bounds-same_lanes-end : goal.slice_bounds-same_lanes-end
+slice_bounds-same_lanes-end c = omega arith
+
+pub slice_bounds-same_lanes-start-in-lanes : goal.slice_bounds-same_lanes-start-in-lanes
+slice_bounds-same_lanes-start-in-lanes c = omega arith
+
+pub slice_bounds-same_lanes-end-in-lanes : goal.slice_bounds-same_lanes-end-in-lanes
+slice_bounds-same_lanes-end-in-lanes c = omega arith
