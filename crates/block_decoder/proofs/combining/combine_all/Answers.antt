@@ -3,6 +3,7 @@ use Rattle.std.proofs.lemmas.List.{with_items_is}
 use Rattle.gf256.specs.Field.{◌⊕◌}
 use Rattle.wire_frames.specs.declared.session.SessionParams.{SessionParams}
 use Rattle.wire_frames.specs.Answer.{asked, block_len}
+use Rattle.wire_frames.specs.Limits.{IsInRange}
 use Rattle.block_decoder.proofs.Collected.{size_if_some}
 use Rattle.block_decoder.proofs.Combined.{HasCombined, combined_none, combined_absent, combined_present, combined_all}
 use Rattle.std.proofs.lemmas.Result.{IfOk-from_err}
@@ -65,3 +66,27 @@ returns-in_err-sum c = IfOk-from_err c.from_residual.result _ c.from_residual.en
 
 pub returns-in_err-of_one : goal.returns-in_err-of_one
 returns-in_err-of_one c = IfOk-from_err c.from_residual-in_err-of_one.result _ c.from_residual-in_err-of_one.ensures.0
+
+pub block_len-requires : goal.block_len-requires
+block_len-requires c = subst IsInRange (sym c.params-params.ensures.value) c.params-params.ensures.range
+
+pub overflow_cast-block_len : goal.overflow_cast-block_len
+overflow_cast-block_len c = omega (arith, c.block_len.ensures.few)
+
+pub overflow_add-index : goal.overflow_add-index
+overflow_add-index c =
+    let n = ap (λ (p : SessionParams). p.n) c.params-params.ensures.value in
+    omega (arith, c.loop-place-test.true, n, c.params-params.ensures.range.few_servers)
+
+pub usable_payload-requires-clause-first : goal.usable_payload-requires-clause-first
+usable_payload-requires-clause-first c = omega arith
+
+pub usable_payload-requires-clause-last : goal.usable_payload-requires-clause-last
+usable_payload-requires-clause-last c =
+    let n = ap (λ (p : SessionParams). p.n) c.params-params.ensures.value in
+    omega (arith, c.loop-place-test.true, n, c.requires)
+
+pub overflow_add-k : goal.overflow_add-k
+overflow_add-k c =
+    let n = ap (λ (p : SessionParams). p.n) c.params-params.ensures.value in
+    omega (arith, c.loop-place-test.true, c.loop-place.invariant.few, n, c.params-params.ensures.range.few_servers)

@@ -1,13 +1,16 @@
-use Rattle.std.proofs.Common.{◌≡◌, ℕ, true, List, Option, length, IfOk, refl, sym, ap, subst, ◌∙◌, arith, ◌+◌, ◌≤◌, le_refl}
+use Rattle.std.proofs.Common.{◌≡◌, ℕ, true, List, Option, None, length, IfOk, refl, sym, ap, subst, ◌∙◌, arith, ◌+◌, ◌<◌, ◌≤◌, le_refl}
 use Rattle.std.proofs.lemmas.Result.{IfOk-weaker, IfOk-from_err}
 use Rattle.wire_frames.specs.declared.session.SessionParams.{SessionParams}
 use Rattle.wire_frames.specs.Answer.{Answer, answers, block_len}
+use Rattle.wire_frames.specs.declared.scheme.TheConstants.{XOR}
+use Rattle.wire_frames.specs.Limits.{IsInRange}
+use Rattle.wire_frames.specs.Session.{Transcript}
 use Rattle.wire_frames.proofs.Schemes.{number_of_xor, number_of_shamir}
 use Rattle.block_decoder.specs.Agreed.{HasColumns}
 use Rattle.block_decoder.specs.Numbers.{bound_of, most_columns, most_nodes}
 use Rattle.block_decoder.specs.Report.{Agreement}
 use Rattle.block_decoder.specs.Reported.{IsReportBeside, IsReportOn, ReportsNoMoreThan}
-use Rattle.block_decoder.specs.Verdict.{IsDecided, IsUnlisted, IsVerdict, ListsNoMoreThan, least_columns}
+use Rattle.block_decoder.specs.Verdict.{IsCombined, IsDecided, IsUnlisted, IsVerdict, ListsNoMoreThan, least_columns}
 use Rattle.block_decoder.specs.declared.verdict.Verdict.{Verdict}
 use Rattle.block_decoder.proofs.Costs.{no_step}
 use Rattle.block_decoder.proofs.judging.judge_with.Goals as goal
@@ -24,6 +27,22 @@ same_decided P all others s w t u h i a b c d v is =
 same_number : (f : ℕ → ℕ → ℕ → ℕ → ℕ) (k j t u h i s w : ℕ) → k ≡ j → t ≡ u → h ≡ i → s ≡ w → f k t h s ≡ f j u i w
 same_number f k j t u h i s w a b c d =
     ap (λ x. f x t h s) a ∙ ap (λ x. f j x h s) b ∙ ap (λ x. f j u x s) c ∙ ap (λ x. f j u i x) d
+
+-- in the XOR scheme a verdict is that of the sum, and no report is beside it
+combined_verdict : (session : Transcript) (verdict : Verdict) → session.params.scheme ≡ XOR
+    → IsCombined (answers session) (block_len session.params) session.params.n session.params.h verdict → IsVerdict session verdict
+combined_verdict session verdict xor is = record { shamir = λ e. absurd (omega (arith, e, xor)); xor = λ e. is }
+
+no_report : (session : Transcript) (verdict : Verdict) → session.params.scheme ≡ XOR → IsReportOn session verdict None
+no_report session verdict xor = record { shamir = λ e. absurd (omega (arith, e, xor)); xor = λ e. refl }
+
+-- ---- what decide_among requires
+
+at_most : {a b c : ℕ} → a ≤ b → b ≤ c → a ≤ c
+at_most l m = omega (arith, l, m)
+
+less_than : {t u h i : ℕ} → t ≡ u → h ≡ i → u < i → t < h
+less_than a b l = omega (arith, a, b, l)
 
 pub decide_among-requires-clause-columns : goal.decide_among-requires-clause-columns
 decide_among-requires-clause-columns g c =
@@ -135,15 +154,13 @@ returns-in_ok-combine_all-in-Xor-clause-few g c = λ shamir.
 
 pub returns-in_ok-combine_all-in-Xor-clause-verdict : goal.returns-in_ok-combine_all-in-Xor-clause-verdict
 returns-in_ok-combine_all-in-Xor-clause-verdict g c =
-    let session = c.args.session.now in
-    let p = session.params in
     let xor = sym (ap (λ (p : SessionParams). p.scheme) c.params-params.ensures.value) ∙ number_of_xor c.params-params.result.scheme (sym c.of.ensures ∙ c.in-Xor.is) in
-    record { shamir = λ e. absurd (omega (arith, e, xor)); xor = λ e. c.in_ok-combine_all-in-Xor.ensures }
+    combined_verdict c.args.session.now c.in_ok-combine_all-in-Xor.field-0 xor c.in_ok-combine_all-in-Xor.ensures
 
 pub returns-in_ok-combine_all-in-Xor-clause-report : goal.returns-in_ok-combine_all-in-Xor-clause-report
 returns-in_ok-combine_all-in-Xor-clause-report g c = λ wanted.
     let xor = sym (ap (λ (p : SessionParams). p.scheme) c.params-params.ensures.value) ∙ number_of_xor c.params-params.result.scheme (sym c.of.ensures ∙ c.in-Xor.is) in
-    record { shamir = λ e. absurd (omega (arith, e, xor)); xor = λ e. refl }
+    no_report c.args.session.now c.in_ok-combine_all-in-Xor.field-0 xor
 
 pub returns-in_ok-combine_all-in-Xor-clause-listed : goal.returns-in_ok-combine_all-in-Xor-clause-listed
 returns-in_ok-combine_all-in-Xor-clause-listed g c = λ shamir.
@@ -256,3 +273,19 @@ returns-in_ok-usable-in-Shamir-clause-listed g c =
 
 pub returns-in_ok-combine_all-in-Xor-clause-few_agree : goal.returns-in_ok-combine_all-in-Xor-clause-few_agree
 returns-in_ok-combine_all-in-Xor-clause-few_agree g c = λ shamir agreements none. (cc)
+
+pub block_len-requires : goal.block_len-requires
+block_len-requires g c = subst IsInRange (sym c.params-params.ensures.value) c.params-params.ensures.range
+
+pub decide_among-requires-clause-few : goal.decide_among-requires-clause-few
+decide_among-requires-clause-few g c = at_most c.in_ok-usable-in-Shamir.ensures.few c.params-params.ensures.range.few_servers
+
+pub decide_among-requires-clause-agreement : goal.decide_among-requires-clause-agreement
+decide_among-requires-clause-agreement g c =
+    let params = c.params-params.ensures.value in
+    let t = c.from.ensures ∙ ap (λ (p : SessionParams). p.t) params in
+    let h = c.from-in-Shamir.ensures ∙ ap (λ (p : SessionParams). p.h) params in
+    (subst (λ (t : ℕ). 1 ≤ t) (sym t) c.params-params.ensures.range.private, less_than t h c.params-params.ensures.range.agreement)
+
+pub decide_among-requires-clause-width : goal.decide_among-requires-clause-width
+decide_among-requires-clause-width g c = c.block_len.ensures.some

@@ -77,3 +77,16 @@ returns-in_err-push-clause-nonzero c = IfOk-from_err c.from_residual-in_err-push
 
 pub returns-in_err-push-clause-few : goal.returns-in_err-push-clause-few
 returns-in_err-push-clause-few c = IfOk-from_err c.from_residual-in_err-push.result _ c.from_residual-in_err-push.ensures.0
+
+pub overflow_add-index : goal.overflow_add-index
+overflow_add-index c =
+    let n = ap (λ (p : SessionParams). p.n) c.params-place-end.ensures.value in
+    omega (arith, c.loop-place-test.true, n, c.params-place-end.ensures.range.few_servers)
+
+pub usable_payload-requires-clause-first : goal.usable_payload-requires-clause-first
+usable_payload-requires-clause-first c = omega arith
+
+pub usable_payload-requires-clause-last : goal.usable_payload-requires-clause-last
+usable_payload-requires-clause-last c =
+    let n = ap (λ (p : SessionParams). p.n) c.params-place-end.ensures.value in
+    omega (arith, c.loop-place-test.true, n, c.requires.all)

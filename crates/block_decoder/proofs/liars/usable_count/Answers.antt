@@ -29,3 +29,25 @@ returns-clause-count c =
     let all = c.record_count-place-end.ensures.count in
     let end = c.loop-place-test.false in
     c.loop-place.invariant.counted ∙ ap length (first_of-all c.args.session.now c.loop-place.place (omega (arith, end, all)))
+
+pub overflow_add-place : goal.overflow_add-place
+overflow_add-place c = omega (arith, c.loop-place-test.true, c.record_count-place-end.ensures.count, c.record_count-place-end.ensures.few, c.params.ensures.range.few_servers)
+
+pub overflow_cast-place : goal.overflow_cast-place
+overflow_cast-place c = omega (arith, c.loop-place-test.true, c.record_count-place-end.ensures.count, c.record_count-place-end.ensures.few, c.params.ensures.range.few_servers)
+
+pub usable_payload-requires-clause-first : goal.usable_payload-requires-clause-first
+usable_payload-requires-clause-first c = omega arith
+
+pub usable_payload-requires-clause-last : goal.usable_payload-requires-clause-last
+usable_payload-requires-clause-last c = omega (arith, c.loop-place-test.true, c.record_count-place-end.ensures.count)
+
+pub overflow_add-count : goal.overflow_add-count
+overflow_add-count c =
+    let before = c.loop-place.invariant.few in
+    omega (arith, before, c.loop-place-test.true, c.record_count-place-end.ensures.count, c.record_count-place-end.ensures.few, c.params.ensures.range.few_servers)
+
+pub returns-clause-few : goal.returns-clause-few
+returns-clause-few c =
+    let counted = c.loop-place.invariant.few in
+    omega (arith, counted, c.record_count-place-end.ensures.count, c.record_count-place-end.ensures.few)

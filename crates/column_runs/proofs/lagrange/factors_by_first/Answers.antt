@@ -1,9 +1,16 @@
 use Rattle.std.proofs.Common.{◌≡◌, ◌≢◌, ◌∙◌, ◌+◌, ◌<◌, ℕ, List, [], ◌∷◌, ◌++◌, Vec, Global, AllPairs, inl, inr, length, map, get_or, take, sym, ap, subst, arith, get_or-take, length-append}
 use Rattle.std.proofs.lemmas.Bool.{cases_lt}
 use Rattle.std.proofs.lemmas.List.{get_or_append_left, get_or_push, length-take, length-take-le, map-append}
+use Rattle.std.proofs.lemmas.Result.{IfOk-from_err}
 use Rattle.column_runs.specs.Lagrange.{Extends}
 use Rattle.column_runs.proofs.DifferenceRows.{length-items}
 use Rattle.column_runs.proofs.lagrange.factors_by_first.Goals as goal
+
+-- the first t + 1 are some
+first_some : (xs : List ℕ) (t : ℕ) → t < length xs → 0 < length (take (t + 1) xs)
+first_some xs t enough =
+    let size = length-take-le (t + 1) xs (omega (arith, enough)) in
+    omega (arith, size)
 
 -- no two of the first places are equal
 distinct-take : (n : ℕ) (xs : List ℕ) → AllPairs (λ x y. x ≢ y) xs → AllPairs (λ x y. x ≢ y) (take n xs)
@@ -70,3 +77,43 @@ factors_for-requires-clause-distinct c =
 pub factors_for-requires-2-clause-distinct : goal.factors_for-requires-2-clause-distinct
 factors_for-requires-2-clause-distinct c =
     distinct-take (c.args.t + 1) c.args.xs.now c.requires.distinct
+
+pub returns-in_err-others : goal.returns-in_err-others
+returns-in_err-others c = IfOk-from_err c.from_residual.result _ c.from_residual.ensures.0
+
+pub returns-in_err-factors_for : goal.returns-in_err-factors_for
+returns-in_err-factors_for c = IfOk-from_err c.from_residual-in_err-factors_for.result _ c.from_residual-in_err-factors_for.ensures.0
+
+pub returns-in_err-push : goal.returns-in_err-push
+returns-in_err-push c = IfOk-from_err c.from_residual-in_err-push.result _ c.from_residual-in_err-push.ensures.0
+
+pub returns-in_err-zero : goal.returns-in_err-zero
+returns-in_err-zero c = IfOk-from_err c.from_residual-in_err-zero.result _ c.from_residual-in_err-zero.ensures.0
+
+pub loop-place-smaller : goal.loop-place-smaller
+loop-place-smaller c = omega (arith, c.loop-place-test.true)
+
+pub bounds-xs-place : goal.bounds-xs-place
+bounds-xs-place c = c.loop-place-test.true
+
+pub slice_bounds-base-end : goal.slice_bounds-base-end
+slice_bounds-base-end c =
+    let first = length-take-le (c.args.t + 1) c.args.xs.now (omega (arith, c.requires.enough)) in
+    omega (arith, first, c.requires.enough)
+
+pub overflow_add-base : goal.overflow_add-base
+overflow_add-base c = omega (arith, c.ranges.t.fits)
+
+pub overflow_cast-base : goal.overflow_cast-base
+overflow_cast-base c = omega (arith, c.ranges.t.fits)
+
+pub overflow_sub-xs : goal.overflow_sub-xs
+overflow_sub-xs c =
+    let first = length-take-le (c.args.t + 1) c.args.xs.now (omega (arith, c.requires.enough)) in
+    omega (arith, first, c.requires.enough)
+
+pub factors_for-requires-clause-some : goal.factors_for-requires-clause-some
+factors_for-requires-clause-some c = first_some c.args.xs.now c.args.t c.requires.enough
+
+pub factors_for-requires-2-clause-some : goal.factors_for-requires-2-clause-some
+factors_for-requires-2-clause-some c = first_some c.args.xs.now c.args.t c.requires.enough

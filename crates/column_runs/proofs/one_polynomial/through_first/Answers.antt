@@ -62,3 +62,34 @@ returns-in_err-push-clause-only c =
 pub returns-in_err-push-2-clause-only : goal.returns-in_err-push-2-clause-only
 returns-in_err-push-2-clause-only c =
     IfOk-from_err c.from_residual-in_err-push-2.result _ c.from_residual-in_err-push-2.ensures.0
+
+pub returns-in_err-push-clause-polynomial : goal.returns-in_err-push-clause-polynomial
+returns-in_err-push-clause-polynomial c =
+    IfOk-from_err c.from_residual.result _ c.from_residual.ensures.0
+
+pub returns-in_err-push-2-clause-polynomial : goal.returns-in_err-push-2-clause-polynomial
+returns-in_err-push-2-clause-polynomial c =
+    IfOk-from_err c.from_residual-in_err-push-2.result _ c.from_residual-in_err-push-2.ensures.0
+
+pub bounds-x-items-x-index : goal.bounds-x-items-x-index
+bounds-x-items-x-index c = c.loop-x-test.true
+
+pub loop-x-smaller : goal.loop-x-smaller
+loop-x-smaller c = omega (arith, c.loop-x-test.true)
+
+pub slice_bounds-x-items-end : goal.slice_bounds-x-items-end
+slice_bounds-x-items-end c =
+    let first = length-take-le (c.args.t + 1) c.args.points.now (omega (arith, c.requires.enough)) in
+    omega (arith, first, c.requires.enough)
+
+pub overflow_add-x-items : goal.overflow_add-x-items
+overflow_add-x-items c = omega (arith, c.ranges.t.fits)
+
+pub interpolate-requires-clause-some : goal.interpolate-requires-clause-some
+interpolate-requires-clause-some c =
+    let points = c.args.points.now in
+    let n = c.args.t + 1 in
+    let past : length (take n points) ≤ c.loop-x.x-index = omega (arith, c.loop-x-test.false) in
+    let xs = ap length (c.deref.ensures.value ∙ c.loop-x.invariant.xs ∙ ap (map (λ p. p.0)) (take_all c.loop-x.x-index (take n points) past)) ∙ length-map (take n points) (λ p. p.0) in
+    let first = length-take-le n points (omega (arith, c.requires.enough)) in
+    omega (arith, xs, first)

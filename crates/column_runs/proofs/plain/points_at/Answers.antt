@@ -69,3 +69,12 @@ returns-in_err-points c =
 pub returns-in_err-push : goal.returns-in_err-push
 returns-in_err-push c =
     IfOk-from_err c.from_residual-in_err-push.result _ c.from_residual-in_err-push.ensures.0
+
+pub bounds-xs-place : goal.bounds-xs-place
+bounds-xs-place c = c.loop-place-test.true
+
+pub loop-place-smaller : goal.loop-place-smaller
+loop-place-smaller c = omega (arith, c.loop-place-test.true)
+
+pub row_from-requires-clause-place : goal.row_from-requires-clause-place
+row_from-requires-clause-place c = omega (arith, c.requires.rows, c.loop-place-test.true)

@@ -1,5 +1,5 @@
-use Rattle.std.proofs.Common.{◌<◌, ◌≤◌, ℕ, List, [], All, subst, Bor, Vec, Global, length, map, sym, ap, ◌∙◌, arith}
-use Rattle.std.proofs.lemmas.Result.{IfOk-from_err}
+use Rattle.std.proofs.Common.{◌<◌, ◌≤◌, ℕ, List, [], All, subst, Bor, Vec, Global, length, map, refl, sym, ap, ◌∙◌, arith}
+use Rattle.std.proofs.lemmas.Result.{IfOk-from_err, MatchResult-from_err}
 use Rattle.uni_poly.proofs.Coefficients.{bytes_from_get_or}
 use Rattle.column_runs.proofs.ColumnPoints.{length-rows}
 use Rattle.column_runs.proofs.DifferenceRows.{items_at, length-items}
@@ -77,3 +77,18 @@ returns-in_err-differences-clause-run g c = IfOk-from_err c.from_residual-in_err
 
 pub returns-in_err-sums-clause-run : goal.returns-in_err-sums-clause-run
 returns-in_err-sums-clause-run g c = IfOk-from_err c.from_residual-in_err-sums.result _ c.from_residual-in_err-sums.ensures.0
+
+pub returns-in_err-factors-clause-cols : goal.returns-in_err-factors-clause-cols
+returns-in_err-factors-clause-cols g c = MatchResult-from_err c.from_residual.result _ _ c.from_residual.ensures.0 (λ _. refl)
+
+pub returns-in_err-differences-clause-cols : goal.returns-in_err-differences-clause-cols
+returns-in_err-differences-clause-cols g c = MatchResult-from_err c.from_residual-in_err-differences.result _ _ c.from_residual-in_err-differences.ensures.0 (λ _. refl)
+
+pub returns-in_err-sums-clause-cols : goal.returns-in_err-sums-clause-cols
+returns-in_err-sums-clause-cols g c = MatchResult-from_err c.from_residual-in_err-sums.result _ _ c.from_residual-in_err-sums.ensures.0 (λ _. refl)
+
+pub factors_by_first-requires-clause-enough : goal.factors_by_first-requires-clause-enough
+factors_by_first-requires-clause-enough g c = c.requires.enough
+
+pub factors_by_first-requires-clause-distinct : goal.factors_by_first-requires-clause-distinct
+factors_by_first-requires-clause-distinct g c = c.requires.distinct

@@ -93,3 +93,44 @@ decode_tile-columns-requires-clause-sums g c =
     let part = done + c.min-size.result - done in
     let size = length-part c.tiles.out done part (omega (arith, c.min-size.ensures, c.tiles.invariant.within, c.tiles.auto.out)) in
     omega (arith, size, c.min-size.ensures, c.tiles.auto.sums)
+
+pub decode_tile-columns-requires-clause-rows : goal.decode_tile-columns-requires-clause-rows
+decode_tile-columns-requires-clause-rows g c = c.requires.rows
+
+pub decode_tile-columns-requires-clause-factors : goal.decode_tile-columns-requires-clause-factors
+decode_tile-columns-requires-clause-factors g c = c.requires.factors
+
+pub decode_tile-columns-requires-clause-count : goal.decode_tile-columns-requires-clause-count
+decode_tile-columns-requires-clause-count g c = c.tiles.auto.differences ∙ c.requires.count
+
+pub tiles-smaller : goal.tiles-smaller
+tiles-smaller g c = omega (arith, c.if-columns-size.false, c.min-size.ensures, c.requires.some, c.tiles.auto.sums, c.tiles.auto.out, c.tiles-test.true)
+
+pub returns-clause-cols : goal.returns-clause-cols
+returns-clause-cols g c = c.tiles.invariant.counted
+
+pub returns-then-columns-size-clause-cols : goal.returns-then-columns-size-clause-cols
+returns-then-columns-size-clause-cols g c = omega arith
+
+pub overflow_sub-out : goal.overflow_sub-out
+overflow_sub-out g c = omega (arith, c.tiles-test.true)
+
+pub overflow_add-tile : goal.overflow_add-tile
+overflow_add-tile g c = omega (arith, c.min-size.ensures, c.tiles.invariant.within, c.tiles.auto.out, c.requires.memory)
+
+pub overflow_add-from : goal.overflow_add-from
+overflow_add-from g c = omega (arith, c.tiles.invariant.within, c.requires.memory)
+
+pub overflow_add-done : goal.overflow_add-done
+overflow_add-done g c =
+    let done = c.tiles.done in
+    let part = done + c.min-size.result - done in
+    let room : done + part ≤ length c.tiles.out = omega (arith, c.min-size.ensures, c.tiles.invariant.within, c.tiles.auto.out) in
+    let size = c.decode_tile-columns.auto.out ∙ length-part c.tiles.out done part room in
+    omega (arith, c.decode_tile-columns.ensures.tile.within, size, room, c.tiles.auto.out, c.requires.memory)
+
+pub slice_bounds-tile-start : goal.slice_bounds-tile-start
+slice_bounds-tile-start g c = omega arith
+
+pub slice_bounds-tile-end : goal.slice_bounds-tile-end
+slice_bounds-tile-end g c = omega (arith, c.min-size.ensures, c.tiles.invariant.within, c.tiles.auto.out)

@@ -116,3 +116,31 @@ extend-requires-clause-same c =
     let some : 0 < length rows = let all = c.requires.rows in omega (arith, count, all) in
     let size = length-first rows c.args.from (length c.args.out.now) c.row_from.result.now some c.requires.widths c.row_from.ensures in
     size
+
+pub returns-clause-sizes : goal.returns-clause-sizes
+returns-clause-sizes c = c.subtract.ensures.sizes
+
+pub extend-requires-clause-count : goal.extend-requires-clause-count
+extend-requires-clause-count c = ap length c.deref-2.ensures.value ∙ sym (c.subtract.auto.differences ∙ c.requires.count)
+
+pub row_from-requires-clause-place : goal.row_from-requires-clause-place
+row_from-requires-clause-place c = omega (arith, c.requires.rows)
+
+pub row_from-requires-clause-within : goal.row_from-requires-clause-within
+row_from-requires-clause-within c =
+    let rows = map (λ (row : Bor (List ℕ)). row.now) c.args.rows.now in
+    let some : 0 < length rows = omega (arith, length-rows c.args.rows.now, c.requires.rows) in
+    let wide = c.requires.widths 0 [] some in
+    omega (arith, wide)
+
+pub slice_bounds-first-end : goal.slice_bounds-first-end
+slice_bounds-first-end c =
+    let rows = map (λ (row : Bor (List ℕ)). row.now) c.args.rows.now in
+    let some : 0 < length rows = omega (arith, length-rows c.args.rows.now, c.requires.rows) in
+    let wide = c.requires.widths 0 [] some in
+    let long = ap length c.row_from.ensures ∙ length-drop c.args.from (get_or rows 0 []) in
+    let size = length-first rows c.args.from (length c.args.out.now) c.row_from.result.now some c.requires.widths c.row_from.ensures in
+    omega (arith, wide, long, size)
+
+pub subtract-requires-clause-rows : goal.subtract-requires-clause-rows
+subtract-requires-clause-rows c = omega (arith, c.requires.rows, c.requires.count)

@@ -1,4 +1,4 @@
-use Rattle.std.proofs.Common.{◌≡◌, ◌≢◌, ◌+◌, ◌<◌, ◌≤◌, ℕ, List, [], length, map, take, Vec, Global, refl, sym, subst, ◌∙◌, arith}
+use Rattle.std.proofs.Common.{◌≡◌, ◌≢◌, ◌+◌, ◌-◌, ◌<◌, ◌≤◌, ℕ, List, [], length, map, take, Vec, Global, refl, sym, subst, ◌∙◌, arith}
 use Rattle.std.proofs.lemmas.List.{length-map, take_all}
 use Rattle.std.proofs.lemmas.Result.{IfOk-from_err, on_ok_weaker}
 use Rattle.column_lists.specs.Agreement.{ListsAgreeing}
@@ -24,6 +24,9 @@ less-fits a b l = omega (arith, l)
 
 after-less : (h t k : ℕ) → h ≤ k → t < h → t < k
 after-less h t k l m = omega (arith, l, m)
+
+fewer-left : (i n : ℕ) → i < n → n - (i + 1) < n - i
+fewer-left i n l = omega (arith, l)
 
 -- ---- extend
 
@@ -410,3 +413,9 @@ extend_by_each-returns-clause-extended g t c =
       block = c.loop-polynomial.invariant.kept;
       gained = subst (λ (nexts : List (List ℕ)). TurnsGained nexts s.answers s.width s.degree s.agreement kept next c.args.block.now c.args.report.now c.loop-polynomial.report c.args.cols.now c.loop-polynomial.cols) whole c.loop-polynomial.invariant.gained;
     }
+
+pub extend_by_each-bounds-polynomials-polynomial-index : goal.extend_by_each-bounds-polynomials-polynomial-index
+extend_by_each-bounds-polynomials-polynomial-index g t c = c.loop-polynomial-test.true
+
+pub extend_by_each-loop-polynomial-smaller : goal.extend_by_each-loop-polynomial-smaller
+extend_by_each-loop-polynomial-smaller g t c = fewer-left c.loop-polynomial.polynomial-index (length c.args.polynomials.now) c.loop-polynomial-test.true
