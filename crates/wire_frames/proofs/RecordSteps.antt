@@ -299,3 +299,16 @@ room_left r steady part =
     let width = answer_len r.params.count r.params.s in
     let more : suc (length r.records.closed) * width ≤ r.params.n * width = mul-le-mul_right width (omega (arith, part.few)) in
     omega (arith, more, suc-mul (length r.records.closed) width, steady.byte_room, part.most)
+
+-- between two pieces either bytes are left or less than a header has come
+pub open_in_bytes : (r : RecordsReader) → IsOpen r → 0 < r.left → IsInBytes r
+open_in_bytes r is_open some = elim is_open.part [
+  | inl part ↦ absurd (omega (arith, part.none_left, some))
+  | inr part ↦ part.0
+]
+
+pub open_in_header : (r : RecordsReader) → IsOpen r → r.left ≤ 0 → IsInHeader r
+open_in_header r is_open none = elim is_open.part [
+  | inl part ↦ part
+  | inr part ↦ absurd (omega (arith, part.1, none))
+]

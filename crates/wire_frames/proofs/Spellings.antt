@@ -46,3 +46,7 @@ only_front width value v front h =
 -- a split, where both parts are known
 pub joined : (bytes front rest front' rest' : List ℕ) → bytes ≡ front ++ rest → front ≡ front' → rest ≡ rest' → bytes ≡ front' ++ rest'
 joined bytes front rest front' rest' split e e' = split ∙ ap₂ (λ (x y : List ℕ). x ++ y) e e'
+
+-- no number is below zero
+pub from_zero : (n : ℕ) → 0 ≤ n
+from_zero n = omega arith

@@ -1,4 +1,4 @@
-use Rattle.std.proofs.Common.{◌≡◌, ◌∙◌, ℕ, ◌+◌, ◌<◌, ◌≤◌, List, length, map, string_bytes, sym, ap, subst, arith}
+use Rattle.std.proofs.Common.{◌≡◌, ◌∙◌, ℕ, ◌+◌, ◌<◌, ◌≤◌, List, map, string_bytes, sym, ap, subst, arith}
 use Rattle.std.specs.Prelude.{[], get_or}
 use Rattle.std.proofs.lemmas.List.{get_or-map}
 use Rattle.port_rules.specs.Number.{link}

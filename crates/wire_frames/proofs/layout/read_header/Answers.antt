@@ -1,11 +1,11 @@
-use Rattle.std.proofs.Common.{◌≡◌, ◌∙◌, ℕ, ◌+◌, ◌<◌, ◌≤◌, ◌^◌, Fits, w8, w32, w64, max, ap, subst, sym, arith, lit≤, lit<}
+use Rattle.std.proofs.Common.{◌≡◌, ◌∙◌, ℕ, ◌+◌, ◌<◌, ◌≤◌, ◌^◌, ◌/◌, Fits, w8, w32, w64, max, min, ap, subst, sym, arith, lit≤, lit<, div-le_self}
 use Rattle.wire_frames.specs.Layout.{IsHeader}
 use Rattle.wire_frames.specs.Field.{IsField, most_servers, width_field}
-use Rattle.wire_frames.specs.Version.{count_of}
+use Rattle.wire_frames.specs.Version.{count_byte, count_of}
 use Rattle.wire_frames.specs.Scheme.{scheme_of}
 use Rattle.wire_frames.specs.declared.field.Number.{Number}
 use Rattle.wire_frames.specs.declared.scheme.Scheme.{Scheme}
-use Rattle.quantity_limits.specs.declared.TheConstants.{MOST_BLOCKS, MOST_DEGREE, MOST_SERVERS}
+use Rattle.quantity_limits.specs.declared.TheConstants.{MOST_BLOCKS, MOST_CELLS, MOST_DEGREE, MOST_SERVERS, MOST_WIDTH}
 use Rattle.wire_frames.specs.declared.places.TheConstants.{SESSION_AGREEMENT_PLACE, SESSION_SERVERS_PLACE, SESSION_COUNT_PLACE, SESSION_WIDTH_PLACE}
 use Rattle.wire_frames.proofs.Chains.{leads-start, leads-stop, leads-done, no_more}
 use Rattle.wire_frames.proofs.Counts.{byte_most}
@@ -35,6 +35,20 @@ some_blocks count byte is = omega (arith, is)
 
 few_blocks : {count byte most : ℕ} → count ≡ max byte 1 → byte ≤ most → most ≤ MOST_BLOCKS → count ≤ MOST_BLOCKS
 few_blocks is few most = omega (arith, is, few, most)
+
+-- for how many blocks a byte asks
+is_count : (count byte : ℕ) → count ≡ max byte 1 → count ≡ count_of byte
+is_count count byte is = omega (arith, is)
+
+asks : (byte : ℕ) → 1 ≤ count_of byte
+asks byte = omega arith
+
+asks_few : (version byte : ℕ) → byte ≤ count_byte version MOST_BLOCKS → count_of byte ≤ MOST_BLOCKS
+asks_few version byte most = omega (arith, byte_most version MOST_BLOCKS, most)
+
+-- a width is a word
+fits_width : (count r s : ℕ) → s ≤ min (MOST_WIDTH / count) (MOST_CELLS / r) → Fits w32 s
+fits_width count r s most = omega (arith, div-le_self MOST_CELLS r, most)
 
 -- where so few may learn nothing together, one more may have to agree
 one_more : (t : ℕ) → t ≤ MOST_DEGREE → t + 1 ≤ MOST_SERVERS
@@ -128,6 +142,11 @@ overflow_cast-result-3 c = fits_byte c.in_ok-t.ensures.most (lit< tt)
 pub overflow_cast-result-7 : goal.overflow_cast-result-7
 overflow_cast-result-7 c = fits_word c.in_ok-r.ensures.most (lit< tt)
 
+pub overflow_cast-result-8 : goal.overflow_cast-result-8
+overflow_cast-result-8 c =
+    let width = number_as SESSION_WIDTH_PLACE c.args.bytes.now c.width_field.ensures.is c.in_ok-s.ensures in
+    fits_width c.max-count.result c.in_ok-r.r c.in_ok-s.s width.most
+
 pub returns-in_err-number_at : goal.returns-in_err-number_at
 returns-in_err-number_at c =
     let start = leads-start c.args.bytes.now header_into header_back in
@@ -208,8 +227,8 @@ returns-in_err-session c =
     let byte = number_as SESSION_COUNT_PLACE c.args.bytes.now c.count_field.ensures.is c.in_ok-byte.ensures in
     let count = to_zero n byte in
     let zero = to_session count c.in_ok-number_at-2.ensures in
-    let blocks = byte_most c.in_ok-version.version MOST_BLOCKS in
-    reads-exit c.from_residual-in_err-session.result _ c.from_residual-in_err-session.ensures.1 (leads-stop zero (λ v _ _. some_r _ _ (omega arith) (omega (arith, blocks, byte.most))) c.in_err-session.ensures)
+    let few_blocks = asks_few c.in_ok-version.version c.in_ok-byte.byte byte.most in
+    reads-exit c.from_residual-in_err-session.result _ c.from_residual-in_err-session.ensures.1 (leads-stop zero (λ v _ _. some_r _ _ (asks c.in_ok-byte.byte) few_blocks) c.in_err-session.ensures)
 
 pub returns-in_err-r : goal.returns-in_err-r
 returns-in_err-r c =
@@ -225,8 +244,8 @@ returns-in_err-r c =
     let count = to_zero n byte in
     let zero = to_session count c.in_ok-number_at-2.ensures in
     let session = to_r _ _ zero c.in_ok-session.ensures in
-    let blocks = byte_most c.in_ok-version.version MOST_BLOCKS in
-    reads-exit c.from_residual-in_err-r.result _ c.from_residual-in_err-r.ensures.1 (leads-stop session (λ v least most. some_s _ _ v (omega arith) (omega (arith, blocks, byte.most)) least most) c.in_err-r.ensures)
+    let few_blocks = asks_few c.in_ok-version.version c.in_ok-byte.byte byte.most in
+    reads-exit c.from_residual-in_err-r.result _ c.from_residual-in_err-r.ensures.1 (leads-stop session (λ v least most. some_s _ _ v (asks c.in_ok-byte.byte) few_blocks least most) c.in_err-r.ensures)
 
 pub returns-in_err-s : goal.returns-in_err-s
 returns-in_err-s c =
@@ -243,7 +262,7 @@ returns-in_err-s c =
     let zero = to_session count c.in_ok-number_at-2.ensures in
     let session = to_r _ _ zero c.in_ok-session.ensures in
     let r = to_s _ _ session c.in_ok-r.ensures in
-    let told : c.max-count.result ≡ count_of c.in_ok-byte.byte = omega (arith, c.max-count.ensures) in
+    let told : c.max-count.result ≡ count_of c.in_ok-byte.byte = is_count _ _ c.max-count.ensures in
     reads-exit c.from_residual-in_err-s.result _ c.from_residual-in_err-s.ensures.1 (leads-stop r (λ v _ _. no_more _) (stop_as (c.width_field.ensures.is ∙ ap (λ (k : ℕ). width_field k c.in_ok-r.r) told) c.in_err-s.ensures))
 
 pub returns : goal.returns
@@ -261,7 +280,7 @@ returns c =
     let zero = to_session count c.in_ok-number_at-2.ensures in
     let session = to_r _ _ zero c.in_ok-session.ensures in
     let r = to_s _ _ session c.in_ok-r.ensures in
-    let told : c.max-count.result ≡ count_of c.in_ok-byte.byte = omega (arith, c.max-count.ensures) in
+    let told : c.max-count.result ≡ count_of c.in_ok-byte.byte = is_count _ _ c.max-count.ensures in
     let s = to_end _ _ c.in_ok-r.r r (number_as SESSION_WIDTH_PLACE c.args.bytes.now (c.width_field.ensures.is ∙ ap (λ (k : ℕ). width_field k c.in_ok-r.r) told) c.in_ok-s.ensures) in
     let params = λ (count : ℕ). params_of c.in_ok-version.version c.in_ok-scheme.scheme c.in_ok-t.t c.in_ok-h.h c.in_ok-n.n count c.in_ok-session.session c.in_ok-r.r c.in_ok-s.s in
     subst (λ (count : ℕ). IsHeader c.args.bytes.now (params count)) (sym told) (leads-done s c.requires)
