@@ -18,9 +18,6 @@ prove-unreachable-requires g c =
     let some = c.payload_len-some.ensures.some c.requires.suited.is.is.range.blocks.some_blocks (some_rows c.args.terms c.args.asked.now c.requires.suited.is.is.range c.requires.suited.shape) in
     omega (arith, some, c.if-prove.true)
 
-pub unreachable-prove : goal.unreachable-prove
-unreachable-prove g c = c.prove-unreachable.result
-
 pub read_exactly-requires : goal.read_exactly-requires
 read_exactly-requires g c = omega (arith, c.if-prove.false, c.payload_len-some.ensures.is, c.requires.room)
 
