@@ -32,13 +32,16 @@ some_is_overfull-requires-clause-size g c = c.read_exactly.auto.into ∙ c.requi
 
 pub returns-in-Ended-clause-handles : goal.returns-in-Ended-clause-handles
 returns-in-Ended-clause-handles g c =
-    inr (inr (inl (refl, record {
-      n = c.in-Ended.field-0;
-      before = c.args.query.now;
-      after = c.read_exactly.new.into;
-      size = c.requires.room;
-      ends = c.in-Ended.ensures.filled;
-    })))
+    inr (inr (inl (
+      refl,
+      record {
+        n = c.in-Ended.field-0;
+        before = c.args.query.now;
+        after = c.read_exactly.new.into;
+        size = c.requires.room;
+        ends = c.in-Ended.ensures.filled;
+      },
+    )))
 
 pub returns-in-Failed-clause-handles : goal.returns-in-Failed-clause-handles
 returns-in-Failed-clause-handles g c =
@@ -63,13 +66,16 @@ returns-then-some_is_overfull-clause-handles g c =
 
 pub returns-clause-handles : goal.returns-clause-handles
 returns-clause-handles g c =
-    inl (refl, record {
-      before = c.args.query.now;
-      size = c.read_exactly.auto.into ∙ c.requires.room;
-      hands = c.in-Full.ensures.filled;
-      full = sym c.read_exactly.auto.into;
-      unused_is = sym c.some_is_overfull.ensures ∙ c.if-some_is_overfull.false;
-    })
+    inl (
+      refl,
+      record {
+        before = c.args.query.now;
+        size = c.read_exactly.auto.into ∙ c.requires.room;
+        hands = c.in-Full.ensures.filled;
+        full = sym c.read_exactly.auto.into;
+        unused_is = sym c.some_is_overfull.ensures ∙ c.if-some_is_overfull.false;
+      },
+    )
 
 pub returns-in-Ended-clause-others : goal.returns-in-Ended-clause-others
 returns-in-Ended-clause-others g c = c.read_exactly.ensures.others

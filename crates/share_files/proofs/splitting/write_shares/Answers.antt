@@ -1,9 +1,10 @@
-use Rattle.std.proofs.Common.{◌≡◌, ◌≢◌, ◌∙◌, ◌+◌, ◌-◌, ◌<◌, ◌≤◌, ℕ, List, [], length, map, string_bytes, slice_index_or, sym, ap, ap₂, subst, rules, arith}
+use Rattle.std.proofs.Common.{◌≡◌, ◌≢◌, ◌∙◌, ◌+◌, ◌-◌, ◌<◌, ◌≤◌, ℕ, List, [], length, map, string_bytes, slice_index_or, refl, sym, ap, ap₂, subst, rules, arith}
 use Rattle.std.proofs.lemmas.List.{length-map, get_or-map}
 use Rattle.port_rules.specs.Number.{share_file}
 use Rattle.port_rules.specs.Moves.{gave, named}
 use Rattle.port_rules.specs.Each.{TouchesRange}
 use Rattle.port_rules.specs.Files.{Unwritten}
+use Rattle.port_rules.proofs.Ranges.{range_none}
 use Rattle.share_bytes.specs.Share.{share}
 use Rattle.share_files.specs.Splits.{SharesEach}
 use Rattle.share_files.proofs.Shares.{shares_more, shares_some}
@@ -24,6 +25,14 @@ fewer_left done all more = omega arith
 -- at the end no name is left
 all_named : (done all : ℕ) → done ≤ all → all ≤ done → done ≡ all
 all_named done all few most = omega arith
+
+pub shares-init : goal.shares-init
+shares-init g c = record {
+  number = refl;
+  size = c.requires.room;
+  so_far = search rules;
+  others = range_none (share_file 1) (g.P.Ports.world c.args.ports.now);
+}
 
 pub shares-preserved : goal.shares-preserved
 shares-preserved g c =
