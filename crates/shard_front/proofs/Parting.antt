@@ -1,5 +1,6 @@
 -- The parts of a query.
-use Rattle.std.proofs.Common.{◌≡◌, ◌∙◌, ℕ, ◌+◌, ◌-◌, List, ◌++◌, take, drop, ap₂, arith}
+use Rattle.std.proofs.Common.{◌≡◌, ◌∙◌, ℕ, ◌+◌, ◌-◌, ◌<◌, List, ◌++◌, length, take, drop, ap, ap₂, arith, length-drop}
+use Rattle.wire_frames.specs.declared.sizes.TheConstants.{FRAME_HEADER_LEN}
 use Rattle.wire_frames.specs.declared.header.QueryHeader.{QueryHeader}
 use Rattle.wire_frames.specs.Header.{query_header}
 use Rattle.shard_front.specs.declared.spread.Spread.{Spread}
@@ -18,3 +19,11 @@ pub part_is : (spread : Spread) (query : QueryHeader) (vectors : List ℕ) (i : 
     → header ++ slices ≡ part_for spread query vectors i
 unfolding part_for
 part_is spread query vectors i header slices a b = ap₂ (λ (x y : List ℕ). x ++ y) a b
+
+-- what stands behind the header of a frame, by its size
+pub rest_size : (frame rest : List ℕ) (size : ℕ) → rest ≡ drop FRAME_HEADER_LEN frame → length frame ≡ FRAME_HEADER_LEN + size → length rest ≡ size
+rest_size frame rest size is long = ap length is ∙ omega (arith, length-drop FRAME_HEADER_LEN frame, long)
+
+-- a frame has room for its header
+pub not_short : (size long : ℕ) → long < FRAME_HEADER_LEN → long ≡ FRAME_HEADER_LEN + size → ⊥
+not_short size long short is = omega arith

@@ -1,4 +1,6 @@
-use Rattle.std.proofs.Common.{◌≡◌, ◌≤◌, ℕ, List, length, subst, sym, arith}
+use Rattle.std.proofs.Common.{◌≡◌, ◌≤◌, ℕ, List, length, subst, sym, refl, arith}
+use Rattle.port_rules.specs.Number.{GUEST}
+use Rattle.port_rules.proofs.Cells.{touches_more}
 use Rattle.serve_core.specs.Service.{terms_of}
 use Rattle.serve_core.specs.Terms.{most_blocks_for, payload_len_for}
 use Rattle.serve_core.specs.Taking.{BreaksTaking, Dismisses, TakesQuery}
@@ -61,3 +63,29 @@ returns-in-GuestFault-clause-attends g c =
     let mid = g.P.Ports.world c.take_query.new.ports in
     breaks_taking c.args.service.now old mid
     (subst (λ (t : Terms). BreaksTaking t old mid) c.terms-terms.ensures.is c.in-GuestFault.ensures.takes)
+
+pub returns-in-Query-clause-others : goal.returns-in-Query-clause-others
+returns-in-Query-clause-others g c =
+    touches_more GUEST (g.P.Ports.world c.args.ports.now) (g.P.Ports.world c.take_query.new.ports) (g.P.Ports.world c.answer_query.new.ports)
+    c.take_query.ensures.others c.answer_query.ensures.others
+
+pub returns-in-Query-clause-scratch : goal.returns-in-Query-clause-scratch
+returns-in-Query-clause-scratch g c = c.answer_query.ensures.scratch
+
+pub returns-in-Refused-clause-others : goal.returns-in-Refused-clause-others
+returns-in-Refused-clause-others g c = c.take_query.ensures.others
+
+pub returns-in-Gone-clause-others : goal.returns-in-Gone-clause-others
+returns-in-Gone-clause-others g c = c.take_query.ensures.others
+
+pub returns-in-GuestFault-clause-others : goal.returns-in-GuestFault-clause-others
+returns-in-GuestFault-clause-others g c = c.take_query.ensures.others
+
+pub returns-in-Refused-clause-scratch : goal.returns-in-Refused-clause-scratch
+returns-in-Refused-clause-scratch g c = refl
+
+pub returns-in-Gone-clause-scratch : goal.returns-in-Gone-clause-scratch
+returns-in-Gone-clause-scratch g c = refl
+
+pub returns-in-GuestFault-clause-scratch : goal.returns-in-GuestFault-clause-scratch
+returns-in-GuestFault-clause-scratch g c = refl

@@ -1,7 +1,21 @@
-use Rattle.std.proofs.Common.{◌∙◌, sym, arith}
-use Rattle.std.proofs.lemmas.List.{length-take-le}
+use Rattle.std.proofs.Common.{◌≡◌, ◌≤◌, ◌∙◌, ℕ, List, ◌++◌, length, drop, subst, sym, arith}
+use Rattle.std.proofs.lemmas.List.{length-take-le, take_at}
+use Rattle.port_rules.specs.World.{World}
+use Rattle.wire_frames.specs.declared.header.QueryHeader.{QueryHeader}
+use Rattle.serve_core.specs.Terms.{payload_len_for}
+use Rattle.serve_core.specs.Taking.{front_payload}
+use Rattle.serve_core.specs.Stages.{HandlesPayload}
+use Rattle.serve_core.specs.declared.terms.Terms.{Terms}
+use Rattle.serve_core.specs.declared.taken.Taken.{Taken}
 use Rattle.serve_core.proofs.RoomFor.{payload_fits}
 use Rattle.serve_core.proofs.payload.take_payload.Goals as goal
+
+-- what is done with a payload, told of the front of a longer slice
+handles_front : (terms : Terms) (header : List ℕ) (query : QueryHeader) (taken : Taken) (vectors rest : List ℕ) (w v : World)
+    → length vectors ≡ payload_len_for terms query.count → HandlesPayload terms header query taken vectors w v
+    → HandlesPayload terms header query taken (front_payload terms query (vectors ++ rest)) w v
+handles_front terms header query taken vectors rest w v size handles =
+    subst (λ (l : List ℕ). HandlesPayload terms header query taken l w v) (sym (take_at vectors rest (payload_len_for terms query.count) size)) handles
 
 pub slice_bounds-front-end : goal.slice_bounds-front-end
 slice_bounds-front-end g c =
@@ -22,3 +36,18 @@ pub returns-clause-fits : goal.returns-clause-fits
 returns-clause-fits g c =
     let suited = c.requires.suited in
     omega (arith, c.requires.room, payload_fits c.args.terms c.args.asked.now suited.is.is.range suited.shape)
+
+pub take_into-requires-clause-suited : goal.take_into-requires-clause-suited
+take_into-requires-clause-suited g c = c.requires.suited
+
+pub returns-clause-others : goal.returns-clause-others
+returns-clause-others g c = c.take_into.ensures.others
+
+pub returns-clause-handles : goal.returns-clause-handles
+returns-clause-handles g c =
+    let suited = c.requires.suited in
+    let fits : c.payload_len.result ≤ length c.args.query.now
+    = omega (arith, c.payload_len.ensures.is, c.requires.room, payload_fits c.args.terms c.args.asked.now suited.is.is.range suited.shape) in
+    handles_front c.args.terms c.args.header.now c.args.asked.now c.take_into.result c.take_into.new.query (drop c.payload_len.result c.args.query.now)
+    (g.P.Ports.world c.args.ports.now) (g.P.Ports.world c.take_into.new.ports)
+    (c.take_into.auto.query ∙ (length-take-le c.payload_len.result c.args.query.now fits ∙ c.payload_len.ensures.is)) c.take_into.ensures.handles

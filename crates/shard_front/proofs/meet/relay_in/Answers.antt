@@ -1,7 +1,8 @@
-use Rattle.std.proofs.Common.{◌++◌, map, string_bytes, refl}
+use Rattle.std.proofs.Common.{◌*◌, ◌++◌, length, map, string_bytes, refl}
 use Rattle.shard_front.specs.declared.relayed.Relayed.TheVariants.{Served, ShardLost}
 use Rattle.shard_front.specs.Asked.{lost_frame}
 use Rattle.shard_front.proofs.Fronting.{all_answer}
+use Rattle.shard_front.proofs.Parting.{not_short, rest_size}
 use Rattle.shard_front.proofs.meet.relay_in.Goals as goal
 
 pub returns-in-None : goal.returns-in-None
@@ -41,3 +42,25 @@ returns-in-Some-ask_shards g c =
 
 pub ask_shards-requires-clause-part : goal.ask_shards-requires-clause-part
 ask_shards-requires-clause-part g c = c.requires.part
+
+pub ask_shards-requires-clause-spread : goal.ask_shards-requires-clause-spread
+ask_shards-requires-clause-spread g c = c.requires.spread
+
+pub ask_shards-requires-clause-good : goal.ask_shards-requires-clause-good
+ask_shards-requires-clause-good g c = c.requires.good
+
+pub ask_shards-requires-clause-vectors : goal.ask_shards-requires-clause-vectors
+ask_shards-requires-clause-vectors g c = c.requires.vectors
+
+pub ask_shards-requires-clause-addresses : goal.ask_shards-requires-clause-addresses
+ask_shards-requires-clause-addresses g c = c.requires.addresses
+
+pub ask_shards-requires-clause-answer : goal.ask_shards-requires-clause-answer
+ask_shards-requires-clause-answer g c = c.requires.answer
+
+pub ask_shards-requires-clause-sum : goal.ask_shards-requires-clause-sum
+ask_shards-requires-clause-sum g c =
+    rest_size c.args.frame.now c.in-Some.sum.now (c.args.asked.now.count * c.args.spread.width) c.in-Some.ensures.cases.1 c.requires.frame
+
+pub unreachable-requires : goal.unreachable-requires
+unreachable-requires g c = not_short (c.args.asked.now.count * c.args.spread.width) (length c.args.frame.now) c.in_default.ensures.cases c.requires.frame

@@ -1,6 +1,19 @@
-use Rattle.std.proofs.Common.{List, ℕ, subst}
-use Rattle.share_files.specs.Splits.{Splits}
+use Rattle.std.proofs.Common.{◌≡◌, ◌∙◌, ℕ, List, Result, Err, refl, sym, ap, subst}
+use Rattle.std.proofs.lemmas.Result.{err_from_is_err_and}
+use Rattle.port_rules.specs.World.{World}
+use Rattle.share_files.specs.SplitPlan.{SplitPlan}
+use Rattle.share_files.specs.Splits.{Splits, TouchesShares}
+use Rattle.share_files.specs.declared.fault.SplitFault.{SplitFault}
+use Rattle.share_files.specs.declared.fault.SplitFault.TheVariants.{Memory}
 use Rattle.share_files.proofs.splitting.split.Goals as goal
+
+-- for want of memory nothing is touched
+none_touched : (n : ℕ) (w : World) → TouchesShares n w w
+none_touched n w = record { others = λ q l off out. refl; crowd = refl; started = refl }
+
+none_split : (plan : SplitPlan) (bytes : List ℕ) (result : Result (Unit {0}) SplitFault) (fault : SplitFault) (w : World)
+    → result ≡ Err fault → fault ≡ Memory → Splits plan bytes result w w
+none_split plan bytes result fault w is out = subst (λ (r : Result (Unit {0}) SplitFault). Splits plan bytes r w w) (sym (is ∙ ap Err out)) refl
 
 pub returns-clause-splits : goal.returns-clause-splits
 returns-clause-splits g c =
@@ -8,3 +21,27 @@ returns-clause-splits g c =
 
 pub returns-clause-others : goal.returns-clause-others
 returns-clause-others g c = c.split_bytes.ensures.others
+
+pub returns-in_err-names-clause-others : goal.returns-in_err-names-clause-others
+returns-in_err-names-clause-others g c = none_touched c.args.plan.now.servers (g.P.Ports.world c.args.ports.now)
+
+pub returns-in_err-names-clause-splits : goal.returns-in_err-names-clause-splits
+returns-in_err-names-clause-splits g c =
+    let p = err_from_is_err_and c.from_residual.result c.from_residual.ensures.1 in
+    none_split c.args.plan.now _ c.from_residual.result p.0 (g.P.Ports.world c.args.ports.now) p.1 p.2
+
+pub returns-in_err-coins-clause-others : goal.returns-in_err-coins-clause-others
+returns-in_err-coins-clause-others g c = none_touched c.args.plan.now.servers (g.P.Ports.world c.args.ports.now)
+
+pub returns-in_err-coins-clause-splits : goal.returns-in_err-coins-clause-splits
+returns-in_err-coins-clause-splits g c =
+    let p = err_from_is_err_and c.from_residual-in_err-coins.result c.from_residual-in_err-coins.ensures.1 in
+    none_split c.args.plan.now _ c.from_residual-in_err-coins.result p.0 (g.P.Ports.world c.args.ports.now) p.1 p.2
+
+pub returns-in_err-room-clause-others : goal.returns-in_err-room-clause-others
+returns-in_err-room-clause-others g c = none_touched c.args.plan.now.servers (g.P.Ports.world c.args.ports.now)
+
+pub returns-in_err-room-clause-splits : goal.returns-in_err-room-clause-splits
+returns-in_err-room-clause-splits g c =
+    let p = err_from_is_err_and c.from_residual-in_err-room.result c.from_residual-in_err-room.ensures.1 in
+    none_split c.args.plan.now _ c.from_residual-in_err-room.result p.0 (g.P.Ports.world c.args.ports.now) p.1 p.2

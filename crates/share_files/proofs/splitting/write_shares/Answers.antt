@@ -1,11 +1,38 @@
-use Rattle.std.proofs.Common.{◌≡◌, ◌∙◌, ◌+◌, ◌<◌, ℕ, List, [], length, map, string_bytes, slice_index_or, sym, ap, ap₂, subst, rules, arith}
+use Rattle.std.proofs.Common.{◌≡◌, ◌≢◌, ◌∙◌, ◌+◌, ◌-◌, ◌<◌, ◌≤◌, ℕ, List, [], length, map, string_bytes, slice_index_or, refl, sym, ap, ap₂, subst, rules, arith}
 use Rattle.std.proofs.lemmas.List.{length-map, get_or-map}
 use Rattle.port_rules.specs.Number.{share_file}
 use Rattle.port_rules.specs.Moves.{gave, named}
+use Rattle.port_rules.specs.Each.{TouchesRange}
 use Rattle.port_rules.specs.Files.{Unwritten}
+use Rattle.port_rules.proofs.Ranges.{range_none}
 use Rattle.share_bytes.specs.Share.{share}
+use Rattle.share_files.specs.Splits.{SharesEach}
 use Rattle.share_files.proofs.Shares.{shares_more, shares_some}
 use Rattle.share_files.proofs.splitting.write_shares.Goals as goal
+
+-- the number of the next server fits a byte
+next_number : (index done all : ℕ) → index ≡ done → done < all → all < 256 → index + 1 < 256
+next_number index done all is more few = omega arith
+
+-- and is not 0
+not_none : (index : ℕ) → index + 1 ≢ 0
+not_none index e = omega arith
+
+-- fewer names are left behind the next one
+fewer_left : (done all : ℕ) → done < all → all - (done + 1) < all - done
+fewer_left done all more = omega arith
+
+-- at the end no name is left
+all_named : (done all : ℕ) → done ≤ all → all ≤ done → done ≡ all
+all_named done all few most = omega arith
+
+pub shares-init : goal.shares-init
+shares-init g c = record {
+  number = refl;
+  size = c.requires.room;
+  so_far = search rules;
+  others = range_none (share_file 1) (g.P.Ports.world c.args.ports.now);
+}
 
 pub shares-preserved : goal.shares-preserved
 shares-preserved g c =
@@ -52,3 +79,38 @@ returns-in_default-clause-written g c =
     let cut = subst (λ (k : ℕ). Unwritten p (slice_index_or names i []) (share bytes coins c.args.tau k) before after) next_index
     (subst (λ (n : List ℕ). Unwritten p n (share bytes coins c.args.tau (c.shares.index + 1)) before after) name_is c.in_default.ensures.failed) in
     shares_some names bytes coins c.args.tau i p start before after fewer few (omega (arith, number)) c.shares.invariant.so_far c.shares.invariant.others cut c.write_share.ensures.others
+
+pub overflow_add-index : goal.overflow_add-index
+overflow_add-index g c =
+    let next = next_number c.shares.index c.shares.name-index (length c.args.names.now) c.shares.invariant.number c.shares-test.true c.requires.few in
+    omega (arith, next)
+
+pub write_share-requires-clause-some : goal.write_share-requires-clause-some
+write_share-requires-clause-some g c = c.requires.some
+
+pub write_share-requires-clause-index : goal.write_share-requires-clause-index
+write_share-requires-clause-index g c = not_none c.shares.index
+
+pub write_share-requires-clause-degree : goal.write_share-requires-clause-degree
+write_share-requires-clause-degree g c = c.requires.degree
+
+pub write_share-requires-clause-coins : goal.write_share-requires-clause-coins
+write_share-requires-clause-coins g c = c.requires.coins
+
+pub write_share-requires-clause-room : goal.write_share-requires-clause-room
+write_share-requires-clause-room g c = c.shares.invariant.size
+
+pub shares-smaller : goal.shares-smaller
+shares-smaller g c = fewer_left c.shares.name-index (length c.args.names.now) c.shares-test.true
+
+pub returns-clause-written : goal.returns-clause-written
+returns-clause-written g c =
+    let names = map string_bytes c.args.names.now in
+    let all : c.shares.name-index ≡ length names
+    = all_named c.shares.name-index (length c.args.names.now) c.shares.auto.name-index-end c.shares-test.false ∙ sym (length-map c.args.names.now string_bytes) in
+    subst (λ (n : ℕ). SharesEach names c.args.bytes.now c.args.coins.now c.args.tau n (g.P.Ports.world c.args.ports.now) (g.P.Ports.world c.shares.ports)) all c.shares.invariant.so_far
+
+pub returns-clause-others : goal.returns-clause-others
+returns-clause-others g c =
+    subst (λ (n : ℕ). TouchesRange (share_file 1) n (g.P.Ports.world c.args.ports.now) (g.P.Ports.world c.shares.ports))
+    (all_named c.shares.name-index (length c.args.names.now) c.shares.auto.name-index-end c.shares-test.false) c.shares.invariant.others
