@@ -21,6 +21,14 @@ use Rattle.port_rules.specs.Tossed.{Tossed}
 use Rattle.query_rounds.specs.Gathered.{AskedEach, AsksWith}
 use Rattle.query_rounds.proofs.Schemes.{payload_of_session}
 
+-- a place before the last server is within a slice with a part for each
+pub within : (from place end servers len : ℕ) → from ≡ place → place < end → end ≡ servers → len ≡ servers → from < len
+within from place end servers len is below all size = omega (arith, is, below, all, size)
+
+-- the loop that ended has been at every server
+pub all_asked : (place end servers : ℕ) → place ≤ end → end ≤ place → end ≡ servers → place ≡ servers
+all_asked place end servers most least all = omega (arith, most, least, all)
+
 -- a call failed before the whole answer came
 pub fails_to_hand : (p most : ℕ) (v u : World) → FailsShort p most v u → FailsToHand most (v.at p) (u.at p)
 fails_to_hand p most v u failed = record {

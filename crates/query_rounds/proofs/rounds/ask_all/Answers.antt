@@ -8,19 +8,11 @@ use Rattle.quantity_limits.specs.declared.TheConstants.{MOST_SERVERS}
 use Rattle.query_rounds.specs.Link.{LinkSent}
 use Rattle.query_rounds.specs.Rounds.{SentEach}
 use Rattle.query_rounds.specs.Sent.{sent}
-use Rattle.query_rounds.proofs.Asking.{sent_more}
+use Rattle.query_rounds.proofs.Asking.{all_asked, sent_more, within}
 use Rattle.query_rounds.proofs.rounds.ask_all.Goals as goal
-
--- a place before the last server is within a slice with a part for each
-within : (from place end servers len : ℕ) → from ≡ place → place < end → end ≡ servers → len ≡ servers → from < len
-within from place end servers len is below all size = omega (arith, is, below, all, size)
 
 few_servers : (place end : ℕ) → place < end → end ≤ MOST_SERVERS → place < 255
 few_servers place end below few = omega (arith, below, few)
-
--- after the last round each server was asked
-all_asked : (place end servers : ℕ) → place ≤ end → end ≤ place → end ≡ servers → place ≡ servers
-all_asked place end servers most least all = omega (arith, most, least, all)
 
 pub places-init : goal.places-init
 places-init g c = record { sent = each_none _ _ _ _; others = range_none _ _ }

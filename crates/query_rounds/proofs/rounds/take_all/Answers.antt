@@ -9,15 +9,8 @@ use Rattle.wire_frames.specs.Sizes.{answer_len}
 use Rattle.wire_frames.specs.Session.{Transcript}
 use Rattle.wire_frames.specs.declared.session.SessionParams.{SessionParams}
 use Rattle.query_rounds.specs.Rounds.{TakenEach}
-use Rattle.query_rounds.proofs.Asking.{taken_more}
+use Rattle.query_rounds.proofs.Asking.{all_asked, taken_more, within}
 use Rattle.query_rounds.proofs.rounds.take_all.Goals as goal
-
-within : (from place end servers len : ℕ) → from ≡ place → place < end → end ≡ servers → len ≡ servers → from < len
-within from place end servers len is below all size = omega (arith, is, below, all, size)
-
--- after the last round each record is there
-all_taken : (place end servers : ℕ) → place ≤ end → end ≤ place → end ≡ servers → place ≡ servers
-all_taken place end servers most least all = omega (arith, most, least, all)
 
 fewer_places : (place end : ℕ) → place < end → end < 256 → place < 255
 fewer_places place end below few = omega (arith, below, few)
@@ -58,15 +51,15 @@ pub returns-clause-params : goal.returns-clause-params
 returns-clause-params g c = c.places.invariant.params
 
 pub returns-clause-whole : goal.returns-clause-whole
-returns-clause-whole g c = c.places.invariant.count ∙ all_taken _ _ _ c.places.auto.place-end c.places-test.false c.n-place-end.ensures
+returns-clause-whole g c = c.places.invariant.count ∙ all_asked _ _ _ c.places.auto.place-end c.places-test.false c.n-place-end.ensures
 
 pub returns-clause-taken : goal.returns-clause-taken
 returns-clause-taken g c =
     subst (λ (most : ℕ). TakenEach most c.args.session.now.params.n c.args.reached.now c.places.session (g.P.Ports.world c.args.ports.now) (g.P.Ports.world c.places.ports)) c.places.auto.answer
     (subst (λ (n : ℕ). TakenEach (length c.places.answer) n c.args.reached.now c.places.session (g.P.Ports.world c.args.ports.now) (g.P.Ports.world c.places.ports))
-    (all_taken _ _ _ c.places.auto.place-end c.places-test.false c.n-place-end.ensures) c.places.invariant.taken)
+    (all_asked _ _ _ c.places.auto.place-end c.places-test.false c.n-place-end.ensures) c.places.invariant.taken)
 
 pub returns-clause-others : goal.returns-clause-others
 returns-clause-others g c =
     subst (λ (n : ℕ). TouchesRange (link 1) n (g.P.Ports.world c.args.ports.now) (g.P.Ports.world c.places.ports))
-    (all_taken _ _ _ c.places.auto.place-end c.places-test.false c.n-place-end.ensures) c.places.invariant.others
+    (all_asked _ _ _ c.places.auto.place-end c.places-test.false c.n-place-end.ensures) c.places.invariant.others

@@ -1,4 +1,4 @@
-use Rattle.std.proofs.Common.{◌≡◌, ℕ, ◌≤◌, ◌<◌, ◌^◌, Fits, w32, subst, arith, lit≤, lit<}
+use Rattle.std.proofs.Common.{◌≡◌, ℕ, ◌≤◌, ◌<◌, ◌^◌, Fits, w32, subst, arith, le_refl, lit≤, lit<}
 use Rattle.wire_frames.specs.Layout.{IsRecordHeader}
 use Rattle.wire_frames.proofs.Chains.{Leads, leads-start, leads-on, leads-stop, leads-done, no_more}
 use Rattle.wire_frames.proofs.Spellings.{is_field, from_zero}
@@ -9,15 +9,12 @@ use Rattle.wire_frames.proofs.layout.read_record_header.Goals as goal
 fits_word : {n m : ℕ} → n ≤ m → m < 2 ^ 32 → Fits w32 n
 fits_word few small = omega (arith, few, small)
 
-up_to : (n : ℕ) → n ≤ n
-up_to n = omega arith
-
 -- a record is present where it isn't absent
 is_one : {present : ℕ} → present ≤ 1 → (present ≡ 0 → ⊥) → present ≡ 1
 is_one most some = omega (arith, most, some)
 
 pub number_at-requires : goal.number_at-requires
-number_at-requires c = is_field _ _ _ (lit≤ tt) (up_to c.args.index) c.ranges.index.fits
+number_at-requires c = is_field _ _ _ (lit≤ tt) (le_refl c.args.index) c.ranges.index.fits
 
 pub number_at-requires-2 : goal.number_at-requires-2
 number_at-requires-2 c = is_field _ _ _ (lit≤ tt) (lit≤ tt) (lit< tt)
