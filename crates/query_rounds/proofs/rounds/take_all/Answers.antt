@@ -1,4 +1,4 @@
-use Rattle.std.proofs.Common.{◌≡◌, ◌∙◌, ◌++◌, ◌∷◌, [], ℕ, ◌+◌, ◌<◌, ◌≤◌, List, length, ap, sym, subst, arith, length-append, refl}
+use Rattle.std.proofs.Common.{◌≡◌, ◌∙◌, ◌++◌, ◌∷◌, [], ℕ, ◌+◌, ◌<◌, List, length, ap, sym, subst, arith, length-append, refl}
 use Rattle.std.specs.Prelude.{Option}
 use Rattle.port_rules.specs.Number.{link}
 use Rattle.port_rules.specs.Moves.{Touches}
