@@ -1,5 +1,5 @@
 -- Fields by their bytes.
-use Rattle.std.proofs.Common.{◌≡◌, ℕ, ◌^◌, ◌<◌, ◌≤◌, List, [], ◌∷◌, ◌++◌, take, drop, refl, sym, subst, ap, ap₂, ◌∙◌, arith}
+use Rattle.std.proofs.Common.{◌≡◌, ℕ, ◌^◌, ◌<◌, ◌≤◌, Fits, w8, w32, max, List, [], ◌∷◌, ◌++◌, take, drop, refl, sym, subst, ap, ap₂, ◌∙◌, arith}
 use Rattle.std.specs.Int.{bytes_high_first}
 use Rattle.std.proofs.Math.Nat.{mod-eq_of_lt}
 use Rattle.wire_frames.specs.declared.field.Number.{Number}
@@ -50,3 +50,14 @@ joined bytes front rest front' rest' split e e' = split ∙ ap₂ (λ (x y : Lis
 -- no number is below zero
 pub from_zero : (n : ℕ) → 0 ≤ n
 from_zero n = omega arith
+
+-- a number that is at most a byte's, or at most a word's
+pub fits_byte : {n m : ℕ} → n ≤ m → m < 2 ^ 8 → Fits w8 n
+fits_byte few small = omega (arith, few, small)
+
+pub fits_word : {n m : ℕ} → n ≤ m → m < 2 ^ 32 → Fits w32 n
+fits_word few small = omega (arith, few, small)
+
+-- a query asks for a block or more
+pub some_blocks : (count byte : ℕ) → count ≡ max byte 1 → 0 < count
+some_blocks count byte is = omega (arith, is)

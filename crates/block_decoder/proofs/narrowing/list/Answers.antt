@@ -1,4 +1,4 @@
-use Rattle.std.proofs.Common.{Result, Ok, Err, OnOk, ◌≢◌, ◌+◌, ◌*◌, ◌<◌, ◌≤◌, ℕ, length, All, AllPairs, sym, ap, subst, ◌∙◌, arith, ◌≡◌, List, map, IfOk, Vec, Global, le_refl}
+use Rattle.std.proofs.Common.{Result, Ok, Err, OnOk, ◌≢◌, ◌+◌, ◌*◌, ◌<◌, ◌≤◌, ℕ, length, All, AllPairs, sym, ap, subst, ◌∙◌, arith, ◌≡◌, List, map, IfOk, Vec, Global, le_refl, le_of_lt}
 use Rattle.column_lists.specs.declared.TheConstants.{MOST_COST}
 use Rattle.column_lists.specs.Numbers.{cost}
 use Rattle.block_decoder.specs.Numbers.{column_nodes}
@@ -16,9 +16,6 @@ one_more old new e = (omega (arith, e), omega (arith, e))
 either_way : {T E P : Type 0} (r : Result T E) → P → OnOk r P
 either_way (Ok x) p = p
 either_way (Err e) p = tt
-
-lt-le : {a b : ℕ} → a < b → a ≤ b
-lt-le l = omega (arith, l)
 
 pub column_list-requires-clause-agreement : goal.column_list-requires-clause-agreement
 column_list-requires-clause-agreement g c =
@@ -91,4 +88,4 @@ pub returns-clause-some : goal.returns-clause-some
 returns-clause-some g c = either_way c.column_list.result (one_more c.args.cols.now c.column_list.new.cols c.column_list.ensures.cols).1
 
 pub returns-clause-rises : goal.returns-clause-rises
-returns-clause-rises g c = (lt-le (one_more c.args.cols.now c.column_list.new.cols c.column_list.ensures.cols).1, c.column_list.ensures.rises)
+returns-clause-rises g c = (le_of_lt (one_more c.args.cols.now c.column_list.new.cols c.column_list.ensures.cols).1, c.column_list.ensures.rises)

@@ -13,15 +13,8 @@ use Rattle.wire_frames.proofs.Prefixes.{reads-exit}
 use Rattle.wire_frames.proofs.Servers.{few_agree, few_servers, servers_are}
 use Rattle.wire_frames.proofs.SessionLayout.{params_of, header_into, header_back, to_version, to_scheme, to_t, to_h, to_n, to_count, to_zero, to_session, some_version, some_scheme, some_t, some_h, some_n, some_count, some_zero, some_shape}
 use Rattle.wire_frames.proofs.ShapeFields.{some_r, some_s, to_r, to_s, to_end}
-use Rattle.wire_frames.proofs.Spellings.{is_field, number_as, stop_as}
+use Rattle.wire_frames.proofs.Spellings.{fits_byte, fits_word, is_field, number_as, some_blocks, stop_as}
 use Rattle.wire_frames.proofs.layout.read_header.Goals as goal
-
--- a number that is at most a byte's, or at most a word's
-fits_byte : {n m : ℕ} → n ≤ m → m < 2 ^ 8 → Fits w8 n
-fits_byte few small = omega (arith, few, small)
-
-fits_word : {n m : ℕ} → n ≤ m → m < 2 ^ 32 → Fits w32 n
-fits_word few small = omega (arith, few, small)
 
 fits_next : {n m : ℕ} → n ≤ m → m + 1 < 2 ^ 64 → Fits w64 (n + 1)
 fits_next few small = omega (arith, few, small)
@@ -30,9 +23,6 @@ fits_servers : (scheme : Scheme) (least n : ℕ) → least ≤ MOST_SERVERS → 
 fits_servers scheme least n few most = omega (arith, few_servers scheme least few, most)
 
 -- a query asks for a block or more, and not for too many
-some_blocks : (count byte : ℕ) → count ≡ max byte 1 → 0 < count
-some_blocks count byte is = omega (arith, is)
-
 few_blocks : {count byte most : ℕ} → count ≡ max byte 1 → byte ≤ most → most ≤ MOST_BLOCKS → count ≤ MOST_BLOCKS
 few_blocks is few most = omega (arith, is, few, most)
 

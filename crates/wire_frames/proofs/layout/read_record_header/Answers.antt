@@ -1,13 +1,10 @@
-use Rattle.std.proofs.Common.{◌≡◌, ℕ, ◌≤◌, ◌<◌, ◌^◌, Fits, w32, subst, arith, le_refl, lit≤, lit<}
+use Rattle.std.proofs.Common.{◌≡◌, ℕ, ◌≤◌, ◌<◌, subst, arith, le_refl, lit≤, lit<}
 use Rattle.wire_frames.specs.Layout.{IsRecordHeader}
 use Rattle.wire_frames.proofs.Chains.{Leads, leads-start, leads-on, leads-stop, leads-done, no_more}
-use Rattle.wire_frames.proofs.Spellings.{is_field, from_zero}
+use Rattle.wire_frames.proofs.Spellings.{fits_word, is_field, from_zero}
 use Rattle.wire_frames.proofs.Prefixes.{reads-exit}
 use Rattle.wire_frames.proofs.RecordLayout.{at_len, record_into, record_back, some_present, some_len, to_present, to_len}
 use Rattle.wire_frames.proofs.layout.read_record_header.Goals as goal
-
-fits_word : {n m : ℕ} → n ≤ m → m < 2 ^ 32 → Fits w32 n
-fits_word few small = omega (arith, few, small)
 
 -- a record is present where it isn't absent
 is_one : {present : ℕ} → present ≤ 1 → (present ≡ 0 → ⊥) → present ≡ 1

@@ -1,4 +1,4 @@
-use Rattle.std.proofs.Common.{◌≡◌, ◌∙◌, ℕ, ◌<◌, ◌≤◌, ◌^◌, Fits, w8, w32, max, ap, subst, sym, refl, arith, lit≤, lit<}
+use Rattle.std.proofs.Common.{◌≡◌, ◌∙◌, ℕ, ◌<◌, ◌≤◌, max, ap, subst, sym, refl, arith, lit≤, lit<}
 use Rattle.wire_frames.specs.Field.{width_field}
 use Rattle.wire_frames.specs.Version.{count_of}
 use Rattle.wire_frames.specs.declared.field.Number.{Number}
@@ -10,20 +10,10 @@ use Rattle.wire_frames.proofs.Counts.{byte_most}
 use Rattle.wire_frames.proofs.ShapeFields.{some_s, to_r, to_s, to_end}
 use Rattle.quantity_limits.specs.declared.TheConstants.{MOST_BLOCKS}
 use Rattle.wire_frames.specs.declared.query.Field.TheVariants.{Magic, Version, Scheme, Index, Rows, Width}
-use Rattle.wire_frames.proofs.Spellings.{is_field}
+use Rattle.wire_frames.proofs.Spellings.{fits_byte, fits_word, is_field, some_blocks}
 use Rattle.wire_frames.proofs.query.read_query_header.Goals as goal
 
--- a number that is at most a byte's, or at most a word's
-fits_byte : {n m : ℕ} → n ≤ m → m < 2 ^ 8 → Fits w8 n
-fits_byte few small = omega (arith, few, small)
-
-fits_word : {n m : ℕ} → n ≤ m → m < 2 ^ 32 → Fits w32 n
-fits_word few small = omega (arith, few, small)
-
 -- a query asks for a block or more, and not for too many
-some_blocks : (count byte : ℕ) → count ≡ max byte 1 → 0 < count
-some_blocks count byte is = omega (arith, is)
-
 few_blocks : {count byte : ℕ} → count ≡ max byte 1 → byte ≤ MOST_BLOCKS → count ≤ MOST_BLOCKS
 few_blocks is few = omega (arith, is, few)
 

@@ -1,4 +1,4 @@
-use Rattle.std.proofs.Common.{◌≡◌, ◌≢◌, ◌+◌, ◌-◌, ◌<◌, ◌≤◌, ℕ, List, [], length, map, take, Vec, Global, refl, sym, subst, ◌∙◌, arith}
+use Rattle.std.proofs.Common.{◌≡◌, ◌≢◌, ◌+◌, ◌-◌, ◌<◌, ◌≤◌, ℕ, List, [], length, map, take, Vec, Global, refl, sym, subst, ◌∙◌, arith, le_of_lt}
 use Rattle.std.proofs.lemmas.List.{length-map, take_all}
 use Rattle.std.proofs.lemmas.Result.{IfOk-from_err, on_ok_weaker}
 use Rattle.column_lists.specs.Agreement.{ListsAgreeing}
@@ -18,9 +18,6 @@ below-width a b l n = omega (arith, l, n)
 
 next-fits : (a b : ℕ) → a < b → a + 1 ≤ b
 next-fits a b l = omega (arith, l)
-
-less-fits : (a b : ℕ) → a < b → a ≤ b
-less-fits a b l = omega (arith, l)
 
 after-less : (h t k : ℕ) → h ≤ k → t < h → t < k
 after-less h t k l m = omega (arith, l, m)
@@ -381,7 +378,7 @@ extend_by_each-loop-polynomial-preserved g t c =
     let item = item_is vectors i c.polynomial-item.result c.loop-polynomial-test.true c.polynomial-item.is ∙ sym c.deref.ensures.value in
     let inside : i < length list = subst (λ (m : ℕ). i < m) (sym (length-map vectors (λ (v : Vec ℕ Global). v.items))) c.loop-polynomial-test.true in
     let size = c.loop-polynomial.invariant.size in
-    let room : next ≤ length c.loop-polynomial.block = less-fits next (length c.loop-polynomial.block) (subst (λ (m : ℕ). next < m) (sym (size ∙ c.requires.width)) c.requires.parted.short) in
+    let room : next ≤ length c.loop-polynomial.block = le_of_lt (subst (λ (m : ℕ). next < m) (sym (size ∙ c.requires.width)) c.requires.parted.short) in
     record {
       size = c.in_ok-extend.ensures.size ∙ c.in_ok-fewer.ensures.size ∙ size;
       kept = same-more s.answers s.width s.degree s.agreement s.columns kept next list c.requires.parted i p inside item c.in_ok-fewer.fewer c.in_ok-fewer.ensures.answers c.args.block.now c.loop-polynomial.block c.follow.new.block c.loop-polynomial.invariant.kept c.in_ok-fewer.ensures.block c.extend.new.block room c.in_ok-extend.ensures.extended.block;
