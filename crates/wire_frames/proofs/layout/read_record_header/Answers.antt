@@ -1,4 +1,4 @@
-use Rattle.std.proofs.Common.{◌≡◌, ℕ, ◌≤◌, ◌<◌, subst, arith, le_refl, lit≤, lit<}
+use Rattle.std.proofs.Common.{◌≡◌, ℕ, ◌≤◌, subst, arith, le_refl, lit≤, lit<}
 use Rattle.wire_frames.specs.Layout.{IsRecordHeader}
 use Rattle.wire_frames.proofs.Chains.{Leads, leads-start, leads-on, leads-stop, leads-done, no_more}
 use Rattle.wire_frames.proofs.Spellings.{fits_word, is_field, from_zero}

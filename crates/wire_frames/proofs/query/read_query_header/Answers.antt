@@ -1,4 +1,4 @@
-use Rattle.std.proofs.Common.{◌≡◌, ◌∙◌, ℕ, ◌<◌, ◌≤◌, max, ap, subst, sym, refl, arith, lit≤, lit<}
+use Rattle.std.proofs.Common.{◌≡◌, ◌∙◌, ℕ, ◌≤◌, max, ap, subst, sym, refl, arith, lit≤, lit<}
 use Rattle.wire_frames.specs.Field.{width_field}
 use Rattle.wire_frames.specs.Version.{count_of}
 use Rattle.wire_frames.specs.declared.field.Number.{Number}
