@@ -12,7 +12,7 @@ use Rattle.query_rounds.specs.Plan.{need}
 use Rattle.port_rules.specs.Tossed.{Tossed}
 use Rattle.key_fetches.specs.Listed.{Ended}
 use Rattle.key_fetches.specs.Rounds.{AskEach, AskedInTurn, Round, TossedFor, coins_of}
-use Rattle.key_fetches.specs.LookedUp.{AskedInVain, EndsNext, FailsNext, Fetched, LookUpShort, LookUpUnfinished, LookUpUnread, LookedUp, LooksUp}
+use Rattle.key_fetches.specs.LookedUp.{EndsNext, FailsNext, Fetched, LookedUp, LooksUp}
 use Rattle.key_fetches.proofs.Frames.{take_frames}
 
 module _ (p : FetchPlan) (key : List ℕ) (addresses : List (List ℕ)) (first : Cell) (w v u z : World)
