@@ -18,7 +18,7 @@ use Rattle.query_rounds.specs.Sent.{sent, header_to, payload_for, queries_from, 
 use Rattle.query_rounds.specs.Link.{LinkAsked, LinkBreaks, LinkSent, LinkTaken, FailsToHand}
 use Rattle.query_rounds.specs.Rounds.{SentEach, TakenEach, TakesNext}
 use Rattle.port_rules.specs.Tossed.{Tossed}
-use Rattle.query_rounds.specs.Gathered.{AskedEach, AsksWith}
+use Rattle.query_rounds.specs.Gathered.{AskedEach, AsksWith, TouchesLinks}
 use Rattle.query_rounds.proofs.Schemes.{payload_of_session}
 
 -- a place before the last server is within a slice with a part for each
@@ -111,6 +111,14 @@ range_again base n w v u a b = record {
   others = λ q l out. b.others q l out ∙ a.others q l out;
   crowd = b.crowd ∙ a.crowd;
   started = b.started ∙ a.started;
+}
+
+-- a fetch that touched Coins, and then the links in two rounds, touched those alone
+pub links_asked : (n : ℕ) (w v u z : World) → Touches COINS w v → TouchesRange (link 1) n v u → TouchesRange (link 1) n u z → TouchesLinks n w z
+links_asked n w v u z touch first second = record {
+  others = λ q l coins links. second.others q l links ∙ first.others q l links ∙ touch.others q l coins;
+  crowd = second.crowd ∙ first.crowd ∙ touch.crowd;
+  started = second.started ∙ first.started ∙ touch.started;
 }
 
 -- the coins were taken, each server was sent its query, and then the answer of each was taken: so each was asked
