@@ -1,7 +1,7 @@
-use Rattle.std.proofs.Common.{◌≡◌, ◌∙◌, ℕ, List, Result, Err, refl, sym, ap, subst}
+use Rattle.std.proofs.Common.{◌≡◌, ◌∙◌, ℕ, ◌*◌, List, Result, Err, length, map, string_bytes, refl, sym, ap, subst, arith}
 use Rattle.std.proofs.lemmas.Result.{err_from_is_err_and}
 use Rattle.port_rules.specs.World.{World}
-use Rattle.share_files.specs.SplitPlan.{SplitPlan}
+use Rattle.share_files.specs.SplitPlan.{SplitPlan, share_names}
 use Rattle.share_files.specs.Splits.{Splits, TouchesShares}
 use Rattle.share_files.specs.declared.fault.SplitFault.{SplitFault}
 use Rattle.share_files.specs.declared.fault.SplitFault.TheVariants.{Memory}
@@ -45,3 +45,24 @@ pub returns-in_err-room-clause-splits : goal.returns-in_err-room-clause-splits
 returns-in_err-room-clause-splits g c =
     let p = err_from_is_err_and c.from_residual-in_err-room.result c.from_residual-in_err-room.ensures.1 in
     none_split c.args.plan.now _ c.from_residual-in_err-room.result p.0 (g.P.Ports.world c.args.ports.now) p.1 p.2
+
+pub split_bytes-requires-clause-names : goal.split_bytes-requires-clause-names
+split_bytes-requires-clause-names g c =
+    ap (map string_bytes) c.deref.ensures.value ∙ c.in_ok-names.ensures.names
+    ∙ ap (λ (p : SplitPlan). share_names p.into p.servers) c.plan.view_is
+
+pub split_bytes-requires-clause-count : goal.split_bytes-requires-clause-count
+split_bytes-requires-clause-count g c =
+    c.deref.ensures.len ∙ c.in_ok-names.ensures.count ∙ ap (λ (p : SplitPlan). p.servers) c.plan.view_is
+
+pub split_bytes-requires-clause-some : goal.split_bytes-requires-clause-some
+split_bytes-requires-clause-some g c = c.bytes-bytes.ensures.some
+
+pub split_bytes-requires-clause-coins : goal.split_bytes-requires-clause-coins
+split_bytes-requires-clause-coins g c =
+    c.deref_mut.ensures.len ∙ c.in_ok-coins.ensures.len
+    ∙ ap (λ n. length c.bytes-bytes.result.now * n) (c.from.ensures ∙ ap (λ (p : SplitPlan). p.tau) c.plan.view_is)
+
+pub split_bytes-requires-clause-room : goal.split_bytes-requires-clause-room
+split_bytes-requires-clause-room g c =
+    omega (arith, c.deref_mut-2.ensures.len, c.in_ok-room.ensures.len, c.min.ensures, c.bytes-bytes.ensures.some)

@@ -1,12 +1,45 @@
-use Rattle.std.proofs.Common.{◌≡◌, ◌∙◌, ℕ, ◌*◌, ◌<◌, length, map, string_bytes, sym, subst, rules}
+use Rattle.std.proofs.Common.{◌≡◌, ◌∙◌, ℕ, ◌*◌, ◌<◌, List, length, map, string_bytes, sym, subst, rules}
+use Rattle.std.specs.Prelude.{Result, Ok, Err}
+use Rattle.std.specs.Result.{IsErrAnd}
 use Rattle.port_rules.specs.World.{World}
 use Rattle.port_rules.specs.Number.{COINS, share_file}
 use Rattle.port_rules.specs.Moves.{Touches}
 use Rattle.port_rules.specs.Each.{TouchesRange}
 use Rattle.share_files.specs.SplitPlan.{SplitPlan, share_names}
-use Rattle.share_files.specs.Splits.{SplitsWhole, SplitsPart, TouchesShares}
+use Rattle.share_files.specs.Splits.{Splits, SplitsWhole, SplitsPart, TakesCoins, TouchesShares}
+use Rattle.share_files.specs.declared.fault.SplitFault.{SplitFault}
+use Rattle.share_files.specs.declared.fault.SplitFault.TheVariants.{CoinsFault, CoinsEnded, ShareFault, Memory}
 use Rattle.share_files.proofs.Shares.{whole_split, part_split}
 use Rattle.share_files.proofs.splitting.split_bytes.Goals as goal
+
+-- without the coins no file is opened
+no_coins : (p : SplitPlan) (bytes : List ℕ) (fault : SplitFault) (result : Result (Unit {0}) SplitFault) (coins : List ℕ) (w v : World)
+    → IsErrAnd result (λ told. told ≡ fault) → TakesCoins p.coins (length bytes * p.tau) (Err fault) coins w v → Touches COINS w v
+    → Splits p bytes result w v
+no_coins p bytes fault (Ok x) coins w v h taken touch = absurd h
+no_coins p bytes CoinsFault (Err told) coins w v h taken touch =
+    subst (λ (f : SplitFault). Splits p bytes (Err f) w v) (sym h) (taken, touch)
+no_coins p bytes (CoinsEnded n) (Err told) coins w v h taken touch =
+    subst (λ (f : SplitFault). Splits p bytes (Err f) w v) (sym h) (taken, touch)
+no_coins p bytes ShareFault (Err told) coins w v h taken touch = absurd taken
+no_coins p bytes Memory (Err told) coins w v h taken touch = absurd taken
+
+pub returns-in_err-take_coins-clause-splits : goal.returns-in_err-take_coins-clause-splits
+returns-in_err-take_coins-clause-splits g c =
+    let plan = c.args.plan.now in
+    let fault = c.in_err-take_coins.field-0.0 in
+    let coins = c.take_coins.new.coins in
+    let start = g.P.Ports.world c.args.ports.now in
+    let mid = g.P.Ports.world c.take_coins.new.ports in
+    let named = subst (λ (p : SplitPlan). TakesCoins p.coins (length c.args.coins.now) (Err fault) coins start mid) c.plan.view_is
+    c.in_err-take_coins.ensures.taken in
+    no_coins plan c.args.bytes.now fault c.from_residual.result coins start mid c.from_residual.ensures.1
+    (subst (λ (n : ℕ). TakesCoins plan.coins n (Err fault) coins start mid) c.requires.coins named) c.take_coins.ensures.others
+
+pub returns-in_err-take_coins-clause-others : goal.returns-in_err-take_coins-clause-others
+returns-in_err-take_coins-clause-others g c =
+    let touch = c.take_coins.ensures.others in
+    record { others = λ q lt off on. touch.others q lt off; crowd = touch.crowd; started = touch.started }
 
 pub returns-in-Ok-clause-splits : goal.returns-in-Ok-clause-splits
 returns-in-Ok-clause-splits g c =
@@ -55,3 +88,13 @@ returns-in-Ok-clause-others g c =
 pub returns-in-Err-clause-others : goal.returns-in-Err-clause-others
 returns-in-Err-clause-others g c =
     both_touched _ _ (g.P.Ports.world c.args.ports.now) (g.P.Ports.world c.take_coins.new.ports) (g.P.Ports.world c.write_shares.new.ports) c.requires.count c.take_coins.ensures.others c.write_shares.ensures.others
+
+pub write_shares-requires-clause-some : goal.write_shares-requires-clause-some
+write_shares-requires-clause-some g c = c.requires.some
+
+pub write_shares-requires-clause-coins : goal.write_shares-requires-clause-coins
+write_shares-requires-clause-coins g c =
+    c.take_coins.auto.coins ∙ subst (λ (p : SplitPlan). length c.args.coins.now ≡ length c.args.bytes.now * p.tau) (sym c.plan.view_is) c.requires.coins
+
+pub write_shares-requires-clause-room : goal.write_shares-requires-clause-room
+write_shares-requires-clause-room g c = c.requires.room
