@@ -1,11 +1,65 @@
-use Rattle.std.proofs.Common.{length-drop, ◌≡◌, ◌∙◌, ◌+◌, ℕ, List, length, take, drop, refl, sym, ap, subst, arith}
+use Rattle.std.proofs.Common.{length-drop, ◌≡◌, ◌∙◌, ◌+◌, ◌≤◌, ℕ, List, length, take, drop, refl, sym, ap, subst, arith}
+use Rattle.std.specs.Prelude.{Vec, Result, Ok, Err}
+use Rattle.std.specs.Result.{IsErrAnd}
+use Rattle.std.specs.declared.alloc.Global.{Global}
+use Rattle.port_rules.specs.World.{World}
 use Rattle.port_rules.specs.Number.{DATABASE}
 use Rattle.port_rules.specs.Moves.{Hands}
 use Rattle.port_rules.specs.Whole.{Reads, Ends}
 use Rattle.port_rules.proofs.Cells.{touches_more}
-use Rattle.block_matrix.specs.Loading.{ReadsUpTo}
+use Rattle.block_matrix.specs.Loading.{Lengthens, ReadsOr, ReadsUpTo}
+use Rattle.block_matrix.specs.declared.matrix.LoadFault.{LoadFault}
+use Rattle.block_matrix.specs.declared.matrix.LoadFault.TheVariants.{EmptyFile, TooBig, ReadFault, Memory}
 use Rattle.block_matrix.proofs.Pieces.{whole_again, reads_full, reads_ended, reads_failed}
 use Rattle.block_matrix.proofs.file.read_up_to.Goals as goal
+
+-- memory ran out behind the bytes that were read
+stopped : (most : ℕ) (read bytes : List ℕ) (fault : LoadFault) (result : Result (Vec ℕ Global) LoadFault) (w v : World)
+    → IsErrAnd result (λ told. told ≡ fault) → Lengthens most read bytes (Err fault) → length read ≤ most → Reads DATABASE read w v
+    → ReadsOr most result w v
+stopped most read bytes fault (Ok found) w v h lengthens few so_far = absurd h
+stopped most read bytes EmptyFile (Err told) w v h lengthens few so_far = absurd lengthens
+stopped most read bytes (TooBig n) (Err told) w v h lengthens few so_far = absurd lengthens
+stopped most read bytes ReadFault (Err told) w v h lengthens few so_far = absurd lengthens
+stopped most read bytes Memory (Err told) w v h lengthens few so_far =
+    subst (λ (f : LoadFault). ReadsOr most (Err f) w v) (sym h) record { n = length read; few = few; cell = so_far.cell }
+
+pub lengthen-requires : goal.lengthen-requires
+lengthen-requires g c = omega (arith, c.pieces-test.true, c.len.ensures)
+
+pub returns-in_err-lengthen-clause-read : goal.returns-in_err-lengthen-clause-read
+returns-in_err-lengthen-clause-read g c =
+    stopped c.args.most c.pieces.bytes.items c.lengthen.new.bytes.items c.in_err-lengthen.field-0.0 c.from_residual.result _ _ c.from_residual.ensures.1
+    c.in_err-lengthen.ensures (omega (arith, c.pieces.invariant.few, c.pieces.bytes.ok.0)) c.pieces.invariant.so_far
+
+pub returns-in_err-lengthen-clause-others : goal.returns-in_err-lengthen-clause-others
+returns-in_err-lengthen-clause-others g c = c.pieces.invariant.others
+
+pub fill_rest-requires : goal.fill_rest-requires
+fill_rest-requires g c =
+    omega (arith, c.len-filled.ensures, c.pieces.bytes.ok.0, c.deref_mut.ensures.len, c.lengthen.new.bytes.ok.0, c.in_ok-lengthen.ensures.more)
+
+pub pieces-smaller : goal.pieces-smaller
+pieces-smaller g c =
+    omega (arith, c.pieces.bytes.ok.0, c.lengthen.new.bytes.ok.0, c.in_ok-lengthen.ensures.more, c.in_ok-lengthen.ensures.within)
+
+pub returns-in-Ended-clause-others : goal.returns-in-Ended-clause-others
+returns-in-Ended-clause-others g c = touches_more _ _ _ _ c.pieces.invariant.others c.fill_rest.ensures.others
+
+pub returns-in-Failed-clause-others : goal.returns-in-Failed-clause-others
+returns-in-Failed-clause-others g c = touches_more _ _ _ _ c.pieces.invariant.others c.fill_rest.ensures.others
+
+pub returns-clause-read : goal.returns-clause-read
+returns-clause-read g c =
+    let whole : length c.pieces.bytes.items ≡ c.args.most = omega (arith, c.pieces-test.false, c.len.ensures, c.pieces.invariant.few, c.pieces.bytes.ok.0) in
+    record {
+      reads = c.pieces.invariant.so_far;
+      within = omega (arith, whole);
+      ended = λ less. absurd (omega (arith, whole, less));
+    }
+
+pub returns-clause-others : goal.returns-clause-others
+returns-clause-others g c = c.pieces.invariant.others
 
 pub pieces-preserved : goal.pieces-preserved
 pieces-preserved g c =
