@@ -1,5 +1,5 @@
 -- Sums over runs of rows.
-use Rattle.std.proofs.Common.{◌≡◌, ℕ, ◌+◌, ◌-◌, ◌*◌, ◌/◌, ◌≤◌, ◌<◌, List, [], length, get_or, sym, ap, ap₂, ◌∙◌, arith}
+use Rattle.std.proofs.Common.{◌≡◌, ℕ, ◌+◌, ◌-◌, ◌*◌, ◌/◌, ◌≤◌, ◌<◌, List, [], get_or, sym, ap, ap₂, ◌∙◌, arith}
 use Rattle.gf256.specs.Field.{◌⊕◌}
 use Rattle.gf256.specs.Product.{IsMatrix}
 use Rattle.gf256.specs.Sums.{run_sum}
