@@ -1,4 +1,6 @@
+use Rattle.std.specs.Prelude.{None}
 use Rattle.std.proofs.lemmas.Result.{IfOk-from_err, IfOk-weaker}
+use Rattle.block_decoder.specs.Reported.{IsReportOn}
 use Rattle.fetch_client.proofs.fetch_once.judge_with.Goals as goal
 
 pub judge_report-requires : goal.judge_report-requires
@@ -30,7 +32,7 @@ returns-in_ok-judge g c =
       range = c.params.ensures.range;
       fits = c.record_count.ensures.fits;
       judged = judged.verdict;
-      report = λ wanted. absurd (cc (wanted, c.if-wanted.false));
+      report = λ wanted. absurd {A = IsReportOn c.args.session.now c.in_ok-judge.field-0 None} (cc (wanted, c.if-wanted.false));
       cols = judged.cols;
       nodes = judged.nodes;
       least = judged.least;
