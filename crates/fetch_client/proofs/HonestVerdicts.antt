@@ -1,5 +1,5 @@
 -- What a verdict says of the block that honest servers hold, in each scheme.
-use Rattle.std.proofs.Common.{◌≡◌, ℕ, ◌+◌, ◌*◌, ◌<◌, ◌≤◌, List, [], ◌∷◌, length, map, All, IfSome, Contains, sym, ap, subst, ◌∙◌, arith}
+use Rattle.std.proofs.Common.{◌≡◌, ℕ, ◌+◌, ◌*◌, ◌<◌, ◌≤◌, List, [], ◌∷◌, length, map, All, IfSome, Contains, sym, ap, subst, ◌∙◌, inl, inr, arith}
 use Rattle.std.proofs.lemmas.List.Elements.{Contains-get_or}
 use Rattle.quantity_limits.specs.declared.TheConstants.{MOST_SERVERS}
 use Rattle.wire_frames.specs.declared.scheme.TheConstants.{SHAMIR, XOR}
@@ -72,7 +72,7 @@ module _ (session : Transcript) (t tau : ℕ) (coins asked : List ℕ) (verdict 
         honest_is_alone (answers session) matrix tau share_coins coins asked t p.r p.s p.h verdict (subst (λ (w : ℕ). HasColumns w (answers session)) width columns) few_answers coins_are within
         (products_from_honest session t tau matrix share_coins coins asked one honest) (omega (arith, near, degree)) decided
 
-    pub finds_in_shamir : FindsHonestBlock session t tau coins asked verdict
+    finds_in_shamir : FindsHonestBlock session t tau coins asked verdict
     finds_in_shamir = record {
       listed = listed;
       alone = alone;
@@ -100,7 +100,7 @@ module _ (session : Transcript) (t tau : ℕ) (coins asked : List ℕ) (verdict 
     listed_of_all : (matrix : List (List ℕ)) (share_coins : List ℕ) → IsHonest session t tau matrix share_coins coins asked → (blocks : List (List ℕ)) → verdict ≡ Listed blocks → Contains blocks (blocks_of matrix asked)
     listed_of_all matrix share_coins honest blocks same = listed_if_alone verdict (blocks_of matrix asked) blocks (alone_of_enough matrix share_coins honest) same
 
-    pub finds_in_xor : FindsHonestBlock session t tau coins asked verdict
+    finds_in_xor : FindsHonestBlock session t tau coins asked verdict
     finds_in_xor = record {
       listed = listed_of_all;
       alone = λ matrix share_coins honest near. alone_of_enough matrix share_coins honest;
@@ -111,3 +111,10 @@ module _ (session : Transcript) (t tau : ℕ) (coins asked : List ℕ) (verdict 
       xor_by_frames = λ two matrix honest. alone_of_all matrix []
           (honest_from_records session t 0 matrix [] coins asked count (records_from_all session t matrix coins asked count range two few bytes honest));
     }
+
+  -- in a session of either scheme
+  pub finds_honest_block : session.params.t ≡ t + tau → (session.params.scheme ≡ XOR → tau ≡ 0) → FindsHonestBlock session t tau coins asked verdict
+  finds_honest_block degree whole = elim range.scheme [
+    | inl one ↦ finds_in_shamir degree one
+    | inr two ↦ finds_in_xor (whole two) two
+  ]

@@ -7,4 +7,5 @@ pub mod HonestFrames
 pub mod HonestXor
 pub mod HonestVerdicts
 mod HonestReport
-pub mod Counts
+mod Judged
+mod Counts

@@ -1,16 +1,20 @@
 -- What a fetch does.
-use Rattle.std.specs.Prelude.{ℕ, ◌≡◌, ◌+◌, ◌*◌, ◌≤◌, List, length, Option, Result, Ok, Err}
+use Rattle.std.specs.Prelude.{ℕ, ◌≡◌, ◌+◌, ◌*◌, ◌≤◌, Bool, true, List, length, All, Option, Result, Ok, Err, IfOk}
 use Rattle.port_rules.specs.World.{World}
-use Rattle.wire_frames.specs.Answer.{answers}
-use Rattle.wire_frames.specs.Session.{Transcript}
+use Rattle.wire_frames.specs.declared.scheme.TheConstants.{SHAMIR, XOR}
+use Rattle.wire_frames.specs.Answer.{answers, block_len}
+use Rattle.wire_frames.specs.Limits.{IsInRange}
+use Rattle.wire_frames.specs.Session.{Fits, Transcript}
+use Rattle.wire_frames.specs.Sizes.{answer_len}
+use Rattle.block_decoder.specs.Numbers.{most_columns, most_nodes}
 use Rattle.block_decoder.specs.Report.{Agreement}
 use Rattle.block_decoder.specs.Reported.{IsReportOn}
-use Rattle.block_decoder.specs.Verdict.{IsVerdict}
+use Rattle.block_decoder.specs.Verdict.{IsVerdict, least_columns}
 use Rattle.block_decoder.specs.declared.verdict.Verdict.{Verdict}
 use Rattle.query_rounds.specs.declared.plan.FetchPlan.{FetchPlan}
 use Rattle.query_rounds.specs.declared.plan.FetchFault.{FetchFault}
 use Rattle.query_rounds.specs.declared.plan.FetchFault.TheVariants.{CoinsFault, CoinsEnded, Memory}
-use Rattle.query_rounds.specs.Gathered.{AsksWith, FetchesTo}
+use Rattle.query_rounds.specs.Gathered.{AsksWith, FetchesTo, TouchesLinks}
 use Rattle.query_rounds.specs.Sent.{queries_from}
 use Rattle.fetch_client.specs.Honest.{FindsHonestBlock, NamesLiarsIn}
 
@@ -28,6 +32,12 @@ pub record ConcludesWhole (p : FetchPlan) (blocks : List ℕ) (addresses : List 
   pub concludes : Concludes p blocks addresses found.0 found.1 old new
   pub report : IsReportOn found.0 found.1 found.2
   pub liars : NamesLiarsIn found.0 p.t p.tau (queries_from concludes.coins) blocks found.2
+
+-- the first, and where the report is wanted the second too
+pub record ConcludesWith (wanted : Bool) (p : FetchPlan) (blocks : List ℕ) (addresses : List (List ℕ))
+    (found : Transcript × Verdict × Option (List Agreement)) (old new : World) : Type 0 where
+  pub concludes : Concludes p blocks addresses found.0 found.1 old new
+  pub reports : wanted ≡ true → ConcludesWhole p blocks addresses found old new
 
 -- that of a session and its verdict
 abbrev pub Fetches : FetchPlan → List ℕ → List (List ℕ) → Result (Transcript × Verdict) FetchFault → World → World → Type 0
@@ -63,3 +73,33 @@ FetchCounts = FetchCountsOf (λ both. both.0)
 abbrev pub FetchCountsWhole : (ℕ → ℕ → ℕ → ℕ → ℕ) → FetchPlan → List ℕ
     → Result (Transcript × Verdict × Option (List Agreement)) FetchFault → ℕ → ℕ → Type 0
 FetchCountsWhole = FetchCountsOf (λ found. found.0)
+
+-- what judging a session gives, the report beside it where that is wanted, and how many steps it takes. What holds of every
+-- session is told with it
+pub record JudgesWith (wanted : Bool) (session : Transcript) {E : Type 0} (result : Result (Verdict × Option (List Agreement)) E)
+    (columns_before columns_now nodes_before nodes_now : ℕ) : Type 0 where
+  pub range : IsInRange session.params
+  pub fits : All (Fits (answer_len session.params.count session.params.s)) session.records
+  pub judged : IfOk result (λ found. IsVerdict session found.0)
+  pub report : IfOk result (λ found. wanted ≡ true → IsReportOn session found.0 found.1)
+  pub cols : columns_now ≤ columns_before + most_columns (length (answers session)) session.params.t session.params.h (block_len session.params)
+  pub nodes : nodes_now ≤ nodes_before + most_nodes (length (answers session)) session.params.t session.params.h (block_len session.params)
+  pub least : columns_before ≤ columns_now
+  pub least_nodes : nodes_before ≤ nodes_now
+  pub listed : session.params.scheme ≡ SHAMIR
+      → IfOk result (λ found. columns_before + least_columns (block_len session.params) found.0 ≤ columns_now)
+  pub xor : session.params.scheme ≡ XOR → (columns_now ≡ columns_before) × (nodes_now ≡ nodes_before)
+
+-- what a fetch does, with the report where that is wanted, and how many steps it takes
+pub record FetchesWith (wanted : Bool) (p : FetchPlan) (blocks : List ℕ) (addresses : List (List ℕ))
+    (result : Result (Transcript × Verdict × Option (List Agreement)) FetchFault) (old new : World)
+    (columns_before columns_now nodes_before nodes_now : ℕ) : Type 0 where
+  pub fetched : FetchesTo (ConcludesWith wanted p blocks addresses) p blocks addresses result old new
+  pub others : TouchesLinks p.n old new
+  pub cols : FetchCountsWhole most_columns p blocks result columns_before columns_now
+  pub nodes : FetchCountsWhole most_nodes p blocks result nodes_before nodes_now
+  pub least : columns_before ≤ columns_now
+  pub least_nodes : nodes_before ≤ nodes_now
+  pub listed : p.scheme ≡ SHAMIR
+      → IfOk result (λ found. columns_before + least_columns (length blocks * p.s) found.1 ≤ columns_now)
+  pub xor : p.scheme ≡ XOR → (columns_now ≡ columns_before) × (nodes_now ≡ nodes_before)

@@ -2,108 +2,46 @@
 
 ghost use Rattle.std.specs.Prelude.{◌≡◌, ◌≤◌, ◌+◌, ◌*◌, length, map, string_bytes, IfOk};
 ghost use Rattle.wire_frames.specs.declared.scheme.TheConstants.{SHAMIR, XOR};
-ghost use Rattle.wire_frames.specs.Answer.{answers};
-ghost use Rattle.query_rounds.specs.Plan.{AreBlocks, IsPlan, params_of};
+ghost use Rattle.query_rounds.specs.Plan.{AreBlocks, IsPlan};
 ghost use Rattle.block_decoder.specs.Numbers.{most_columns, most_nodes};
-ghost use Rattle.block_decoder.specs.Reported.{IsReportOn};
-ghost use Rattle.block_decoder.specs.Verdict.{IsVerdict, least_columns};
-ghost use Rattle.query_rounds.specs.Sent.{queries_from, session_number};
-ghost use Rattle.fetch_client.specs.Honest.{FindsHonestBlock, NamesLiarsIn};
+ghost use Rattle.block_decoder.specs.Verdict.{least_columns};
 ghost use Rattle.query_rounds.specs.Gathered.{TouchesLinks};
-ghost use Rattle.fetch_client.specs.Fetched.{FetchCounts, Fetches};
-ghost use Rattle.fetch_client.specs.Fetched.{FetchCountsWhole, FetchesWhole};
+ghost use Rattle.fetch_client.specs.Fetched.{FetchCounts, Fetches, FetchCountsWhole, FetchesWhole};
+ghost use Rattle.fetch_client.specs.Fetched.{FetchesWith, JudgesWith};
 
-use crate::laws::{honest_block_is_found, liars_are_named};
 use block_decoder::{Report, Verdict, judge, judge_report};
 use interpolation::Interpolate;
 use port_rules::Ports;
-use query_rounds::{FetchFault, FetchPlan, Queries, gather};
+use query_rounds::{FetchFault, FetchPlan, gather};
 use std::alloc::{AllocError, Global};
 use std::sync::ledger::Ledger;
 use uni_poly::steps::Steps;
 use wire_frames::Session;
 
-/// The verdict on the session that was fetched with these queries, with the steps of [`judge`].
+/// The verdict on a session, and the report beside it where that is wanted: where it isn't, no block is copied for it.
 ///
 /// # Errors
 ///
 /// `AllocError` for want of memory.
-fn conclude<I: Interpolate, C: Ledger, N: Ledger>(
+fn judge_with<I: Interpolate, C: Ledger, N: Ledger>(
     alloc: Global,
     way: &I,
-    queries: &Queries,
     session: &Session,
-    cols: &mut Steps<C>,
-    nodes: &mut Steps<N>,
-) -> Result<Verdict, AllocError>
-    requires params { session.now.params ≡ params_of queries.now.plan
-        (length queries.now.blocks) (session_number queries.now.coins) }
-    requires all { length session.now.records ≡ queries.now.plan.n }
-    ensures judged { IfOk result (IsVerdict session.now) }
-    ensures found { IfOk result (FindsHonestBlock session.now queries.now.plan.t queries.now.plan.tau
-        (queries_from queries.now.coins) queries.now.blocks) }
-    ensures cols { cols.new ≤ cols.old + most_columns (length (answers session.now))
-        (queries.now.plan.t + queries.now.plan.tau) queries.now.plan.h (length queries.now.blocks * queries.now.plan.s) }
-    ensures nodes { nodes.new ≤ nodes.old + most_nodes (length (answers session.now))
-        (queries.now.plan.t + queries.now.plan.tau) queries.now.plan.h (length queries.now.blocks * queries.now.plan.s) }
-    ensures least { cols.old ≤ cols.new }
-    ensures least_nodes { nodes.old ≤ nodes.new }
-    ensures listed { queries.now.plan.scheme ≡ SHAMIR
-        → IfOk result (λ verdict. cols.old + least_columns (length queries.now.blocks * queries.now.plan.s) verdict ≤ cols.new) }
-    ensures xor { queries.now.plan.scheme ≡ XOR → (cols.new ≡ cols.old) × (nodes.new ≡ nodes.old) }
-{
-    let verdict = judge(alloc, way, session, cols, nodes)?;
-    let FetchPlan { t, tau, .. } = queries.plan();
-    honest_block_is_found(
-        session,
-        t,
-        tau,
-        queries.query_coins(),
-        queries.blocks(),
-        &verdict,
-    );
-    Ok(verdict)
-}
-
-/// The same, and the report beside the verdict.
-///
-/// # Errors
-///
-/// `AllocError` for want of memory.
-fn conclude_report<I: Interpolate, C: Ledger, N: Ledger>(
-    alloc: Global,
-    way: &I,
-    queries: &Queries,
-    session: &Session,
+    wanted: bool,
     cols: &mut Steps<C>,
     nodes: &mut Steps<N>,
 ) -> Result<(Verdict, Option<Report>), AllocError>
-    requires params { session.now.params ≡ params_of queries.now.plan
-        (length queries.now.blocks) (session_number queries.now.coins) }
-    requires all { length session.now.records ≡ queries.now.plan.n }
-    ensures judged { IfOk result (λ found. IsVerdict session.now found.0) }
-    ensures found { IfOk result (λ found. FindsHonestBlock session.now queries.now.plan.t queries.now.plan.tau
-        (queries_from queries.now.coins) queries.now.blocks found.0) }
-    ensures report { IfOk result (λ found. IsReportOn session.now found.0 found.1) }
-    ensures liars { IfOk result (λ found. NamesLiarsIn session.now queries.now.plan.t queries.now.plan.tau
-        (queries_from queries.now.coins) queries.now.blocks found.1) }
-    ensures cols { cols.new ≤ cols.old + most_columns (length (answers session.now))
-        (queries.now.plan.t + queries.now.plan.tau) queries.now.plan.h (length queries.now.blocks * queries.now.plan.s) }
-    ensures nodes { nodes.new ≤ nodes.old + most_nodes (length (answers session.now))
-        (queries.now.plan.t + queries.now.plan.tau) queries.now.plan.h (length queries.now.blocks * queries.now.plan.s) }
-    ensures least { cols.old ≤ cols.new }
-    ensures least_nodes { nodes.old ≤ nodes.new }
-    ensures listed { queries.now.plan.scheme ≡ SHAMIR
-        → IfOk result (λ found. cols.old + least_columns (length queries.now.blocks * queries.now.plan.s) found.0 ≤ cols.new) }
-    ensures xor { queries.now.plan.scheme ≡ XOR → (cols.new ≡ cols.old) × (nodes.new ≡ nodes.old) }
+    requires all { length session.now.records ≡ session.now.params.n }
+    ensures { JudgesWith wanted session.now result cols.old cols.new nodes.old nodes.new }
 {
-    let (verdict, report) = judge_report(alloc, way, session, cols, nodes)?;
-    let FetchPlan { t, tau, .. } = queries.plan();
-    let coins = queries.query_coins();
-    let rows = queries.blocks();
-    honest_block_is_found(session, t, tau, coins, rows, &verdict);
-    liars_are_named(session, t, tau, coins, rows, &verdict, &report);
-    Ok((verdict, report))
+    // What holds of every session is told by its calls alone.
+    session.params();
+    session.record_count();
+    if wanted {
+        judge_report(alloc, way, session, cols, nodes)
+    } else {
+        Ok((judge(alloc, way, session, cols, nodes)?, None))
+    }
 }
 
 /// Fetches blocks, from 1 to [`MOST_BLOCKS`](wire_frames::MOST_BLOCKS) in one query: takes the coins, asks every
@@ -149,9 +87,10 @@ pub fn fetch<I: Interpolate, C: Ledger, N: Ledger, P: Ports>(
         → IfOk result (λ both. cols.old + least_columns (length blocks.now * plan.now.s) both.1 ≤ cols.new) }
     ensures xor { plan.now.scheme ≡ XOR → (cols.new ≡ cols.old) × (nodes.new ≡ nodes.old) }
 {
-    let all = gather(alloc, plan, blocks, addresses, ports)?;
-    let verdict = conclude(alloc, way, &all.queries, &all.session, cols, nodes)?;
-    Ok((all.session, verdict))
+    let (session, verdict, _report) = fetch_with(
+        alloc, way, plan, blocks, addresses, false, ports, cols, nodes,
+    )?;
+    Ok((session, verdict))
 }
 
 /// Fetches blocks as [`fetch`] does, and says beside the verdict who agrees, as [`judge_report`] has it: `None` exactly in the
@@ -184,7 +123,34 @@ pub fn fetch_report<I: Interpolate, C: Ledger, N: Ledger, P: Ports>(
         → IfOk result (λ found. cols.old + least_columns (length blocks.now * plan.now.s) found.1 ≤ cols.new) }
     ensures xor { plan.now.scheme ≡ XOR → (cols.new ≡ cols.old) × (nodes.new ≡ nodes.old) }
 {
+    fetch_with(
+        alloc, way, plan, blocks, addresses, true, ports, cols, nodes,
+    )
+}
+
+/// Fetches blocks, and judges what was answered, with the report beside the verdict where that is wanted.
+///
+/// # Errors
+///
+/// As [`fetch`].
+fn fetch_with<I: Interpolate, C: Ledger, N: Ledger, P: Ports>(
+    alloc: Global,
+    way: &I,
+    plan: &FetchPlan,
+    blocks: &[u32],
+    addresses: &[String],
+    wanted: bool,
+    ports: &mut P,
+    cols: &mut Steps<C>,
+    nodes: &mut Steps<N>,
+) -> Result<(Session, Verdict, Option<Report>), FetchFault>
+    requires plan { IsPlan plan.now }
+    requires blocks { AreBlocks plan.now blocks.now }
+    requires addresses { length addresses.now ≡ plan.now.n }
+    ensures { FetchesWith wanted plan.now blocks.now (map string_bytes addresses.now) result
+        (P.world ports.old) (P.world ports.new) cols.old cols.new nodes.old nodes.new }
+{
     let all = gather(alloc, plan, blocks, addresses, ports)?;
-    let (verdict, report) = conclude_report(alloc, way, &all.queries, &all.session, cols, nodes)?;
+    let (verdict, report) = judge_with(alloc, way, &all.session, wanted, cols, nodes)?;
     Ok((all.session, verdict, report))
 }

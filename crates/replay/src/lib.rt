@@ -109,6 +109,16 @@ fn piece_buffer(alloc: Global) -> Result<Vec<u8>, AllocError>
     vec![in alloc; 0; PIECE_LEN]
 }
 
+/// Reads Input to its end, or to the first piece that is refused. The room for a piece is let go before the session is judged.
+fn read_session<P: Ports>(alloc: Global, ports: &mut P) -> Result<Session, ReplayFault>
+    ensures read { ReadTo Spells result (P.world ports.old) (P.world ports.new) }
+    ensures all { IfOk result (λ session. length session.records ≡ session.params.n) }
+    ensures others { Touches INPUT (P.world ports.old) (P.world ports.new) }
+{
+    let mut buffer = piece_buffer(alloc)?;
+    read_pieces(alloc, ports, &mut buffer)
+}
+
 /// The verdict on the session that Input, already open, holds to its end. It is read in pieces of at most
 /// [`PIECE_LEN`] bytes, and the first piece with a wrong byte ends the reading. Where the verdict takes an
 /// interpolation with multiplicities, it is made in this `way`. `cols` and `nodes` count the steps of the verdict, as
@@ -135,8 +145,7 @@ pub fn replay<I: Interpolate, C: Ledger, N: Ledger, P: Ports>(
     ensures least_nodes { nodes.old ≤ nodes.new }
     ensures listed { IfOk result (CountsListed ((P.world ports.old).at INPUT).holds cols.old cols.new) }
 {
-    let mut buffer = piece_buffer(alloc)?;
-    let session = read_pieces(alloc, ports, &mut buffer)?;
+    let session = read_session(alloc, ports)?;
     Ok(judge(alloc, way, &session, cols, nodes)?)
 }
 
@@ -163,8 +172,7 @@ pub fn replay_report<I: Interpolate, C: Ledger, N: Ledger, P: Ports>(
     ensures least_nodes { nodes.old ≤ nodes.new }
     ensures listed { IfOk result (λ found. CountsListed ((P.world ports.old).at INPUT).holds cols.old cols.new found.1) }
 {
-    let mut buffer = piece_buffer(alloc)?;
-    let session = read_pieces(alloc, ports, &mut buffer)?;
+    let session = read_session(alloc, ports)?;
     let (verdict, report) = judge_report(alloc, way, &session, cols, nodes)?;
     Ok((session, verdict, report))
 }

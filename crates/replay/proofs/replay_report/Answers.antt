@@ -1,10 +1,49 @@
-use Rattle.std.proofs.lemmas.Result.{IfOk-from_err}
+use Rattle.std.proofs.Common.{le_refl}
+use Rattle.std.proofs.lemmas.Result.{IfOk-from_err, err_from_is_err_and}
 use Rattle.block_decoder.specs.Numbers.{most_columns, most_nodes}
+use Rattle.replay.specs.Replayed.{JudgedWhole, Spells}
+use Rattle.replay.proofs.Judged.{any_steps, failed_alike, no_step, no_verdict}
 use Rattle.replay.proofs.Readings.{counts_listed, counts_nothing, counts_of}
 use Rattle.replay.proofs.replay_report.Goals as goal
 
+pub returns-in_err-session-clause-replayed : goal.returns-in_err-session-clause-replayed
+returns-in_err-session-clause-replayed g c =
+    let fault = err_from_is_err_and c.from_residual.result c.from_residual.ensures.1 in
+    failed_alike Spells JudgedWhole (g.P.Ports.world c.args.ports.now) (g.P.Ports.world c.read_session.new.ports) c.from_residual.result fault.0 _ fault.1 fault.2 c.in_err-session.ensures.read
+
+pub returns-in_err-session-clause-others : goal.returns-in_err-session-clause-others
+returns-in_err-session-clause-others g c = c.in_err-session.ensures.others
+
+pub returns-in_err-session-clause-cols : goal.returns-in_err-session-clause-cols
+returns-in_err-session-clause-cols g c = counts_nothing most_columns _ c.args.cols.now
+
+pub returns-in_err-session-clause-nodes : goal.returns-in_err-session-clause-nodes
+returns-in_err-session-clause-nodes g c = counts_nothing most_nodes _ c.args.nodes.now
+
+pub returns-in_err-session-clause-unjudged : goal.returns-in_err-session-clause-unjudged
+returns-in_err-session-clause-unjudged g c =
+    let fault = err_from_is_err_and c.from_residual.result c.from_residual.ensures.1 in
+    no_step c.from_residual.result fault.0 c.args.cols.now c.args.nodes.now fault.1
+
+pub returns-in_err-session-clause-least : goal.returns-in_err-session-clause-least
+returns-in_err-session-clause-least g c = le_refl c.args.cols.now
+
+pub returns-in_err-session-clause-least_nodes : goal.returns-in_err-session-clause-least_nodes
+returns-in_err-session-clause-least_nodes g c = le_refl c.args.nodes.now
+
+pub returns-in_err-session-clause-listed : goal.returns-in_err-session-clause-listed
+returns-in_err-session-clause-listed g c = IfOk-from_err c.from_residual.result _ c.from_residual.ensures.0
+
+pub returns-in_err-session-clause-all : goal.returns-in_err-session-clause-all
+returns-in_err-session-clause-all g c = IfOk-from_err c.from_residual.result _ c.from_residual.ensures.0
+
 pub returns-in_err-verdict-clause-cols : goal.returns-in_err-verdict-clause-cols
 returns-in_err-verdict-clause-cols g c =
+    counts_of most_columns c.in_ok-session.session _ _ _ _ c.in_ok-session.ensures.read c.judge_report.ensures.cols
+    (λ xor. (c.judge_report.ensures.xor xor).0)
+
+pub returns-clause-cols : goal.returns-clause-cols
+returns-clause-cols g c =
     counts_of most_columns c.in_ok-session.session _ _ _ _ c.in_ok-session.ensures.read c.judge_report.ensures.cols
     (λ xor. (c.judge_report.ensures.xor xor).0)
 
@@ -13,32 +52,29 @@ returns-in_err-verdict-clause-nodes g c =
     counts_of most_nodes c.in_ok-session.session _ _ _ _ c.in_ok-session.ensures.read c.judge_report.ensures.nodes
     (λ xor. (c.judge_report.ensures.xor xor).1)
 
-pub returns-clause-cols : goal.returns-clause-cols
-returns-clause-cols g c =
-    counts_of most_columns c.in_ok-session.session _ _ _ _ c.in_ok-session.ensures.read c.judge_report.ensures.cols
-    (λ xor. (c.judge_report.ensures.xor xor).0)
-
 pub returns-clause-nodes : goal.returns-clause-nodes
 returns-clause-nodes g c =
     counts_of most_nodes c.in_ok-session.session _ _ _ _ c.in_ok-session.ensures.read c.judge_report.ensures.nodes
     (λ xor. (c.judge_report.ensures.xor xor).1)
 
-pub returns-clause-listed : goal.returns-clause-listed
-returns-clause-listed g c =
-    counts_listed c.in_ok-session.session c.in_ok-verdict.verdict _ _ _ _ c.in_ok-session.ensures.read
-    c.in_ok-verdict.ensures.listed
+pub returns-in_err-verdict-clause-replayed : goal.returns-in_err-verdict-clause-replayed
+returns-in_err-verdict-clause-replayed g c =
+    let fault = err_from_is_err_and c.from_residual-in_err-verdict.result c.from_residual-in_err-verdict.ensures.1 in
+    no_verdict JudgedWhole c.in_ok-session.session (g.P.Ports.world c.args.ports.now) (g.P.Ports.world c.read_session.new.ports) c.from_residual-in_err-verdict.result fault.0 fault.1 fault.2 c.in_ok-session.ensures.read
 
-pub returns-in_err-session-clause-listed : goal.returns-in_err-session-clause-listed
-returns-in_err-session-clause-listed g c = IfOk-from_err c.from_residual-in_err-session.result _ c.from_residual-in_err-session.ensures.0
+pub returns-in_err-verdict-clause-others : goal.returns-in_err-verdict-clause-others
+returns-in_err-verdict-clause-others g c = c.in_ok-session.ensures.others
 
-pub returns-in_err-session-clause-all : goal.returns-in_err-session-clause-all
-returns-in_err-session-clause-all g c = IfOk-from_err c.from_residual-in_err-session.result _ c.from_residual-in_err-session.ensures.0
+pub returns-in_err-verdict-clause-unjudged : goal.returns-in_err-verdict-clause-unjudged
+returns-in_err-verdict-clause-unjudged g c =
+    let fault = err_from_is_err_and c.from_residual-in_err-verdict.result c.from_residual-in_err-verdict.ensures.1 in
+    any_steps c.from_residual-in_err-verdict.result fault.0 c.args.cols.now c.judge_report.new.cols c.args.nodes.now c.judge_report.new.nodes fault.1 fault.2
 
-pub returns-in_err-buffer-clause-listed : goal.returns-in_err-buffer-clause-listed
-returns-in_err-buffer-clause-listed g c = IfOk-from_err c.from_residual.result _ c.from_residual.ensures.0
+pub returns-in_err-verdict-clause-least : goal.returns-in_err-verdict-clause-least
+returns-in_err-verdict-clause-least g c = c.in_err-verdict.ensures.least
 
-pub returns-in_err-buffer-clause-all : goal.returns-in_err-buffer-clause-all
-returns-in_err-buffer-clause-all g c = IfOk-from_err c.from_residual.result _ c.from_residual.ensures.0
+pub returns-in_err-verdict-clause-least_nodes : goal.returns-in_err-verdict-clause-least_nodes
+returns-in_err-verdict-clause-least_nodes g c = c.in_err-verdict.ensures.least_nodes
 
 pub returns-in_err-verdict-clause-listed : goal.returns-in_err-verdict-clause-listed
 returns-in_err-verdict-clause-listed g c = IfOk-from_err c.from_residual-in_err-verdict.result _ c.from_residual-in_err-verdict.ensures.0
@@ -46,8 +82,30 @@ returns-in_err-verdict-clause-listed g c = IfOk-from_err c.from_residual-in_err-
 pub returns-in_err-verdict-clause-all : goal.returns-in_err-verdict-clause-all
 returns-in_err-verdict-clause-all g c = IfOk-from_err c.from_residual-in_err-verdict.result _ c.from_residual-in_err-verdict.ensures.0
 
-pub returns-in_err-buffer-clause-cols : goal.returns-in_err-buffer-clause-cols
-returns-in_err-buffer-clause-cols g c = counts_nothing most_columns _ c.args.cols.now
+pub returns-clause-replayed : goal.returns-clause-replayed
+returns-clause-replayed g c =
+    let reads = c.in_ok-session.ensures.read in
+    record { read = reads.read; cell = reads.cell; all = reads.all; is = record { whole = reads.is; judged = c.in_ok-verdict.ensures.verdict; report = c.in_ok-verdict.ensures.report } }
 
-pub returns-in_err-buffer-clause-nodes : goal.returns-in_err-buffer-clause-nodes
-returns-in_err-buffer-clause-nodes g c = counts_nothing most_nodes _ c.args.nodes.now
+pub returns-clause-others : goal.returns-clause-others
+returns-clause-others g c = c.in_ok-session.ensures.others
+
+pub returns-clause-unjudged : goal.returns-clause-unjudged
+returns-clause-unjudged g c = (record {}, record {})
+
+pub returns-clause-least : goal.returns-clause-least
+returns-clause-least g c = c.in_ok-verdict.ensures.least
+
+pub returns-clause-least_nodes : goal.returns-clause-least_nodes
+returns-clause-least_nodes g c = c.in_ok-verdict.ensures.least_nodes
+
+pub returns-clause-listed : goal.returns-clause-listed
+returns-clause-listed g c =
+    counts_listed c.in_ok-session.session c.in_ok-verdict.verdict _ _ _ _ c.in_ok-session.ensures.read
+    c.in_ok-verdict.ensures.listed
+
+pub returns-clause-all : goal.returns-clause-all
+returns-clause-all g c = c.in_ok-session.ensures.all
+
+pub judge_report-requires : goal.judge_report-requires
+judge_report-requires g c = record { all = c.in_ok-session.ensures.all }
