@@ -14,14 +14,13 @@ use Rattle.uni_poly.proofs.Series.{times, times_comm}
 use Rattle.uni_poly.proofs.Coefficients.{IsBytes-from_all}
 use Rattle.uni_poly.proofs.Values.{val_nil, val_cons}
 use Rattle.bi_poly.specs.Rows.{row, cell, column, IsZero, AreBytes}
-use Rattle.bi_poly.specs.Degree.{IsOrderInX, without_first}
 use Rattle.bi_poly.specs.Substitution.{at_poly_coef, IsShiftedRoot}
 use Rattle.bi_poly.proofs.Composition.{at_series, at_poly_coef-series, times-zero}
 use Rattle.bi_poly.proofs.Degree.{coef-column}
 use Rattle.bi_poly.proofs.Peeling.{peeled, spread, spread-low, spread-high, stripped-at_poly, zero_from_shifted}
 use Rattle.bi_poly.proofs.Strip.{cell-without_first}
 use Rattle.rr_roots.specs.Roots.{IsYRoot, HasDegreeInYAtMost}
-use Rattle.rr_roots.specs.Descent.{IsRootOfSize, HasLowestColumnDegreeAtMost}
+use Rattle.rr_roots.specs.Descent.{IsRootOfSize, HasLowestColumnDegreeAtMost, IsStripped}
 use Rattle.rr_roots.proofs.Multiplicities.{multiplicity, taylor-multiplicity}
 
 -- ---- no coefficient
@@ -70,12 +69,6 @@ pub lowest_degree : (q : List (List ℕ)) (d : ℕ) → HasDegreeInYAtMost q d �
 lowest_degree q d h r order j l = coef-column q r j ∙ h j r (omega (arith, l))
 
 -- ---- a node without the powers of x
-
--- q is the polynomial of a node, divided by the greatest power of x that divides it
-pub record IsStripped (whole q : List (List ℕ)) (r : ℕ) : Type 0 where
-  pub order : IsOrderInX whole r
-  pub quotient : q ≡ without_first r whole
-  pub bytes : AreBytes q
 
 module _ {whole q : List (List ℕ)} {r : ℕ} (s : IsStripped whole q r) where
   -- a coefficient

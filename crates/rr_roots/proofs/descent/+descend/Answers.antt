@@ -1,23 +1,18 @@
-use Rattle.std.proofs.Common.{◌≡◌, ◌≢◌, ◌<◌, ◌≤◌, ◌+◌, ◌-◌, ℕ, List, [], ◌∷◌, ◌++◌, length, map, take, drop, vec_len, inl, inr, refl, sym, ap, subst, ◌∙◌, arith, Vec, Global}
+use Rattle.std.proofs.Common.{◌≡◌, ◌≢◌, ◌<◌, ◌≤◌, ◌+◌, ◌-◌, ℕ, List, [], ◌∷◌, ◌++◌, length, map, take, drop, vec_len, inl, inr, refl, sym, ap, subst, ◌∙◌, arith}
 use Rattle.std.proofs.Math.Nat.{le_refl}
 use Rattle.std.proofs.Math.Seq.{take-append_seam}
 use Rattle.std.proofs.lemmas.Bool.{cases_lt}
-use Rattle.std.proofs.lemmas.List.{length-append, length-map, get_or_default}
-use Rattle.bi_poly.specs.Rows.{AreBytes}
-use Rattle.bi_poly.specs.Degree.{IsOrderInX, without_first}
+use Rattle.std.proofs.lemmas.List.{length-append, length-map}
+use Rattle.bi_poly.specs.Rows.{column}
 use Rattle.rr_roots.specs.Descent.{Appends, IsRootOfSize}
-use Rattle.rr_roots.proofs.Children.{IsStripped, first_byte, child-nonzero, child-roots}
+use Rattle.rr_roots.proofs.Children.{first_byte, child-nonzero, child-roots, child-degree}
 use Rattle.rr_roots.proofs.Levels.{HoldsBelow, appends-nothing, appends-skip, appends-more, appends-same}
 use Rattle.rr_roots.proofs.Multiplicities.{multiplicity}
 use Rattle.rr_roots.proofs.ByteValues.{value-tested}
 use borrow.Author.Count.{falls}
-use Rattle.rr_roots.proofs.Nodes.{no_step, none_begins, child-share, nodes-skip, nodes-more, nodes-most, nodes-spent}
+use Rattle.rr_roots.proofs.Nodes.{no_step, none_begins, nodes-skip, nodes-more, nodes-most, nodes-spent}
 use Rattle.std.proofs.lemmas.Result.{on_ok_weaker, IfOk-from_err}
 use Rattle.rr_roots.proofs.descent.+descend.Goals as goal
-
--- what is left after the strip
-stripped : {whole q : List (List ℕ)} {r : ℕ} → IsOrderInX whole r → q ≡ without_first r whole → AreBytes q → IsStripped whole q r
-stripped order quotient bytes = record { order = order; quotient = quotient; bytes = bytes }
 
 -- where it is not 0, it is more
 positive : (n : ℕ) → n ≢ 0 → 0 < n
@@ -28,12 +23,6 @@ at_most b less = omega (arith, less)
 
 none_left : (n l : ℕ) → l ≡ 0 → n + l ≤ n
 none_left n l none = omega (arith, none)
-
-fits_in : (a b c d : ℕ) → a ≡ b → b ≤ c → c ≡ d → a ≤ d
-fits_in a b c d same fits rows = omega (arith, same, fits, rows)
-
-in_place : (n b : ℕ) → n ≡ 256 → b < 256 → b < n
-in_place n b size less = omega (arith, size, less)
 
 ticked : (n m k l : ℕ) → n ≤ m → k ≡ m + 1 → k ≤ l → n ≤ l
 ticked n m k l up one more = omega (arith, up, one, more)
@@ -54,26 +43,20 @@ loop-byte-init g t c = record {
 
 pub returns-in_err-child-clause-most : goal.returns-in_err-child-clause-most
 returns-in_err-child-clause-most g t c = λ d h.
-    let s = stripped c.strip_x.ensures.order c.strip_x.ensures.quotient c.coefficients_are_bytes.ensures in
-    nodes-most s c.in_ok-constants.constants.items c.in_ok-constants.ensures c.args.left c.args.nodes.now c.loop-byte.nodes c.loop-byte.byte d
-    (at_most c.loop-byte.byte c.loop-byte-test.true) h c.loop-byte.invariant.most
-
-pub returns-in_err-push-clause-most : goal.returns-in_err-push-clause-most
-returns-in_err-push-clause-most g t c = λ d h.
-    let s = stripped c.strip_x.ensures.order c.strip_x.ensures.quotient c.coefficients_are_bytes.ensures in
-    nodes-most s c.in_ok-constants.constants.items c.in_ok-constants.ensures c.args.left c.args.nodes.now c.loop-byte.nodes c.loop-byte.byte d
+    let s = c.in_ok-node.ensures.stripped in
+    nodes-most s c.args.left c.args.nodes.now c.loop-byte.nodes c.loop-byte.byte d
     (at_most c.loop-byte.byte c.loop-byte-test.true) h c.loop-byte.invariant.most
 
 pub descend-requires : goal.descend-requires
 descend-requires g t c κs within =
-    let s = stripped c.strip_x.ensures.order c.strip_x.ensures.quotient c.coefficients_are_bytes.ensures in
-    let child = c.in_ok-child.ensures in (
+    let s = c.in_ok-node.ensures.stripped in
+    let child = c.in_ok-child.ensures.child in (
       omega (arith, c.decreases, c.if-left-eq0.false),
       (
         within,
         record {
           nonzero = child-nonzero s c.loop-byte-test.true child;
-          enough = let same = child.rows in let stripped = ap length c.strip_x.ensures.quotient ∙ length-map c.args.q (drop _) in omega (arith, same, stripped, c.requires.enough);
+          enough = let same = child.rows in let stripped = ap length s.quotient ∙ length-map c.args.q (drop _) in omega (arith, same, stripped, c.requires.enough);
           powers_are = c.requires.powers_are;
         },
       ),
@@ -81,13 +64,12 @@ descend-requires g t c κs within =
 
 pub returns-in_err-descend-clause-most : goal.returns-in_err-descend-clause-most
 returns-in_err-descend-clause-most g t c = λ d h.
-    let s = stripped c.strip_x.ensures.order c.strip_x.ensures.quotient c.coefficients_are_bytes.ensures in
-    let p = c.in_ok-constants.constants.items in
+    let s = c.in_ok-node.ensures.stripped in
     let less : c.loop-byte.byte < 256 = c.loop-byte-test.true in
-    let tested = c.index.ensures ∙ get_or_default c.in_ok-values.values.items c.loop-byte.byte c.index.result.now 0 (in_place (length c.in_ok-values.values.items) c.loop-byte.byte c.in_ok-values.ensures.size less) in
-    let share = c.descend.ensures.most (multiplicity p c.loop-byte.byte) (child-share s p c.in_ok-constants.ensures c.loop-byte.byte less c.in_ok-child.ensures) in
-    nodes-spent s p c.in_ok-constants.ensures c.args.left c.args.nodes.now c.loop-byte.nodes c.descend.new.nodes c.loop-byte.byte d
-    (positive c.args.left c.if-left-eq0.false) less (value-tested c.loop-byte.byte c.deref-2.ensures.value c.in_ok-values.ensures less tested ∙ c.if-index-ne0.false) h
+    let tested = value-tested c.loop-byte.byte c.index.result.now c.in_ok-node.ensures.values_are less c.index.ensures in
+    let share = c.descend.ensures.most (multiplicity (column c.in_ok-node.node.q 0) c.loop-byte.byte) (child-degree s less c.in_ok-child.ensures.child) in
+    nodes-spent s c.args.left c.args.nodes.now c.loop-byte.nodes c.descend.new.nodes c.loop-byte.byte d
+    (positive c.args.left c.if-left-eq0.false) less (tested ∙ c.if-index-ne0.false) h
     c.loop-byte.invariant.most (omega (arith, c.tick.ensures, share))
 
 -- what is left after the last coefficient is taken away
@@ -98,36 +80,34 @@ without_last xs n m e =
 
 pub loop-byte-preserved-then-index-ne0 : goal.loop-byte-preserved-then-index-ne0
 loop-byte-preserved-then-index-ne0 g t c =
-    let s = stripped c.strip_x.ensures.order c.strip_x.ensures.quotient c.coefficients_are_bytes.ensures in
-    let p = c.in_ok-constants.constants.items in
+    let s = c.in_ok-node.ensures.stripped in
     let less : c.loop-byte.byte < 256 = c.loop-byte-test.true in
-    let tested = c.index.ensures ∙ get_or_default c.in_ok-values.values.items c.loop-byte.byte c.index.result.now 0 (in_place (length c.in_ok-values.values.items) c.loop-byte.byte c.in_ok-values.ensures.size less) in
+    let tested = value-tested c.loop-byte.byte c.index.result.now c.in_ok-node.ensures.values_are less c.index.ensures in
     let some : 0 < c.args.left = positive c.args.left c.if-left-eq0.false in
     record {
       kept = c.loop-byte.invariant.kept;
       appends = appends-skip (IsRootOfSize c.args.q c.args.left) c.loop-byte.byte c.args.prefix.now.items (map (λ r. r.items) c.args.roots.now.items) (map (λ r. r.items) c.loop-byte.roots.items)
           c.loop-byte.invariant.appends
-          (none_begins s p c.in_ok-constants.ensures c.args.left c.loop-byte.byte some
-          (λ z. c.if-index-ne0.true (sym (value-tested c.loop-byte.byte c.deref-2.ensures.value c.in_ok-values.ensures less tested) ∙ z)));
-      most = nodes-skip s p c.in_ok-constants.ensures c.args.left c.args.nodes.now c.loop-byte.nodes c.loop-byte.byte c.loop-byte.invariant.most;
+          (none_begins s c.args.left c.loop-byte.byte some
+          (λ z. c.if-index-ne0.true (sym tested ∙ z)));
+      most = nodes-skip s c.args.left c.args.nodes.now c.loop-byte.nodes c.loop-byte.byte c.loop-byte.invariant.most;
       least = c.loop-byte.invariant.least;
       rises = c.loop-byte.invariant.rises;
     }
 
 pub loop-byte-preserved : goal.loop-byte-preserved
 loop-byte-preserved g t c =
-    let s = stripped c.strip_x.ensures.order c.strip_x.ensures.quotient c.coefficients_are_bytes.ensures in
-    let p = c.in_ok-constants.constants.items in
+    let s = c.in_ok-node.ensures.stripped in
     let less : c.loop-byte.byte < 256 = c.loop-byte-test.true in
-    let tested = c.index.ensures ∙ get_or_default c.in_ok-values.values.items c.loop-byte.byte c.index.result.now 0 (in_place (length c.in_ok-values.values.items) c.loop-byte.byte c.in_ok-values.ensures.size less) in
+    let tested = value-tested c.loop-byte.byte c.index.result.now c.in_ok-node.ensures.values_are less c.index.ensures in
     let some : 0 < c.args.left = positive c.args.left c.if-left-eq0.false in
     let prefix = c.args.prefix.now.items in
-    let share = c.in_ok-descend.ensures.most (multiplicity p c.loop-byte.byte) (child-share s p c.in_ok-constants.ensures c.loop-byte.byte less c.in_ok-child.ensures) in
-    let pushed = rw c.loop-byte.invariant.kept at c.in_ok-push.ensures.items in
+    let share = c.in_ok-descend.ensures.most (multiplicity (column c.in_ok-node.node.q 0) c.loop-byte.byte) (child-degree s less c.in_ok-child.ensures.child) in
+    let pushed = rw c.loop-byte.invariant.kept at c.in_ok-child.ensures.prefix in
     let descended = rw pushed at c.in_ok-descend.ensures.kept in
     let rest = rw descended at c.pop.ensures.rest in
-    let more = nodes-more s p c.in_ok-constants.ensures c.args.left c.args.nodes.now c.loop-byte.nodes c.descend.new.nodes c.loop-byte.byte some less
-    (value-tested c.loop-byte.byte c.deref-2.ensures.value c.in_ok-values.ensures less tested ∙ c.if-index-ne0.false) c.loop-byte.invariant.most (omega (arith, c.tick.ensures, share)) in
+    let more = nodes-more s c.args.left c.args.nodes.now c.loop-byte.nodes c.descend.new.nodes c.loop-byte.byte some less
+    (tested ∙ c.if-index-ne0.false) c.loop-byte.invariant.most (omega (arith, c.tick.ensures, share)) in
     let P = IsRootOfSize c.args.q c.args.left in
     let Sub = IsRootOfSize c.in_ok-child.child (c.args.left - 1) in
     let old = map (λ r. r.items) c.args.roots.now.items in
@@ -136,7 +116,7 @@ loop-byte-preserved g t c =
     record {
       kept = rw (without_last prefix c.loop-byte.byte (vec_len c.descend.new.prefix) (c.descend.new.prefix.ok.0 ∙ ap length descended)) at rest;
       appends = appends-more P Sub c.loop-byte.byte prefix old before new (λ phi h. let size = h.size in omega (arith, some, size))
-          (λ psi. child-roots s less c.in_ok-child.ensures c.args.left psi some)
+          (λ psi. child-roots s less c.in_ok-child.ensures.child c.args.left psi some)
           c.loop-byte.invariant.appends
           (subst (λ prefix. Appends Sub prefix before new) pushed c.in_ok-descend.ensures.exact);
       most = more;
@@ -160,8 +140,8 @@ returns-clause-exact g t c =
 
 pub returns-clause-most : goal.returns-clause-most
 returns-clause-most g t c = λ d h.
-    let s = stripped c.strip_x.ensures.order c.strip_x.ensures.quotient c.coefficients_are_bytes.ensures in
-    nodes-most s c.in_ok-constants.constants.items c.in_ok-constants.ensures c.args.left c.args.nodes.now c.loop-byte.nodes c.loop-byte.byte d
+    let s = c.in_ok-node.ensures.stripped in
+    nodes-most s c.args.left c.args.nodes.now c.loop-byte.nodes c.loop-byte.byte d
     c.loop-byte.auto.byte-end h c.loop-byte.invariant.most
 
 pub returns-clause-least : goal.returns-clause-least
@@ -173,23 +153,14 @@ returns-then-left-eq0-clause-most g t c = λ d h. no_step c.args.nodes.now _
 pub returns-then-left-eq0-clause-rises : goal.returns-then-left-eq0-clause-rises
 returns-then-left-eq0-clause-rises g t c = le_refl c.args.nodes.now
 
-pub returns-in_err-constants-clause-most : goal.returns-in_err-constants-clause-most
-returns-in_err-constants-clause-most g t c = λ d h. no_step c.args.nodes.now _
+pub returns-in_err-node-clause-most : goal.returns-in_err-node-clause-most
+returns-in_err-node-clause-most g t c = λ d h. no_step c.args.nodes.now _
 
-pub returns-in_err-constants-clause-rises : goal.returns-in_err-constants-clause-rises
-returns-in_err-constants-clause-rises g t c = le_refl c.args.nodes.now
-
-pub returns-in_err-values-clause-most : goal.returns-in_err-values-clause-most
-returns-in_err-values-clause-most g t c = λ d h. no_step c.args.nodes.now _
-
-pub returns-in_err-values-clause-rises : goal.returns-in_err-values-clause-rises
-returns-in_err-values-clause-rises g t c = le_refl c.args.nodes.now
+pub returns-in_err-node-clause-rises : goal.returns-in_err-node-clause-rises
+returns-in_err-node-clause-rises g t c = le_refl c.args.nodes.now
 
 pub returns-in_err-child-clause-rises : goal.returns-in_err-child-clause-rises
 returns-in_err-child-clause-rises g t c = c.loop-byte.invariant.rises
-
-pub returns-in_err-push-clause-rises : goal.returns-in_err-push-clause-rises
-returns-in_err-push-clause-rises g t c = c.loop-byte.invariant.rises
 
 pub returns-in_err-descend-clause-rises : goal.returns-in_err-descend-clause-rises
 returns-in_err-descend-clause-rises g t c = ticked c.args.nodes.now c.loop-byte.nodes _ c.descend.new.nodes c.loop-byte.invariant.rises c.tick.ensures c.in_err-descend.ensures.rises
@@ -200,40 +171,20 @@ returns-clause-rises g t c = c.loop-byte.invariant.rises
 pub returns-clause-kept : goal.returns-clause-kept
 returns-clause-kept g t c = c.loop-byte.invariant.kept
 
-pub values_at_bytes-requires-clause-powers : goal.values_at_bytes-requires-clause-powers
-values_at_bytes-requires-clause-powers g t c = c.requires.powers_are
-
 pub returns-then-left-eq0-clause-kept : goal.returns-then-left-eq0-clause-kept
 returns-then-left-eq0-clause-kept g t c = on_ok_weaker c.keep_root.result (λ found. refl) c.keep_root.ensures
 
 pub returns-then-left-eq0-clause-least : goal.returns-then-left-eq0-clause-least
 returns-then-left-eq0-clause-least g t c = on_ok_weaker c.keep_root.result (λ found some. none_left c.args.nodes.now c.args.left c.if-left-eq0.true) c.keep_root.ensures
 
-pub strip_x-requires : goal.strip_x-requires
-strip_x-requires g t c = c.requires.nonzero
+pub returns-in_err-node-clause-kept : goal.returns-in_err-node-clause-kept
+returns-in_err-node-clause-kept g t c = IfOk-from_err c.from_residual.result _ c.from_residual.ensures.0
 
-pub values_at_bytes-requires-clause-enough : goal.values_at_bytes-requires-clause-enough
-values_at_bytes-requires-clause-enough g t c = let there = ap length (c.deref-2.ensures.value ∙ c.in_ok-constants.ensures) ∙ length-map c.strip_x.new.self _ ∙ ap length c.strip_x.ensures.quotient ∙ length-map c.args.q (drop _) in
-    let rows = length-map c.args.powers.now (λ (r : Vec ℕ Global). r.items) in
-    fits_in _ _ _ _ there c.requires.enough rows
+pub returns-in_err-node-clause-exact : goal.returns-in_err-node-clause-exact
+returns-in_err-node-clause-exact g t c = IfOk-from_err c.from_residual.result _ c.from_residual.ensures.0
 
-pub returns-in_err-constants-clause-kept : goal.returns-in_err-constants-clause-kept
-returns-in_err-constants-clause-kept g t c = IfOk-from_err c.from_residual.result _ c.from_residual.ensures.0
-
-pub returns-in_err-constants-clause-exact : goal.returns-in_err-constants-clause-exact
-returns-in_err-constants-clause-exact g t c = IfOk-from_err c.from_residual.result _ c.from_residual.ensures.0
-
-pub returns-in_err-constants-clause-least : goal.returns-in_err-constants-clause-least
-returns-in_err-constants-clause-least g t c = IfOk-from_err c.from_residual.result _ c.from_residual.ensures.0
-
-pub returns-in_err-values-clause-kept : goal.returns-in_err-values-clause-kept
-returns-in_err-values-clause-kept g t c = IfOk-from_err c.from_residual-in_err-values.result _ c.from_residual-in_err-values.ensures.0
-
-pub returns-in_err-values-clause-exact : goal.returns-in_err-values-clause-exact
-returns-in_err-values-clause-exact g t c = IfOk-from_err c.from_residual-in_err-values.result _ c.from_residual-in_err-values.ensures.0
-
-pub returns-in_err-values-clause-least : goal.returns-in_err-values-clause-least
-returns-in_err-values-clause-least g t c = IfOk-from_err c.from_residual-in_err-values.result _ c.from_residual-in_err-values.ensures.0
+pub returns-in_err-node-clause-least : goal.returns-in_err-node-clause-least
+returns-in_err-node-clause-least g t c = IfOk-from_err c.from_residual.result _ c.from_residual.ensures.0
 
 pub returns-in_err-child-clause-kept : goal.returns-in_err-child-clause-kept
 returns-in_err-child-clause-kept g t c = IfOk-from_err c.from_residual-in_err-child.result _ c.from_residual-in_err-child.ensures.0
@@ -243,15 +194,6 @@ returns-in_err-child-clause-exact g t c = IfOk-from_err c.from_residual-in_err-c
 
 pub returns-in_err-child-clause-least : goal.returns-in_err-child-clause-least
 returns-in_err-child-clause-least g t c = IfOk-from_err c.from_residual-in_err-child.result _ c.from_residual-in_err-child.ensures.0
-
-pub returns-in_err-push-clause-kept : goal.returns-in_err-push-clause-kept
-returns-in_err-push-clause-kept g t c = IfOk-from_err c.from_residual-in_err-push.result _ c.from_residual-in_err-push.ensures.0
-
-pub returns-in_err-push-clause-exact : goal.returns-in_err-push-clause-exact
-returns-in_err-push-clause-exact g t c = IfOk-from_err c.from_residual-in_err-push.result _ c.from_residual-in_err-push.ensures.0
-
-pub returns-in_err-push-clause-least : goal.returns-in_err-push-clause-least
-returns-in_err-push-clause-least g t c = IfOk-from_err c.from_residual-in_err-push.result _ c.from_residual-in_err-push.ensures.0
 
 pub returns-in_err-descend-clause-kept : goal.returns-in_err-descend-clause-kept
 returns-in_err-descend-clause-kept g t c = IfOk-from_err c.from_residual-in_err-descend.result _ c.from_residual-in_err-descend.ensures.0
