@@ -70,3 +70,7 @@ powers-more rows new n count before size each = record {
 -- the value that was tested
 pub value-tested : {values p : List ℕ} (g v : ℕ) → AreValues values p → g < 256 → v ≡ get_or values g v → val p g ≡ v
 value-tested {values} g v are l is = sym (are.each g l) ∙ get_or_default values g 0 v (omega (arith, are.size, l)) ∙ sym is
+
+-- where it is 0
+pub value-zero : {values p : List ℕ} (g v : ℕ) → AreValues values p → g < 256 → v ≡ get_or values g v → v ≡ 0 → val p g ≡ 0
+value-zero g v are l is zero = value-tested g v are l is ∙ zero
