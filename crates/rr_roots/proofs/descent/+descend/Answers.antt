@@ -1,4 +1,4 @@
-use Rattle.std.proofs.Common.{◌≡◌, ◌≢◌, ◌<◌, ◌≤◌, ◌+◌, ◌-◌, ℕ, List, [], ◌∷◌, ◌++◌, length, map, take, vec_len, refl, sym, ap, subst, ◌∙◌, arith, Vec, Global}
+use Rattle.std.proofs.Common.{◌≡◌, ◌≢◌, ◌<◌, ◌≤◌, ◌+◌, ◌-◌, ℕ, Fits, w8, w64, le_of_lt, List, [], ◌∷◌, ◌++◌, length, map, take, vec_len, refl, sym, ap, subst, ◌∙◌, arith}
 use Rattle.std.proofs.Math.Nat.{le_refl}
 use Rattle.std.proofs.Math.Seq.{take-append_seam}
 use Rattle.std.proofs.lemmas.List.{length-append}
@@ -7,7 +7,7 @@ use Rattle.gf256.specs.Polynomial.{val}
 use Rattle.bi_poly.specs.Rows.{column}
 use Rattle.rr_roots.specs.Descent.{Appends, IsRootOfSize}
 use Rattle.rr_roots.proofs.Children.{first_is_below, root_begins, child-nonzero, child-rows, child-roots, child-degree}
-use Rattle.rr_roots.proofs.Levels.{HoldsBelow, appends-none_yet, appends-skip, appends-more, appends-all}
+use Rattle.rr_roots.proofs.Levels.{appends-none_yet, appends-skip, appends-more, appends-all}
 use Rattle.rr_roots.proofs.Multiplicities.{multiplicity}
 use Rattle.rr_roots.proofs.ByteValues.{value-tested, value-zero}
 use borrow.Author.Count.{falls}
@@ -18,8 +18,14 @@ use Rattle.rr_roots.proofs.descent.+descend.Goals as goal
 positive : (n : ℕ) → n ≢ 0 → 0 < n
 positive n some = omega (arith, some)
 
-at_most : (b : ℕ) → b < 256 → b ≤ 256
-at_most b less = omega (arith, less)
+in_place : (n b : ℕ) → n ≡ 256 → b < 256 → b < n
+in_place n b size less = omega (arith, size, less)
+
+fits : (b : ℕ) → b < 256 → Fits w64 b
+fits b less = omega (arith, less)
+
+fits_byte : (b : ℕ) → b < 256 → Fits w8 b
+fits_byte b less = omega (arith, less)
 
 never : (n : ℕ) → n < n → ⊥
 never n less = omega (arith, less)
@@ -36,8 +42,8 @@ returns-then-left-eq0-clause-exact g t c =
     let new = map (λ r. r.items) c.keep_root.new.roots.items in
     on_ok_weaker c.keep_root.result
     (λ (kept : Appends (IsRootOfSize c.args.q 0) c.deref.result.now old new).
-     subst (λ left. Appends (IsRootOfSize c.args.q left) c.args.prefix.now.items old new) (sym c.if-left-eq0.true)
-     (subst (λ prefix. Appends (IsRootOfSize c.args.q 0) prefix old new) c.deref.ensures.value kept))
+    subst (λ left. Appends (IsRootOfSize c.args.q left) c.args.prefix.now.items old new) (sym c.if-left-eq0.true)
+    (subst (λ prefix. Appends (IsRootOfSize c.args.q 0) prefix old new) c.deref.ensures.value kept))
     c.keep_root.ensures
 
 pub loop-byte-init : goal.loop-byte-init
@@ -52,7 +58,7 @@ loop-byte-init g t c = record {
 pub returns-in_err-child-clause-most : goal.returns-in_err-child-clause-most
 returns-in_err-child-clause-most g t c = λ d h.
     nodes-most c.in_ok-node.ensures.stripped c.args.left c.args.nodes.now c.loop-byte.nodes c.loop-byte.byte d
-    (at_most c.loop-byte.byte c.loop-byte-test.true) h c.loop-byte.invariant.most
+    (le_of_lt c.loop-byte-test.true) h c.loop-byte.invariant.most
 
 pub descend-requires : goal.descend-requires
 descend-requires g t c κs within =
@@ -213,3 +219,18 @@ loop-byte-smaller g t c = falls 256 c.loop-byte.byte c.loop-byte-test.true
 
 pub loop-byte-smaller-then-index-ne0 : goal.loop-byte-smaller-then-index-ne0
 loop-byte-smaller-then-index-ne0 g t c = falls 256 c.loop-byte.byte c.loop-byte-test.true
+
+pub overflow_cast-byte : goal.overflow_cast-byte
+overflow_cast-byte g t c = fits c.loop-byte.byte c.loop-byte-test.true
+
+pub overflow_cast-byte-in-loop-byte : goal.overflow_cast-byte-in-loop-byte
+overflow_cast-byte-in-loop-byte g t c = fits_byte c.loop-byte.byte c.loop-byte-test.true
+
+pub overflow_sub-left : goal.overflow_sub-left
+overflow_sub-left g t c = positive c.args.left c.if-left-eq0.false
+
+pub index-requires : goal.index-requires
+index-requires g t c = in_place (vec_len c.in_ok-node.node.values) c.loop-byte.byte (c.in_ok-node.node.values.ok.0 ∙ c.in_ok-node.ensures.values_are.size) c.loop-byte-test.true
+
+pub open-requires : goal.open-requires
+open-requires g t c = c.requires
