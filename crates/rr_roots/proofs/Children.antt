@@ -1,8 +1,8 @@
 -- A node of the tree and its children: from the y-roots of a child to those of the node that begin with its byte (Roth and
 -- Ruckenstein 2000).
-use Rattle.std.proofs.Common.{◌≡◌, ◌↔◌, ℕ, suc, ◌+◌, ◌-◌, ◌<◌, ◌≤◌, List, [], ◌∷◌, length, map, get_or, All, sym, ap, ap₂, subst, ◌∙◌, inl, inr, arith}
+use Rattle.std.proofs.Common.{◌≡◌, ◌↔◌, ℕ, suc, ◌+◌, ◌-◌, ◌<◌, ◌≤◌, List, [], ◌∷◌, length, map, drop, get_or, All, sym, ap, ap₂, subst, ◌∙◌, inl, inr, arith}
 use Rattle.std.proofs.lemmas.Bool.{cases_lt}
-use Rattle.std.proofs.lemmas.List.{get_or_past, get_or_default, get_or-map, nil_from_length}
+use Rattle.std.proofs.lemmas.List.{get_or_past, get_or_default, get_or-map, length-map, nil_from_length}
 use Rattle.std.proofs.lemmas.List.Elements.{All-cons, All-tail}
 use Rattle.gf256.specs.Field.{◌⊕◌, ◌⊗◌}
 use Rattle.gf256.specs.Polynomial.{coef, val}
@@ -14,14 +14,13 @@ use Rattle.uni_poly.proofs.Series.{times, times_comm}
 use Rattle.uni_poly.proofs.Coefficients.{IsBytes-from_all}
 use Rattle.uni_poly.proofs.Values.{val_nil, val_cons}
 use Rattle.bi_poly.specs.Rows.{row, cell, column, IsZero, AreBytes}
-use Rattle.bi_poly.specs.Degree.{IsOrderInX, without_first}
 use Rattle.bi_poly.specs.Substitution.{at_poly_coef, IsShiftedRoot}
 use Rattle.bi_poly.proofs.Composition.{at_series, at_poly_coef-series, times-zero}
 use Rattle.bi_poly.proofs.Degree.{coef-column}
 use Rattle.bi_poly.proofs.Peeling.{peeled, spread, spread-low, spread-high, stripped-at_poly, zero_from_shifted}
 use Rattle.bi_poly.proofs.Strip.{cell-without_first}
 use Rattle.rr_roots.specs.Roots.{IsYRoot, HasDegreeInYAtMost}
-use Rattle.rr_roots.specs.Descent.{IsRootOfSize, HasLowestColumnDegreeAtMost}
+use Rattle.rr_roots.specs.Descent.{IsRootOfSize, HasLowestColumnDegreeAtMost, IsStripped}
 use Rattle.rr_roots.proofs.Multiplicities.{multiplicity, taylor-multiplicity}
 
 -- ---- no coefficient
@@ -53,7 +52,7 @@ no_row items rows q view none = ap (λ q. row q 0) (sym view) ∙ ap (λ rows. r
 -- ---- the first coefficient
 
 -- it is a byte
-pub first_byte : (q : List (List ℕ)) (n : ℕ) (phi : List ℕ) → IsRootOfSize q n phi → coef phi 0 < 256
+first_byte : (q : List (List ℕ)) (n : ℕ) (phi : List ℕ) → IsRootOfSize q n phi → coef phi 0 < 256
 first_byte q n phi h = IsBytes-from_all phi h.bytes 0
 
 -- where phi stands for y, the constant is the value, at the constant of phi, of what stands in q before x ^ 0
@@ -63,6 +62,14 @@ at_first [] g psi h = sym (val_nil g)
 at_first (r ∷ q) g psi h =
     ap₂ (λ c v. c ⊕ g ⊗ v) (sym (mul_one (coef r 0) (h 0 0))) (at_first q g psi (λ j i. h (suc j) i)) ∙ sym (val_cons (coef r 0) (column q 0) g)
 
+-- and after the last byte none is
+pub first_is_below : (q : List (List ℕ)) (n g : ℕ) → 256 ≤ g → (phi : List ℕ) → IsRootOfSize q n phi → coef phi 0 < g
+first_is_below q n g last phi h = omega (arith, last, first_byte q n phi h)
+
+-- a root has a first coefficient
+pub root_begins : (q : List (List ℕ)) (n : ℕ) → 0 < n → (phi : List ℕ) → IsRootOfSize q n phi → 0 < length phi
+root_begins q n some phi h = subst (λ k. 0 < k) (sym h.size) some
+
 -- ---- the degree in y
 
 -- it bounds the degree of what stands before each power of x
@@ -70,12 +77,6 @@ pub lowest_degree : (q : List (List ℕ)) (d : ℕ) → HasDegreeInYAtMost q d �
 lowest_degree q d h r order j l = coef-column q r j ∙ h j r (omega (arith, l))
 
 -- ---- a node without the powers of x
-
--- q is the polynomial of a node, divided by the greatest power of x that divides it
-pub record IsStripped (whole q : List (List ℕ)) (r : ℕ) : Type 0 where
-  pub order : IsOrderInX whole r
-  pub quotient : q ≡ without_first r whole
-  pub bytes : AreBytes q
 
 module _ {whole q : List (List ℕ)} {r : ℕ} (s : IsStripped whole q r) where
   -- a coefficient
@@ -126,6 +127,10 @@ module _ {whole q : List (List ℕ)} {r : ℕ} (s : IsStripped whole q r) where
     -- the child is not 0
     pub child-nonzero : IsZero child → ⊥
     child-nonzero z = stripped-nonzero (zero_from_shifted q child g s.bytes h z)
+
+    -- it has as many rows as the node
+    pub child-rows : (n : ℕ) → length whole ≤ n → length child ≤ n
+    child-rows n fits = subst (λ k. k ≤ n) (sym (h.rows ∙ ap length s.quotient ∙ length-map whole (drop r))) fits
 
     -- its y-roots are those of the node that begin with g, without it
     pub child-roots : (n : ℕ) (psi : List ℕ) → 0 < n → IsRootOfSize child (n - 1) psi ↔ IsRootOfSize whole n (g ∷ psi)

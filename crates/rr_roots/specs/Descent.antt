@@ -5,10 +5,10 @@ use Rattle.std.specs.Cmp.Lexicographic.{slice_cmp}
 use Rattle.std.specs.List.Sorted.{IsStrictlySortedBy}
 use Rattle.std.specs.Ordering.{nat_cmp}
 use Rattle.uni_poly.specs.Coefficients.{HasDegreeBelow}
-use Rattle.bi_poly.specs.Rows.{column, IsZero}
-use Rattle.bi_poly.specs.Degree.{IsOrderInX}
+use Rattle.bi_poly.specs.Rows.{column, IsZero, AreBytes}
+use Rattle.bi_poly.specs.Degree.{IsOrderInX, without_first}
 use Rattle.rr_roots.specs.Roots.{IsYRoot}
-use Rattle.rr_roots.specs.Values.{ArePowers}
+use Rattle.rr_roots.specs.Values.{ArePowers, AreValues}
 
 -- phi is a y-root of q of n bytes
 pub record IsRootOfSize (q : List (List ℕ)) (n : ℕ) (phi : List ℕ) : Type 0 where
@@ -36,3 +36,15 @@ pub record IsNode (q powers : List (List ℕ)) : Type 0 where
   pub nonzero : ¬ IsZero q
   pub enough : length q ≤ length powers
   pub powers_are : ArePowers powers
+
+-- q is the polynomial of a node, divided by the greatest power of x that divides it
+pub record IsStripped (whole q : List (List ℕ)) (r : ℕ) : Type 0 where
+  pub order : IsOrderInX whole r
+  pub quotient : q ≡ without_first r whole
+  pub bytes : AreBytes q
+
+-- and the values are those of what then stands in it before x^0
+pub record IsOpened (whole q : List (List ℕ)) (values : List ℕ) : Type 0 where
+  pub power : ℕ
+  pub stripped : IsStripped whole q power
+  pub values_are : AreValues values (column q 0)

@@ -4,9 +4,10 @@
 //! y-root `gamma + x*psi` of `q` begins with a root of `q(0, y)`, once `q` isn't divisible by x, and then psi is a y-root of
 //! `q(x, x*y + gamma)`, which is the polynomial of the child.
 
-ghost use Rattle.std.specs.Prelude.{ℕ, [], ◌≡◌, ◌+◌, ◌*◌, ◌<◌, ◌≤◌, ◌↔◌, IsTrue, length, map, All, OnOk};
+ghost use Rattle.std.specs.Prelude.{ℕ, [], ◌∷◌, ◌++◌, ◌≡◌, ◌+◌, ◌*◌, ◌<◌, ◌≤◌, ◌↔◌, IsTrue, length, map, All, IfOk, OnOk};
+ghost use Rattle.bi_poly.specs.Substitution.{IsShiftedRoot};
 ghost use Rattle.rr_roots.specs.Roots.{IsYRoot};
-ghost use Rattle.rr_roots.specs.Descent.{Appends, HasLowestColumnDegreeAtMost, IsNode, IsRootOfSize};
+ghost use Rattle.rr_roots.specs.Descent.{Appends, HasLowestColumnDegreeAtMost, IsNode, IsOpened, IsRootOfSize};
 
 use crate::values::values_at_bytes;
 use bi_poly::BiPoly;
@@ -49,6 +50,46 @@ fn keep_root(
     Ok(())
 }
 
+/// A node's polynomial without the powers of x that divide it, and the values at all bytes of what then stands in it before
+/// `x^0`: a y-root begins with a byte where that is 0.
+#[derive(Drop)]
+struct Node {
+    q: BiPoly,
+    values: Vec<u8>,
+}
+
+/// The node of `q`, which must not be 0. `powers` has the powers of all bytes, a row for each row of `q`.
+///
+/// `AllocError` where there is no memory for the values.
+fn open(alloc: Global, mut q: BiPoly, powers: &[Vec<u8>]) -> Result<Node, AllocError>
+    requires { IsNode q (map (λ r. r.items) powers.now) }
+    ensures { IfOk result (λ node. IsOpened q node.q node.values.items) }
+{
+    // The y-roots stay.
+    q.strip_x();
+    coefficients_are_bytes(&q);
+    let constants = q.at_zero(alloc)?;
+    let values = values_at_bytes(alloc, &constants, powers)?;
+    Ok(Node { q, values })
+}
+
+/// The polynomial of the child that fixes the coefficient `gamma`, which is appended to `prefix`.
+///
+/// `AllocError` where there is no memory for these.
+fn child_at(
+    alloc: Global,
+    q: &BiPoly,
+    gamma: u8,
+    prefix: &mut Vec<u8>,
+) -> Result<BiPoly, AllocError>
+    ensures child { IfOk result (IsShiftedRoot q.now gamma) }
+    ensures prefix { OnOk result (prefix.new.items ≡ prefix.old.items ++ gamma ∷ []) }
+{
+    let child = q.shift_root(alloc, gamma)?;
+    prefix.push(gamma)?;
+    Ok(child)
+}
+
 /// Appends to `roots` the y-roots of `q`, which must not be 0, that have `left` coefficients, in ascending order and each
 /// after `prefix`. `powers` has the powers of all bytes, a row for each row of `q`. `nodes` counts the nodes below this
 /// one: on each of the `left` levels at most as many as the degree in y of the lowest column of `q` that isn't 0, that is,
@@ -62,7 +103,7 @@ fn keep_root(
 /// `prefix`.
 pub fn descend<N: Ledger>(
     alloc: Global,
-    mut q: BiPoly,
+    q: BiPoly,
     powers: &[Vec<u8>],
     left: u32,
     prefix: &mut Vec<u8>,
@@ -80,18 +121,12 @@ pub fn descend<N: Ledger>(
     if left == 0 {
         return keep_root(alloc, &q, prefix, roots);
     }
-    // The y-roots stay.
-    q.strip_x();
-    coefficients_are_bytes(&q);
-    let constants = q.at_zero(alloc)?;
-    let values = values_at_bytes(alloc, &constants, powers)?;
+    let node = open(alloc, q, powers)?;
     for byte in 0..256u16 {
-        if values[byte as usize] != 0 {
+        if node.values[byte as usize] != 0 {
             continue;
         }
-        let gamma = byte as u8;
-        let child = q.shift_root(alloc, gamma)?;
-        prefix.push(gamma)?;
+        let child = child_at(alloc, &node.q, byte as u8, prefix)?;
         nodes.tick();
         descend(alloc, child, powers, left - 1, prefix, roots, nodes)?;
         prefix.pop();

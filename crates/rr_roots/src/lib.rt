@@ -22,7 +22,6 @@ use std::sync::ledger::Ledger;
 use uni_poly::steps::Steps;
 
 /// A copy of `q`.
-#[tactic(auto, using(std::proofs::lemmas::List::map_more))]
 fn copy(alloc: Global, q: &BiPoly) -> Result<BiPoly, AllocError>
     ensures { IfOk result (λ c. c ≡ q.now) }
 {

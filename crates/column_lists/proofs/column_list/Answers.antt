@@ -3,7 +3,7 @@ use Rattle.gf256.specs.Polynomial.{val}
 use Rattle.column_lists.specs.Agreement.{ListsAgreeing}
 use Rattle.column_runs.proofs.OnOne.{off_one}
 use Rattle.column_lists.proofs.OnOne.{lists_one}
-use Rattle.std.proofs.lemmas.Result.{IfOk-weaker}
+use Rattle.std.proofs.lemmas.Result.{IfOk-from_err, IfOk-weaker}
 use Rattle.column_lists.proofs.column_list.Goals as goal
 
 -- with no step, the steps are as few as they may be
@@ -118,3 +118,15 @@ pub returns-then-lie_on-clause-least : goal.returns-then-lie_on-clause-least
 returns-then-lie_on-clause-least g c = λ some apart.
     let on = subst (λ q. All (λ p. val q p.0 ≡ p.1) c.args.points.now) c.deref.ensures.value (c.lie_on.ensures.0 c.if-lie_on.true) in
     absurd (apart (c.in_ok-first.first.items, c.in_ok-first.ensures.polynomial, on))
+
+pub returns-in_err-first-clause-exact : goal.returns-in_err-first-clause-exact
+returns-in_err-first-clause-exact g c = IfOk-from_err c.from_residual.result _ c.from_residual.ensures.0
+
+pub returns-in_err-first-clause-least : goal.returns-in_err-first-clause-least
+returns-in_err-first-clause-least g c = IfOk-from_err c.from_residual.result _ c.from_residual.ensures.0
+
+pub returns-in_err-vec-clause-exact : goal.returns-in_err-vec-clause-exact
+returns-in_err-vec-clause-exact g c = IfOk-from_err c.from_residual-in_err-vec.result _ c.from_residual-in_err-vec.ensures.0
+
+pub returns-in_err-vec-clause-least : goal.returns-in_err-vec-clause-least
+returns-in_err-vec-clause-least g c = IfOk-from_err c.from_residual-in_err-vec.result _ c.from_residual-in_err-vec.ensures.0

@@ -1,4 +1,4 @@
-use Rattle.std.proofs.Common.{ℕ, ◌+◌, ◌≤◌, length, map, sym, subst, arith, ◌<◌, ap, ◌∙◌, [], ◌∷◌, ◌≡◌, List, Vec, Global}
+use Rattle.std.proofs.Common.{ℕ, Fits, w32, ◌+◌, ◌≤◌, length, map, sym, subst, arith, ◌<◌, ap, ◌∙◌, [], ◌∷◌, ◌≡◌, List, Vec, Global}
 use Rattle.interpolation.specs.Monomials.{conditions, monomials}
 use Rattle.column_lists.specs.declared.TheConstants.{MOST_COST}
 use Rattle.column_lists.proofs.Counting.{multiplicity-in_range, degree-in_range}
@@ -6,6 +6,7 @@ use Rattle.column_lists.proofs.Listed.{listed, nodes_most}
 use Rattle.std.specs.Prelude.{Bool}
 use Rattle.std.specs.List.{filter}
 use Rattle.std.proofs.lemmas.List.{length-map}
+use Rattle.std.proofs.lemmas.Result.{IfOk-from_err}
 use Rattle.column_lists.proofs.list_roots.Goals as goal
 
 -- with no step, the steps are as few as they may be
@@ -25,6 +26,15 @@ kept_some [] new test e some =
     absurd (omega (arith, none, same, some))
 kept_some (x ∷ old) new test e some = omega arith
 
+some_points : (t h k : ℕ) → t < h → h ≤ k → 1 ≤ k
+some_points t h k less l = omega (arith, less, l)
+
+few_points : (h k : ℕ) → h ≤ k → k ≤ 255 → h ≤ 255
+few_points h k l few = omega (arith, l, few)
+
+points_fit : (k : ℕ) → k ≤ 255 → Fits w32 k
+points_fit k few = omega (arith, few)
+
 small_degree : (t h k : ℕ) → t < h → h ≤ k → k ≤ 255 → t ≤ 254
 small_degree t h k less l few = omega (arith, less, l, few)
 
@@ -32,14 +42,14 @@ pub interpolate-requires-clause-multiplicity : goal.interpolate-requires-clause-
 interpolate-requires-clause-multiplicity g c =
     let plan = c.plan-plan.result in
     let r = c.requires in
-    multiplicity-in_range (length c.args.points.now) c.args.t c.args.h plan.m (omega (arith, r.redundant, r.agreement)) c.plan-plan.ensures.multiplicity
+    multiplicity-in_range (length c.args.points.now) c.args.t c.args.h plan.m (some_points c.args.t c.args.h _ r.redundant r.agreement) c.plan-plan.ensures.multiplicity
     (subst (λ (m : ℕ). conditions (length c.args.points.now) m ≤ MOST_COST) (sym c.plan-plan.ensures.multiplicity) r.cheap)
 
 pub interpolate-requires-clause-degree : goal.interpolate-requires-clause-degree
 interpolate-requires-clause-degree g c =
     let plan = c.plan-plan.result in
     let r = c.requires in
-    degree-in_range c.args.h plan.m plan.d (omega (arith, r.agreement, r.points)) (interpolate-requires-clause-multiplicity g c).1 c.plan-plan.ensures.degree
+    degree-in_range c.args.h plan.m plan.d (few_points c.args.h _ r.agreement r.points) (interpolate-requires-clause-multiplicity g c).1 c.plan-plan.ensures.degree
 
 pub interpolate-requires-clause-few : goal.interpolate-requires-clause-few
 interpolate-requires-clause-few g c =
@@ -109,3 +119,18 @@ interpolate-requires-clause-enough g c = let plan = c.plan-plan.ensures in
 pub returns-clause-least : goal.returns-clause-least
 returns-clause-least g c = λ some.
     c.in_ok-list.ensures.least (kept_some c.in_ok-list.list.items c.keep_agreeing.new.list.items _ c.keep_agreeing.ensures some)
+
+pub overflow_cast-points : goal.overflow_cast-points
+overflow_cast-points g c = points_fit (length c.args.points.now) c.requires.points
+
+pub returns-in_err-q-clause-exact : goal.returns-in_err-q-clause-exact
+returns-in_err-q-clause-exact g c = IfOk-from_err c.from_residual.result _ c.from_residual.ensures.0
+
+pub returns-in_err-q-clause-least : goal.returns-in_err-q-clause-least
+returns-in_err-q-clause-least g c = IfOk-from_err c.from_residual.result _ c.from_residual.ensures.0
+
+pub returns-in_err-list-clause-exact : goal.returns-in_err-list-clause-exact
+returns-in_err-list-clause-exact g c = IfOk-from_err c.from_residual-in_err-list.result _ c.from_residual-in_err-list.ensures.0
+
+pub returns-in_err-list-clause-least : goal.returns-in_err-list-clause-least
+returns-in_err-list-clause-least g c = IfOk-from_err c.from_residual-in_err-list.result _ c.from_residual-in_err-list.ensures.0

@@ -1,5 +1,6 @@
-use Rattle.std.proofs.Common.{◌<◌, ℕ, List, length, map, sym, ap, subst, arith, Vec, Global}
+use Rattle.std.proofs.Common.{◌≡◌, ◌<◌, ◌≤◌, ◌+◌, ℕ, List, [], length, map, sym, ap, subst, ◌∙◌, arith, Vec, Global}
 use Rattle.bi_poly.specs.Rows.{IsZero}
+use Rattle.rr_roots.specs.Descent.{Appends, IsRootOfSize}
 use Rattle.rr_roots.specs.Values.{ArePowers}
 use Rattle.rr_roots.specs.Roots.{HasDegreeInYAtMost}
 use Rattle.std.proofs.Math.Nat.{le_refl}
@@ -10,6 +11,9 @@ use Rattle.rr_roots.proofs.Levels.{listed}
 use Rattle.rr_roots.proofs.Nodes.{no_step}
 use Rattle.rr_roots.proofs.y_roots.Goals as goal
 
+same_size : (a b : ℕ) → a ≡ b → a ≤ b
+same_size a b same = omega (arith, same)
+
 pub returns-in_err-descend-clause-most : goal.returns-in_err-descend-clause-most
 returns-in_err-descend-clause-most g c = λ d h.
     c.descend.ensures.most d (lowest_degree c.in_ok-whole.whole d (subst (λ q. HasDegreeInYAtMost q d) (sym c.in_ok-whole.ensures) h))
@@ -17,9 +21,10 @@ returns-in_err-descend-clause-most g c = λ d h.
 pub returns-clause-exact : goal.returns-clause-exact
 returns-clause-exact g c =
     let new = map (λ r. r.items) c.descend.new.roots.items in
-    let whole = rw c.in_ok-whole.ensures at c.in_ok-descend.ensures.exact in
-    let after = rw c.new-prefix.ensures.items at whole in
-    listed c.args.q.now c.args.t new (rw c.new-roots.ensures.items at after)
+    listed c.args.q.now c.args.t new
+    (subst (λ old. Appends (IsRootOfSize c.args.q.now (c.args.t + 1)) [] old new) (ap (map (λ r. r.items)) c.new-roots.ensures.items)
+    (subst (λ prefix. Appends (IsRootOfSize c.args.q.now (c.args.t + 1)) prefix (map (λ r. r.items) c.new-roots.result.items) new) c.new-prefix.ensures.items
+    (subst (λ q. Appends (IsRootOfSize q (c.args.t + 1)) c.new-prefix.result.items (map (λ r. r.items) c.new-roots.result.items) new) c.in_ok-whole.ensures c.in_ok-descend.ensures.exact)))
 
 pub returns-clause-most : goal.returns-clause-most
 returns-clause-most g c = λ d h.
@@ -71,15 +76,8 @@ descend-requires g c =
     let held = c.deref.ensures.value in
     record {
       nonzero = λ z. c.requires.nonzero (subst IsZero c.in_ok-whole.ensures z);
-      enough =
-          omega (
-            arith,
-            length-map c.deref.result.now f,
-            ap length held,
-            c.in_ok-powers.ensures.size,
-            length-map c.rows.result.now f,
-            ap length c.rows.ensures,
-            ap length c.in_ok-whole.ensures,
-          );
+      enough = same_size _ _
+          (ap length c.in_ok-whole.ensures ∙ sym (ap length c.rows.ensures) ∙ length-map c.rows.result.now f
+          ∙ sym (length-map c.deref.result.now f ∙ ap length held ∙ c.in_ok-powers.ensures.size));
       powers_are = subst (λ rows. ArePowers (map f rows)) (sym held) c.in_ok-powers.ensures.powers;
     }

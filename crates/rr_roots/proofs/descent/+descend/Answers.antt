@@ -1,79 +1,75 @@
-use Rattle.std.proofs.Common.{◌≡◌, ◌≢◌, ◌<◌, ◌≤◌, ◌+◌, ◌-◌, ℕ, List, [], ◌∷◌, ◌++◌, length, map, take, drop, vec_len, inl, inr, refl, sym, ap, subst, ◌∙◌, arith, Vec, Global}
+use Rattle.std.proofs.Common.{◌≡◌, ◌≢◌, ◌<◌, ◌≤◌, ◌+◌, ◌-◌, ℕ, Fits, w8, w64, le_of_lt, List, [], ◌∷◌, ◌++◌, length, map, take, vec_len, refl, sym, ap, subst, ◌∙◌, arith}
 use Rattle.std.proofs.Math.Nat.{le_refl}
 use Rattle.std.proofs.Math.Seq.{take-append_seam}
-use Rattle.std.proofs.lemmas.Bool.{cases_lt}
-use Rattle.std.proofs.lemmas.List.{length-append, length-map, get_or_default}
-use Rattle.bi_poly.specs.Rows.{AreBytes}
-use Rattle.bi_poly.specs.Degree.{IsOrderInX, without_first}
-use Rattle.rr_roots.specs.Descent.{Appends, IsRootOfSize}
-use Rattle.rr_roots.proofs.Children.{IsStripped, first_byte, child-nonzero, child-roots}
-use Rattle.rr_roots.proofs.Levels.{HoldsBelow, appends-nothing, appends-skip, appends-more, appends-same}
-use Rattle.rr_roots.proofs.Multiplicities.{multiplicity}
-use Rattle.rr_roots.proofs.ByteValues.{value-tested}
-use borrow.Author.Count.{falls}
-use Rattle.rr_roots.proofs.Nodes.{no_step, none_begins, child-share, nodes-skip, nodes-more, nodes-most, nodes-spent}
+use Rattle.std.proofs.lemmas.List.{length-append}
 use Rattle.std.proofs.lemmas.Result.{on_ok_weaker, IfOk-from_err}
+use Rattle.gf256.specs.Polynomial.{val}
+use Rattle.bi_poly.specs.Rows.{column}
+use Rattle.rr_roots.specs.Descent.{Appends, IsRootOfSize}
+use Rattle.rr_roots.proofs.Children.{first_is_below, root_begins, child-nonzero, child-rows, child-roots, child-degree}
+use Rattle.rr_roots.proofs.Levels.{appends-none_yet, appends-skip, appends-more, appends-all}
+use Rattle.rr_roots.proofs.Multiplicities.{multiplicity}
+use Rattle.rr_roots.proofs.ByteValues.{value-tested, value-zero}
+use borrow.Author.Count.{falls}
+use Rattle.rr_roots.proofs.Nodes.{no_step, counted, none_begins, nodes-skip, nodes-more, nodes-most, nodes-spent, nodes-least}
 use Rattle.rr_roots.proofs.descent.+descend.Goals as goal
-
--- what is left after the strip
-stripped : {whole q : List (List ℕ)} {r : ℕ} → IsOrderInX whole r → q ≡ without_first r whole → AreBytes q → IsStripped whole q r
-stripped order quotient bytes = record { order = order; quotient = quotient; bytes = bytes }
 
 -- where it is not 0, it is more
 positive : (n : ℕ) → n ≢ 0 → 0 < n
 positive n some = omega (arith, some)
 
-at_most : (b : ℕ) → b < 256 → b ≤ 256
-at_most b less = omega (arith, less)
+in_place : (n b : ℕ) → n ≡ 256 → b < 256 → b < n
+in_place n b size less = omega (arith, size, less)
+
+fits : (b : ℕ) → b < 256 → Fits w64 b
+fits b less = omega (arith, less)
+
+fits_byte : (b : ℕ) → b < 256 → Fits w8 b
+fits_byte b less = omega (arith, less)
+
+never : (n : ℕ) → n < n → ⊥
+never n less = omega (arith, less)
 
 none_left : (n l : ℕ) → l ≡ 0 → n + l ≤ n
 none_left n l none = omega (arith, none)
 
-fits_in : (a b c d : ℕ) → a ≡ b → b ≤ c → c ≡ d → a ≤ d
-fits_in a b c d same fits rows = omega (arith, same, fits, rows)
-
-in_place : (n b : ℕ) → n ≡ 256 → b < 256 → b < n
-in_place n b size less = omega (arith, size, less)
-
-ticked : (n m k l : ℕ) → n ≤ m → k ≡ m + 1 → k ≤ l → n ≤ l
-ticked n m k l up one more = omega (arith, up, one, more)
+fewer : (l t : ℕ) → l ≡ t → l ≢ 0 → l - 1 < t
+fewer l t same some = omega (arith, same, some)
 
 pub returns-then-left-eq0-clause-exact : goal.returns-then-left-eq0-clause-exact
 returns-then-left-eq0-clause-exact g t c =
-    let kept = rw c.deref.ensures.value at c.keep_root.ensures in rw (sym c.if-left-eq0.true) at kept
+    let old = map (λ r. r.items) c.args.roots.now.items in
+    let new = map (λ r. r.items) c.keep_root.new.roots.items in
+    on_ok_weaker c.keep_root.result
+    (λ (kept : Appends (IsRootOfSize c.args.q 0) c.deref.result.now old new).
+    subst (λ left. Appends (IsRootOfSize c.args.q left) c.args.prefix.now.items old new) (sym c.if-left-eq0.true)
+    (subst (λ prefix. Appends (IsRootOfSize c.args.q 0) prefix old new) c.deref.ensures.value kept))
+    c.keep_root.ensures
 
 pub loop-byte-init : goal.loop-byte-init
 loop-byte-init g t c = record {
   kept = refl;
-  appends = appends-nothing (HoldsBelow (IsRootOfSize c.args.q c.args.left) 0) c.args.prefix.now.items (map (λ r. r.items) c.args.roots.now.items)
-      (λ phi h. absurd (omega (arith, h.1)));
-  most = omega arith;
-  least = λ l. absurd (omega (arith, l));
-  rises = omega arith;
+  appends = appends-none_yet (IsRootOfSize c.args.q c.args.left) c.args.prefix.now.items (map (λ r. r.items) c.args.roots.now.items);
+  most = no_step c.args.nodes.now _;
+  least = λ found. absurd (never (length c.args.roots.now.items) found);
+  rises = le_refl c.args.nodes.now;
 }
 
 pub returns-in_err-child-clause-most : goal.returns-in_err-child-clause-most
 returns-in_err-child-clause-most g t c = λ d h.
-    let s = stripped c.strip_x.ensures.order c.strip_x.ensures.quotient c.coefficients_are_bytes.ensures in
-    nodes-most s c.in_ok-constants.constants.items c.in_ok-constants.ensures c.args.left c.args.nodes.now c.loop-byte.nodes c.loop-byte.byte d
-    (at_most c.loop-byte.byte c.loop-byte-test.true) h c.loop-byte.invariant.most
-
-pub returns-in_err-push-clause-most : goal.returns-in_err-push-clause-most
-returns-in_err-push-clause-most g t c = λ d h.
-    let s = stripped c.strip_x.ensures.order c.strip_x.ensures.quotient c.coefficients_are_bytes.ensures in
-    nodes-most s c.in_ok-constants.constants.items c.in_ok-constants.ensures c.args.left c.args.nodes.now c.loop-byte.nodes c.loop-byte.byte d
-    (at_most c.loop-byte.byte c.loop-byte-test.true) h c.loop-byte.invariant.most
+    nodes-most c.in_ok-node.ensures.stripped c.args.left c.args.nodes.now c.loop-byte.nodes c.loop-byte.byte d
+    (le_of_lt c.loop-byte-test.true) h c.loop-byte.invariant.most
 
 pub descend-requires : goal.descend-requires
 descend-requires g t c κs within =
-    let s = stripped c.strip_x.ensures.order c.strip_x.ensures.quotient c.coefficients_are_bytes.ensures in
-    let child = c.in_ok-child.ensures in (
-      omega (arith, c.decreases, c.if-left-eq0.false),
+    let s = c.in_ok-node.ensures.stripped in
+    let child = c.in_ok-child.ensures.child in (
+      fewer c.args.left t c.decreases c.if-left-eq0.false,
       (
         within,
         record {
           nonzero = child-nonzero s c.loop-byte-test.true child;
-          enough = let same = child.rows in let stripped = ap length c.strip_x.ensures.quotient ∙ length-map c.args.q (drop _) in omega (arith, same, stripped, c.requires.enough);
+          enough = child-rows s c.loop-byte-test.true child _ c.requires.enough;
           powers_are = c.requires.powers_are;
         },
       ),
@@ -81,87 +77,81 @@ descend-requires g t c κs within =
 
 pub returns-in_err-descend-clause-most : goal.returns-in_err-descend-clause-most
 returns-in_err-descend-clause-most g t c = λ d h.
-    let s = stripped c.strip_x.ensures.order c.strip_x.ensures.quotient c.coefficients_are_bytes.ensures in
-    let p = c.in_ok-constants.constants.items in
-    let less : c.loop-byte.byte < 256 = c.loop-byte-test.true in
-    let tested = c.index.ensures ∙ get_or_default c.in_ok-values.values.items c.loop-byte.byte c.index.result.now 0 (in_place (length c.in_ok-values.values.items) c.loop-byte.byte c.in_ok-values.ensures.size less) in
-    let share = c.descend.ensures.most (multiplicity p c.loop-byte.byte) (child-share s p c.in_ok-constants.ensures c.loop-byte.byte less c.in_ok-child.ensures) in
-    nodes-spent s p c.in_ok-constants.ensures c.args.left c.args.nodes.now c.loop-byte.nodes c.descend.new.nodes c.loop-byte.byte d
-    (positive c.args.left c.if-left-eq0.false) less (value-tested c.loop-byte.byte c.deref-2.ensures.value c.in_ok-values.ensures less tested ∙ c.if-index-ne0.false) h
-    c.loop-byte.invariant.most (omega (arith, c.tick.ensures, share))
+    let s = c.in_ok-node.ensures.stripped in
+    let g = c.loop-byte.byte in
+    let p = column c.in_ok-node.node.q 0 in
+    let less : g < 256 = c.loop-byte-test.true in
+    let zero : val p g ≡ 0 = value-zero g c.index.result.now c.in_ok-node.ensures.values_are less c.index.ensures c.if-index-ne0.false in
+    nodes-spent s c.args.left c.args.nodes.now c.loop-byte.nodes c.tick.new.self c.descend.new.nodes g d
+    (positive c.args.left c.if-left-eq0.false) less zero h
+    c.loop-byte.invariant.most c.tick.ensures (c.descend.ensures.most (multiplicity p g) (child-degree s less c.in_ok-child.ensures.child))
 
--- what is left after the last coefficient is taken away
-without_last : (xs : List ℕ) (n m : ℕ) → m ≡ length (xs ++ n ∷ []) → take (m - 1) (xs ++ n ∷ []) ≡ xs
-without_last xs n m e =
-    let k : m - 1 ≡ length xs = omega (arith, length-append xs (n ∷ []), e) in
-    ap (λ k. take k (xs ++ n ∷ [])) k ∙ take-append_seam xs (n ∷ [])
+-- a coefficient at the end of what stayed
+with_last : (xs ys zs : List ℕ) (n : ℕ) → zs ≡ ys ++ n ∷ [] → ys ≡ xs → zs ≡ xs ++ n ∷ []
+with_last xs ys zs n pushed kept = pushed ∙ ap (λ ys. ys ++ n ∷ []) kept
+
+-- and what is left after it is taken away
+without_last : (xs ys zs rest : List ℕ) (n m : ℕ) → ys ≡ xs ++ n ∷ [] → zs ≡ ys → m ≡ length zs → rest ≡ take (m - 1) zs → rest ≡ xs
+without_last xs ys zs rest n m pushed kept count popped =
+    let same = kept ∙ pushed in
+    let k : m - 1 ≡ length xs = omega (arith, length-append xs (n ∷ []), ap length same, count) in
+    popped ∙ ap (λ zs. take (m - 1) zs) same ∙ ap (λ k. take k (xs ++ n ∷ [])) k ∙ take-append_seam xs (n ∷ [])
 
 pub loop-byte-preserved-then-index-ne0 : goal.loop-byte-preserved-then-index-ne0
 loop-byte-preserved-then-index-ne0 g t c =
-    let s = stripped c.strip_x.ensures.order c.strip_x.ensures.quotient c.coefficients_are_bytes.ensures in
-    let p = c.in_ok-constants.constants.items in
-    let less : c.loop-byte.byte < 256 = c.loop-byte-test.true in
-    let tested = c.index.ensures ∙ get_or_default c.in_ok-values.values.items c.loop-byte.byte c.index.result.now 0 (in_place (length c.in_ok-values.values.items) c.loop-byte.byte c.in_ok-values.ensures.size less) in
-    let some : 0 < c.args.left = positive c.args.left c.if-left-eq0.false in
+    let s = c.in_ok-node.ensures.stripped in
+    let g = c.loop-byte.byte in
+    let less : g < 256 = c.loop-byte-test.true in
+    let tested : val (column c.in_ok-node.node.q 0) g ≡ c.index.result.now = value-tested g c.index.result.now c.in_ok-node.ensures.values_are less c.index.ensures in
     record {
       kept = c.loop-byte.invariant.kept;
-      appends = appends-skip (IsRootOfSize c.args.q c.args.left) c.loop-byte.byte c.args.prefix.now.items (map (λ r. r.items) c.args.roots.now.items) (map (λ r. r.items) c.loop-byte.roots.items)
+      appends = appends-skip (IsRootOfSize c.args.q c.args.left) g c.args.prefix.now.items (map (λ r. r.items) c.args.roots.now.items) (map (λ r. r.items) c.loop-byte.roots.items)
           c.loop-byte.invariant.appends
-          (none_begins s p c.in_ok-constants.ensures c.args.left c.loop-byte.byte some
-          (λ z. c.if-index-ne0.true (sym (value-tested c.loop-byte.byte c.deref-2.ensures.value c.in_ok-values.ensures less tested) ∙ z)));
-      most = nodes-skip s p c.in_ok-constants.ensures c.args.left c.args.nodes.now c.loop-byte.nodes c.loop-byte.byte c.loop-byte.invariant.most;
+          (none_begins s c.args.left g (positive c.args.left c.if-left-eq0.false) (λ z. c.if-index-ne0.true (sym tested ∙ z)));
+      most = nodes-skip s c.args.left c.args.nodes.now c.loop-byte.nodes g c.loop-byte.invariant.most;
       least = c.loop-byte.invariant.least;
       rises = c.loop-byte.invariant.rises;
     }
 
 pub loop-byte-preserved : goal.loop-byte-preserved
 loop-byte-preserved g t c =
-    let s = stripped c.strip_x.ensures.order c.strip_x.ensures.quotient c.coefficients_are_bytes.ensures in
-    let p = c.in_ok-constants.constants.items in
-    let less : c.loop-byte.byte < 256 = c.loop-byte-test.true in
-    let tested = c.index.ensures ∙ get_or_default c.in_ok-values.values.items c.loop-byte.byte c.index.result.now 0 (in_place (length c.in_ok-values.values.items) c.loop-byte.byte c.in_ok-values.ensures.size less) in
-    let some : 0 < c.args.left = positive c.args.left c.if-left-eq0.false in
+    let s = c.in_ok-node.ensures.stripped in
+    let child = c.in_ok-child.ensures.child in
+    let g = c.loop-byte.byte in
+    let p = column c.in_ok-node.node.q 0 in
+    let left = c.args.left in
+    let less : g < 256 = c.loop-byte-test.true in
+    let some : 0 < left = positive left c.if-left-eq0.false in
+    let zero : val p g ≡ 0 = value-zero g c.index.result.now c.in_ok-node.ensures.values_are less c.index.ensures c.if-index-ne0.false in
     let prefix = c.args.prefix.now.items in
-    let share = c.in_ok-descend.ensures.most (multiplicity p c.loop-byte.byte) (child-share s p c.in_ok-constants.ensures c.loop-byte.byte less c.in_ok-child.ensures) in
-    let pushed = rw c.loop-byte.invariant.kept at c.in_ok-push.ensures.items in
-    let descended = rw pushed at c.in_ok-descend.ensures.kept in
-    let rest = rw descended at c.pop.ensures.rest in
-    let more = nodes-more s p c.in_ok-constants.ensures c.args.left c.args.nodes.now c.loop-byte.nodes c.descend.new.nodes c.loop-byte.byte some less
-    (value-tested c.loop-byte.byte c.deref-2.ensures.value c.in_ok-values.ensures less tested ∙ c.if-index-ne0.false) c.loop-byte.invariant.most (omega (arith, c.tick.ensures, share)) in
-    let P = IsRootOfSize c.args.q c.args.left in
-    let Sub = IsRootOfSize c.in_ok-child.child (c.args.left - 1) in
+    let pushed : c.child_at.new.prefix.items ≡ prefix ++ g ∷ [] = with_last prefix c.loop-byte.prefix.items c.child_at.new.prefix.items g c.in_ok-child.ensures.prefix c.loop-byte.invariant.kept in
+    let Sub = IsRootOfSize c.in_ok-child.child (left - 1) in
     let old = map (λ r. r.items) c.args.roots.now.items in
     let before = map (λ r. r.items) c.loop-byte.roots.items in
     let new = map (λ r. r.items) c.descend.new.roots.items in
     record {
-      kept = rw (without_last prefix c.loop-byte.byte (vec_len c.descend.new.prefix) (c.descend.new.prefix.ok.0 ∙ ap length descended)) at rest;
-      appends = appends-more P Sub c.loop-byte.byte prefix old before new (λ phi h. let size = h.size in omega (arith, some, size))
-          (λ psi. child-roots s less c.in_ok-child.ensures c.args.left psi some)
+      kept = without_last prefix c.child_at.new.prefix.items c.descend.new.prefix.items c.pop.new.self.items g (vec_len c.descend.new.prefix)
+          pushed c.in_ok-descend.ensures.kept c.descend.new.prefix.ok.0 c.pop.ensures.rest;
+      appends = appends-more (IsRootOfSize c.args.q left) Sub g prefix old before new (root_begins c.args.q left some)
+          (λ psi. child-roots s less child left psi some)
           c.loop-byte.invariant.appends
           (subst (λ prefix. Appends Sub prefix before new) pushed c.in_ok-descend.ensures.exact);
-      most = more;
-      least = λ l.
-          elim (cases_lt (length c.loop-byte.roots.items) (length c.descend.new.roots.items)) [
-            | inl here ↦ let least = c.in_ok-descend.ensures.least here in omega (arith, some, c.tick.ensures, least, c.loop-byte.invariant.rises)
-            | inr none ↦
-                let least = c.loop-byte.invariant.least (omega (arith, l, none)) in
-                omega (arith, c.tick.ensures, least, c.in_ok-descend.ensures.rises)
-          ];
-      rises = omega (arith, c.tick.ensures, c.in_ok-descend.ensures.rises, c.loop-byte.invariant.rises);
+      most = nodes-more s left c.args.nodes.now c.loop-byte.nodes c.tick.new.self c.descend.new.nodes g some less zero
+          c.loop-byte.invariant.most c.tick.ensures (c.in_ok-descend.ensures.most (multiplicity p g) (child-degree s less child));
+      least = nodes-least left c.args.nodes.now c.loop-byte.nodes c.tick.new.self c.descend.new.nodes
+          (length c.args.roots.now.items) (length c.loop-byte.roots.items) (length c.descend.new.roots.items)
+          some c.loop-byte.invariant.rises c.tick.ensures c.in_ok-descend.ensures.rises c.loop-byte.invariant.least c.in_ok-descend.ensures.least;
+      rises = counted c.args.nodes.now c.loop-byte.nodes c.tick.new.self c.descend.new.nodes c.loop-byte.invariant.rises c.tick.ensures c.in_ok-descend.ensures.rises;
     }
 
 pub returns-clause-exact : goal.returns-clause-exact
 returns-clause-exact g t c =
-    let P = IsRootOfSize c.args.q c.args.left in
-    let last : c.loop-byte.byte ≡ 256 = omega (arith, c.loop-byte-test.false, c.loop-byte.auto.byte-end) in
-    appends-same (HoldsBelow P c.loop-byte.byte) P c.args.prefix.now.items (map (λ r. r.items) c.args.roots.now.items) (map (λ r. r.items) c.loop-byte.roots.items)
-    (λ phi. (λ h. h.0, λ h. (h, omega (arith, last, first_byte c.args.q c.args.left phi h))))
-    c.loop-byte.invariant.appends
+    appends-all (IsRootOfSize c.args.q c.args.left) c.loop-byte.byte c.args.prefix.now.items (map (λ r. r.items) c.args.roots.now.items) (map (λ r. r.items) c.loop-byte.roots.items)
+    (first_is_below c.args.q c.args.left c.loop-byte.byte c.loop-byte-test.false) c.loop-byte.invariant.appends
 
 pub returns-clause-most : goal.returns-clause-most
 returns-clause-most g t c = λ d h.
-    let s = stripped c.strip_x.ensures.order c.strip_x.ensures.quotient c.coefficients_are_bytes.ensures in
-    nodes-most s c.in_ok-constants.constants.items c.in_ok-constants.ensures c.args.left c.args.nodes.now c.loop-byte.nodes c.loop-byte.byte d
+    nodes-most c.in_ok-node.ensures.stripped c.args.left c.args.nodes.now c.loop-byte.nodes c.loop-byte.byte d
     c.loop-byte.auto.byte-end h c.loop-byte.invariant.most
 
 pub returns-clause-least : goal.returns-clause-least
@@ -173,26 +163,17 @@ returns-then-left-eq0-clause-most g t c = λ d h. no_step c.args.nodes.now _
 pub returns-then-left-eq0-clause-rises : goal.returns-then-left-eq0-clause-rises
 returns-then-left-eq0-clause-rises g t c = le_refl c.args.nodes.now
 
-pub returns-in_err-constants-clause-most : goal.returns-in_err-constants-clause-most
-returns-in_err-constants-clause-most g t c = λ d h. no_step c.args.nodes.now _
+pub returns-in_err-node-clause-most : goal.returns-in_err-node-clause-most
+returns-in_err-node-clause-most g t c = λ d h. no_step c.args.nodes.now _
 
-pub returns-in_err-constants-clause-rises : goal.returns-in_err-constants-clause-rises
-returns-in_err-constants-clause-rises g t c = le_refl c.args.nodes.now
-
-pub returns-in_err-values-clause-most : goal.returns-in_err-values-clause-most
-returns-in_err-values-clause-most g t c = λ d h. no_step c.args.nodes.now _
-
-pub returns-in_err-values-clause-rises : goal.returns-in_err-values-clause-rises
-returns-in_err-values-clause-rises g t c = le_refl c.args.nodes.now
+pub returns-in_err-node-clause-rises : goal.returns-in_err-node-clause-rises
+returns-in_err-node-clause-rises g t c = le_refl c.args.nodes.now
 
 pub returns-in_err-child-clause-rises : goal.returns-in_err-child-clause-rises
 returns-in_err-child-clause-rises g t c = c.loop-byte.invariant.rises
 
-pub returns-in_err-push-clause-rises : goal.returns-in_err-push-clause-rises
-returns-in_err-push-clause-rises g t c = c.loop-byte.invariant.rises
-
 pub returns-in_err-descend-clause-rises : goal.returns-in_err-descend-clause-rises
-returns-in_err-descend-clause-rises g t c = ticked c.args.nodes.now c.loop-byte.nodes _ c.descend.new.nodes c.loop-byte.invariant.rises c.tick.ensures c.in_err-descend.ensures.rises
+returns-in_err-descend-clause-rises g t c = counted c.args.nodes.now c.loop-byte.nodes c.tick.new.self c.descend.new.nodes c.loop-byte.invariant.rises c.tick.ensures c.in_err-descend.ensures.rises
 
 pub returns-clause-rises : goal.returns-clause-rises
 returns-clause-rises g t c = c.loop-byte.invariant.rises
@@ -200,40 +181,20 @@ returns-clause-rises g t c = c.loop-byte.invariant.rises
 pub returns-clause-kept : goal.returns-clause-kept
 returns-clause-kept g t c = c.loop-byte.invariant.kept
 
-pub values_at_bytes-requires-clause-powers : goal.values_at_bytes-requires-clause-powers
-values_at_bytes-requires-clause-powers g t c = c.requires.powers_are
-
 pub returns-then-left-eq0-clause-kept : goal.returns-then-left-eq0-clause-kept
 returns-then-left-eq0-clause-kept g t c = on_ok_weaker c.keep_root.result (λ found. refl) c.keep_root.ensures
 
 pub returns-then-left-eq0-clause-least : goal.returns-then-left-eq0-clause-least
 returns-then-left-eq0-clause-least g t c = on_ok_weaker c.keep_root.result (λ found some. none_left c.args.nodes.now c.args.left c.if-left-eq0.true) c.keep_root.ensures
 
-pub strip_x-requires : goal.strip_x-requires
-strip_x-requires g t c = c.requires.nonzero
+pub returns-in_err-node-clause-kept : goal.returns-in_err-node-clause-kept
+returns-in_err-node-clause-kept g t c = IfOk-from_err c.from_residual.result _ c.from_residual.ensures.0
 
-pub values_at_bytes-requires-clause-enough : goal.values_at_bytes-requires-clause-enough
-values_at_bytes-requires-clause-enough g t c = let there = ap length (c.deref-2.ensures.value ∙ c.in_ok-constants.ensures) ∙ length-map c.strip_x.new.self _ ∙ ap length c.strip_x.ensures.quotient ∙ length-map c.args.q (drop _) in
-    let rows = length-map c.args.powers.now (λ (r : Vec ℕ Global). r.items) in
-    fits_in _ _ _ _ there c.requires.enough rows
+pub returns-in_err-node-clause-exact : goal.returns-in_err-node-clause-exact
+returns-in_err-node-clause-exact g t c = IfOk-from_err c.from_residual.result _ c.from_residual.ensures.0
 
-pub returns-in_err-constants-clause-kept : goal.returns-in_err-constants-clause-kept
-returns-in_err-constants-clause-kept g t c = IfOk-from_err c.from_residual.result _ c.from_residual.ensures.0
-
-pub returns-in_err-constants-clause-exact : goal.returns-in_err-constants-clause-exact
-returns-in_err-constants-clause-exact g t c = IfOk-from_err c.from_residual.result _ c.from_residual.ensures.0
-
-pub returns-in_err-constants-clause-least : goal.returns-in_err-constants-clause-least
-returns-in_err-constants-clause-least g t c = IfOk-from_err c.from_residual.result _ c.from_residual.ensures.0
-
-pub returns-in_err-values-clause-kept : goal.returns-in_err-values-clause-kept
-returns-in_err-values-clause-kept g t c = IfOk-from_err c.from_residual-in_err-values.result _ c.from_residual-in_err-values.ensures.0
-
-pub returns-in_err-values-clause-exact : goal.returns-in_err-values-clause-exact
-returns-in_err-values-clause-exact g t c = IfOk-from_err c.from_residual-in_err-values.result _ c.from_residual-in_err-values.ensures.0
-
-pub returns-in_err-values-clause-least : goal.returns-in_err-values-clause-least
-returns-in_err-values-clause-least g t c = IfOk-from_err c.from_residual-in_err-values.result _ c.from_residual-in_err-values.ensures.0
+pub returns-in_err-node-clause-least : goal.returns-in_err-node-clause-least
+returns-in_err-node-clause-least g t c = IfOk-from_err c.from_residual.result _ c.from_residual.ensures.0
 
 pub returns-in_err-child-clause-kept : goal.returns-in_err-child-clause-kept
 returns-in_err-child-clause-kept g t c = IfOk-from_err c.from_residual-in_err-child.result _ c.from_residual-in_err-child.ensures.0
@@ -243,15 +204,6 @@ returns-in_err-child-clause-exact g t c = IfOk-from_err c.from_residual-in_err-c
 
 pub returns-in_err-child-clause-least : goal.returns-in_err-child-clause-least
 returns-in_err-child-clause-least g t c = IfOk-from_err c.from_residual-in_err-child.result _ c.from_residual-in_err-child.ensures.0
-
-pub returns-in_err-push-clause-kept : goal.returns-in_err-push-clause-kept
-returns-in_err-push-clause-kept g t c = IfOk-from_err c.from_residual-in_err-push.result _ c.from_residual-in_err-push.ensures.0
-
-pub returns-in_err-push-clause-exact : goal.returns-in_err-push-clause-exact
-returns-in_err-push-clause-exact g t c = IfOk-from_err c.from_residual-in_err-push.result _ c.from_residual-in_err-push.ensures.0
-
-pub returns-in_err-push-clause-least : goal.returns-in_err-push-clause-least
-returns-in_err-push-clause-least g t c = IfOk-from_err c.from_residual-in_err-push.result _ c.from_residual-in_err-push.ensures.0
 
 pub returns-in_err-descend-clause-kept : goal.returns-in_err-descend-clause-kept
 returns-in_err-descend-clause-kept g t c = IfOk-from_err c.from_residual-in_err-descend.result _ c.from_residual-in_err-descend.ensures.0
@@ -267,3 +219,18 @@ loop-byte-smaller g t c = falls 256 c.loop-byte.byte c.loop-byte-test.true
 
 pub loop-byte-smaller-then-index-ne0 : goal.loop-byte-smaller-then-index-ne0
 loop-byte-smaller-then-index-ne0 g t c = falls 256 c.loop-byte.byte c.loop-byte-test.true
+
+pub overflow_cast-byte : goal.overflow_cast-byte
+overflow_cast-byte g t c = fits c.loop-byte.byte c.loop-byte-test.true
+
+pub overflow_cast-byte-in-loop-byte : goal.overflow_cast-byte-in-loop-byte
+overflow_cast-byte-in-loop-byte g t c = fits_byte c.loop-byte.byte c.loop-byte-test.true
+
+pub overflow_sub-left : goal.overflow_sub-left
+overflow_sub-left g t c = positive c.args.left c.if-left-eq0.false
+
+pub index-requires : goal.index-requires
+index-requires g t c = in_place (vec_len c.in_ok-node.node.values) c.loop-byte.byte (c.in_ok-node.node.values.ok.0 ∙ c.in_ok-node.ensures.values_are.size) c.loop-byte-test.true
+
+pub open-requires : goal.open-requires
+open-requires g t c = c.requires

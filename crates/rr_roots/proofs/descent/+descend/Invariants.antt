@@ -1,4 +1,5 @@
 use Rattle.std.proofs.Common.{◌≡◌, ◌+◌, ◌*◌, ◌<◌, ◌≤◌, length, map}
+use Rattle.bi_poly.specs.Rows.{column}
 use Rattle.rr_roots.specs.Descent.{Appends, IsRootOfSize}
 use Rattle.rr_roots.proofs.Levels.{HoldsBelow}
 use Rattle.rr_roots.proofs.Multiplicities.{roots_below}
@@ -12,7 +13,7 @@ invariant-loop-byte g l = record {
   kept : l.prefix.items ≡ l.initial.prefix.items;
   appends : Appends (HoldsBelow (IsRootOfSize l.fn.q l.fn.left) l.byte) l.initial.prefix.items
       (map (λ r. r.items) l.initial.roots.items) (map (λ r. r.items) l.roots.items);
-  most : l.nodes ≤ l.initial.nodes + l.fn.left * roots_below l.constants.items l.byte;
+  most : l.nodes ≤ l.initial.nodes + l.fn.left * roots_below (column l.node.q 0) l.byte;
   least : length l.initial.roots.items < length l.roots.items → l.initial.nodes + l.fn.left ≤ l.nodes;
   rises : l.initial.nodes ≤ l.nodes;
 }
