@@ -1,4 +1,4 @@
-use Rattle.std.proofs.Common.{arith, ◌≡◌, ◌≤◌, ℕ, ◌*◌, ◌∙◌, length, take, replicate, sym, ap}
+use Rattle.std.proofs.Common.{arith, ◌≡◌, ◌≤◌, ℕ, ◌∙◌, length, take, replicate, sym}
 use Rattle.server_answer.proofs.AnswerSums.{all-asked}
 use Rattle.std.proofs.lemmas.List.{length-take-le, length-replicate}
 use Rattle.server_answer.proofs.gather.sum_in_eights.Goals as goal
