@@ -6,14 +6,14 @@ use Rattle.std.proofs.Math.Nat.{div-le_of_le-mul, mul-div_cancel, mul-le-mul_rig
 use Rattle.gf256.specs.Field.{◌⊕◌}
 use Rattle.gf256.specs.Sums.{run_sum}
 use Rattle.server_product.specs.Parts.{first_row, part, OfParts}
-use Rattle.gf256.proofs.RunSums.{run-join}
+use Rattle.gf256.proofs.RunSums.{run-none, run-join}
 
 -- the first worker begins with the first row
-pub first-zero : (rows workers : ℕ) → first_row rows workers 0 ≡ 0
+first-zero : (rows workers : ℕ) → first_row rows workers 0 ≡ 0
 first-zero rows workers = ap (λ n. n / workers) (zero-mul rows) ∙ zero-div workers
 
 -- the last worker ends with the last row
-pub first-all : (rows workers : ℕ) → 0 < workers → first_row rows workers workers ≡ rows
+first-all : (rows workers : ℕ) → 0 < workers → first_row rows workers workers ≡ rows
 first-all rows workers pos = ap (λ n. n / workers) (omega arith) ∙ mul-div_cancel rows pos
 
 -- a worker begins no later than the next
@@ -37,6 +37,10 @@ next-part f rows workers worker p =
 pub at-range : (xs : List ℕ) (a n k : ℕ) → k < n → slice_index (take n (drop a xs)) k ≡ slice_index xs (a + k)
 at-range xs a n k lt = get_or-take n (drop a xs) k 0 lt ∙ get_or-drop a xs k 0
 
+-- a place of the sums, before any part is added
+pub none-added : (f : ℕ → ℕ → ℕ) (rows workers p sum : ℕ) → sum ≡ 0 → sum ≡ run_sum (f p) 0 (first_row rows workers 0)
+none-added f rows workers p sum is = is ∙ sym (ap (run_sum (f p) 0) (first-zero rows workers) ∙ run-none (f p) 0)
+
 -- a place of the sums, when the part of a worker is added to those of the workers before it
 pub part-added : (f : ℕ → ℕ → ℕ) (rows workers worker p size : ℕ) (xs : List ℕ) (new old : ℕ)
     → new ≡ old ⊕ slice_index (take (worker * size + size - worker * size) (drop (worker * size) xs)) p
@@ -45,6 +49,12 @@ pub part-added : (f : ℕ → ℕ → ℕ) (rows workers worker p size : ℕ) (x
 part-added f rows workers worker p size xs new old is before here =
     let all : worker * size + size - worker * size ≡ size = omega arith in
     is ∙ ap₂ ◌⊕◌ before (ap (λ n. slice_index (take n (drop (worker * size) xs)) p) all ∙ here) ∙ next-part f rows workers worker p
+
+-- a place of the sums, when all parts are added
+pub all-added : (f : ℕ → ℕ → ℕ) (rows workers worker p sum : ℕ) → worker ≡ workers → 0 < workers
+    → sum ≡ run_sum (f p) 0 (first_row rows workers worker) → sum ≡ run_sum (f p) 0 rows
+all-added f rows workers worker p sum end pos is =
+    is ∙ ap (run_sum (f p) 0) (ap (first_row rows workers) end ∙ first-all rows workers pos)
 
 -- where the part of a worker ends
 pub end-within : (worker workers places : ℕ) → worker < workers → worker * places + places ≤ workers * places

@@ -2,9 +2,8 @@
 
 ghost use Rattle.std.specs.Prelude.{◌≡◌, ℕ, ◌≤◌, ◌<◌, ◌+◌, ◌*◌, ◌^◌, length, slice_index};
 ghost use Rattle.gf256.specs.Field.{◌⊕◌};
-ghost use Rattle.quantity_limits.specs.declared.TheConstants.{MOST_ROWS, MOST_WORKERS};
+ghost use Rattle.quantity_limits.specs.declared.TheConstants.{MOST_WORKERS};
 ghost use Rattle.gf256.specs.Product.{product};
-ghost use Rattle.std.specs.Fork.{slice_chunk};
 ghost use Rattle.server_product.specs.Parts.{part};
 ghost use Rattle.server_product.specs.Queries.{piece, entry};
 ghost use Rattle.quantity_limits.specs.declared.TheConstants.{MOST_BLOCKS};

@@ -1,16 +1,13 @@
-use Rattle.std.proofs.Common.{◌≡◌, ◌≤◌, ◌∙◌, ◌+◌, ◌*◌, ◌/◌, length, ap, sym, arith, slice_index}
-use Rattle.gf256.specs.Sums.{run_sum}
+use Rattle.std.proofs.Common.{◌≡◌, ◌*◌, length, ap, arith, slice_index}
 use Rattle.server_answer.specs.Asked.{asked}
-use Rattle.gf256.proofs.RunSums.{run-none}
-use Rattle.server_product.proofs.Workers.{first-zero, first-all, part-added, end-within}
+use Rattle.server_product.proofs.Workers.{none-added, part-added, all-added, end-within}
 use Rattle.server_answer.proofs.AnswerSums.{answers-are}
 use Rattle.server_answer.proofs.whole.answers_into.Goals as goal
 
 pub loop-worker-init : goal.loop-worker-init
 loop-worker-init g c = λ p lt.
     let matrix = c.args.matrix.now in
-    let f = asked c.args.bitmaps.now matrix.rows matrix.width p in
-    c.clear.ensures p ∙ sym (ap (run_sum f 0) (first-zero (length matrix.rows) c.args.workers) ∙ run-none f 0)
+    none-added (asked c.args.bitmaps.now matrix.rows matrix.width) (length matrix.rows) c.args.workers p (slice_index c.clear.new.row p) (c.clear.ensures p)
 
 pub loop-worker-preserved : goal.loop-worker-preserved
 loop-worker-preserved g c = λ p lt.
@@ -22,21 +19,17 @@ loop-worker-preserved g c = λ p lt.
 pub returns : goal.returns
 returns g c =
     let matrix = c.args.matrix.now in
-    let f = asked c.args.bitmaps.now matrix.rows matrix.width in
-    let end : c.loop-worker.worker ≡ c.args.workers = omega arith in
+    let worker = c.loop-worker.worker in
+    let end : worker ≡ c.args.workers = omega arith in
     answers-are c.args.bitmaps.now c.loop-worker.out matrix c.args.count (omega (arith, c.requires.room))
     (λ p lt.
-    c.loop-worker.invariant p lt
-    ∙ ap (run_sum (f p) 0) (ap (λ w. w * length matrix.rows / c.args.workers) end ∙ first-all (length matrix.rows) c.args.workers (omega arith)))
+    all-added (asked c.args.bitmaps.now matrix.rows matrix.width) (length matrix.rows) c.args.workers worker p (slice_index c.loop-worker.out p) end c.requires.some
+    (c.loop-worker.invariant p lt))
 
 pub slice_bounds-add_row-end : goal.slice_bounds-add_row-end
 slice_bounds-add_row-end g c =
-    let worker = c.loop-worker.worker in
-    let places = c.places_of-places.result in
-    let room = c.run_on_parts.auto.parts ∙ c.requires.scratch ∙ ap (λ n. c.args.workers * n) (sym c.places_of-places.ensures) in
-    let fits = end-within worker c.args.workers places (omega arith) in
-    let within : worker * places + places ≤ length c.run_on_parts.new.parts = omega (arith, room, fits) in
-    within
+    let places = ap (λ p. c.args.workers * p) c.places_of-places.ensures in
+    omega (arith, end-within c.loop-worker.worker c.args.workers c.places_of-places.result (omega arith), places, c.requires.scratch)
 
 pub overflow_cast-start : goal.overflow_cast-start
 overflow_cast-start g c = omega arith

@@ -1,16 +1,13 @@
-use Rattle.std.proofs.Common.{◌≡◌, ◌∙◌, ◌*◌, ◌/◌, length, ap, sym, arith, slice_index}
-use Rattle.gf256.specs.Sums.{run_sum}
+use Rattle.std.proofs.Common.{◌≡◌, ◌*◌, length, ap, arith, slice_index}
 use Rattle.server_product.specs.Queries.{entry}
-use Rattle.gf256.proofs.RunSums.{run-none}
-use Rattle.server_product.proofs.Workers.{first-zero, first-all, part-added, end-within}
+use Rattle.server_product.proofs.Workers.{none-added, part-added, all-added, end-within}
 use Rattle.server_product.proofs.QuerySums.{products-are}
 use Rattle.server_product.proofs.whole.products_into.Goals as goal
 
 pub loop-worker-init : goal.loop-worker-init
 loop-worker-init g c = λ p lt.
     let matrix = c.args.matrix.now in
-    let f = entry c.args.queries.now matrix.rows matrix.width p in
-    c.clear.ensures p ∙ sym (ap (run_sum f 0) (first-zero (length matrix.rows) c.args.workers) ∙ run-none f 0)
+    none-added (entry c.args.queries.now matrix.rows matrix.width) (length matrix.rows) c.args.workers p (slice_index c.clear.new.row p) (c.clear.ensures p)
 
 pub loop-worker-preserved : goal.loop-worker-preserved
 loop-worker-preserved g c = λ p lt.
@@ -22,12 +19,12 @@ loop-worker-preserved g c = λ p lt.
 pub returns : goal.returns
 returns g c =
     let matrix = c.args.matrix.now in
-    let f = entry c.args.queries.now matrix.rows matrix.width in
-    let end : c.loop-worker.worker ≡ c.args.workers = omega arith in
+    let worker = c.loop-worker.worker in
+    let end : worker ≡ c.args.workers = omega arith in
     products-are c.args.queries.now c.loop-worker.out matrix.rows matrix.width c.args.count (omega (arith, c.requires.room)) (omega (arith, c.requires.queries))
     (λ p lt.
-    c.loop-worker.invariant p lt
-    ∙ ap (run_sum (f p) 0) (ap (λ w. w * length matrix.rows / c.args.workers) end ∙ first-all (length matrix.rows) c.args.workers (omega arith)))
+    all-added (entry c.args.queries.now matrix.rows matrix.width) (length matrix.rows) c.args.workers worker p (slice_index c.loop-worker.out p) end c.requires.some
+    (c.loop-worker.invariant p lt))
 
 pub overflow_cast-start : goal.overflow_cast-start
 overflow_cast-start g c = omega arith
