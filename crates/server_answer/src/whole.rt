@@ -1,9 +1,8 @@
 //! The answers in parts, each on a thread of its own.
 
 ghost use Rattle.std.specs.Prelude.{◌≡◌, ℕ, ◌≤◌, ◌<◌, ◌+◌, ◌*◌, ◌^◌, length, slice_index};
-ghost use Rattle.quantity_limits.specs.declared.TheConstants.{MOST_ROWS, MOST_WORKERS};
-ghost use Rattle.std.specs.Thread.{IsSync};
-ghost use Rattle.server_product.specs.Parts.{part, HasParts};
+ghost use Rattle.quantity_limits.specs.declared.TheConstants.{MOST_WORKERS};
+ghost use Rattle.server_product.specs.Parts.{part};
 ghost use Rattle.server_product.specs.Queries.{piece};
 ghost use Rattle.quantity_limits.specs.declared.TheConstants.{MOST_BLOCKS};
 ghost use Rattle.chor_xor.specs.Bitmap.{size_of};
@@ -13,8 +12,8 @@ ghost use Rattle.server_answer.specs.Asked.{asked};
 use crate::bitmaps::{places_of, sum_bitmaps};
 use block_matrix::Matrix;
 use gf256::rows::{add_row, clear};
-use server_product::Gate;
-use std::thread::{Threads, join_mut};
+use server_product::{Gate, Task, rows_of, run_on_parts};
+use std::thread::Threads;
 
 /// Makes `out` the answers to so many bitmaps, one after the other, as `bitmaps` has the bitmaps:
 /// each is the XOR of the rows whose bit is set, the answer that
@@ -45,17 +44,14 @@ pub fn answers_into<R: Threads + Sync, G: Gate + Sync>(
         ≡ chosen matrix.now (piece (size_of (length matrix.now.rows)) bitmaps.now v) }
 {
     let places = places_of(matrix, count);
-    // Its contract bounds the number of rows.
-    let _rows = matrix.rows();
-    sum_parts(
-        rt,
+    let sums = Sums {
         matrix,
         bitmaps,
         count,
-        u32::from(workers),
-        scratch,
+        workers,
         gate,
-    );
+    };
+    run_on_parts(rt, &sums, workers, places, scratch);
     clear(out);
     for worker in 0..u32::from(workers) {
         let start = worker as usize * places;
@@ -63,128 +59,29 @@ pub fn answers_into<R: Threads + Sync, G: Gate + Sync>(
     }
 }
 
-/// The sums of each worker.
-fn sum_parts<R: Threads + Sync, G: Gate + Sync>(
-    rt: &R,
-    matrix: &Matrix,
-    bitmaps: &[u8],
+/// What the workers add up, and their gate.
+#[derive(Drop)]
+struct Sums<'a, G> {
+    matrix: &'a Matrix,
+    bitmaps: &'a [u8],
     count: u8,
-    workers: u32,
-    scratch: &mut [u8],
-    gate: &G,
-)
-    requires rows { length matrix.now.rows ≤ MOST_ROWS }
-    requires some { 1 ≤ workers }
-    requires few { workers ≤ MOST_WORKERS }
-    requires few_bitmaps { count ≤ MOST_BLOCKS }
-    requires bitmaps { length bitmaps.now ≡ count * size_of (length matrix.now.rows) }
-    requires scratch { length scratch.old ≡ workers * (count * matrix.now.width) }
-    ensures { (worker p : ℕ) → worker < workers → p < count * matrix.now.width
-        → slice_index scratch.new (worker * (count * matrix.now.width) + p)
-        ≡ part (asked bitmaps.now matrix.now.rows matrix.now.width) (length matrix.now.rows) workers worker p }
-{
-    sum_from(rt, matrix, bitmaps, count, workers, 0, gate, scratch);
+    workers: u8,
+    gate: &'a G,
 }
 
-/// The sums of the workers from `first` on, each on a thread of its own, but the last on this one.
-/// This thread starts all others, so that none of them has to wait until another is running.
-#[cycle(starts)]
-fn sum_from<R: Threads + Sync, G: Gate + Sync>(
-    rt: &R,
-    matrix: &Matrix,
-    bitmaps: &[u8],
-    count: u8,
-    workers: u32,
-    first: u32,
-    gate: &G,
-    scratch: &mut [u8],
-)
-    requires rows { length matrix.now.rows ≤ MOST_ROWS }
-    requires few { workers ≤ MOST_WORKERS }
-    requires first { first < workers }
-    requires few_bitmaps { count ≤ MOST_BLOCKS }
-    requires bitmaps { length bitmaps.now ≡ count * size_of (length matrix.now.rows) }
-    requires scratch { length scratch.old + first * (count * matrix.now.width)
-        ≡ workers * (count * matrix.now.width) }
-    ensures { HasParts scratch.new (count * matrix.now.width)
-        (asked bitmaps.now matrix.now.rows matrix.now.width) (length matrix.now.rows) workers first }
-{
-    if first + 1 == workers {
-        return sum_part(matrix, bitmaps, count, workers, first, gate, scratch);
+impl<G: Gate> Task for Sums<'_, G> {
+    ghost accepts = { λ sums worker places. (sums.workers ≤ MOST_WORKERS) × (worker < sums.workers)
+        × (sums.count ≤ MOST_BLOCKS)
+        × (length sums.bitmaps.now ≡ sums.count * size_of (length sums.matrix.now.rows))
+        × (places ≡ sums.count * sums.matrix.now.width) };
+
+    ghost leaves = { λ sums worker own. (p : ℕ) → p < sums.count * sums.matrix.now.width
+        → slice_index own p ≡ part (asked sums.bitmaps.now sums.matrix.now.rows sums.matrix.now.width)
+        (length sums.matrix.now.rows) sums.workers worker p };
+
+    fn run(&self, worker: u8, part: &mut [u8]) {
+        self.gate.pass(worker);
+        let (from, to) = rows_of(self.matrix.rows(), self.workers, worker);
+        sum_bitmaps(self.matrix, self.bitmaps, self.count, from, to, part);
     }
-    let (own, others) = scratch.split_at_mut(places_of(matrix, count));
-    sum_both(
-        rt, matrix, bitmaps, count, workers, first, gate, own, others,
-    );
-}
-
-/// The sums of the worker `first` on a new thread, and those of the workers after it.
-#[cycle(starts)]
-fn sum_both<R: Threads + Sync, G: Gate + Sync>(
-    rt: &R,
-    matrix: &Matrix,
-    bitmaps: &[u8],
-    count: u8,
-    workers: u32,
-    first: u32,
-    gate: &G,
-    own: &mut [u8],
-    others: &mut [u8],
-)
-    requires rows { length matrix.now.rows ≤ MOST_ROWS }
-    requires few { workers ≤ MOST_WORKERS }
-    requires more { first + 1 < workers }
-    requires few_bitmaps { count ≤ MOST_BLOCKS }
-    requires bitmaps { length bitmaps.now ≡ count * size_of (length matrix.now.rows) }
-    requires own { length own.old ≡ count * matrix.now.width }
-    requires others { length others.old + (first + 1) * (count * matrix.now.width)
-        ≡ workers * (count * matrix.now.width) }
-    ensures own { (p : ℕ) → p < count * matrix.now.width → slice_index own.new p
-        ≡ part (asked bitmaps.now matrix.now.rows matrix.now.width) (length matrix.now.rows) workers first p }
-    ensures others { HasParts others.new (count * matrix.now.width)
-        (asked bitmaps.now matrix.now.rows matrix.now.width) (length matrix.now.rows) workers (first + 1) }
-{
-    let mut front = ||
-        requires { IsSync G.row × (length matrix.now.rows ≤ MOST_ROWS) × (workers ≤ MOST_WORKERS)
-            × (first < workers) × (count ≤ MOST_BLOCKS)
-            × (length bitmaps.now ≡ count * size_of (length matrix.now.rows))
-            × (length own.now ≡ count * matrix.now.width) }
-        ensures { (p : ℕ) → p < count * matrix.entry.now.width → slice_index own.exit.now p
-            ≡ part (asked bitmaps.entry.now matrix.entry.now.rows matrix.entry.now.width) (length matrix.entry.now.rows) workers first p }
-    { sum_part(matrix, bitmaps, count, workers, first, gate, own) };
-    let mut back = ||
-        requires { IsSync R.row × IsSync G.row × (length matrix.now.rows ≤ MOST_ROWS) × (workers ≤ MOST_WORKERS)
-            × (first + 1 < workers) × (count ≤ MOST_BLOCKS)
-            × (length bitmaps.now ≡ count * size_of (length matrix.now.rows))
-            × (length others.now + (first + 1) * (count * matrix.now.width)
-            ≡ workers * (count * matrix.now.width)) }
-        ensures { HasParts others.exit.now (count * matrix.entry.now.width)
-            (asked bitmaps.entry.now matrix.entry.now.rows matrix.entry.now.width) (length matrix.entry.now.rows) workers (first + 1) }
-    { sum_from(rt, matrix, bitmaps, count, workers, first + 1, gate, others) };
-    join_mut(rt, &mut front, &mut back);
-}
-
-/// What a worker does.
-fn sum_part<G: Gate>(
-    matrix: &Matrix,
-    bitmaps: &[u8],
-    count: u8,
-    workers: u32,
-    worker: u32,
-    gate: &G,
-    sums: &mut [u8],
-)
-    requires rows { length matrix.now.rows ≤ MOST_ROWS }
-    requires few { workers ≤ MOST_WORKERS }
-    requires within { worker < workers }
-    requires few_bitmaps { count ≤ MOST_BLOCKS }
-    requires bitmaps { length bitmaps.now ≡ count * size_of (length matrix.now.rows) }
-    requires room { length sums.old ≡ count * matrix.now.width }
-    ensures { (p : ℕ) → p < count * matrix.now.width → slice_index sums.new p
-        ≡ part (asked bitmaps.now matrix.now.rows matrix.now.width) (length matrix.now.rows) workers worker p }
-{
-    gate.pass(worker as u8);
-    let from = worker * matrix.rows() / workers;
-    let to = (worker + 1) * matrix.rows() / workers;
-    sum_bitmaps(matrix, bitmaps, count, from, to, sums);
 }

@@ -1,6 +1,6 @@
 -- Sums over runs of rows.
-use Rattle.std.proofs.Common.{◌≡◌, ℕ, zero, suc, ◌+◌, ◌*◌, ◌<◌, List, [], length, get_or, slice_index, slice_index_or, take, replicate, refl, sym, ap, ap₂, ◌∙◌, arith, add-one}
-use Rattle.std.proofs.lemmas.List.{same_lists, get_or_default}
+use Rattle.std.proofs.Common.{◌≡◌, ℕ, zero, suc, ◌+◌, ◌*◌, ◌<◌, ◌≤◌, List, [], length, get_or, slice_index, slice_index_or, take, replicate, refl, sym, ap, ap₂, ◌∙◌, arith, add-one}
+use Rattle.std.proofs.lemmas.List.{same_lists, get_or_default, length-take-le, length-replicate}
 use Rattle.std.proofs.lemmas.List.FromFn.{length-map-range_with_len, get_or-map-range_with_len}
 use Rattle.gf256.specs.Field.{◌⊕◌, ◌⊗◌}
 use Rattle.gf256.specs.Sums.{sum_to, run_sum}
@@ -94,6 +94,12 @@ zeros-at zero m k = refl
 zeros-at (suc n) zero k = refl
 zeros-at (suc n) (suc m) zero = refl
 zeros-at (suc n) (suc m) (suc k) = zeros-at n m k
+
+-- how long the front of a list of zeros is
+pub zeros-long : (n m : ℕ) → n ≤ m → length {A = ℕ} (take n (replicate m 0)) ≡ n
+zeros-long n m l =
+    let long : length {A = ℕ} (replicate m 0) ≡ m = length-replicate m 0 in
+    length-take-le n (replicate m 0) (omega (arith, long))
 
 -- one more row of all
 pub term-next : (q : List ℕ) (rows : List (List ℕ)) (c j sum next : ℕ) → sum ≡ sum_to (term q rows c) j

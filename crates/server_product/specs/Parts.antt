@@ -1,5 +1,6 @@
 -- Which rows each worker adds up.
-use Rattle.std.specs.Prelude.{◌≡◌, ℕ, ◌+◌, ◌*◌, ◌/◌, ◌<◌, List, slice_index}
+use Rattle.std.specs.Prelude.{ℕ, ◌+◌, ◌*◌, ◌/◌, ◌<◌, List}
+use Rattle.std.specs.Fork.{slice_chunk}
 use Rattle.gf256.specs.Sums.{run_sum}
 
 -- the first row of a worker, which is where the worker before it ends
@@ -11,8 +12,6 @@ abbrev pub part : (ℕ → ℕ → ℕ) → ℕ → ℕ → ℕ → ℕ → ℕ
 part f rows workers worker p =
     run_sum (f p) (first_row rows workers worker) (first_row rows workers (worker + 1))
 
--- scratch has, one after the other, what the workers from `first` on add up, in so many places each
-abbrev pub HasParts : List ℕ → ℕ → (ℕ → ℕ → ℕ) → ℕ → ℕ → ℕ → Type 0
-HasParts scratch places f rows workers first =
-    (i p : ℕ) → first + i < workers → p < places
-    → slice_index scratch (i * places + p) ≡ part f rows workers (first + i) p
+-- P holds of each worker from `first` on and of its part of xs, which begins with that of the first
+abbrev pub OfParts : (ℕ → List ℕ → Type 0) → ℕ → ℕ → ℕ → List ℕ → Type 0
+OfParts P first workers size xs = (i : ℕ) → first + i < workers → P (first + i) (slice_chunk xs size i)

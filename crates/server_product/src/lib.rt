@@ -5,7 +5,8 @@
 //! number of workers from 1 to 16; it is the product that [`plain_into`] computes byte by byte.
 //! [`products_into`] gives this product for each of up to 16 queries, and reads the database once for
 //! a group of them. [`mul_add_row`] adds one row times one byte. No call takes memory, and none can
-//! fail. [`blocks`], [`share_of`] and [`lanes_of`] serve the XOR scheme's answers too.
+//! fail. [`blocks`], [`run_on_parts`], [`rows_of`], [`share_of`] and [`lanes_of`] serve the XOR
+//! scheme's answers too.
 //!
 //! Not promised: that the workers run at the same time, or anything of time. Each query reads the
 //! whole database, but which entries of the field's tables it reads depends on its bytes.
@@ -16,6 +17,7 @@ mod four_rows;
 mod gate;
 mod gather;
 mod group;
+mod parts;
 mod plain;
 mod queries;
 mod rows;
@@ -27,6 +29,7 @@ mod trios;
 mod whole;
 
 pub use gate::{Gate, OpenGate};
+pub use parts::{Task, rows_of, run_on_parts};
 pub use plain::plain_into;
 pub use rows::mul_add_row;
 pub use sixths::share_of;

@@ -56,10 +56,10 @@ pub slice_bounds-sum_one-start : goal.slice_bounds-sum_one-start
 slice_bounds-sum_one-start c = omega arith
 
 pub sum_one-requires-clause-order : goal.sum_one-requires-clause-order
-sum_one-requires-clause-order c = omega arith
+sum_one-requires-clause-order c = c.requires.order
 
 pub sum_one-requires-clause-within : goal.sum_one-requires-clause-within
-sum_one-requires-clause-within c = omega arith
+sum_one-requires-clause-within c = c.requires.within
 
 pub sum_one-requires-clause-bitmap : goal.sum_one-requires-clause-bitmap
 sum_one-requires-clause-bitmap c = omega arith

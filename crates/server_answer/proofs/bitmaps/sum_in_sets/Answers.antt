@@ -54,10 +54,10 @@ pub sum_of_set-requires-clause-few : goal.sum_of_set-requires-clause-few
 sum_of_set-requires-clause-few c = omega arith
 
 pub sum_of_set-requires-clause-order : goal.sum_of_set-requires-clause-order
-sum_of_set-requires-clause-order c = omega arith
+sum_of_set-requires-clause-order c = c.requires.order
 
 pub sum_of_set-requires-clause-within : goal.sum_of_set-requires-clause-within
-sum_of_set-requires-clause-within c = omega arith
+sum_of_set-requires-clause-within c = c.requires.within
 
 pub sets-smaller : goal.sets-smaller
 sets-smaller c = omega arith

@@ -1,18 +1,11 @@
-use Rattle.std.proofs.Common.{◌*◌, ◌≡◌, ◌≤◌, ℕ, ◌∙◌, ap, arith, length, take, replicate, sym}
-use Rattle.server_product.proofs.RunSums.{zeros-at}
+use Rattle.std.proofs.Common.{◌*◌, ◌≡◌, ◌≤◌, ℕ, ◌∙◌, ap, arith, sym}
+use Rattle.server_product.proofs.RunSums.{zeros-at, zeros-long}
 use Rattle.std.specs.Int.{div_ceil}
-use Rattle.std.proofs.lemmas.List.{length-take-le, length-replicate}
 use Rattle.server_answer.proofs.group.sum_group.Goals as goal
 
 -- the stack has room for the blocks
 blocks_fit : (d lanes n : ℕ) → d ≡ lanes → n * lanes ≤ 4112 → 16 * (d * n) ≤ 65792
 blocks_fit d lanes n e fits = omega (arith, ap (λ k. k * n) e)
-
--- what a part of the stack has
-stack_part : (n m : ℕ) → n ≤ m → length {A = ℕ} (take n (replicate m 0)) ≡ n
-stack_part n m l =
-    let long : length {A = ℕ} (replicate m 0) ≡ m = length-replicate m 0 in
-    length-take-le n (replicate m 0) (omega (arith, long))
 
 pub sum_in_blocks-requires-clause-zeros : goal.sum_in_blocks-requires-clause-zeros
 sum_in_blocks-requires-clause-zeros c = zeros-at (16 * (c.div_ceil.result * c.args.count)) 65792
@@ -24,25 +17,25 @@ pub overflow_cast-size : goal.overflow_cast-size
 overflow_cast-size c = omega arith
 
 pub sum_in_blocks-requires-clause-some : goal.sum_in_blocks-requires-clause-some
-sum_in_blocks-requires-clause-some c = omega arith
+sum_in_blocks-requires-clause-some c = c.requires.some
 
 pub sum_in_blocks-requires-clause-few : goal.sum_in_blocks-requires-clause-few
-sum_in_blocks-requires-clause-few c = omega arith
+sum_in_blocks-requires-clause-few c = c.requires.few
 
 pub sum_in_blocks-requires-clause-wide : goal.sum_in_blocks-requires-clause-wide
-sum_in_blocks-requires-clause-wide c = omega arith
+sum_in_blocks-requires-clause-wide c = c.requires.wide
 
 pub sum_in_blocks-requires-clause-order : goal.sum_in_blocks-requires-clause-order
-sum_in_blocks-requires-clause-order c = omega arith
+sum_in_blocks-requires-clause-order c = c.requires.order
 
 pub sum_in_blocks-requires-clause-within : goal.sum_in_blocks-requires-clause-within
-sum_in_blocks-requires-clause-within c = omega arith
+sum_in_blocks-requires-clause-within c = c.requires.within
 
 pub sum_in_blocks-requires-clause-bitmaps : goal.sum_in_blocks-requires-clause-bitmaps
-sum_in_blocks-requires-clause-bitmaps c = omega arith
+sum_in_blocks-requires-clause-bitmaps c = c.requires.bitmaps
 
 pub sum_in_blocks-requires-clause-room : goal.sum_in_blocks-requires-clause-room
-sum_in_blocks-requires-clause-room c = omega arith
+sum_in_blocks-requires-clause-room c = c.requires.room
 
 pub overflow_mul-size : goal.overflow_mul-size
 overflow_mul-size c =
@@ -58,10 +51,10 @@ slice_bounds-stack-end c =
 
 pub slice_bounds-sum_in_blocks-end : goal.slice_bounds-sum_in_blocks-end
 slice_bounds-sum_in_blocks-end c =
-    sym (stack_part (16 * (c.div_ceil.result * c.args.count)) 65792 (blocks_fit c.div_ceil.result _ c.args.count (c.div_ceil.ensures ∙ ap (λ w. div_ceil w 16) c.width.ensures.is) c.requires.fits))
+    sym (zeros-long (16 * (c.div_ceil.result * c.args.count)) 65792 (blocks_fit c.div_ceil.result _ c.args.count (c.div_ceil.ensures ∙ ap (λ w. div_ceil w 16) c.width.ensures.is) c.requires.fits))
 
 pub sum_in_blocks-requires-clause-blocks : goal.sum_in_blocks-requires-clause-blocks
 sum_in_blocks-requires-clause-blocks c =
     let is = c.div_ceil.ensures ∙ ap (λ w. div_ceil w 16) c.width.ensures.is in
-    stack_part (16 * (c.div_ceil.result * c.args.count)) 65792 (blocks_fit c.div_ceil.result _ c.args.count is c.requires.fits)
+    zeros-long (16 * (c.div_ceil.result * c.args.count)) 65792 (blocks_fit c.div_ceil.result _ c.args.count is c.requires.fits)
     ∙ ap (λ d. 16 * (d * c.args.count)) is

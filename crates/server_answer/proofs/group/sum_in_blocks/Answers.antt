@@ -1,4 +1,4 @@
-use Rattle.std.proofs.Common.{◌≡◌, ℕ, ◌+◌, ◌*◌, ◌<◌, slice_index, subst, arith}
+use Rattle.std.proofs.Common.{◌≡◌, ℕ, ◌+◌, ◌*◌, ◌<◌, ◌∙◌, slice_index, subst, arith}
 use Rattle.server_answer.specs.Asked.{asked}
 use Rattle.server_answer.specs.Masked.{block_asked}
 use Rattle.server_product.specs.Blocks.{place_of}
@@ -17,3 +17,60 @@ returns c =
     (λ p l. c.add_quarters.ensures p (omega (arith, c.requires.blocks, l)))
     (subst (λ w. (v k : ℕ) → v < n → k < w → slice_index c.lay_out.new.sums (v * w + k) ≡ slice_index c.add_quarters.new.sums (place_of w n v k)) c.width-2.ensures.is c.lay_out.ensures)
     c.add_rest.ensures
+
+pub overflow_sub-to : goal.overflow_sub-to
+overflow_sub-to c = omega arith
+
+pub share_of-quarter-requires : goal.share_of-quarter-requires
+share_of-quarter-requires c = omega arith
+
+pub add_quarters-requires-clause-some : goal.add_quarters-requires-clause-some
+add_quarters-requires-clause-some c = c.requires.some
+
+pub add_quarters-requires-clause-few : goal.add_quarters-requires-clause-few
+add_quarters-requires-clause-few c = c.requires.few
+
+pub add_quarters-requires-clause-wide : goal.add_quarters-requires-clause-wide
+add_quarters-requires-clause-wide c = c.requires.wide
+
+pub add_quarters-requires-clause-within : goal.add_quarters-requires-clause-within
+add_quarters-requires-clause-within c = omega arith
+
+pub add_quarters-requires-clause-bitmaps : goal.add_quarters-requires-clause-bitmaps
+add_quarters-requires-clause-bitmaps c = c.requires.bitmaps
+
+pub add_quarters-requires-clause-room : goal.add_quarters-requires-clause-room
+add_quarters-requires-clause-room c = c.requires.blocks
+
+pub overflow_cast-width : goal.overflow_cast-width
+overflow_cast-width c = omega arith
+
+pub lay_out-requires-clause-few : goal.lay_out-requires-clause-few
+lay_out-requires-clause-few c = c.requires.few
+
+pub lay_out-requires-clause-wide : goal.lay_out-requires-clause-wide
+lay_out-requires-clause-wide c = omega arith
+
+pub lay_out-requires-clause-memory : goal.lay_out-requires-clause-memory
+lay_out-requires-clause-memory c = omega arith
+
+pub overflow_mul-quarter : goal.overflow_mul-quarter
+overflow_mul-quarter c = omega arith
+
+pub overflow_add-from : goal.overflow_add-from
+overflow_add-from c = omega arith
+
+pub add_rest-requires-clause-few : goal.add_rest-requires-clause-few
+add_rest-requires-clause-few c = c.requires.few
+
+pub add_rest-requires-clause-order : goal.add_rest-requires-clause-order
+add_rest-requires-clause-order c = omega arith
+
+pub add_rest-requires-clause-within : goal.add_rest-requires-clause-within
+add_rest-requires-clause-within c = c.requires.within
+
+pub add_rest-requires-clause-bitmaps : goal.add_rest-requires-clause-bitmaps
+add_rest-requires-clause-bitmaps c = c.requires.bitmaps
+
+pub add_rest-requires-clause-room : goal.add_rest-requires-clause-room
+add_rest-requires-clause-room c = c.lay_out.auto.sums ∙ c.requires.room

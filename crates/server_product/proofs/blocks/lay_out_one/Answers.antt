@@ -5,7 +5,7 @@ use Rattle.server_product.proofs.QuerySums.{filled-next}
 use Rattle.server_product.proofs.blocks.lay_out_one.Goals as goal
 
 pub start_of-requires-clause-wide : goal.start_of-requires-clause-wide
-start_of-requires-clause-wide c = omega arith
+start_of-requires-clause-wide c = c.requires.wide
 
 pub start_of-requires-clause-memory : goal.start_of-requires-clause-memory
 start_of-requires-clause-memory c = omega arith

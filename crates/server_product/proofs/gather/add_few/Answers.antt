@@ -47,7 +47,7 @@ pub add_term-requires-clause-query : goal.add_term-requires-clause-query
 add_term-requires-clause-query c = c.requires.query
 
 pub add_term-requires-clause-room : goal.add_term-requires-clause-room
-add_term-requires-clause-room c = omega arith
+add_term-requires-clause-room c = c.requires.room
 
 pub add_term-requires-in-Two-clause-within : goal.add_term-requires-in-Two-clause-within
 add_term-requires-in-Two-clause-within c = subst (λ n. c.in-Two.a < n) c.requires.query (subst (AreRows c.args.q.now) c.in-Two.is c.requires.few).0

@@ -98,10 +98,10 @@ pub add_four_rows-requires-clause-d : goal.add_four_rows-requires-clause-d
 add_four_rows-requires-clause-d c = omega arith
 
 pub add_four_rows-requires-clause-some : goal.add_four_rows-requires-clause-some
-add_four_rows-requires-clause-some c = omega arith
+add_four_rows-requires-clause-some c = c.requires.some
 
 pub add_four_rows-requires-clause-few : goal.add_four_rows-requires-clause-few
-add_four_rows-requires-clause-few c = omega arith
+add_four_rows-requires-clause-few c = c.requires.few
 
 pub add_four_rows-requires-clause-memory : goal.add_four_rows-requires-clause-memory
 add_four_rows-requires-clause-memory c = omega arith

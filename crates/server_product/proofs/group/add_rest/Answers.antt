@@ -48,10 +48,10 @@ pub slice_bounds-add_in_sixths-start : goal.slice_bounds-add_in_sixths-start
 slice_bounds-add_in_sixths-start c = omega arith
 
 pub add_in_sixths-requires-clause-order : goal.add_in_sixths-requires-clause-order
-add_in_sixths-requires-clause-order c = omega arith
+add_in_sixths-requires-clause-order c = c.requires.order
 
 pub add_in_sixths-requires-clause-within : goal.add_in_sixths-requires-clause-within
-add_in_sixths-requires-clause-within c = omega arith
+add_in_sixths-requires-clause-within c = c.requires.within
 
 pub add_in_sixths-requires-clause-query : goal.add_in_sixths-requires-clause-query
 add_in_sixths-requires-clause-query c = omega arith

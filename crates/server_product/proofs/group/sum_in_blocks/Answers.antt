@@ -1,4 +1,4 @@
-use Rattle.std.proofs.Common.{◌≡◌, ℕ, ◌+◌, ◌*◌, ◌<◌, slice_index, subst, arith}
+use Rattle.std.proofs.Common.{◌≡◌, ℕ, ◌+◌, ◌*◌, ◌<◌, ◌∙◌, slice_index, subst, arith}
 use Rattle.server_product.specs.Queries.{entry}
 use Rattle.server_product.specs.Blocks.{block_entry, place_of}
 use Rattle.server_product.proofs.BlockSums.{group-sums, entry-there}
@@ -23,19 +23,19 @@ pub share_of-quarter-requires : goal.share_of-quarter-requires
 share_of-quarter-requires c = omega arith
 
 pub add_quarters-requires-clause-some : goal.add_quarters-requires-clause-some
-add_quarters-requires-clause-some c = omega arith
+add_quarters-requires-clause-some c = c.requires.some
 
 pub add_quarters-requires-clause-few : goal.add_quarters-requires-clause-few
-add_quarters-requires-clause-few c = omega arith
+add_quarters-requires-clause-few c = c.requires.few
 
 pub add_quarters-requires-clause-wide : goal.add_quarters-requires-clause-wide
-add_quarters-requires-clause-wide c = omega arith
+add_quarters-requires-clause-wide c = c.requires.wide
 
 pub add_quarters-requires-clause-within : goal.add_quarters-requires-clause-within
 add_quarters-requires-clause-within c = omega arith
 
 pub add_quarters-requires-clause-queries : goal.add_quarters-requires-clause-queries
-add_quarters-requires-clause-queries c = omega arith
+add_quarters-requires-clause-queries c = c.requires.queries
 
 pub add_quarters-requires-clause-room : goal.add_quarters-requires-clause-room
 add_quarters-requires-clause-room c = omega arith
@@ -44,7 +44,7 @@ pub overflow_cast-width : goal.overflow_cast-width
 overflow_cast-width c = omega arith
 
 pub lay_out-requires-clause-few : goal.lay_out-requires-clause-few
-lay_out-requires-clause-few c = omega arith
+lay_out-requires-clause-few c = c.requires.few
 
 pub lay_out-requires-clause-wide : goal.lay_out-requires-clause-wide
 lay_out-requires-clause-wide c = omega arith
@@ -59,16 +59,16 @@ pub overflow_add-from : goal.overflow_add-from
 overflow_add-from c = omega arith
 
 pub add_rest-requires-clause-few : goal.add_rest-requires-clause-few
-add_rest-requires-clause-few c = omega arith
+add_rest-requires-clause-few c = c.requires.few
 
 pub add_rest-requires-clause-order : goal.add_rest-requires-clause-order
 add_rest-requires-clause-order c = omega arith
 
 pub add_rest-requires-clause-within : goal.add_rest-requires-clause-within
-add_rest-requires-clause-within c = omega arith
+add_rest-requires-clause-within c = c.requires.within
 
 pub add_rest-requires-clause-queries : goal.add_rest-requires-clause-queries
-add_rest-requires-clause-queries c = omega arith
+add_rest-requires-clause-queries c = c.requires.queries
 
 pub add_rest-requires-clause-room : goal.add_rest-requires-clause-room
-add_rest-requires-clause-room c = omega arith
+add_rest-requires-clause-room c = c.lay_out.auto.sums ∙ c.requires.room

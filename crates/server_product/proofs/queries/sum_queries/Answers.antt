@@ -120,10 +120,10 @@ pub sum_some-requires-clause-wide : goal.sum_some-requires-clause-wide
 sum_some-requires-clause-wide c = omega arith
 
 pub sum_some-requires-clause-order : goal.sum_some-requires-clause-order
-sum_some-requires-clause-order c = omega arith
+sum_some-requires-clause-order c = c.requires.order
 
 pub sum_some-requires-clause-within : goal.sum_some-requires-clause-within
-sum_some-requires-clause-within c = omega arith
+sum_some-requires-clause-within c = c.requires.within
 
 pub groups-smaller : goal.groups-smaller
 groups-smaller c = omega arith

@@ -48,7 +48,7 @@ pub scaled_row-requires-clause-within : goal.scaled_row-requires-clause-within
 scaled_row-requires-clause-within c = omega arith
 
 pub scaled_row-requires-clause-query : goal.scaled_row-requires-clause-query
-scaled_row-requires-clause-query c = omega arith
+scaled_row-requires-clause-query c = c.requires.query
 
 pub overflow_add-from-in-loop-i : goal.overflow_add-from-in-loop-i
 overflow_add-from-in-loop-i c = omega arith
