@@ -81,9 +81,9 @@ impl<I: Drop, F: Drop, L: OpenListener + Drop, S: Drop> Streams<I, F, L, S> {
         ensures { IfOk result (λ n. n ≤ length into.new) }
     {
         for _ in 0..u64::MAX {
-            let read = match p {
-                Port::Guest | Port::Link(_) => self.connections.read(clock, p, into),
-                _ => self.files.read(p, into),
+            let read = match self.connections.stream(p) {
+                Some(stream) => stream.read(clock, into),
+                None => self.files.read(p, into),
             };
             if !is_interrupted(&read) {
                 return read;
@@ -100,10 +100,10 @@ impl<I: Drop, F: Drop, L: OpenListener + Drop, S: Drop> Streams<I, F, L, S> {
         ensures { IfOk result (λ n. n ≤ length piece.now) }
     {
         for _ in 0..u64::MAX {
-            let written = match p {
-                Port::Output => io::writer(rt).write(piece),
-                Port::Guest | Port::Link(_) => self.connections.write(rt, p, piece),
-                _ => self.files.write(p, piece),
+            let written = match self.connections.stream(p) {
+                Some(stream) => stream.write(rt, piece),
+                None if p == Port::Output => io::writer(rt).write(piece),
+                None => self.files.write(p, piece),
             };
             if !is_interrupted(&written) {
                 return written;
