@@ -82,14 +82,6 @@ fn set_up(command: &mut Command, words: &[String]) -> Result<(), AllocError> {
     Ok(())
 }
 
-// The command that starts this same program with the words.
-fn command_of<R: Env + AllocGlobal>(rt: &R, words: &[String]) -> io::Result<Command> {
-    let program = own_name(rt)?;
-    let mut command = Command::new(rt.alloc(), program.as_str())?;
-    set_up(&mut command, words)?;
-    Ok(command)
-}
-
 // Where a child with these words lets its guest in: the last of them.
 fn address_of(alloc: Global, words: &[String]) -> Result<String, AllocError> {
     match words.last() {
@@ -136,10 +128,21 @@ impl<P: OpenProcess + Drop> Children<P> {
     where
         R: Processes<Started = P> + Env + AllocGlobal,
     {
+        let program = own_name(rt)?;
+        let mut command = Command::new(rt.alloc(), program.as_str())?;
+        self.start_by(rt, &mut command, words)
+    }
+
+    // The same by the command with these words.
+    fn start_by<R>(&mut self, rt: &R, command: &mut Command, words: &[String]) -> io::Result<()>
+    where
+        R: Processes<Started = P> + AllocGlobal,
+    {
+        set_up(command, words)?;
         // No memory is needed once the child runs, so that none is left behind.
         self.started.reserve(1)?;
         let address = address_of(rt.alloc(), words)?;
-        let child = Started::spawn(rt, &mut command_of(rt, words)?, address)?;
+        let child = Started::spawn(rt, command, address)?;
         self.started.push(child)?;
         Ok(())
     }

@@ -91,8 +91,12 @@ where
 
 // The stream to the server.
 fn link_to<S>(links: &mut [Link<S>], server: u8) -> Option<&mut TimedStream<S>> {
-    let link = links.iter_mut().find(|link| link.server == server)?;
-    Some(&mut link.stream)
+    for link in links {
+        if link.server == server {
+            return Some(&mut link.stream);
+        }
+    }
+    None
 }
 
 impl<L: OpenListener + Drop, S: Drop> Connections<L, S> {
