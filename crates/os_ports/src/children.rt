@@ -139,9 +139,9 @@ impl<P: OpenProcess + Drop> Children<P> {
         R: Processes<Started = P> + AllocGlobal,
     {
         set_up(command, words)?;
-        let address = address_of(rt.alloc(), words)?;
         // No memory is needed once the child runs, so that none is left behind.
         self.started.reserve(1)?;
+        let address = address_of(rt.alloc(), words)?;
         let child = Started::spawn(rt, command, address)?;
         self.started.push(child)?;
         Ok(())

@@ -1,6 +1,4 @@
 // The streams to servers and to the guest, and where guests come in.
-ghost use Rattle.std.specs.Prelude.{◌≤◌, length, IfOk};
-
 use crate::children::Children;
 use crate::closed::closed;
 use crate::limits::{GUEST, LINK, Limit, SERVER_LINK};
@@ -9,8 +7,8 @@ use crate::timed::{TimedStream, connect};
 use crate::variables::{CHILD, is_one};
 use port_rules::Port;
 use std::alloc::Global;
-use std::io::{self, ErrorKind, Read, Write};
-use std::net::{Net, OpenListener, OpenStream, SocketAddr, TcpListener};
+use std::io::{self, ErrorKind};
+use std::net::{Net, OpenListener, SocketAddr, TcpListener};
 use std::os::fd::AsRawFd;
 use std::process::OpenProcess;
 use std::rt::Env;
@@ -49,41 +47,33 @@ fn is_given_up(error: &io::Error) -> bool {
     }
 }
 
-// Lets the next guest in, and tells where it came from. One who gave up before is passed over.
-fn accept<L: OpenListener>(door: &L) -> io::Result<(L::Stream, SocketAddr)> {
+// Whether to ask for a guest again after an `accept` that failed. One who gave up before is passed over. A child, whose
+// door doesn't wait, waits here: once its parent has ended, no guest comes in who wasn't there before.
+fn ask_again(error: io::Error, parent: Option<&mut Parent>) -> io::Result<()> {
+    if is_given_up(&error) {
+        return Ok(());
+    }
+    match parent {
+        Some(parent) if error.kind() == ErrorKind::WouldBlock => parent.await_guest(),
+        _ => Err(error),
+    }
+}
+
+// Lets the next guest in at the door, where that is open, and tells where it came from.
+fn accept<L: OpenListener>(
+    door: Option<&L>,
+    parent: &mut Option<Parent>,
+) -> io::Result<(L::Stream, SocketAddr)> {
+    let Some(door) = door else {
+        return Err(closed());
+    };
     for _ in 0..u64::MAX {
         match door.accept() {
-            Err(error) if is_given_up(&error) => {}
-            met => return met,
+            Ok(met) => return Ok(met),
+            Err(error) => ask_again(error, parent.as_mut())?,
         }
     }
     Err(io::Error::from(ErrorKind::ConnectionAborted))
-}
-
-// The same in a child: once its parent has ended, no guest comes in who wasn't there before.
-fn accept_beside<L: OpenListener>(
-    door: &L,
-    parent: &mut Parent,
-) -> io::Result<(L::Stream, SocketAddr)> {
-    for _ in 0..u64::MAX {
-        match accept(door) {
-            Err(error) if error.kind() == ErrorKind::WouldBlock => parent.await_guest()?,
-            met => return met,
-        }
-    }
-    Err(io::Error::from(ErrorKind::ConnectionAborted))
-}
-
-// Lets the next guest in at the door, where that is open.
-fn accept_at<L: OpenListener>(
-    door: Option<&L>,
-    parent: Option<&mut Parent>,
-) -> io::Result<(L::Stream, SocketAddr)> {
-    match (door, parent) {
-        (Some(door), Some(parent)) => accept_beside(door, parent),
-        (Some(door), None) => accept(door),
-        (None, _) => Err(closed()),
-    }
 }
 
 // Watches for the parent's end beside guests, where this program is a child.
@@ -101,8 +91,12 @@ where
 
 // The stream to the server.
 fn link_to<S>(links: &mut [Link<S>], server: u8) -> Option<&mut TimedStream<S>> {
-    let link = links.iter_mut().find(|link| link.server == server)?;
-    Some(&mut link.stream)
+    for link in links {
+        if link.server == server {
+            return Some(&mut link.stream);
+        }
+    }
+    None
 }
 
 impl<L: OpenListener + Drop, S: Drop> Connections<L, S> {
@@ -175,41 +169,17 @@ impl<L: OpenListener + Drop, S: Drop> Connections<L, S> {
         L: OpenListener<Stream = S>,
     {
         self.guest = None;
-        let (stream, address) = accept_at(self.door.as_ref(), self.parent.as_mut())?;
+        let (stream, address) = accept(self.door.as_ref(), &mut self.parent)?;
         self.guest = Some(TimedStream::new(stream, GUEST));
         Ok(address)
     }
 
-    // The stream of the port, where that is open.
-    fn stream(&mut self, p: Port) -> Option<&mut TimedStream<S>> {
+    /// The stream of the port, where that is open.
+    pub fn stream(&mut self, p: Port) -> Option<&mut TimedStream<S>> {
         match p {
             Port::Guest => self.guest.as_mut(),
             Port::Link(i) => link_to(&mut self.links, i),
             _ => None,
-        }
-    }
-
-    /// Reads from the port.
-    pub fn read<C: Clock>(&mut self, clock: &C, p: Port, into: &mut [u8]) -> io::Result<usize>
-    where
-        S: Read + OpenStream,
-        ensures { IfOk result (λ n. n ≤ length into.new) }
-    {
-        match self.stream(p) {
-            Some(stream) => stream.read(clock, into),
-            None => Err(closed()),
-        }
-    }
-
-    /// Writes to the port.
-    pub fn write<C: Clock>(&mut self, clock: &C, p: Port, piece: &[u8]) -> io::Result<usize>
-    where
-        S: Write + OpenStream,
-        ensures { IfOk result (λ n. n ≤ length piece.now) }
-    {
-        match self.stream(p) {
-            Some(stream) => stream.write(clock, piece),
-            None => Err(closed()),
         }
     }
 }

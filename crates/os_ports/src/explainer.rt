@@ -28,9 +28,9 @@ impl Explainer {
         }
     }
 
-    /// The port was opened by this name. Where there is no memory to keep it, the lines to come lack it.
-    pub fn note_name(&mut self, p: Port, name: &str) {
-        if self.is_asked {
+    /// A call to open the port by this name ended so. Where there is no memory to keep the name, the lines to come lack it.
+    pub fn note_opened(&mut self, p: Port, name: &str, opened: &io::Result<()>) {
+        if opened.is_ok() && self.is_asked {
             let _ = self.keep(p, name);
         }
     }

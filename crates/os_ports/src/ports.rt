@@ -2,10 +2,13 @@
 ghost use Rattle.std.specs.Prelude.{◌≡◌, ◌≢◌, ◌<◌, ◌+◌, ◌-◌, ◌^◌, ℕ, slice_index, min, IfOk, OnOk, OnErr, Ok};
 ghost use Rattle.port_rules.specs.Number.{number};
 
+use crate::children::Children;
 use crate::counts::Counts;
+use crate::explainer::Explainer;
 use crate::standard::StandardStreams;
 use crate::streams::Streams;
 use crate::system::System;
+use crate::variables::{EXPLAIN, is_one};
 use port_rules::{Failed, Port, Ports};
 use std::io::{self, ErrorKind};
 use std::os::fd::AsRawFd;
@@ -41,9 +44,12 @@ use std::os::fd::AsRawFd;
 /// ```
 #[derive(Drop)]
 pub struct OsPorts<R: System> {
-    // It is dropped last, so that the numbers are held for as long as anything is open.
-    streams: Streams<R>,
+    rt: R,
+    streams: Streams<R::Reader, R::File, R::Listener, R::Stream>,
+    children: Children<R::Started>,
+    explainer: Explainer,
     counts: Counts,
+    // It is dropped last, so that the numbers are held for as long as anything is open.
     standard: StandardStreams<R::File>,
 }
 
@@ -64,8 +70,13 @@ impl<R: System> OsPorts<R> {
     {
         let counts = Counts::new(rt.alloc())?;
         let standard = StandardStreams::hold(&rt)?;
+        let alloc = rt.alloc();
+        let explainer = Explainer::new(alloc, is_one(&rt, EXPLAIN));
         Ok(OsPorts {
-            streams: Streams::new(rt),
+            rt,
+            streams: Streams::new(alloc),
+            children: Children::new(alloc),
+            explainer,
             counts,
             standard,
         })
@@ -79,7 +90,8 @@ impl<R: System> OsPorts<R> {
     pub fn end_children(&mut self)
         ensures { self.new.counts ≡ self.old.counts }
     {
-        self.streams.end_children();
+        self.streams.close_links();
+        self.children.end(&self.rt);
     }
 
     // Tells how a call on the port ended: one that failed is counted, and explained where that is asked for. A name is
@@ -95,7 +107,7 @@ impl<R: System> OsPorts<R> {
         match ended {
             Ok(x) => Ok(x),
             Err(error) => {
-                self.streams.explain(p, name, &error);
+                self.explainer.explain(&self.rt, p, name, &error);
                 Err(self.counts.raise(p))
             }
         }
@@ -124,27 +136,28 @@ impl<R: System> Ports for OsPorts<R> {
     ghost world = { λ s. counts_alone s.counts };
 
     fn open(&mut self, p: Port, name: &str) -> Result<(), Failed> {
-        let opened = self.streams.open(p, name);
+        let opened = self.streams.open(&self.rt, p, name, &mut self.children);
+        self.explainer.note_opened(p, name, &opened);
         self.told(p, Some(name), opened)
     }
 
     fn take(&mut self, p: Port, into: &mut [u8]) -> Result<usize, Failed> {
-        let taken = self.streams.read(p, into);
+        let taken = self.streams.read(&self.rt, p, into);
         self.told(p, None, taken)
     }
 
     fn give(&mut self, p: Port, piece: &[u8]) -> Result<usize, Failed> {
-        let given = some_taken(self.streams.write(p, piece));
+        let given = some_taken(self.streams.write(&self.rt, p, piece));
         self.told(p, None, given)
     }
 
     fn next_guest(&mut self) -> Result<(), Failed> {
-        let met = self.streams.meet();
+        let met = self.streams.meet(&mut self.explainer);
         self.told(Port::Door, None, met)
     }
 
     fn start_child(&mut self, i: u8, words: &[String]) -> Result<(), Failed> {
-        let started = self.streams.start(words);
+        let started = self.children.start(&self.rt, words);
         let address = last_of(words);
         self.told(Port::Child(i), address, started)
     }
