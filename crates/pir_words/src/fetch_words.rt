@@ -23,7 +23,7 @@ pub(crate) fn addresses_at<'a, 'b>(matches: &'b ArgMatches<'a>) -> Option<&'b [&
     ensures few { IfSome result (λ s. length s.now ≤ MOST_SERVERS) }
 {
     let addresses = texts_at(matches, "addresses")?;
-    if addresses.len() <= usize::from(MOST_SERVERS) {
+    if addresses.len() <= MOST_SERVERS as usize {
         Some(addresses)
     } else {
         None
@@ -66,8 +66,7 @@ fn tau_at(matches: &ArgMatches, scheme: Scheme, sharing: Sharing) -> Option<u8>
     match scheme {
         Scheme::Shamir => {
             let tau = number_of(given.unwrap_or("0"))?;
-            let (degree, agree) = (u64::from(sharing.degree), u64::from(sharing.agree));
-            if tau <= u64::from(MOST_TAU) && degree + tau < agree {
+            if tau <= MOST_TAU as u64 && sharing.degree as u64 + tau < sharing.agree as u64 {
                 Some(tau as u8)
             } else {
                 None
@@ -90,7 +89,6 @@ pub fn read_fetch(alloc: Global, matches: &ArgMatches) -> Result<Asked, WordsFau
     let Some(sizes) = sizes_at(matches) else {
         return Err(WordsFault::Usage);
     };
-    let blocks = blocks_at(alloc, matches, sizes)?;
     let Some(scheme) = scheme_at(matches) else {
         return Err(WordsFault::Usage);
     };
@@ -103,6 +101,7 @@ pub fn read_fetch(alloc: Global, matches: &ArgMatches) -> Result<Asked, WordsFau
     let Some(tau) = tau_at(matches, scheme, sharing) else {
         return Err(WordsFault::Usage);
     };
+    let blocks = blocks_at(alloc, matches, sizes)?;
     let coins = coins_at(alloc, matches)?;
     let keep = owned_if_given(alloc, text_at(matches, "record"))?;
     let addresses = Texts::new(alloc, addresses)?;

@@ -25,7 +25,7 @@ fn shard_addresses_at<'a, 'b>(
 {
     let addresses = texts_at(matches, "addresses")?;
     let shards = rows.div_ceil(shard) as usize;
-    if addresses.len() == shards && addresses.len() <= usize::from(MOST_SHARDS) {
+    if addresses.len() == shards && addresses.len() <= MOST_SHARDS as usize {
         Some(addresses)
     } else {
         None

@@ -17,7 +17,7 @@ fn tau_among(matches: &ArgMatches, servers: u8) -> Option<u8>
     ensures { result ≡ tau_among servers (given matches.now) }
 {
     let tau = number_at(matches, "tau")?;
-    if 1 <= tau && tau < u64::from(servers) {
+    if 1 <= tau && tau < servers as u64 {
         Some(tau as u8)
     } else {
         None

@@ -11,7 +11,7 @@ loop-name-init c = record { app = c.new-command.ensures.app; local = c.new-comma
 pub loop-name-preserved : goal.loop-name-preserved
 loop-name-preserved c = record {
   app = c.in_ok-command.ensures.shape c.argument.ensures.local ∙ (ap₂ with_rule c.loop-name.invariant.app c.argument.ensures.rule
-    ∙ sym (fold_more with_argument _ c.args.form.arguments.now c.loop-name.name-index _ c.loop-name-test.true));
+      ∙ sym (fold_more with_argument _ c.args.form.arguments.now c.loop-name.name-index _ c.loop-name-test.true));
   local = c.in_ok-command.ensures.globals ∙ ap₂ ◌||◌ c.loop-name.invariant.local c.argument.ensures.local;
 }
 
