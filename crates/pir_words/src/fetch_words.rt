@@ -22,11 +22,9 @@ pub(crate) fn addresses_at<'a, 'b>(matches: &'b ArgMatches<'a>) -> Option<&'b [&
     ensures value { option_map (λ s. map (λ v. v.now) s.now) result ≡ addresses_in (given matches.now) }
     ensures few { IfSome result (λ s. length s.now ≤ MOST_SERVERS) }
 {
-    let addresses = texts_at(matches, "addresses")?;
-    if addresses.len() <= MOST_SERVERS as usize {
-        Some(addresses)
-    } else {
-        None
+    match texts_at(matches, "addresses") {
+        Some(addresses) if addresses.len() <= MOST_SERVERS as usize => Some(addresses),
+        _ => None,
     }
 }
 
@@ -65,11 +63,11 @@ fn tau_at(matches: &ArgMatches, scheme: Scheme, sharing: Sharing) -> Option<u8>
     let given = text_at(matches, "tau");
     match scheme {
         Scheme::Shamir => {
-            let tau = number_of(given.unwrap_or("0"))?;
-            if tau <= MOST_TAU as u64 && sharing.degree as u64 + tau < sharing.agree as u64 {
-                Some(tau as u8)
-            } else {
-                None
+            let most = MOST_TAU as u64;
+            let (degree, agree) = (sharing.degree as u64, sharing.agree as u64);
+            match number_of(given.unwrap_or("0")) {
+                Some(tau) if tau <= most && degree + tau < agree => Some(tau as u8),
+                _ => None,
             }
         }
         Scheme::Xor => {

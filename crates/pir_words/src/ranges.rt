@@ -47,12 +47,11 @@ pub fn guests_at(matches: &ArgMatches) -> Option<u32>
 pub fn sizes_at(matches: &ArgMatches) -> Option<Sizes>
     ensures { result ≡ sizes_in (given matches.now) }
 {
-    let rows = limited_at(matches, "rows", 1, MOST_ROWS)?;
-    let width = width_at(matches)?;
-    if rows as u64 * width as u64 <= MOST_CELLS {
-        Some(Sizes { rows, width })
-    } else {
-        None
+    match (limited_at(matches, "rows", 1, MOST_ROWS), width_at(matches)) {
+        (Some(rows), Some(width)) if rows as u64 * width as u64 <= MOST_CELLS => {
+            Some(Sizes { rows, width })
+        }
+        _ => None,
     }
 }
 
@@ -61,11 +60,9 @@ pub fn sizes_at(matches: &ArgMatches) -> Option<Sizes>
 pub fn row_named(text: &str, rows: u32) -> Option<u32>
     ensures { result ≡ row_named rows text.now }
 {
-    let row = number_of(text)?;
-    if row < rows as u64 {
-        Some(row as u32)
-    } else {
-        None
+    match number_of(text) {
+        Some(row) if row < rows as u64 => Some(row as u32),
+        _ => None,
     }
 }
 
@@ -116,15 +113,15 @@ pub fn servers_at(matches: &ArgMatches) -> Option<u8>
 pub fn sharing_at(matches: &ArgMatches, servers: u8) -> Option<Sharing>
     ensures { result ≡ sharing_in servers (given matches.now) }
 {
-    let degree = limited_at(matches, "degree", 1, MOST_DEGREE as u32)?;
-    let agree = number_at(matches, "agree")?;
-    if agree > degree as u64 && agree <= servers as u64 {
-        Some(Sharing {
-            degree: degree as u8,
-            agree: agree as u8,
-        })
-    } else {
-        None
+    let degree = limited_at(matches, "degree", 1, MOST_DEGREE as u32);
+    match (degree, number_at(matches, "agree")) {
+        (Some(degree), Some(agree)) if agree > degree as u64 && agree <= servers as u64 => {
+            Some(Sharing {
+                degree: degree as u8,
+                agree: agree as u8,
+            })
+        }
+        _ => None,
     }
 }
 
@@ -133,11 +130,9 @@ pub fn sharing_at(matches: &ArgMatches, servers: u8) -> Option<Sharing>
 pub fn workers_at(matches: &ArgMatches) -> Option<u8>
     ensures { result ≡ workers_in (given matches.now) }
 {
-    let n = number_of(text_at(matches, "workers").unwrap_or("1"))?;
-    if 1 <= n && n <= MOST_WORKERS as u64 {
-        Some(n as u8)
-    } else {
-        None
+    match number_of(text_at(matches, "workers").unwrap_or("1")) {
+        Some(n) if 1 <= n && n <= MOST_WORKERS as u64 => Some(n as u8),
+        _ => None,
     }
 }
 

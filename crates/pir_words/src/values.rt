@@ -62,11 +62,9 @@ pub fn limited_at(matches: &ArgMatches, id: &str, least: u32, most: u32) -> Opti
     ensures value { result ≡ limited id.now least most (given matches.now) }
     ensures bounds { IfSome result (λ n. (least ≤ n) × (n ≤ most)) }
 {
-    let n = number_at(matches, id)?;
-    if least as u64 <= n && n <= most as u64 {
-        Some(n as u32)
-    } else {
-        None
+    match number_at(matches, id) {
+        Some(n) if least as u64 <= n && n <= most as u64 => Some(n as u32),
+        _ => None,
     }
 }
 
