@@ -73,7 +73,7 @@ pub fn limited_at(matches: &ArgMatches, id: &str, least: u32, most: u32) -> Opti
 pub fn flag_at(matches: &ArgMatches, id: &str) -> bool
     ensures { result ≡ flag_in id.now (given matches.now) }
 {
-    text_at(matches, id).unwrap_or("false") == "true"
+    matches!(text_at(matches, id), Some("true"))
 }
 
 /// A copy of the word of an argument.
