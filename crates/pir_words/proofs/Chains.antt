@@ -31,6 +31,15 @@ module _ {A B : Type 0} {o : Option A} (next : A → Option B) where
   pub not_given : None ≡ o → (o >>= next) ≡ None
   not_given e = ap (λ (p : Option A). p >>= next) (sym e)
 
+module _ {A B : Type 0} (o : Option A) {next : A → Option B} where
+  -- nor where it is read with none of the values that there may be
+  pub in_any_case : ((a : A) → next a ≡ None) → (o >>= next) ≡ None
+  in_any_case none = by_value o
+    where
+      by_value : (p : Option A) → (p >>= next) ≡ None
+      by_value None = refl
+      by_value (Some a) = none a
+
 -- nor where the value itself is read from a faulty command line
 pub not_read : {A B : Type 0} (o : Option A) (next : A → Option B) (r : Result B WordsFault) {f g : WordsFault} → r ≡ Err f → f ≡ g → IsReadAs {A = A} o (Err g) → IsReadAs (o >>= next) r
 not_read {A} {B} o next r {f} {g} is same read =

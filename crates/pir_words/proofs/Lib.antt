@@ -1,5 +1,4 @@
 pub mod Chains
-pub mod InTurn
 pub mod Digits
 pub mod Entered
 pub mod InRanges

@@ -62,8 +62,7 @@ fn more_at<'a>(alloc: Global, matches: &ArgMatches<'a>) -> Result<Vec<&'a str>, 
 fn are_at_once(width: u32, blocks: &[u32]) -> bool
     ensures { result ≡ at_once width blocks.now }
 {
-    blocks.len() <= usize::from(MOST_BLOCKS)
-        && blocks.len() as u64 * u64::from(width) <= u64::from(MOST_WIDTH)
+    blocks.len() <= MOST_BLOCKS as usize && blocks.len() as u64 * width as u64 <= MOST_WIDTH as u64
 }
 
 /// The first block, and behind it those that the texts name, each one of so many rows. `None` where a text names none.

@@ -1,7 +1,7 @@
 //! The command line, built for `clap`.
 
-ghost use Rattle.std.specs.Prelude.{◌≡◌, Bool, false, IfOk, map};
-ghost use Rattle.clap.specs.Words.{App, Rule, app_of, rule_of};
+ghost use Rattle.std.specs.Prelude.{◌≡◌, false, IfOk};
+ghost use Rattle.clap.specs.Words.{app_of, rule_of};
 ghost use Rattle.clap.specs.declared.builder.command.Command.TheViews.{out-Command};
 ghost use Rattle.pir_words.specs.Command.{bare, pir};
 ghost use Rattle.pir_words.specs.Table.{app_by, is_long, is_required, action_of, rule_by, AddsCommands};
@@ -171,50 +171,27 @@ fn argument<'a>(alloc: Global, name: &'a str, kind: Kind) -> Arg<'a>
     }
 }
 
-/// The arguments of these names, one after the other.
-fn arguments_of<'a>(alloc: Global, named: &[(&'a str, Kind)]) -> Result<Vec<Arg<'a>>, AllocError>
-    ensures { IfOk result (λ arguments.
-        map {B = Rule × Bool} (λ a. (rule_of a, a.global)) arguments.items
-        ≡ map (λ n. (rule_by n.0.now n.1, false)) named.now) }
-{
-    let mut arguments = Vec::new(alloc);
-    for (name, kind) in named {
-        arguments.push(argument(alloc, *name, *kind))?;
-    }
-    Ok(arguments)
-}
-
 /// A command of this form.
 fn command_of<'a>(alloc: Global, form: Form<'a>) -> Result<Command<'a>, AllocError>
     ensures app { IfOk result (λ c. app_of c ≡ app_by form.entry) }
     ensures local { IfOk result (λ c. (out-Command c).has_globals ≡ false) }
 {
-    let arguments = arguments_of(alloc, form.arguments)?;
-    Command::new(alloc, form.name).args(arguments)
-}
-
-/// The commands of these forms, one after the other.
-fn commands_of<'a>(alloc: Global, forms: &[Form<'a>]) -> Result<Vec<Command<'a>>, AllocError>
-    ensures { IfOk result (λ commands.
-        map {B = App × Bool} (λ c. (app_of c, (out-Command c).has_globals)) commands.items
-        ≡ map (λ form. (app_by form, false)) forms.now) }
-{
-    let mut commands = Vec::new(alloc);
-    for form in forms {
-        let command = command_of(alloc, *form)?;
-        commands.push(command)?;
+    let mut command = Command::new(alloc, form.name);
+    for (name, kind) in form.arguments {
+        command = command.arg(argument(alloc, *name, *kind))?;
     }
-    Ok(commands)
+    Ok(command)
 }
 
 /// `pir` with commands of these forms. The words come without the program's name.
 fn pir_with<'a>(alloc: Global, forms: &[Form<'a>]) -> Result<Command<'a>, AllocError>
     ensures { IfOk result (AddsCommands bare forms.now) }
 {
-    let commands = commands_of(alloc, forms)?;
-    Command::new(alloc, "pir")
-        .no_binary_name(true)
-        .subcommands(commands)
+    let mut pir = Command::new(alloc, "pir").no_binary_name(true);
+    for form in forms {
+        pir = pir.subcommand(command_of(alloc, *form)?)?;
+    }
+    Ok(pir)
 }
 
 /// `pir` with its commands. The words come without the program's name.

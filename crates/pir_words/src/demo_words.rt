@@ -6,7 +6,7 @@ ghost use Rattle.pir_words.specs.Form.{IsReadAs};
 
 use crate::asked::{Asked, WordsFault};
 use crate::ranges::{block_at, coins_at, servers_at, sharing_at, sizes_at};
-use crate::values::{limited_at, owned, text_at};
+use crate::values::{limited_at, owned_at};
 use crate::{LEAST_PORT, MOST_PORT};
 use clap::ArgMatches;
 use std::alloc::Global;
@@ -16,10 +16,7 @@ use std::alloc::Global;
 pub fn read_demo(alloc: Global, matches: &ArgMatches) -> Result<Asked, WordsFault>
     ensures { IsReadAs (demo_of (given matches.now)) result }
 {
-    let Some(port) = limited_at(matches, "port", u32::from(LEAST_PORT), u32::from(MOST_PORT)) else {
-        return Err(WordsFault::Usage);
-    };
-    let Some(database) = text_at(matches, "database") else {
+    let Some(port) = limited_at(matches, "port", LEAST_PORT as u32, MOST_PORT as u32) else {
         return Err(WordsFault::Usage);
     };
     let Some(sizes) = sizes_at(matches) else {
@@ -34,7 +31,7 @@ pub fn read_demo(alloc: Global, matches: &ArgMatches) -> Result<Asked, WordsFaul
     let Some(sharing) = sharing_at(matches, servers) else {
         return Err(WordsFault::Usage);
     };
-    let database = owned(alloc, database)?;
+    let database = owned_at(alloc, matches, "database")?;
     let coins = coins_at(alloc, matches)?;
     Ok(Asked::Demo {
         port: port as u16,

@@ -22,11 +22,9 @@ pub(crate) fn addresses_at<'a, 'b>(matches: &'b ArgMatches<'a>) -> Option<&'b [&
     ensures value { option_map (λ s. map (λ v. v.now) s.now) result ≡ addresses_in (given matches.now) }
     ensures few { IfSome result (λ s. length s.now ≤ MOST_SERVERS) }
 {
-    let addresses = texts_at(matches, "addresses")?;
-    if addresses.len() <= usize::from(MOST_SERVERS) {
-        Some(addresses)
-    } else {
-        None
+    match texts_at(matches, "addresses") {
+        Some(addresses) if addresses.len() <= MOST_SERVERS as usize => Some(addresses),
+        _ => None,
     }
 }
 
@@ -65,12 +63,11 @@ fn tau_at(matches: &ArgMatches, scheme: Scheme, sharing: Sharing) -> Option<u8>
     let given = text_at(matches, "tau");
     match scheme {
         Scheme::Shamir => {
-            let tau = number_of(given.unwrap_or("0"))?;
-            let (degree, agree) = (u64::from(sharing.degree), u64::from(sharing.agree));
-            if tau <= u64::from(MOST_TAU) && degree + tau < agree {
-                Some(tau as u8)
-            } else {
-                None
+            let most = MOST_TAU as u64;
+            let (degree, agree) = (sharing.degree as u64, sharing.agree as u64);
+            match number_of(given.unwrap_or("0")) {
+                Some(tau) if tau <= most && degree + tau < agree => Some(tau as u8),
+                _ => None,
             }
         }
         Scheme::Xor => {
@@ -90,7 +87,6 @@ pub fn read_fetch(alloc: Global, matches: &ArgMatches) -> Result<Asked, WordsFau
     let Some(sizes) = sizes_at(matches) else {
         return Err(WordsFault::Usage);
     };
-    let blocks = blocks_at(alloc, matches, sizes)?;
     let Some(scheme) = scheme_at(matches) else {
         return Err(WordsFault::Usage);
     };
@@ -103,6 +99,7 @@ pub fn read_fetch(alloc: Global, matches: &ArgMatches) -> Result<Asked, WordsFau
     let Some(tau) = tau_at(matches, scheme, sharing) else {
         return Err(WordsFault::Usage);
     };
+    let blocks = blocks_at(alloc, matches, sizes)?;
     let coins = coins_at(alloc, matches)?;
     let keep = owned_if_given(alloc, text_at(matches, "record"))?;
     let addresses = Texts::new(alloc, addresses)?;

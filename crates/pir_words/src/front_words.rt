@@ -23,12 +23,12 @@ fn shard_addresses_at<'a, 'b>(
     requires { 1 ≤ shard }
     ensures { option_map (λ s. map (λ v. v.now) s.now) result ≡ shard_addresses_in rows shard (given matches.now) }
 {
-    let addresses = texts_at(matches, "addresses")?;
     let shards = rows.div_ceil(shard) as usize;
-    if addresses.len() == shards && addresses.len() <= usize::from(MOST_SHARDS) {
-        Some(addresses)
-    } else {
-        None
+    match texts_at(matches, "addresses") {
+        Some(addresses) if addresses.len() == shards && shards <= MOST_SHARDS as usize => {
+            Some(addresses)
+        }
+        _ => None,
     }
 }
 

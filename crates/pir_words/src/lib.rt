@@ -84,7 +84,7 @@ fn read_command(alloc: Global, name: &str, matches: &ArgMatches) -> Result<Asked
         "replay" => read_replay(alloc, matches),
         "fetch" => read_fetch(alloc, matches),
         "serve" => read_serve(alloc, matches),
-        "selfrun" => read_selfrun(matches).ok_or(WordsFault::Usage),
+        "selfrun" => read_selfrun(matches),
         "demo" => read_demo(alloc, matches),
         "lookup" => read_lookup(alloc, matches),
         "split" => read_split(alloc, matches),

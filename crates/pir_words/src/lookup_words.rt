@@ -1,7 +1,7 @@
 //! The words of `lookup`.
 
 ghost use Rattle.pir_words.specs.Numbers.{given};
-ghost use Rattle.pir_words.specs.LookUpForm.{key_in, key_named, lookup_of};
+ghost use Rattle.pir_words.specs.LookUpForm.{key_in, lookup_of};
 ghost use Rattle.pir_words.specs.Form.{IsReadAs};
 
 use crate::asked::{Asked, WordsFault};
@@ -13,20 +13,13 @@ use clap::ArgMatches;
 use key_search::{Key, read_key};
 use std::alloc::Global;
 
-/// The key that a text spells, for rows of so many bytes.
-fn key_named(alloc: Global, text: &str, width: u32) -> Result<Key, WordsFault>
-    ensures { IsReadAs (key_named width text.now) result }
-{
-    Ok(read_key(alloc, text, width)?)
-}
-
 /// The key, for rows of so many bytes.
 #[tactic(auto, unfolding(crate::specs::LookUpForm::key_in))]
 fn key_at(alloc: Global, matches: &ArgMatches, width: u32) -> Result<Key, WordsFault>
     ensures { IsReadAs (key_in width (given matches.now)) result }
 {
     match text_at(matches, "key") {
-        Some(text) => key_named(alloc, text, width),
+        Some(text) => Ok(read_key(alloc, text, width)?),
         None => Err(WordsFault::Usage),
     }
 }
@@ -39,13 +32,13 @@ pub fn read_lookup(alloc: Global, matches: &ArgMatches) -> Result<Asked, WordsFa
     let Some(sizes) = sizes_at(matches) else {
         return Err(WordsFault::Usage);
     };
-    let key = key_at(alloc, matches, sizes.width)?;
     let Some(addresses) = addresses_at(matches) else {
         return Err(WordsFault::Usage);
     };
     let Some(sharing) = sharing_at(matches, addresses.len() as u8) else {
         return Err(WordsFault::Usage);
     };
+    let key = key_at(alloc, matches, sizes.width)?;
     let coins = coins_at(alloc, matches)?;
     let addresses = Texts::new(alloc, addresses)?;
     Ok(Asked::Lookup {

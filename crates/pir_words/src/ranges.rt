@@ -1,15 +1,14 @@
 //! The values that several commands have, each in its range.
 
-ghost use Rattle.std.specs.Prelude.{◌≡◌, IfErr, IfOk, codes};
+ghost use Rattle.std.specs.Prelude.{◌≡◌, IfOk, codes};
 ghost use Rattle.quantity_limits.specs.declared.TheConstants.{MOST_GUESTS, MOST_WIDTH};
 ghost use Rattle.pir_words.specs.Numbers.{given, limited};
 ghost use Rattle.pir_words.specs.Ranges.{block_in, coins_in, row_named, scheme_in, scheme_named, servers_in, sharing_in, sizes_in, workers_in};
 
-use crate::asked::WordsFault;
 use crate::text::Text;
-use crate::values::{limited_at, number_at, number_of, owned, text_at};
+use crate::values::{limited_at, number_at, number_of, text_at};
 use clap::ArgMatches;
-use std::alloc::Global;
+use std::alloc::{AllocError, Global};
 use wire_frames::{
     LEAST_SERVERS, MOST_CELLS, MOST_DEGREE, MOST_GUESTS, MOST_ROWS, MOST_SERVERS, MOST_WIDTH,
     MOST_WORKERS, Scheme,
@@ -48,12 +47,11 @@ pub fn guests_at(matches: &ArgMatches) -> Option<u32>
 pub fn sizes_at(matches: &ArgMatches) -> Option<Sizes>
     ensures { result ≡ sizes_in (given matches.now) }
 {
-    let rows = limited_at(matches, "rows", 1, MOST_ROWS)?;
-    let width = width_at(matches)?;
-    if u64::from(rows) * u64::from(width) <= MOST_CELLS {
-        Some(Sizes { rows, width })
-    } else {
-        None
+    match (limited_at(matches, "rows", 1, MOST_ROWS), width_at(matches)) {
+        (Some(rows), Some(width)) if rows as u64 * width as u64 <= MOST_CELLS => {
+            Some(Sizes { rows, width })
+        }
+        _ => None,
     }
 }
 
@@ -62,11 +60,9 @@ pub fn sizes_at(matches: &ArgMatches) -> Option<Sizes>
 pub fn row_named(text: &str, rows: u32) -> Option<u32>
     ensures { result ≡ row_named rows text.now }
 {
-    let row = number_of(text)?;
-    if row < u64::from(rows) {
-        Some(row as u32)
-    } else {
-        None
+    match number_of(text) {
+        Some(row) if row < rows as u64 => Some(row as u32),
+        _ => None,
     }
 }
 
@@ -106,8 +102,8 @@ pub fn servers_at(matches: &ArgMatches) -> Option<u8>
     let servers = limited_at(
         matches,
         "servers",
-        u32::from(LEAST_SERVERS),
-        u32::from(MOST_SERVERS),
+        LEAST_SERVERS as u32,
+        MOST_SERVERS as u32,
     )?;
     Some(servers as u8)
 }
@@ -117,15 +113,15 @@ pub fn servers_at(matches: &ArgMatches) -> Option<u8>
 pub fn sharing_at(matches: &ArgMatches, servers: u8) -> Option<Sharing>
     ensures { result ≡ sharing_in servers (given matches.now) }
 {
-    let degree = limited_at(matches, "degree", 1, u32::from(MOST_DEGREE))?;
-    let agree = number_at(matches, "agree")?;
-    if u64::from(degree) < agree && agree <= u64::from(servers) {
-        Some(Sharing {
-            degree: degree as u8,
-            agree: agree as u8,
-        })
-    } else {
-        None
+    let degree = limited_at(matches, "degree", 1, MOST_DEGREE as u32);
+    match (degree, number_at(matches, "agree")) {
+        (Some(degree), Some(agree)) if agree > degree as u64 && agree <= servers as u64 => {
+            Some(Sharing {
+                degree: degree as u8,
+                agree: agree as u8,
+            })
+        }
+        _ => None,
     }
 }
 
@@ -134,19 +130,16 @@ pub fn sharing_at(matches: &ArgMatches, servers: u8) -> Option<Sharing>
 pub fn workers_at(matches: &ArgMatches) -> Option<u8>
     ensures { result ≡ workers_in (given matches.now) }
 {
-    let n = number_of(text_at(matches, "workers").unwrap_or("1"))?;
-    if 1 <= n && n <= u64::from(MOST_WORKERS) {
-        Some(n as u8)
-    } else {
-        None
+    match number_of(text_at(matches, "workers").unwrap_or("1")) {
+        Some(n) if 1 <= n && n <= MOST_WORKERS as u64 => Some(n as u8),
+        _ => None,
     }
 }
 
 /// The name of the file that random bytes come from.
 #[tactic(auto, unfolding(crate::specs::Ranges::coins_in))]
-pub fn coins_at(alloc: Global, matches: &ArgMatches) -> Result<Text, WordsFault>
-    ensures ok { IfOk result (λ coins. coins ≡ coins_in (given matches.now)) }
-    ensures err { IfErr result (λ e. e ≡ WordsFault.Memory) }
+pub fn coins_at(alloc: Global, matches: &ArgMatches) -> Result<Text, AllocError>
+    ensures { IfOk result (λ coins. coins ≡ coins_in (given matches.now)) }
 {
-    owned(alloc, text_at(matches, "coins").unwrap_or("/dev/urandom"))
+    Text::new(alloc, text_at(matches, "coins").unwrap_or("/dev/urandom"))
 }

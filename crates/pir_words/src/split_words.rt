@@ -16,11 +16,9 @@ use std::alloc::Global;
 fn tau_among(matches: &ArgMatches, servers: u8) -> Option<u8>
     ensures { result ≡ tau_among servers (given matches.now) }
 {
-    let tau = number_at(matches, "tau")?;
-    if 1 <= tau && tau < u64::from(servers) {
-        Some(tau as u8)
-    } else {
-        None
+    match number_at(matches, "tau") {
+        Some(tau) if 1 <= tau && tau < servers as u64 => Some(tau as u8),
+        _ => None,
     }
 }
 

@@ -1,6 +1,6 @@
 //! What the words give to an argument: texts, numbers and flags.
 
-ghost use Rattle.std.specs.Prelude.{◌≡◌, ◌≤◌, IfErr, IfOk, IfSome, map, option_map};
+ghost use Rattle.std.specs.Prelude.{◌≡◌, ◌≤◌, IfOk, IfSome, map, option_map};
 ghost use Rattle.std.specs.List.{list_all};
 ghost use Rattle.clap.specs.Words.{all_of, first_of};
 ghost use Rattle.pir_words.specs.Numbers.{flag_in, given, is_digit, limited, number, number_in};
@@ -9,7 +9,7 @@ ghost use Rattle.pir_words.specs.Form.{IsReadAs};
 use crate::asked::WordsFault;
 use crate::text::Text;
 use clap::ArgMatches;
-use std::alloc::Global;
+use std::alloc::{AllocError, Global};
 
 /// The word of an argument.
 pub fn text_at<'a>(matches: &ArgMatches<'a>, id: &str) -> Option<&'a str>
@@ -62,11 +62,9 @@ pub fn limited_at(matches: &ArgMatches, id: &str, least: u32, most: u32) -> Opti
     ensures value { result ≡ limited id.now least most (given matches.now) }
     ensures bounds { IfSome result (λ n. (least ≤ n) × (n ≤ most)) }
 {
-    let n = number_at(matches, id)?;
-    if u64::from(least) <= n && n <= u64::from(most) {
-        Some(n as u32)
-    } else {
-        None
+    match number_at(matches, id) {
+        Some(n) if least as u64 <= n && n <= most as u64 => Some(n as u32),
+        _ => None,
     }
 }
 
@@ -75,15 +73,7 @@ pub fn limited_at(matches: &ArgMatches, id: &str, least: u32, most: u32) -> Opti
 pub fn flag_at(matches: &ArgMatches, id: &str) -> bool
     ensures { result ≡ flag_in id.now (given matches.now) }
 {
-    text_at(matches, id).unwrap_or("false") == "true"
-}
-
-/// A copy of a word.
-pub fn owned(alloc: Global, text: &str) -> Result<Text, WordsFault>
-    ensures ok { IfOk result (λ t. t ≡ text.now) }
-    ensures err { IfErr result (λ e. e ≡ WordsFault.Memory) }
-{
-    Ok(Text::new(alloc, text)?)
+    matches!(text_at(matches, id), Some("true"))
 }
 
 /// A copy of the word of an argument.
@@ -91,18 +81,17 @@ pub fn owned_at(alloc: Global, matches: &ArgMatches, id: &str) -> Result<Text, W
     ensures { IsReadAs (first_of id.now (given matches.now)) result }
 {
     match text_at(matches, id) {
-        Some(text) => owned(alloc, text),
+        Some(text) => Ok(Text::new(alloc, text)?),
         None => Err(WordsFault::Usage),
     }
 }
 
 /// A copy of a word that may be left out.
-pub fn owned_if_given(alloc: Global, text: Option<&str>) -> Result<Option<Text>, WordsFault>
-    ensures ok { IfOk result (λ t. t ≡ option_map (λ s. s.now) text.entry) }
-    ensures err { IfErr result (λ e. e ≡ WordsFault.Memory) }
+pub fn owned_if_given(alloc: Global, text: Option<&str>) -> Result<Option<Text>, AllocError>
+    ensures { IfOk result (λ t. t ≡ option_map (λ s. s.now) text.entry) }
 {
     match text {
-        Some(text) => Ok(Some(owned(alloc, text)?)),
+        Some(text) => Ok(Some(Text::new(alloc, text)?)),
         None => Ok(None),
     }
 }

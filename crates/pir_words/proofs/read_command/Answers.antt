@@ -1,21 +1,10 @@
-use Rattle.std.proofs.Common.{◌≡◌, ◌∙◌, if◌then◌else◌, ℕ, List, None, Option, Result, Some, refl, rules, subst, sym}
+use Rattle.std.proofs.Common.{◌≡◌, ◌∙◌, if◌then◌else◌, ℕ, List, rules, subst, sym}
 use Rattle.std.specs.Str.{bytes_eq}
 use Rattle.std.proofs.lemmas.Bool.{cond-false, false_from_ne_true}
 use Rattle.std.proofs.lemmas.Slice.Eq.{bytes_eq-Decides}
-use Rattle.std.specs.Option.{ok_or}
 use Rattle.pir_words.specs.Numbers.{given}
 use Rattle.pir_words.specs.Form.{IsReadAs, asked_by}
-use Rattle.pir_words.specs.declared.asked.WordsFault.{WordsFault}
-use Rattle.pir_words.specs.declared.asked.WordsFault.TheVariants.{Usage}
 use Rattle.pir_words.proofs.read_command.Goals as goal
-
--- nothing is wanted where nothing is given
-read_or_usage : {A : Type 0} (wanted given : Option A) (r : Result A WordsFault) → given ≡ wanted → r ≡ ok_or given Usage → IsReadAs wanted r
-read_or_usage {A} wanted given r e is = subst (IsReadAs wanted) (sym is) (subst (λ (o : Option A). IsReadAs o (ok_or given Usage)) e (by_itself given))
-  where
-    by_itself : (o : Option A) → IsReadAs o (ok_or o Usage)
-    by_itself None = refl
-    by_itself (Some a) = refl
 
 -- a text that isn't the name asks for what the other names do
 otherwise : {A : Type 0} (name key : List ℕ) (a b : A) → (name ≡ key → ⊥) → (if bytes_eq name key then a else b) ≡ b
@@ -35,7 +24,7 @@ returns-in-serve c = subst (λ name. IsReadAs (asked_by name (given c.args.match
 
 pub returns-in-selfrun : goal.returns-in-selfrun
 unfolding asked_by
-returns-in-selfrun c = subst (λ name. IsReadAs (asked_by name (given c.args.matches.now)) c.ok_or.result) (sym c.in-selfrun.is) (read_or_usage _ c.read_selfrun.result c.ok_or.result c.read_selfrun.ensures c.ok_or.ensures.value)
+returns-in-selfrun c = subst (λ name. IsReadAs (asked_by name (given c.args.matches.now)) c.read_selfrun.result) (sym c.in-selfrun.is) c.read_selfrun.ensures
 
 pub returns-in-demo : goal.returns-in-demo
 unfolding asked_by

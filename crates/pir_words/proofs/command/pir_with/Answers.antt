@@ -1,17 +1,19 @@
-use Rattle.std.proofs.Common.{◌≡◌, ◌∙◌, fold, true, ap}
-use Rattle.std.proofs.lemmas.Result.{IfOk-weaker}
-use Rattle.clap.specs.Words.{App, app_of}
+use Rattle.std.proofs.Common.{◌∙◌, true, ap, ap₂, arith, fold, sym}
+use Rattle.std.proofs.lemmas.List.{take_all}
+use Rattle.std.proofs.lemmas.List.Sums.{fold_more}
+use Rattle.clap.specs.Words.{App, with_subcommand}
 use Rattle.clap.specs.Simple.{app_of_fields}
 use Rattle.pir_words.specs.Command.{bare}
 use Rattle.pir_words.specs.Table.{with_command}
-use Rattle.pir_words.proofs.InTurn.{with_commands}
 use Rattle.pir_words.proofs.command.pir_with.Goals as goal
 
+pub loop-form-init : goal.loop-form-init
+loop-form-init c = ap app_of_fields c.no_binary_name-pir.ensures ∙ ap (λ (a : App). record a { top = record a.top { no_binary_name = true } }) c.new.ensures.app
+
+pub loop-form-preserved : goal.loop-form-preserved
+loop-form-preserved c = c.in_ok-pir.ensures.shape c.in_ok-command_of.ensures.local
+    ∙ (ap₂ (λ (old sub : App). with_subcommand old sub.top) c.loop-form.invariant c.in_ok-command_of.ensures.app
+    ∙ sym (fold_more with_command bare c.args.forms.now c.loop-form.form-index _ c.loop-form-test.true))
+
 pub returns : goal.returns
-returns c =
-    let top_is : app_of c.no_binary_name.result ≡ bare = ap app_of_fields c.no_binary_name.ensures
-    ∙ ap (λ (a : App). record a { top = record a.top { no_binary_name = true } }) c.new.ensures.app in
-    IfOk-weaker c.subcommands.result _ _
-    (λ r adds. record {
-      app = with_commands c.args.forms.now _ _ r adds c.in_ok-commands.ensures ∙ ap (λ (a : App). fold with_command a c.args.forms.now) top_is;
-    }) c.subcommands.ensures
+returns c = record { app = c.loop-form.invariant ∙ ap (fold with_command bare) (take_all c.loop-form.form-index c.args.forms.now (omega arith)) }

@@ -6,7 +6,7 @@ use Rattle.pir_words.specs.Numbers.{given}
 use Rattle.pir_words.specs.declared.asked.Asked.TheVariants.{Fetch}
 use Rattle.pir_words.specs.Form.{IsReadAs}
 use Rattle.pir_words.specs.FetchForm.{fetch_of, fetch_sharing_in}
-use Rattle.pir_words.proofs.Chains.{given_on, not_given, not_read, short_of_memory}
+use Rattle.pir_words.proofs.Chains.{given_on, in_any_case, not_given, not_read, short_of_memory}
 use Rattle.pir_words.proofs.fetch_words.read_fetch.Goals as goal
 
 -- what is read again with values that are the same
@@ -21,19 +21,19 @@ returns-in_default c = not_given _ c.in_default.ensures
 
 pub returns-in_default-scheme_at : goal.returns-in_default-scheme_at
 unfolding fetch_of
-returns-in_default-scheme_at c = given_on _ c.in-Some.ensures (given_on _ (sym c.in_ok-blocks.ensures) (not_given _ c.in_default-scheme_at.ensures))
+returns-in_default-scheme_at c = given_on _ c.in-Some.ensures (in_any_case _ (λ blocks. not_given _ c.in_default-scheme_at.ensures))
 
 pub returns-in_default-addresses_at : goal.returns-in_default-addresses_at
 unfolding fetch_of
-returns-in_default-addresses_at c = given_on _ c.in-Some.ensures (given_on _ (sym c.in_ok-blocks.ensures) (given_on _ c.in-Some-scheme_at.ensures (not_given _ c.in_default-addresses_at.ensures.value)))
+returns-in_default-addresses_at c = given_on _ c.in-Some.ensures (in_any_case _ (λ blocks. given_on _ c.in-Some-scheme_at.ensures (not_given _ c.in_default-addresses_at.ensures.value)))
 
 pub returns-in_default-fetch_sharing_at : goal.returns-in_default-fetch_sharing_at
 unfolding fetch_of
-returns-in_default-fetch_sharing_at c = given_on _ c.in-Some.ensures (given_on _ (sym c.in_ok-blocks.ensures) (given_on _ c.in-Some-scheme_at.ensures (given_on _ c.in-Some-addresses_at.ensures.value (not_given _ (c.in_default-fetch_sharing_at.ensures ∙ ap (λ n. fetch_sharing_in c.in-Some-scheme_at.scheme n (given c.args.matches.now)) (sym (length-map c.in-Some-addresses_at.addresses.now (λ v. v.now))))))))
+returns-in_default-fetch_sharing_at c = given_on _ c.in-Some.ensures (in_any_case _ (λ blocks. given_on _ c.in-Some-scheme_at.ensures (given_on _ c.in-Some-addresses_at.ensures.value (not_given _ (c.in_default-fetch_sharing_at.ensures ∙ ap (λ n. fetch_sharing_in c.in-Some-scheme_at.scheme n (given c.args.matches.now)) (sym (length-map c.in-Some-addresses_at.addresses.now (λ v. v.now))))))))
 
 pub returns-in_default-tau_at : goal.returns-in_default-tau_at
 unfolding fetch_of
-returns-in_default-tau_at c = given_on _ c.in-Some.ensures (given_on _ (sym c.in_ok-blocks.ensures) (given_on _ c.in-Some-scheme_at.ensures (given_on _ c.in-Some-addresses_at.ensures.value (given_on _ (c.in-Some-fetch_sharing_at.ensures ∙ ap (λ n. fetch_sharing_in c.in-Some-scheme_at.scheme n (given c.args.matches.now)) (sym (length-map c.in-Some-addresses_at.addresses.now (λ v. v.now)))) (not_given _ c.in_default-tau_at.ensures)))))
+returns-in_default-tau_at c = given_on _ c.in-Some.ensures (in_any_case _ (λ blocks. given_on _ c.in-Some-scheme_at.ensures (given_on _ c.in-Some-addresses_at.ensures.value (given_on _ (c.in-Some-fetch_sharing_at.ensures ∙ ap (λ n. fetch_sharing_in c.in-Some-scheme_at.scheme n (given c.args.matches.now)) (sym (length-map c.in-Some-addresses_at.addresses.now (λ v. v.now)))) (not_given _ c.in_default-tau_at.ensures)))))
 
 pub returns-in_err-blocks : goal.returns-in_err-blocks
 unfolding fetch_of
@@ -45,12 +45,12 @@ returns-in_err-blocks c =
 pub returns-in_err-coins : goal.returns-in_err-coins
 returns-in_err-coins c =
     let fault = err_from_is_err_and c.from_residual-in_err-coins.result c.from_residual-in_err-coins.ensures.1 in
-    short_of_memory _ c.from_residual-in_err-coins.result fault.1 fault.2 c.in_err-coins.ensures.err
+    short_of_memory _ c.from_residual-in_err-coins.result fault.1 refl fault.2
 
 pub returns-in_err-keep : goal.returns-in_err-keep
 returns-in_err-keep c =
     let fault = err_from_is_err_and c.from_residual-in_err-keep.result c.from_residual-in_err-keep.ensures.1 in
-    short_of_memory _ c.from_residual-in_err-keep.result fault.1 fault.2 c.in_err-keep.ensures.err
+    short_of_memory _ c.from_residual-in_err-keep.result fault.1 refl fault.2
 
 pub returns-in_err-addresses : goal.returns-in_err-addresses
 returns-in_err-addresses c =
@@ -59,5 +59,5 @@ returns-in_err-addresses c =
 
 pub returns : goal.returns
 unfolding fetch_of
-returns c = given_on _ c.in-Some.ensures (given_on _ (sym c.in_ok-blocks.ensures) (given_on _ c.in-Some-scheme_at.ensures (given_on _ c.in-Some-addresses_at.ensures.value (given_on _ (c.in-Some-fetch_sharing_at.ensures ∙ ap (λ n. fetch_sharing_in c.in-Some-scheme_at.scheme n (given c.args.matches.now)) (sym (length-map c.in-Some-addresses_at.addresses.now (λ v. v.now)))) (given_on _ c.in-Some-tau_at.ensures (fetched (sym c.number.ensures.is) (sym c.in_ok-coins.ensures.ok) (sym c.text_at.ensures ∙ sym c.in_ok-keep.ensures.ok)
+returns c = given_on _ c.in-Some.ensures (given_on _ (sym c.in_ok-blocks.ensures) (given_on _ c.in-Some-scheme_at.ensures (given_on _ c.in-Some-addresses_at.ensures.value (given_on _ (c.in-Some-fetch_sharing_at.ensures ∙ ap (λ n. fetch_sharing_in c.in-Some-scheme_at.scheme n (given c.args.matches.now)) (sym (length-map c.in-Some-addresses_at.addresses.now (λ v. v.now)))) (given_on _ c.in-Some-tau_at.ensures (fetched (sym c.number.ensures.is) (sym c.in_ok-coins.ensures) (sym c.text_at.ensures ∙ sym c.in_ok-keep.ensures)
     (sym c.flag_at.ensures) (sym c.in_ok-addresses.ensures)))))))

@@ -35,8 +35,8 @@ returns-in_err-into c =
 pub returns-in_err-coins : goal.returns-in_err-coins
 returns-in_err-coins c =
     let fault = err_from_is_err_and c.from_residual-in_err-coins.result c.from_residual-in_err-coins.ensures.1 in
-    short_of_memory _ c.from_residual-in_err-coins.result fault.1 fault.2 c.in_err-coins.ensures.err
+    short_of_memory _ c.from_residual-in_err-coins.result fault.1 refl fault.2
 
 pub returns : goal.returns
 unfolding split_of
-returns c = given_on _ c.in-Some.ensures (given_on _ c.in-Some-servers_at.ensures (given_on _ c.in-Some-tau_among.ensures (given_on _ (sym c.in_ok-database.ensures) (given_on _ (sym c.in_ok-into.ensures) (ap (λ coins. Some (Split c.in_ok-database.database c.in-Some.width c.in-Some-servers_at.servers c.in-Some-tau_among.tau c.in_ok-into.into coins)) (sym c.in_ok-coins.ensures.ok))))))
+returns c = given_on _ c.in-Some.ensures (given_on _ c.in-Some-servers_at.ensures (given_on _ c.in-Some-tau_among.ensures (given_on _ (sym c.in_ok-database.ensures) (given_on _ (sym c.in_ok-into.ensures) (ap (λ coins. Some (Split c.in_ok-database.database c.in-Some.width c.in-Some-servers_at.servers c.in-Some-tau_among.tau c.in_ok-into.into coins)) (sym c.in_ok-coins.ensures))))))
