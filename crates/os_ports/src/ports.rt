@@ -94,6 +94,11 @@ impl<R: System> OsPorts<R> {
         self.children.end(&self.rt);
     }
 
+    /// Ends all children, as [`end_children`](OsPorts::end_children) does, and closes all that is open.
+    pub fn end(mut self) {
+        self.end_children();
+    }
+
     // Tells how a call on the port ended: one that failed is counted, and explained where that is asked for. A name is
     // that of a call which has one of its own.
     fn told<T>(&mut self, p: Port, name: Option<&str>, ended: io::Result<T>) -> Result<T, Failed>

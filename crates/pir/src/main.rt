@@ -23,14 +23,18 @@ fn words_of<R: Env + AllocGlobal>(rt: &R) -> Result<Vec<String>, Status> {
     Ok(words)
 }
 
-/// Runs the words over the system's ports, and then ends the children that were started.
-fn run_words<R, S>(rt: &R, words: &[String], ports: &mut OsPorts<S>) -> Status
+/// Runs the program's words over the system's ports, and then ends the children that were started and closes all ports.
+/// They are closed there, and not in `main`, whose proof would go through each of their parts at each way out.
+fn run_over<R, S>(rt: &R, mut ports: OsPorts<S>) -> Status
 where
-    R: AllocGlobal + Threads + Sync,
+    R: Env + AllocGlobal + Threads + Sync,
     S: System,
 {
-    let status = run(rt, rt.alloc(), words, ports);
-    ports.end_children();
+    let status = match words_of(rt) {
+        Ok(words) => run(rt, rt.alloc(), &words, &mut ports),
+        Err(status) => status,
+    };
+    ports.end();
     status
 }
 
@@ -47,10 +51,7 @@ fn status_without_ports(error: &io::Error) -> Status {
 fn main(rt: HostRuntime) -> ExitCode {
     // The ports come first: nothing else is to be given the number of a standard stream.
     let status = match OsPorts::new(&rt) {
-        Ok(mut ports) => match words_of(&rt) {
-            Ok(words) => run_words(&rt, &words, &mut ports),
-            Err(status) => status,
-        },
+        Ok(ports) => run_over(&rt, ports),
         Err(error) => status_without_ports(&error),
     };
     let Ending { code, line } = ending_of(&status);
