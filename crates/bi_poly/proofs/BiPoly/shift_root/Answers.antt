@@ -2,6 +2,8 @@ use Rattle.std.proofs.Common.{◌≡◌, ◌++◌, ◌∷◌, List, ℕ, [], len
 use Rattle.std.specs.List.{range_with_len}
 use Rattle.std.proofs.lemmas.List.{map-append}
 use Rattle.std.proofs.lemmas.List.FromFn.{map-range_with_len_more}
+use Rattle.std.proofs.lemmas.Result.{IfOk-from_err}
+use borrow.Author.Count.{falls}
 use Rattle.bi_poly.specs.Rows.{IsWidth}
 use Rattle.bi_poly.specs.Substitution.{shifted_row}
 use Rattle.bi_poly.proofs.Shift.{shifted_root}
@@ -37,3 +39,15 @@ returns c =
     let width = length c.loop-j.sums.items in
     shifted_root q (map f c.loop-j.rows.items) width c.args.gamma c.loop-j.invariant.width
     (c.loop-j.invariant.rows ∙ ap (λ n. map (shifted_row q width c.args.gamma) (range_with_len 0 n)) all)
+
+pub loop-j-smaller : goal.loop-j-smaller
+loop-j-smaller c = falls c.len-j-end.result c.loop-j.j c.loop-j-test.true
+
+pub returns-in_err-sums : goal.returns-in_err-sums
+returns-in_err-sums c = IfOk-from_err c.from_residual.result _ c.from_residual.ensures.0
+
+pub returns-in_err-shifted_row : goal.returns-in_err-shifted_row
+returns-in_err-shifted_row c = IfOk-from_err c.from_residual-in_err-shifted_row.result _ c.from_residual-in_err-shifted_row.ensures.0
+
+pub returns-in_err-push : goal.returns-in_err-push
+returns-in_err-push c = IfOk-from_err c.from_residual-in_err-push.result _ c.from_residual-in_err-push.ensures.0
