@@ -1,5 +1,5 @@
 -- Fewer points cost no more.
-use Rattle.std.proofs.Common.{◌≢◌, ◌⊎◌, ℕ, ◌+◌, ◌*◌, ◌-◌, ◌/◌, ◌<◌, ◌≤◌, List, length, arith, mul-le-mul_left}
+use Rattle.std.proofs.Common.{◌≡◌, ◌≢◌, ◌⊎◌, ℕ, ◌+◌, ◌*◌, ◌-◌, ◌/◌, ◌<◌, ◌≤◌, List, length, refl, arith, mul-le-mul_left}
 use Rattle.std.proofs.Math.Nat.{mul-le-mul_right, div-mul-le_self}
 use Rattle.std.proofs.lemmas.Nat.{le-div}
 use Rattle.column_lists.specs.declared.TheConstants.{MOST_COST}
@@ -13,6 +13,10 @@ use Rattle.block_decoder.proofs.Kept.{part-few, part-All, part-different}
 -- with no step, the steps are as few as they may be
 pub no_step : (n more : ℕ) → n ≤ n + more
 no_step n more = omega arith
+
+-- and what they were
+pub no_steps : (columns nodes : ℕ) → (columns ≡ columns) × (nodes ≡ nodes)
+no_steps columns nodes = (refl, refl)
 
 -- where answers can be listed, they are not refused
 pub not_unlisted : (k t h : ℕ) → (h ≤ k) × (k * t < h * h) × (cost k t h ≤ MOST_COST) → ¬ IsUnlisted k t h

@@ -34,5 +34,6 @@ mod Turns
 pub mod Reported
 pub mod OneReport
 mod Beside
+mod Judged
 mod FirstAnswers
 pub mod Others

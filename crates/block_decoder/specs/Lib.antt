@@ -6,6 +6,7 @@ pub mod Numbered
 pub mod Gains
 pub mod Report
 pub mod Reported
+pub mod Judging
 pub mod Vectors
 pub mod Narrowing
 pub mod Leaves

@@ -8,7 +8,8 @@ ghost use Rattle.column_lists.specs.Numbers.{cost};
 ghost use Rattle.block_decoder.specs.Agreed.{answers_of, HasColumns, Lists};
 ghost use Rattle.block_decoder.specs.Numbers.{bound_of, most_columns, most_nodes};
 ghost use Rattle.block_decoder.specs.Report.{HasBlocks, IsReport};
-ghost use Rattle.block_decoder.specs.Reported.{IsListedFrom, IsReportBeside, ReportsNoMoreThan};
+ghost use Rattle.block_decoder.specs.Reported.{IsListedFrom};
+ghost use Rattle.block_decoder.specs.Judging.{DecidesWith};
 ghost use Rattle.block_decoder.specs.Vectors.{HeavyVectorsAreFew};
 ghost use Rattle.block_decoder.specs.Verdict.{IsDecided, IsRefusal, IsUnlisted, ListsNoMoreThan, least_columns};
 
@@ -153,16 +154,7 @@ pub(crate) fn decide_among<I: Interpolate, C: Ledger, N: Ledger>(
     requires few { length answers ≤ MOST_SERVERS }
     requires agreement { (1 ≤ t) × (t < h) }
     requires width { 1 ≤ s }
-    ensures verdict { IfOk result (λ found. IsDecided answers.entry s t h found.0) }
-    ensures report { IfOk result (λ found. wanted ≡ true → IsReportBeside answers.entry s t h found.0 found.1) }
-    ensures cols { cols.new ≤ cols.old + most_columns (length answers.entry) t h s }
-    ensures nodes { nodes.new ≤ nodes.old + most_nodes (length answers.entry) t h s }
-    ensures least { cols.old ≤ cols.new }
-    ensures least_nodes { nodes.old ≤ nodes.new }
-    ensures listed { IfOk result (λ found. cols.old + least_columns s found.0 ≤ cols.new) }
-    ensures unlisted { IsUnlisted (length answers.entry) t h → (cols.new ≡ cols.old) × (nodes.new ≡ nodes.old) }
-    ensures few { IfOk result (λ found. ListsNoMoreThan (bound_of (length answers.entry) t h) found.0) }
-    ensures few_agree { IfOk result (λ found. ReportsNoMoreThan (bound_of (length answers.entry) t h) found.1) }
+    ensures { DecidesWith wanted answers.entry s t h result cols.old cols.new nodes.old nodes.new }
 {
     if let Some(verdict) = refusal(answers.len() as u32, t, h) {
         return Ok((verdict, None));

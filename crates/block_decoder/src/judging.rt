@@ -6,6 +6,7 @@ ghost use Rattle.wire_frames.specs.Answer.{answers, block_len};
 ghost use Rattle.block_decoder.specs.Agreed.{HasColumns};
 ghost use Rattle.block_decoder.specs.Numbers.{bound_of, most_columns, most_nodes};
 ghost use Rattle.block_decoder.specs.Reported.{IsReportOn, ReportsNoMoreThan};
+ghost use Rattle.block_decoder.specs.Judging.{JudgesWith};
 ghost use Rattle.block_decoder.specs.Verdict.{IsUnlisted, IsVerdict, ListsNoMoreThan, least_columns};
 
 use crate::agreements::Report;
@@ -106,23 +107,7 @@ fn judge_with<I: Interpolate, C: Ledger, N: Ledger>(
     nodes: &mut Steps<N>,
 ) -> Result<(Verdict, Option<Report>), AllocError>
     requires all { length session.now.records ≡ session.now.params.n }
-    ensures verdict { IfOk result (λ found. IsVerdict session.now found.0) }
-    ensures report { IfOk result (λ found. wanted ≡ true → IsReportOn session.now found.0 found.1) }
-    ensures cols { cols.new ≤ cols.old
-        + most_columns (length (answers session.now)) session.now.params.t session.now.params.h (block_len session.now.params) }
-    ensures nodes { nodes.new ≤ nodes.old
-        + most_nodes (length (answers session.now)) session.now.params.t session.now.params.h (block_len session.now.params) }
-    ensures least { cols.old ≤ cols.new }
-    ensures least_nodes { nodes.old ≤ nodes.new }
-    ensures listed { session.now.params.scheme ≡ SHAMIR
-        → IfOk result (λ found. cols.old + least_columns (block_len session.now.params) found.0 ≤ cols.new) }
-    ensures unlisted { IsUnlisted (length (answers session.now)) session.now.params.t session.now.params.h
-        → (cols.new ≡ cols.old) × (nodes.new ≡ nodes.old) }
-    ensures few { session.now.params.scheme ≡ SHAMIR → IfOk result (λ found. ListsNoMoreThan
-        (bound_of (length (answers session.now)) session.now.params.t session.now.params.h) found.0) }
-    ensures few_agree { session.now.params.scheme ≡ SHAMIR → IfOk result (λ found. ReportsNoMoreThan
-        (bound_of (length (answers session.now)) session.now.params.t session.now.params.h) found.1) }
-    ensures xor { session.now.params.scheme ≡ XOR → (cols.new ≡ cols.old) × (nodes.new ≡ nodes.old) }
+    ensures { JudgesWith wanted session.now result cols.old cols.new nodes.old nodes.new }
 {
     let params = session.params();
     match Scheme::of(params.scheme) {
