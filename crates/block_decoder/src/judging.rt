@@ -97,8 +97,13 @@ pub fn judge_report<I: Interpolate, C: Ledger, N: Ledger>(
     judge_with(alloc, way, session, true, cols, nodes)
 }
 
-/// The verdict, and, where it is wanted, the report beside it.
-fn judge_with<I: Interpolate, C: Ledger, N: Ledger>(
+/// The same verdict as that of [`judge`], and beside it, where it is `wanted`, the report of [`judge_report`]; where it isn't
+/// wanted, there is none, and no block is copied for it. The steps are those of [`judge`].
+///
+/// # Errors
+///
+/// As [`judge`], or as [`judge_report`] where the report is wanted.
+pub fn judge_with<I: Interpolate, C: Ledger, N: Ledger>(
     alloc: Global,
     way: &I,
     session: &Session,

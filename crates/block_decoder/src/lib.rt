@@ -33,7 +33,7 @@ mod write;
 pub use agreements::{Agreement, Report};
 pub use answers::{Answer, PackedAnswers, ServerAnswers};
 pub use decoder::{bound, decide, report};
-pub use judging::{judge, judge_report};
+pub use judging::{judge, judge_report, judge_with};
 pub use listing::Listing;
 pub use reporting::write_report;
 pub use verdict::Verdict;

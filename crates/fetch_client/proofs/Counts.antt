@@ -1,12 +1,15 @@
 -- What a fetch does and counts where it fails, or has judged a session.
-use Rattle.std.proofs.Common.{◌≡◌, ◌∙◌, ℕ, Bool, true, List, ◌+◌, ◌*◌, ◌≤◌, length, inr, refl, sym, ap, subst, le_refl, arith}
+use Rattle.std.proofs.Common.{◌≡◌, ◌∙◌, ℕ, Bool, true, List, All, ◌+◌, ◌*◌, ◌≤◌, length, inr, refl, sym, ap, subst, le_refl, arith}
 use Rattle.std.specs.Prelude.{Option, Result, Ok, Err}
 use Rattle.port_rules.specs.World.{World}
 use Rattle.wire_frames.specs.declared.session.SessionParams.{SessionParams}
 use Rattle.wire_frames.specs.declared.scheme.TheConstants.{XOR}
 use Rattle.wire_frames.specs.Answer.{answers, block_len}
-use Rattle.wire_frames.specs.Session.{Transcript}
+use Rattle.wire_frames.specs.Limits.{IsInRange}
+use Rattle.wire_frames.specs.Session.{Fits, Transcript}
+use Rattle.wire_frames.specs.Sizes.{answer_len}
 use Rattle.block_decoder.specs.Numbers.{most_columns, most_nodes}
+use Rattle.block_decoder.specs.Judging.{JudgesWith}
 use Rattle.block_decoder.specs.Report.{Agreement}
 use Rattle.block_decoder.specs.Verdict.{least_columns}
 use Rattle.block_decoder.specs.declared.verdict.Verdict.{Verdict}
@@ -18,7 +21,7 @@ use Rattle.query_rounds.specs.declared.gathering.Gathered.{Gathered}
 use Rattle.query_rounds.specs.Gathered.{AsksWith, FetchesTo, Gathers, TouchesLinks}
 use Rattle.query_rounds.specs.Plan.{AreBlocks, IsPlan, params_of}
 use Rattle.query_rounds.specs.Sent.{session_number}
-use Rattle.fetch_client.specs.Fetched.{ConcludesWhole, ConcludesWith, CountsForSome, FetchCountsOf, FetchesWhole, FetchesWith, JudgesWith}
+use Rattle.fetch_client.specs.Fetched.{ConcludesWhole, ConcludesWith, CountsForSome, FetchCountsOf, FetchesWhole, FetchesWith}
 use Rattle.fetch_client.proofs.Judged.{concludes, concludes_whole}
 
 -- without the coins no step is counted, and where memory ran out before anything was touched neither
@@ -105,12 +108,13 @@ module _ (wanted : Bool) (p : FetchPlan) (blocks : List ℕ) (addresses : List (
 
     -- the session of every server was judged
     pub is_judged : {E : Type 0} (verdict : Verdict) (report : Option (List Agreement)) → IsPlan p → AreBlocks p blocks
+        → IsInRange session.params → All (Fits (answer_len session.params.count session.params.s)) session.records
         → JudgesWith wanted session {E = E} (Ok (verdict, report)) cols cols_now nodes nodes_now
         → FetchesWith wanted p blocks addresses (Ok (session, verdict, report)) old new cols cols_now nodes nodes_now
-    is_judged verdict report plan are judges = record {
+    is_judged verdict report plan are range fits judges = record {
       fetched = record {
-        concludes = concludes p blocks addresses coins session old new plan are asked judges.range judges.fits verdict judges.judged;
-        reports = λ want. concludes_whole p blocks addresses coins session old new plan are asked judges.range judges.fits verdict report judges.judged (judges.report want);
+        concludes = concludes p blocks addresses coins session old new plan are asked range fits verdict judges.verdict;
+        reports = λ want. concludes_whole p blocks addresses coins session old new plan are asked range fits verdict report judges.verdict (judges.report want);
       };
       others = others;
       cols = bound most_columns cols cols_now judges.cols;

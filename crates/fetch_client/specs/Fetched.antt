@@ -1,11 +1,9 @@
 -- What a fetch does.
-use Rattle.std.specs.Prelude.{ℕ, ◌≡◌, ◌+◌, ◌*◌, ◌≤◌, Bool, true, List, length, All, Option, Result, Ok, Err, IfOk}
+use Rattle.std.specs.Prelude.{ℕ, ◌≡◌, ◌+◌, ◌*◌, ◌≤◌, Bool, true, List, length, Option, Result, Ok, Err, IfOk}
 use Rattle.port_rules.specs.World.{World}
 use Rattle.wire_frames.specs.declared.scheme.TheConstants.{SHAMIR, XOR}
-use Rattle.wire_frames.specs.Answer.{answers, block_len}
-use Rattle.wire_frames.specs.Limits.{IsInRange}
-use Rattle.wire_frames.specs.Session.{Fits, Transcript}
-use Rattle.wire_frames.specs.Sizes.{answer_len}
+use Rattle.wire_frames.specs.Answer.{answers}
+use Rattle.wire_frames.specs.Session.{Transcript}
 use Rattle.block_decoder.specs.Numbers.{most_columns, most_nodes}
 use Rattle.block_decoder.specs.Report.{Agreement}
 use Rattle.block_decoder.specs.Reported.{IsReportOn}
@@ -73,22 +71,6 @@ FetchCounts = FetchCountsOf (λ both. both.0)
 abbrev pub FetchCountsWhole : (ℕ → ℕ → ℕ → ℕ → ℕ) → FetchPlan → List ℕ
     → Result (Transcript × Verdict × Option (List Agreement)) FetchFault → ℕ → ℕ → Type 0
 FetchCountsWhole = FetchCountsOf (λ found. found.0)
-
--- what judging a session gives, the report beside it where that is wanted, and how many steps it takes. What holds of every
--- session is told with it
-pub record JudgesWith (wanted : Bool) (session : Transcript) {E : Type 0} (result : Result (Verdict × Option (List Agreement)) E)
-    (columns_before columns_now nodes_before nodes_now : ℕ) : Type 0 where
-  pub range : IsInRange session.params
-  pub fits : All (Fits (answer_len session.params.count session.params.s)) session.records
-  pub judged : IfOk result (λ found. IsVerdict session found.0)
-  pub report : IfOk result (λ found. wanted ≡ true → IsReportOn session found.0 found.1)
-  pub cols : columns_now ≤ columns_before + most_columns (length (answers session)) session.params.t session.params.h (block_len session.params)
-  pub nodes : nodes_now ≤ nodes_before + most_nodes (length (answers session)) session.params.t session.params.h (block_len session.params)
-  pub least : columns_before ≤ columns_now
-  pub least_nodes : nodes_before ≤ nodes_now
-  pub listed : session.params.scheme ≡ SHAMIR
-      → IfOk result (λ found. columns_before + least_columns (block_len session.params) found.0 ≤ columns_now)
-  pub xor : session.params.scheme ≡ XOR → (columns_now ≡ columns_before) × (nodes_now ≡ nodes_before)
 
 -- what a fetch does, with the report where that is wanted, and how many steps it takes
 pub record FetchesWith (wanted : Bool) (p : FetchPlan) (blocks : List ℕ) (addresses : List (List ℕ))

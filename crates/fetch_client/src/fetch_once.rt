@@ -7,47 +7,21 @@ ghost use Rattle.block_decoder.specs.Numbers.{most_columns, most_nodes};
 ghost use Rattle.block_decoder.specs.Verdict.{least_columns};
 ghost use Rattle.query_rounds.specs.Gathered.{TouchesLinks};
 ghost use Rattle.fetch_client.specs.Fetched.{FetchCounts, Fetches, FetchCountsWhole, FetchesWhole};
-ghost use Rattle.fetch_client.specs.Fetched.{FetchesWith, JudgesWith};
+ghost use Rattle.fetch_client.specs.Fetched.{FetchesWith};
 
-use block_decoder::{Report, Verdict, judge, judge_report};
+use block_decoder::{Report, Verdict, judge_with};
 use interpolation::Interpolate;
 use port_rules::Ports;
 use query_rounds::{FetchFault, FetchPlan, gather};
-use std::alloc::{AllocError, Global};
+use std::alloc::Global;
 use std::sync::ledger::Ledger;
 use uni_poly::steps::Steps;
 use wire_frames::Session;
 
-/// The verdict on a session, and the report beside it where that is wanted: where it isn't, no block is copied for it.
-///
-/// # Errors
-///
-/// `AllocError` for want of memory.
-fn judge_with<I: Interpolate, C: Ledger, N: Ledger>(
-    alloc: Global,
-    way: &I,
-    session: &Session,
-    wanted: bool,
-    cols: &mut Steps<C>,
-    nodes: &mut Steps<N>,
-) -> Result<(Verdict, Option<Report>), AllocError>
-    requires all { length session.now.records ≡ session.now.params.n }
-    ensures { JudgesWith wanted session.now result cols.old cols.new nodes.old nodes.new }
-{
-    // What holds of every session is told by its calls alone.
-    session.params();
-    session.record_count();
-    if wanted {
-        judge_report(alloc, way, session, cols, nodes)
-    } else {
-        Ok((judge(alloc, way, session, cols, nodes)?, None))
-    }
-}
-
 /// Fetches blocks, from 1 to [`MOST_BLOCKS`](wire_frames::MOST_BLOCKS) in one query: takes the coins, asks every
 /// server, and judges what they answered. Coins is open already; there is one address for each server, in the order
 /// of their indices. Where the verdict takes an interpolation with multiplicities, it is made in this `way`. `cols`
-/// and `nodes` count the steps of the verdict, as in [`judge`]: the columns that are decoded, and the coefficients
+/// and `nodes` count the steps of the verdict, as in [`judge`](block_decoder::judge): the columns that are decoded, and the coefficients
 /// that are fixed in looking for roots. The XOR scheme takes no such step.
 ///
 /// All memory but that for judging is taken first. Then the coins are taken: 8 bytes for the number of the session,
@@ -93,7 +67,7 @@ pub fn fetch<I: Interpolate, C: Ledger, N: Ledger, P: Ports>(
     Ok((session, verdict))
 }
 
-/// Fetches blocks as [`fetch`] does, and says beside the verdict who agrees, as [`judge_report`] has it: `None` exactly in the
+/// Fetches blocks as [`fetch`] does, and says beside the verdict who agrees, as [`judge_report`](block_decoder::judge_report) has it: `None` exactly in the
 /// XOR scheme, or where the verdict isn't a listing. The steps are those of [`fetch`].
 ///
 /// # Errors
@@ -151,6 +125,9 @@ fn fetch_with<I: Interpolate, C: Ledger, N: Ledger, P: Ports>(
         (P.world ports.old) (P.world ports.new) cols.old cols.new nodes.old nodes.new }
 {
     let all = gather(alloc, plan, blocks, addresses, ports)?;
+    // What holds of every session is told by its calls alone.
+    all.session.params();
+    all.session.record_count();
     let (verdict, report) = judge_with(alloc, way, &all.session, wanted, cols, nodes)?;
     Ok((all.session, verdict, report))
 }

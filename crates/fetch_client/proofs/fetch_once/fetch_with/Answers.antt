@@ -31,4 +31,4 @@ returns g c =
     let all = c.in_ok-all.ensures in
     is_judged c.args.wanted c.args.plan.now c.args.blocks.now (map string_bytes c.args.addresses.now) (g.P.Ports.world c.args.ports.now) (g.P.Ports.world c.gather.new.ports)
     c.in_ok-all.all.queries.coins c.in_ok-all.all.session all.gathered.asked all.others c.args.cols.now c.judge_with.new.cols c.args.nodes.now c.judge_with.new.nodes
-    c.in_ok-verdict.verdict c.in_ok-verdict.report c.requires.plan c.requires.blocks c.in_ok-verdict.ensures
+    c.in_ok-verdict.verdict c.in_ok-verdict.report c.requires.plan c.requires.blocks c.params.ensures.range c.record_count.ensures.fits c.in_ok-verdict.ensures
