@@ -1,5 +1,5 @@
 -- What is judged with a report that may be wanted: from what is decided of its answers, of their sum, and where memory ran out.
-use Rattle.std.proofs.Common.{◌≡◌, ℕ, Bool, true, List, Option, None, length, IfOk, refl, subst, arith, ◌+◌, ◌*◌, ◌≤◌, ◌<◌, le_refl}
+use Rattle.std.proofs.Common.{◌≡◌, ℕ, Bool, true, false, if◌then◌else◌, List, Option, Some, None, length, IfOk, refl, subst, arith, ◌+◌, ◌*◌, ◌≤◌, ◌<◌, le_refl}
 use Rattle.std.specs.Prelude.{Result, Ok}
 use Rattle.std.proofs.lemmas.Result.{IfOk-weaker}
 use Rattle.wire_frames.specs.Answer.{Answer, answers, block_len}
@@ -26,6 +26,7 @@ refused_with wanted all width t h verdict columns nodes is =
     record {
       verdict = decided;
       report = λ asked. none;
+      unwanted = λ unasked. refl;
       cols = no_step columns _;
       nodes = no_step nodes _;
       least = le_refl columns;
@@ -45,6 +46,7 @@ pub untold_with : (wanted : Bool) (all : List Answer) (width t h : ℕ) {E : Typ
 untold_with wanted all width t h result columns columns_now nodes nodes_now none most most_of_nodes least can = record {
   verdict = none _;
   report = none _;
+  unwanted = none _;
   cols = most;
   nodes = most_of_nodes;
   least = least.0;
@@ -70,6 +72,8 @@ listed_with wanted all width t h result columns columns_now nodes nodes_now repo
       verdict = decides;
       report = IfOk-weaker result (IsListedFrom wanted report) (λ (found : Verdict × Option (List Agreement)). wanted ≡ true → IsReportBeside all width t h found.0 found.1)
           (λ found listed. beside all width t h has report is wanted found listed) lists;
+      unwanted = IfOk-weaker result (IsListedFrom wanted report) (λ (found : Verdict × Option (List Agreement)). wanted ≡ false → found.1 ≡ None)
+          (λ found listed unasked. subst (λ (w : Bool). found.1 ≡ if w then Some report else None) unasked listed.1) lists;
       cols = most;
       nodes = most_of_nodes;
       least = least.0;
@@ -103,6 +107,7 @@ judged wanted session all s t h result columns columns_now nodes nodes_now shami
       report = IfOk-weaker result (λ (found : Verdict × Option (List Agreement)). wanted ≡ true → IsReportBeside (answers session) (block_len p) p.t p.h found.0 found.1)
           (λ (found : Verdict × Option (List Agreement)). wanted ≡ true → IsReportOn session found.0 found.1)
           (λ found beside asked. record { shamir = λ one. beside asked; xor = λ two. absurd (shamir two) }) decides.report;
+      unwanted = decides.unwanted;
       cols = decides.cols;
       nodes = decides.nodes;
       least = decides.least;
@@ -120,6 +125,7 @@ pub unjudged : (wanted : Bool) (session : Transcript) {E : Type 0} (result : Res
 unjudged wanted session result columns nodes none = record {
   verdict = none _;
   report = none _;
+  unwanted = none _;
   cols = no_step columns _;
   nodes = no_step nodes _;
   least = le_refl columns;
@@ -140,6 +146,7 @@ combined wanted session verdict columns nodes xor is =
     record {
       verdict = record { shamir = λ one. absurd (no_shamir one); xor = λ two. is };
       report = λ asked. record { shamir = λ one. absurd (no_shamir one); xor = λ two. refl };
+      unwanted = λ unasked. refl;
       cols = no_step columns _;
       nodes = no_step nodes _;
       least = le_refl columns;

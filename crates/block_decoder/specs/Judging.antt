@@ -1,5 +1,5 @@
 -- What is decided and judged with a report that may be wanted, and how many steps it takes.
-use Rattle.std.specs.Prelude.{◌≡◌, ℕ, ◌+◌, ◌≤◌, Bool, true, List, length, Option, Result, IfOk}
+use Rattle.std.specs.Prelude.{◌≡◌, ℕ, ◌+◌, ◌≤◌, Bool, true, false, List, length, Option, None, Result, IfOk}
 use Rattle.wire_frames.specs.declared.scheme.TheConstants.{SHAMIR, XOR}
 use Rattle.wire_frames.specs.Answer.{Answer, answers, block_len}
 use Rattle.wire_frames.specs.Session.{Transcript}
@@ -14,6 +14,7 @@ pub record DecidesWith (wanted : Bool) (all : List Answer) (width t h : ℕ) {E 
     (columns_before columns_now nodes_before nodes_now : ℕ) : Type 0 where
   pub verdict : IfOk result (λ found. IsDecided all width t h found.0)
   pub report : IfOk result (λ found. wanted ≡ true → IsReportBeside all width t h found.0 found.1)
+  pub unwanted : IfOk result (λ found. wanted ≡ false → found.1 ≡ None)
   pub cols : columns_now ≤ columns_before + most_columns (length all) t h width
   pub nodes : nodes_now ≤ nodes_before + most_nodes (length all) t h width
   pub least : columns_before ≤ columns_now
@@ -28,6 +29,7 @@ pub record JudgesWith (wanted : Bool) (session : Transcript) {E : Type 0} (resul
     (columns_before columns_now nodes_before nodes_now : ℕ) : Type 0 where
   pub verdict : IfOk result (λ found. IsVerdict session found.0)
   pub report : IfOk result (λ found. wanted ≡ true → IsReportOn session found.0 found.1)
+  pub unwanted : IfOk result (λ found. wanted ≡ false → found.1 ≡ None)
   pub cols : columns_now ≤ columns_before + most_columns (length (answers session)) session.params.t session.params.h (block_len session.params)
   pub nodes : nodes_now ≤ nodes_before + most_nodes (length (answers session)) session.params.t session.params.h (block_len session.params)
   pub least : columns_before ≤ columns_now

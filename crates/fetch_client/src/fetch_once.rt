@@ -21,8 +21,8 @@ use wire_frames::Session;
 /// Fetches blocks, from 1 to [`MOST_BLOCKS`](wire_frames::MOST_BLOCKS) in one query: takes the coins, asks every
 /// server, and judges what they answered. Coins is open already; there is one address for each server, in the order
 /// of their indices. Where the verdict takes an interpolation with multiplicities, it is made in this `way`. `cols`
-/// and `nodes` count the steps of the verdict, as in [`judge`](block_decoder::judge): the columns that are decoded, and the coefficients
-/// that are fixed in looking for roots. The XOR scheme takes no such step.
+/// and `nodes` count the steps of the verdict, as in [`judge`](block_decoder::judge): the columns that are decoded, and
+/// the coefficients that are fixed in looking for roots. The XOR scheme takes no such step.
 ///
 /// All memory but that for judging is taken first. Then the coins are taken: 8 bytes for the number of the session,
 /// and for the queries, for each block, `r * t`, which is `t` for each row, or in the XOR scheme
@@ -67,8 +67,9 @@ pub fn fetch<I: Interpolate, C: Ledger, N: Ledger, P: Ports>(
     Ok((session, verdict))
 }
 
-/// Fetches blocks as [`fetch`] does, and says beside the verdict who agrees, as [`judge_report`](block_decoder::judge_report) has it: `None` exactly in the
-/// XOR scheme, or where the verdict isn't a listing. The steps are those of [`fetch`].
+/// Fetches blocks as [`fetch`] does, and says beside the verdict who agrees, as
+/// [`judge_report`](block_decoder::judge_report) has it: `None` exactly in the XOR scheme, or where the verdict isn't a
+/// listing. The steps are those of [`fetch`].
 ///
 /// # Errors
 ///
