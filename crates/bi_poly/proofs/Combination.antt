@@ -22,7 +22,7 @@ use Rattle.bi_poly.proofs.Hasse.{derivatives, hasse-derivative}
 use Rattle.bi_poly.proofs.Zeros.{taylor-add_list, taylor-scale_list}
 
 -- the derivatives in x are the coefficients of a polynomial in y
-hasse-taylor : (q : List (List ℕ)) (u v a b : ℕ) → hasse q u v a b ≡ taylor (derivatives q a u) b v
+pub hasse-taylor : (q : List (List ℕ)) (u v a b : ℕ) → hasse q u v a b ≡ taylor (derivatives q a u) b v
 hasse-taylor q u v a b = hasse-derivative q u v a b ∙ sym (taylor-derivative (derivatives q a u) b v)
 
 -- they are bytes
@@ -30,7 +30,7 @@ pub hasse_lt : (q : List (List ℕ)) (u v a b : ℕ) → hasse q u v a b < 256
 hasse_lt q u v a b = subst (λ x. x < 256) (sym (hasse-taylor q u v a b)) (taylor_lt (derivatives q a u) b v)
 
 -- what holds of the derivatives of each row holds of the whole
-hasse-rows : (s q p : List (List ℕ)) (f u x y v a b : ℕ) → ((j : ℕ) → taylor (row s j) a u ≡ taylor (row q j) a x ⊕ f ⊗ taylor (row p j) a y)
+pub hasse-rows : (s q p : List (List ℕ)) (f u x y v a b : ℕ) → ((j : ℕ) → taylor (row s j) a u ≡ taylor (row q j) a x ⊕ f ⊗ taylor (row p j) a y)
     → hasse s u v a b ≡ hasse q x v a b ⊕ f ⊗ hasse p y v a b
 hasse-rows s q p f u x y v a b h =
     let S = derivatives s a u in

@@ -33,7 +33,7 @@ unfolding times_linear
 linear_power-next a u j = coef-product_linear (times_linear (1 ∷ []) a u) a j (IsBytes-linear_power a u)
 
 -- the order of four terms
-regroup : (f g h k : ℕ) → (f ⊕ g) ⊕ (h ⊕ k) ≡ f ⊕ ((g ⊕ k) ⊕ h)
+pub regroup : (f g h k : ℕ) → (f ⊕ g) ⊕ (h ⊕ k) ≡ f ⊕ ((g ⊕ k) ⊕ h)
 regroup f g h k = simp sums
 
 -- the last term of a sum

@@ -5,7 +5,7 @@ use Rattle.std.proofs.lemmas.Bool.{cases_lt}
 use Rattle.std.proofs.lemmas.List.{length-map, get_or-map}
 use Rattle.gf256.specs.Field.{◌⊕◌, ◌⊗◌}
 use Rattle.gf256.specs.Polynomial.{coef}
-use Rattle.gf256.proofs.Xor.{add_zero, zero_add, add_swap, sums}
+use Rattle.gf256.proofs.Xor.{add_zero, zero_add, add_swap}
 use Rattle.gf256.proofs.FieldLaws.{mul_zero, zero_mul, mul_one, mul_add}
 use Rattle.uni_poly.specs.Taylor.{taylor}
 use Rattle.uni_poly.proofs.Series.{ext, times, tail, plus, scale, times-plus_r}
@@ -18,7 +18,7 @@ use Rattle.bi_poly.specs.Degree.{IsOrderInX, without_first}
 use Rattle.bi_poly.specs.Expansion.{linear_power}
 use Rattle.bi_poly.proofs.Degree.{cell-past}
 use Rattle.bi_poly.proofs.Strip.{cell-without_first}
-use Rattle.bi_poly.proofs.Expansion.{expansion}
+use Rattle.bi_poly.proofs.Expansion.{expansion, regroup}
 use Rattle.gf256.proofs.Sums.{sum_to-zero}
 
 -- a series times x
@@ -44,10 +44,6 @@ later-zero : (e : ℕ) → later (λ i. 0) e ≡ 0
 unfolding later
 later-zero zero = refl
 later-zero (suc e) = refl
-
--- the order of four terms
-regroup : (r s t u : ℕ) → (r ⊕ s) ⊕ (t ⊕ u) ≡ r ⊕ ((s ⊕ u) ⊕ t)
-regroup r s t u = simp sums
 
 -- a sum with a multiple, as series and place by place
 plus-scale : (f g : ℕ → ℕ) (c e : ℕ) {x : ℕ} → x ≡ f e ⊕ c ⊗ g e → x ≡ plus f (scale c g) e

@@ -1,9 +1,8 @@
 -- A block is agreed on exactly where some polynomials with its constants hold at enough answers.
-use Rattle.std.proofs.Common.{◌≡◌, ℕ, zero, suc, ◌+◌, ◌≤◌, ap, ◌*◌, ◌<◌, ◌↔◌, Bool, true, List, [], ◌∷◌, length, get_or, take, drop, map, All, AllPairs, ◌≢◌, Decides, refl, sym, ◌∙◌, arith}
+use Rattle.std.proofs.Common.{◌≡◌, ℕ, zero, suc, ◌+◌, ap, ◌*◌, ◌<◌, ◌↔◌, Bool, true, List, [], ◌∷◌, length, get_or, take, drop, map, All, AllPairs, ◌≢◌, Decides, refl, sym, ◌∙◌, arith}
 use Rattle.std.proofs.lemmas.List.{take_all, length-take-le, length-drop, drop-drop, get_or_default}
 use Rattle.std.proofs.lemmas.List.Kept.{AllPairs-from_increasing}
 use Rattle.std.specs.List.Sorted.{IsStrictlyIncreasing}
-use Rattle.std.proofs.Math.Nat.{mul-le-mul_right}
 use Rattle.std.proofs.lemmas.List.Elements.{All-cons, All-nil}
 use Rattle.std.proofs.lemmas.Slice.Eq.{bytes_eq-Decides}
 use Rattle.gf256.specs.Polynomial.{val}
@@ -81,13 +80,6 @@ answer_at-answers_of width (index ∷ indices) bytes zero h = let e : 0 * width 
 answer_at-answers_of width (index ∷ indices) bytes (suc place) h =
     answer_at-answers_of width indices (drop width bytes) place (omega arith)
     ∙ ap (λ (rest : List ℕ). record { index = get_or indices place 0; payload = take width rest }) (drop-drop (place * width) width bytes ∙ (let e : width + place * width ≡ suc place * width = omega arith in ap (λ n. drop n bytes) e))
-
--- a row lies within the rows
-pub row_within : (place count width : ℕ) → place < count → place * width + width ≤ count * width
-row_within place count width h =
-    let e = mul-le-mul_right width (let l : suc place ≤ count = omega arith in l) in
-    let f : suc place * width ≡ place * width + width = omega arith in
-    omega (arith, e, f)
 
 -- ascending indices differ
 pub different-answers_of : (width : ℕ) (indices bytes : List ℕ) → IsStrictlyIncreasing indices → AllPairs (λ (a b : Answer). a.index ≢ b.index) (answers_of width indices bytes)

@@ -1,12 +1,11 @@
 -- The sum of the usable answers of a session, server by server.
-use Rattle.std.proofs.Common.{◌≡◌, ℕ, suc, ◌+◌, ◌<◌, ◌≤◌, List, [], ◌∷◌, ◌++◌, length, map, get_or, replicate, None, Some, refl, sym, ap, ap₂, ◌∙◌, arith, inl, inr}
+use Rattle.std.proofs.Common.{◌≡◌, ℕ, ◌+◌, ◌<◌, ◌≤◌, List, [], ◌∷◌, ◌++◌, length, map, get_or, replicate, None, Some, refl, sym, ap, ◌∙◌, arith, inl, inr}
 use Rattle.std.proofs.lemmas.Bool.{cases_lt}
-use Rattle.std.proofs.lemmas.List.{length-append, map-append, get_or_append_left, get_or_push, get_or-replicate, get_or_past, length-replicate}
+use Rattle.std.proofs.lemmas.List.{length-append, map-append, get_or-replicate, get_or_past, length-replicate}
 use Rattle.gf256.specs.Field.{◌⊕◌}
 use Rattle.gf256.specs.Sums.{sum_to}
-use Rattle.gf256.proofs.Sums.{sum_to-same}
 use Rattle.chor_xor.specs.Chosen.{combined_at, combined}
-use Rattle.chor_xor.proofs.ChosenSums.{combined-is}
+use Rattle.chor_xor.proofs.ChosenSums.{combined-is, combined_at-push}
 use Rattle.wire_frames.specs.Answer.{Answer, answers, block_len}
 use Rattle.wire_frames.specs.Session.{Transcript}
 use Rattle.block_decoder.specs.Usable.{payload_of}
@@ -15,17 +14,6 @@ use Rattle.block_decoder.proofs.Collected.{HasCollected, collected_none, collect
 -- the payloads of answers
 abbrev pub payloads_of : List Answer → List (List ℕ)
 payloads_of all = map (λ (a : Answer). a.payload) all
-
--- one more payload in the sum
-combined_at-push : (payloads : List (List ℕ)) (payload : List ℕ) (c : ℕ) → combined_at (payloads ++ payload ∷ []) c ≡ combined_at payloads c ⊕ get_or payload c 0
-unfolding combined_at sum_to
-combined_at-push payloads payload c =
-    let all = payloads ++ payload ∷ [] in
-    let long : length all ≡ suc (length payloads) = length-append payloads (payload ∷ []) ∙ (omega arith) in
-    ap (sum_to (λ i. get_or (get_or all i []) c 0)) long
-    ∙ ap₂ ◌⊕◌
-    (sum_to-same _ (λ i. get_or (get_or payloads i []) c 0) (length payloads) (λ i l. ap (λ (p : List ℕ). get_or p c 0) (get_or_append_left payloads (payload ∷ []) [] i l)))
-    (ap (λ (p : List ℕ). get_or p c 0) (get_or_push payloads payload [] (length payloads) refl))
 
 -- the answers of the servers before the next are summed
 pub record HasCombined (session : Transcript) (sum : List ℕ) (k next : ℕ) : Type 0 where

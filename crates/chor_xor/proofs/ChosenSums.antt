@@ -1,10 +1,10 @@
 -- Sums of chosen rows, row by row and over the servers.
-use Rattle.std.proofs.Common.{◌≡◌, ℕ, ◌+◌, ◌-◌, ◌/◌, ◌%◌, ◌<◌, ◌≤◌, List, [], length, get_or, inl, inr, sym, ap, subst, ◌∙◌, arith, lit<}
+use Rattle.std.proofs.Common.{◌≡◌, ℕ, suc, ◌+◌, ◌-◌, ◌/◌, ◌%◌, ◌<◌, ◌≤◌, List, [], ◌∷◌, ◌++◌, length, get_or, inl, inr, refl, sym, ap, ap₂, subst, ◌∙◌, arith, lit<}
 use Rattle.std.specs.Int.{bit_at}
 use Rattle.std.proofs.lemmas.Bool.{cases_lt}
-use Rattle.std.proofs.lemmas.List.{ext_get_or, get_or_past}
+use Rattle.std.proofs.lemmas.List.{ext_get_or, get_or_past, get_or_append_left, get_or_push, length-append}
 use Rattle.std.proofs.lemmas.List.FromFn.{length-map-range_with_len, get_or-map-range_with_len}
-use Rattle.gf256.specs.Field.{◌⊗◌}
+use Rattle.gf256.specs.Field.{◌⊕◌, ◌⊗◌}
 use Rattle.gf256.specs.Product.{IsMatrix}
 use Rattle.gf256.specs.Sums.{sum_to}
 use Rattle.gf256.proofs.FieldLaws.{zero_mul, one_mul}
@@ -140,3 +140,14 @@ answers-combined m coins n r block some l is =
     ∙ combined-column m coins n block c
     ∙ ap (λ k. sum_to (λ i. get_or (chosen m (bitmap coins n k block (i + 1))) c 0) n) is.rows
     ∙ answers-columns m coins n r block some l is c)
+
+-- one payload more
+pub combined_at-push : (payloads : List (List ℕ)) (payload : List ℕ) (c : ℕ) → combined_at (payloads ++ payload ∷ []) c ≡ combined_at payloads c ⊕ get_or payload c 0
+unfolding combined_at sum_to
+combined_at-push payloads payload c =
+    let all = payloads ++ payload ∷ [] in
+    let long : length all ≡ suc (length payloads) = length-append payloads (payload ∷ []) ∙ (omega arith) in
+    ap (sum_to (λ i. get_or (get_or all i []) c 0)) long
+    ∙ ap₂ ◌⊕◌
+    (sum_to-same _ (λ i. get_or (get_or payloads i []) c 0) (length payloads) (λ i l. ap (λ (p : List ℕ). get_or p c 0) (get_or_append_left payloads (payload ∷ []) [] i l)))
+    (ap (λ (p : List ℕ). get_or p c 0) (get_or_push payloads payload [] (length payloads) refl))

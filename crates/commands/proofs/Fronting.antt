@@ -207,10 +207,6 @@ front_touches_door n w u t = record { others = λ q b n1 n5 n6 off. t.others q b
 front_guest_stays : (w u : World) → TouchesDoor w u → u.at GUEST ≡ w.at GUEST
 front_guest_stays w u t = t.others 6 (omega arith) (omega arith) (omega arith)
 
--- which is opened by no name
-pub front_unnamed : (w u : World) → TouchesDoor w u → (u.at GUEST).opened ≡ (w.at GUEST).opened
-front_unnamed w u t = ap (λ (c : Cell). c.opened) (front_guest_stays w u t)
-
 -- guests can come in
 module _ (o : FrontOrder) (front : Spread) (w u x : World) (is : front ≡ o.spread) (l : Listens o.listen (Ok tt) w u) (t : TouchesDoor w u)
     (given : TouchesRelaying (shards front) u x) where

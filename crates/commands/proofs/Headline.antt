@@ -13,7 +13,7 @@ use Rattle.block_decoder.specs.Report.{Agreement}
 use Rattle.block_decoder.specs.declared.verdict.Verdict.{Verdict}
 use Rattle.block_decoder.proofs.OneVerdict.{one_verdict}
 use Rattle.replay.specs.Replayed.{NoSession, ReadsWhole}
-use Rattle.replay.proofs.Readings.{at_told}
+use Rattle.port_rules.proofs.Cells.{at_told}
 use Rattle.query_rounds.specs.Plan.{need}
 use Rattle.commands.proofs.Saying.{same_beside}
 use Rattle.commands.specs.declared.status.Status.{Status}

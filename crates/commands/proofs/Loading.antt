@@ -1,8 +1,8 @@
 -- The desk of `serve`, from its database on.
-use Rattle.std.proofs.Common.{◌≡◌, ◌∙◌, inl, inr, Ok, Err, ℕ, length, refl, sym, ap, subst, arith}
+use Rattle.std.proofs.Common.{◌≡◌, ◌∙◌, inl, inr, Ok, Err, length, refl, sym, ap, subst, arith}
 use Rattle.port_rules.specs.World.{Cell, World}
 use Rattle.port_rules.specs.Number.{DATABASE}
-use Rattle.port_rules.specs.Moves.{Fails, Rose, Touches, counted, named, took}
+use Rattle.port_rules.specs.Moves.{Fails, Rose, counted, named, took}
 use Rattle.block_matrix.specs.Loading.{Holds, HoldsMore, HoldsNone, Loads, Stopped, asked_for}
 use Rattle.block_matrix.specs.Database.{Database}
 use Rattle.block_matrix.specs.declared.matrix.LoadFault.{LoadFault}
@@ -42,11 +42,3 @@ pub desk_opened : (o : ServeOrder) (service : Service) (m : Database) (w v u : W
 desk_opened o service m w v u is is_open loads =
     subst (λ (s : Service). OpensDesk o (Ok s) w u) (sym is)
     (refl, refl, subst (λ (c : Cell). Holds o.width m c (u.at DATABASE)) is_open loads)
-
--- Database alone was touched
-pub both_touch : (p : ℕ) (w v u : World) → Touches p w v → Touches p v u → Touches p w u
-both_touch p w v u first second = record {
-  others = λ q l ne. second.others q l ne ∙ first.others q l ne;
-  crowd = second.crowd ∙ first.crowd;
-  started = second.started ∙ first.started;
-}

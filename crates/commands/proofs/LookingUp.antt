@@ -13,7 +13,7 @@ use Rattle.wire_frames.specs.declared.scheme.TheConstants.{SHAMIR}
 use Rattle.wire_frames.specs.Answer.{answers}
 use Rattle.wire_frames.proofs.Turns.{in_turn-one}
 use Rattle.block_decoder.specs.declared.verdict.Verdict.{Verdict}
-use Rattle.replay.proofs.Readings.{at_told}
+use Rattle.port_rules.proofs.Cells.{at_told}
 use Rattle.query_rounds.specs.declared.plan.FetchPlan.{FetchPlan}
 use Rattle.query_rounds.specs.declared.plan.FetchFault.{FetchFault}
 use Rattle.query_rounds.specs.declared.plan.FetchFault.TheVariants.{CoinsFault, CoinsEnded as TooFewCoins, Memory as NoMemory}

@@ -4,7 +4,7 @@ use Rattle.std.specs.Prelude.{Some}
 use Rattle.port_rules.specs.World.{World}
 use Rattle.port_rules.specs.Number.{DATABASE}
 use Rattle.block_matrix.specs.Database.{limit}
-use Rattle.replay.proofs.Readings.{at_told}
+use Rattle.port_rules.proofs.Cells.{at_told}
 use Rattle.commands.specs.Told.{NoneRose}
 use Rattle.commands.specs.ServeOrder.{ServeOrder}
 use Rattle.commands.specs.ServeSteps.{Loaded}

@@ -9,7 +9,7 @@ use Rattle.block_matrix.specs.Database.{Database}
 use Rattle.share_files.specs.Limit.{shared_limit}
 use Rattle.share_files.proofs.Limits.{length-cells}
 use Rattle.share_files.proofs.Shares.{length-share_names}
-use Rattle.replay.proofs.Readings.{at_told}
+use Rattle.port_rules.proofs.Cells.{at_told}
 use Rattle.commands.specs.Told.{NoneRose, NoShareRose}
 use Rattle.commands.specs.SplitOrder.{SplitOrder}
 use Rattle.commands.specs.SplitSteps.{LoadedToShare, coins_to_split}

@@ -11,7 +11,7 @@ use Rattle.uni_poly.proofs.Values.{val_nil, val_lt}
 use Rattle.uni_poly.proofs.Coefficients.{IsBytes-from_all}
 use Rattle.block_matrix.proofs.Rows.{IsMatrix-rows_of, get_or-rows_of}
 use Rattle.shamir_share.specs.Query.{row_coins}
-use Rattle.shamir_share.proofs.Rows.{rows_fit}
+use Rattle.gf256.proofs.FlatRows.{row_within}
 use Rattle.share_bytes.specs.Share.{position_polynomial, share}
 use Rattle.share_bytes.proofs.Shares.{length-share, share_at, val-position}
 use Rattle.wire_frames.proofs.Turns.{length-in_turn, piece-in_turn}
@@ -36,7 +36,7 @@ module _ (matrix : List (List ℕ)) (r s : ℕ) (is : IsMatrix matrix r s) where
 
   -- it stands among them
   pub place_within : (j c : ℕ) → j < r → c < s → j * s + c < r * s
-  place_within j c low in_row = omega (arith, rows_fit j r s low, in_row)
+  place_within j c low in_row = omega (arith, row_within j r s low, in_row)
 
 -- a position has no coins where the degree is 0
 no_coins : (coins : List ℕ) (i : ℕ) → row_coins coins 0 i ≡ []

@@ -12,9 +12,9 @@ use Rattle.gf256.specs.Product.{IsMatrix, product_at, product}
 use Rattle.gf256.proofs.FieldLaws.{one_mul, zero_mul}
 use Rattle.gf256.proofs.Sums.{sum_to-same, sum_to-one}
 use Rattle.uni_poly.proofs.Coefficients.{IsBytes-from_all}
-use Rattle.block_decoder.proofs.Agreed.{row_within}
+use Rattle.gf256.proofs.FlatRows.{row_within}
 use Rattle.shamir_share.specs.Query.{query, row_polynomial, row_coins}
-use Rattle.shamir_share.proofs.Rows.{length-row_coins, rows_fit}
+use Rattle.shamir_share.proofs.Rows.{length-row_coins}
 use Rattle.share_bytes.specs.Share.{position_polynomial}
 use Rattle.share_bytes.proofs.ProductSums.{product_sum, degree-product_sum, val-product_sum, constant-product_sum}
 use Rattle.fetch_client.specs.Held.{block_of, bytes_of, held_by}
@@ -69,7 +69,7 @@ module _ (matrix : List (List ℕ)) (tau : ℕ) (share_coins coins : List ℕ) (
     length-cell : (c j : ℕ) → c < s → j < r → length (cells matrix tau share_coins s c j) ≡ tau + 1
     unfolding position_polynomial
     length-cell c j in_row low =
-        let room = rows_fit (j * s + c) (r * s) tau (place_within matrix r s is j c low in_row) in
+        let room = row_within (j * s + c) (r * s) tau (place_within matrix r s is j c low in_row) in
         let own = length-row_coins share_coins tau (j * s + c) (omega (arith, room, shared)) in
         omega (arith, own)
 

@@ -1,5 +1,5 @@
 -- The Hasse derivatives of polynomials with multiples of others, and of products with x - a, by their coefficients.
-use Rattle.std.proofs.Common.{◌≡◌, ℕ, zero, suc, List, sym, ap, ap₂, ◌∙◌}
+use Rattle.std.proofs.Common.{◌≡◌, ℕ, zero, suc, List, sym, ap, ◌∙◌}
 use Rattle.gf256.specs.Field.{◌⊕◌, ◌⊗◌}
 use Rattle.gf256.specs.Polynomial.{coef}
 use Rattle.uni_poly.specs.Taylor.{taylor}
@@ -9,16 +9,11 @@ use Rattle.uni_poly.proofs.Taylor.{taylor-same}
 use Rattle.bi_poly.specs.Rows.{row, cell, AreBytes}
 use Rattle.bi_poly.specs.Hasse.{hasse}
 use Rattle.bi_poly.specs.Combination.{times_linear_rows}
-use Rattle.bi_poly.proofs.Combination.{cell-times_linear_first, cell-times_linear_later, hasse-times_linear_first, hasse-times_linear_later}
-use Rattle.bi_poly.proofs.Derivatives.{taylor-derivative}
+use Rattle.bi_poly.proofs.Combination.{hasse-taylor, hasse-rows, cell-times_linear_first, cell-times_linear_later, hasse-times_linear_first, hasse-times_linear_later}
 use Rattle.bi_poly.proofs.Expansion.{derivatives-row}
-use Rattle.bi_poly.proofs.Hasse.{derivatives, hasse-derivative}
+use Rattle.bi_poly.proofs.Hasse.{derivatives}
 use Rattle.bi_poly.proofs.Zeros.{taylor-add_list, taylor-scale_list}
 use Rattle.gs_interpolate.specs.Basis.{IsWithMultiple, IsRaised}
-
--- the derivatives in x are the coefficients of a polynomial in y
-hasse-taylor : (q : List (List ℕ)) (u v a b : ℕ) → hasse q u v a b ≡ taylor (derivatives q a u) b v
-hasse-taylor q u v a b = hasse-derivative q u v a b ∙ sym (taylor-derivative (derivatives q a u) b v)
 
 -- the coefficients alone count
 pub hasse-same : (s q : List (List ℕ)) (u v a b : ℕ) → ((j i : ℕ) → cell s j i ≡ cell q j i) → hasse s u v a b ≡ hasse q u v a b
@@ -33,21 +28,12 @@ hasse-same s q u v a b h =
 pub hasse-multiple : (s q p : List (List ℕ)) (f u v a b : ℕ) → IsWithMultiple s q p f → hasse s u v a b ≡ hasse q u v a b ⊕ f ⊗ hasse p u v a b
 unfolding cell
 hasse-multiple s q p f u v a b h =
-    let S = derivatives s a u in
-    let Q = derivatives q a u in
-    let P = derivatives p a u in
-    hasse-taylor s u v a b
-    ∙ taylor-same S (add_list Q (scale_list f P)) b v
-    (λ j.
-    derivatives-row s a u j
-    ∙ taylor-same (row s j) (add_list (row q j) (scale_list f (row p j))) a u
+    hasse-rows s q p f u u u v a b
+    λ j.
+    taylor-same (row s j) (add_list (row q j) (scale_list f (row p j))) a u
     (λ e. h j e ∙ sym (coef-add_list (row q j) (scale_list f (row p j)) e ∙ ap (◌⊕◌ (coef (row q j) e)) (coef-scale_list f (row p j) e)))
     ∙ taylor-add_list (row q j) (scale_list f (row p j)) a u
     ∙ ap (◌⊕◌ (taylor (row q j) a u)) (taylor-scale_list f (row p j) a u)
-    ∙ sym (coef-add_list Q (scale_list f P) j ∙ ap₂ ◌⊕◌ (derivatives-row q a u j) (coef-scale_list f P j ∙ ap (◌⊗◌ f) (derivatives-row p a u j))))
-    ∙ taylor-add_list Q (scale_list f P) b v
-    ∙ ap (◌⊕◌ (taylor Q b v)) (taylor-scale_list f P b v)
-    ∙ ap₂ (λ k l. k ⊕ f ⊗ l) (sym (hasse-taylor q u v a b)) (sym (hasse-taylor p u v a b))
 
 -- a product with x - r has the coefficients of the list of the products of the rows
 raised-same : (s q : List (List ℕ)) (r : ℕ) → IsRaised s q r → AreBytes q → (j i : ℕ) → cell s j i ≡ cell (times_linear_rows q r) j i

@@ -24,7 +24,7 @@ lighter : (t i j k l : ℕ) → IsBefore t i j k l → i + t * j ≤ k + t * l
 lighter t i j k l h = elim h [ inl x ↦ omega arith | inr x ↦ omega arith ]
 
 -- nothing and a multiple of nothing
-nothing : (x y c : ℕ) → x ≡ 0 → y ≡ 0 → x ⊕ c ⊗ y ≡ 0
+pub nothing : (x y c : ℕ) → x ≡ 0 → y ≡ 0 → x ⊕ c ⊗ y ≡ 0
 nothing x y c e f = ap₂ (λ a b. a ⊕ c ⊗ b) e f ∙ ap (◌⊕◌ 0) (mul_zero c) ∙ add_zero 0
 
 -- a multiple of nothing

@@ -12,7 +12,7 @@ use Rattle.bi_poly.proofs.Combination.{hasse_lt}
 use Rattle.gs_interpolate.specs.Family.{member}
 use Rattle.gs_interpolate.specs.Basis.{values, factor, IsBefore, IsLed, IsBasis, IsPivot, IsStep, IsMeeting}
 use Rattle.gs_interpolate.proofs.Combinations.{hasse-multiple, hasse-raised_first, hasse-raised_later}
-use Rattle.gs_interpolate.proofs.Leading.{led-added, led-same, led-raised}
+use Rattle.gs_interpolate.proofs.Leading.{led-added, led-same, led-raised, nothing}
 
 -- the value of one polynomial
 pub value-at : (n : ℕ) (rows : List (List ℕ)) (u v a b j : ℕ) → j < length rows → get_or (values n rows u v a b) j 0 ≡ hasse (member n rows j) u v a b
@@ -26,10 +26,6 @@ length-values n rows u v a b = length-map-range_with_len (λ g. hasse (member n 
 value-factor : (x y : ℕ) → x < 256 → y < 256 → y ≢ 0 → x ≡ (x ⊗ inverse y) ⊗ y
 value-factor x y hx hy n =
     sym (mul_one x hx) ∙ ap (◌⊗◌ x) (sym (mul_inverse y hy n)) ∙ ap (◌⊗◌ x) (mul_comm y (inverse y)) ∙ sym (mul_assoc x (inverse y) y)
-
--- nothing and a multiple of nothing
-nothing : (x y c : ℕ) → x ≡ 0 → y ≡ 0 → x ⊕ c ⊗ y ≡ 0
-nothing x y c e f = ap₂ (λ a b. a ⊕ c ⊗ b) e f ∙ ap (◌⊕◌ 0) (mul_zero c) ∙ add_zero 0
 
 -- one step
 module _ (t n : ℕ) (rows : List (List ℕ)) (es : List ℕ) (made : List (List ℕ)) (raised : List ℕ) (u v a b p : ℕ)

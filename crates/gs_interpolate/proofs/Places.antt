@@ -1,5 +1,5 @@
 -- Places of polynomials side by side, and parts of a list that are written anew.
-use Rattle.std.proofs.Common.{◌≡◌, ◌⊎◌, ℕ, ◌+◌, ◌-◌, ◌*◌, ◌<◌, ◌≤◌, List, [], ◌++◌, length, get_or, take, drop, sym, ap, subst, ◌∙◌, arith, inl, inr, length-drop, length-append, add-mul}
+use Rattle.std.proofs.Common.{◌≡◌, ◌⊎◌, ℕ, ◌+◌, ◌-◌, ◌*◌, ◌<◌, ◌≤◌, List, [], ◌++◌, length, get_or, take, drop, sym, ap, subst, ◌∙◌, arith, inl, inr, length-drop, length-append}
 use Rattle.std.proofs.Math.Nat.{mul-le-mul_right}
 use Rattle.std.proofs.lemmas.Bool.{cases_lt}
 use Rattle.std.proofs.lemmas.List.{ext_get_or, get_or-drop, get_or-take, get_or-map, get_or_past, get_or_append_left, get_or-append_right, length-take-le, length-map}
@@ -9,12 +9,9 @@ use Rattle.std.proofs.lemmas.Simd.{get_or-put_chunk_at, get_or-put_chunk_below}
 use borrow.Rule.Slice.PartMut.{put_mid}
 use Rattle.gf256.specs.Polynomial.{coef}
 use Rattle.gf256.specs.Rows.{AreLanes}
+use Rattle.gf256.proofs.FlatRows.{row_within}
 use Rattle.bi_poly.specs.Rows.{row, cell}
 use Rattle.gs_interpolate.specs.Family.{lane, member}
-
--- the n places of one coefficient are before those of a later one
-pub places_fit : (i k n : ℕ) → i < k → i * n + n ≤ k * n
-places_fit i k n l = let h = mul-le-mul_right n (let m : i + 1 ≤ k = omega arith in m) in omega (arith, h, add-mul i 1 n)
 
 -- what a written part holds
 pub part_here : (xs ys : List ℕ) (a n g : ℕ) → a + n ≤ length xs → length ys ≡ n → g < n → get_or (put_mid a n xs ys) (a + g) 0 ≡ get_or ys g 0
@@ -60,7 +57,7 @@ length-part xs a n room = length-take-le n (drop a xs) (omega (arith, room, leng
 pub length-power : (row : List ℕ) (n i count len : ℕ) → i < count → count * n ≤ len → length row ≡ len → length (take (i * n + n - i * n) (drop (i * n) row)) ≡ n
 length-power row n i count len l room size =
     let whole : i * n + n - i * n ≡ n = omega arith in
-    ap (λ k. length (take k (drop (i * n) row))) whole ∙ length-part row (i * n) n (omega (arith, places_fit i count n l, room, size))
+    ap (λ k. length (take k (drop (i * n) row))) whole ∙ length-part row (i * n) n (omega (arith, row_within i count n l, room, size))
 
 -- a part that was written, as a list
 pub part_written : (xs ys : List ℕ) (a n : ℕ) → a + n ≤ length xs → length ys ≡ n → take n (drop a (put_mid a n xs ys)) ≡ ys

@@ -7,7 +7,8 @@ use Rattle.gf256.specs.Field.{◌⊕◌, ◌⊗◌}
 use Rattle.gf256.proofs.Xor.{add_comm}
 use Rattle.gf256.proofs.FieldLaws.{mul_add, mul_one}
 use Rattle.gs_interpolate.specs.Family.{preceding, IsRowStep}
-use Rattle.gs_interpolate.proofs.Places.{places_fit, part_here, part_elsewhere, part_before}
+use Rattle.gf256.proofs.FlatRows.{row_within}
+use Rattle.gs_interpolate.proofs.Places.{part_here, part_elsewhere, part_before}
 
 -- with its own multiple by f, a coefficient is multiplied by f + 1
 pub with_own_multiple : (x f carry : ℕ) → x < 256 → (x ⊕ x ⊗ f) ⊕ carry ≡ carry ⊕ x ⊗ (f ⊕ 1)
@@ -49,7 +50,7 @@ module _ (n : ℕ) (row before factors part : List ℕ) (p a carry i : ℕ) (ins
 
   -- the earlier powers
   earlier : (k g : ℕ) → k < i → g < n → get_or now (k * n + g) 0 ≡ get_or row (k * n + g) 0
-  earlier k g l m = let fit = places_fit k i n l in part_elsewhere row part (i * n) n (k * n + g) room_now size (inl (omega (arith, fit, m)))
+  earlier k g l m = let fit = row_within k i n l in part_elsewhere row part (i * n) n (k * n + g) room_now size (inl (omega (arith, fit, m)))
 
   pub row_step-next : IsRowStep n now before factors p a (i + 1)
   row_step-next = record {

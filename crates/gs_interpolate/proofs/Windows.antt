@@ -16,7 +16,8 @@ use Rattle.bi_poly.proofs.Expansion.{derivatives-row}
 use Rattle.bi_poly.proofs.Hasse.{derivatives, hasse-derivative}
 use Rattle.gs_interpolate.specs.Family.{lane, member}
 use Rattle.gs_interpolate.specs.Window.{IsWindow}
-use Rattle.gs_interpolate.proofs.Places.{places_fit, part_before, coef-lane, row-member}
+use Rattle.gf256.proofs.FlatRows.{row_within}
+use Rattle.gs_interpolate.proofs.Places.{part_before, coef-lane, row-member}
 
 -- the coefficients about a of the polynomials f, the first m of s polynomials side by side
 abbrev pub AreExpanded : ℕ → ℕ → ℕ → List ℕ → (ℕ → List ℕ) → Type 0
@@ -27,7 +28,7 @@ module _ (s m a : ℕ) (made next first : List ℕ) (c : ℕ → ℕ) (f : ℕ �
     (is : (g : ℕ) → g < s → get_or first g 0 ≡ c g) (byte : (g : ℕ) → c g < 256) (done : AreExpanded s m a made f)
     (horner : (k : ℕ) → k < length made → get_or next k 0 ≡ get_or (first ++ made) k 0 ⊕ a ⊗ get_or made k 0) where
   inside : (u g : ℕ) → u < m → g < s → u * s + g < length made
-  inside u g l h = let fit = places_fit u m s l in omega (arith, fit, h, size)
+  inside u g l h = let fit = row_within u m s l in omega (arith, fit, h, size)
 
   pub expanded-next : AreExpanded s m a next (λ g. c g ∷ f g)
   unfolding taylor
@@ -48,7 +49,7 @@ module _ (s m a : ℕ) (made next first : List ℕ) (c : ℕ → ℕ) (f : ℕ �
 pub expanded-none : (s m a : ℕ) (made : List ℕ) (f : ℕ → List ℕ) → ((k : ℕ) → k < m * s → get_or made k 0 ≡ 0) → ((g e : ℕ) → coef (f g) e ≡ 0) → AreExpanded s m a made f
 unfolding taylor coef
 expanded-none s m a made f zeros none u g l h =
-    let fit = places_fit u m s l in
+    let fit = row_within u m s l in
     zeros (u * s + g) (omega (arith, fit, h)) ∙ sym (taylor-same (f g) [] a u (none g))
 
 -- the polynomials in the rest of a row, from x ^ k on
@@ -124,7 +125,7 @@ is_window n m a b cells rows wide size done = record {
   size = size;
   each = λ u w g from l inside.
       let h : g < n = omega arith in
-      let fit = places_fit u m n (omega arith) in
+      let fit = row_within u m n (omega arith) in
       part_before cells (w * (m * n)) (m * n) (u * n + g) (omega (arith, fit, h))
       ∙ done w (u * n + g) (omega arith) (omega (arith, fit, h))
       ∙ ap₂ (λ x y. taylor (map (λ r. taylor (lane n x r) a y) rows) b w) (mod-mul-add u n g h) (div-mul-add u n g h)

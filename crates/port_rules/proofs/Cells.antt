@@ -187,3 +187,7 @@ fails_short p n most before after w v u a f fewer = record {
     there : (o : Option (List ℕ)) → IfSome o (Came n before after) → IfSome o (λ h. n ≤ length h)
     there None came = tt
     there (Some h) came = came.there
+
+-- what is said where bytes are told holds of these bytes
+pub at_told : (P : List ℕ → Type 0) (o : Option (List ℕ)) (bytes : List ℕ) → o ≡ Some bytes → IfSome o P → P bytes
+at_told P o bytes is p = subst (λ (x : Option (List ℕ)). IfSome x P) is p

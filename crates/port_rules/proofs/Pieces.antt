@@ -23,10 +23,6 @@ pub written_next : (p : ℕ) (a b : List ℕ) (r : Result (Unit {0}) Failed) (w 
 written_next p a b (Ok x) w v u is h = h ∙ ap (gave b) is ∙ gave-gave a b (w.at p)
 written_next p a b (Err e) w v u is h = fails_next p a b w v u is h
 
--- a first piece was cut short, so the whole is
-pub written_first : (p : ℕ) (a b : List ℕ) (w v : World) → FailsWithin p a w v → FailsWithin p (a ++ b) w v
-written_first p a b w v h = fails_first p a b w v h
-
 -- pieces were taken whole, and the next was cut short, so the whole is
 pub written_cut : (p : ℕ) (a b c : List ℕ) (w v u : World) → v.at p ≡ gave a (w.at p) → FailsWithin p b v u → FailsWithin p (a ++ (b ++ c)) w u
 written_cut p a b c w v u is h = fails_next p a (b ++ c) w v u is (fails_first p b c v u h)

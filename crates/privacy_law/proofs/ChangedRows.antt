@@ -10,7 +10,8 @@ use Rattle.uni_poly.specs.Coefficients.{IsSum}
 use Rattle.uni_poly.proofs.Addition.{add_list, coef-add_list, val-add_list}
 use Rattle.uni_poly.proofs.Taylor.{val-same}
 use Rattle.shamir_share.specs.Query.{row_coins}
-use Rattle.shamir_share.proofs.Rows.{coin_at, length-row_coins, rows_fit}
+use Rattle.gf256.proofs.FlatRows.{row_within}
+use Rattle.shamir_share.proofs.Rows.{coin_at, length-row_coins}
 use Rattle.privacy_law.specs.Pieces.{addend}
 use Rattle.privacy_law.specs.Partner.{added_to_row}
 use Rattle.privacy_law.proofs.ChangedPieces.{length-added, added_at, addend_here, addend_elsewhere, addend_outside, addend_nothing, before_piece, after_piece}
@@ -23,14 +24,14 @@ above g e = coef g (e + 1)
 added_coin : (coins : List ℕ) (t r : ℕ) (g : List ℕ) (j k e : ℕ) → length coins ≡ r * t → k < r → e < t
     → get_or (row_coins (added_to_row coins t g j) t k) e 0 ≡ get_or (row_coins coins t k) e 0 ⊕ addend (above g) t j (k * t + e)
 added_coin coins t r g j k e long row l =
-    let fit = rows_fit k r t row in
+    let fit = row_within k r t row in
     coin_at (added_to_row coins t g j) t k e l ∙ added_at coins t j (above g) (k * t + e) (omega (arith, fit, long))
     ∙ ap (λ c. c ⊕ addend (above g) t j (k * t + e)) (sym (coin_at coins t k e l))
 
 -- another row stays
 pub row_stays : (coins : List ℕ) (t r : ℕ) (g : List ℕ) (j k : ℕ) → length coins ≡ r * t → k < r → k ≢ j → row_coins (added_to_row coins t g j) t k ≡ row_coins coins t k
 row_stays coins t r g j k long row isnt =
-    let fit = rows_fit k r t row in
+    let fit = row_within k r t row in
     let before = length-row_coins coins t k (omega (arith, fit, long)) in
     let after = length-row_coins (added_to_row coins t g j) t k (omega (arith, fit, long, length-added coins t j (above g))) in
     ext_get_or 0 (row_coins (added_to_row coins t g j) t k) (row_coins coins t k) (after ∙ sym before) (λ e l.
@@ -42,7 +43,7 @@ pub val-row_changed : (coins : List ℕ) (t r : ℕ) (g : List ℕ) (j a : ℕ) 
     → val (row_coins (added_to_row coins t g j) t j) a ≡ val (row_coins coins t j) a ⊕ val (drop 1 g) a
 unfolding coef
 val-row_changed coins t r g j a long row few =
-    let fit = rows_fit j r t row in
+    let fit = row_within j r t row in
     let old = row_coins coins t j in
     let new = row_coins (added_to_row coins t g j) t j in
     let before = length-row_coins coins t j (omega (arith, fit, long)) in

@@ -12,7 +12,7 @@ use Rattle.gf256.proofs.Sums.{sum_to-same, sum_to-add, sum_to-one}
 use Rattle.chor_xor.specs.Bitmap.{size_of, unused_bits, cleared, random_byte, unit_byte, last_byte, bitmap}
 use Rattle.chor_xor.proofs.Bits.{cleared-add, cleared-zero, power-by_shift}
 use Rattle.chor_xor.proofs.Shares.{length-bitmap, bitmap-random, bitmap-last}
-use Rattle.shamir_share.proofs.Rows.{rows_fit}
+use Rattle.gf256.proofs.FlatRows.{row_within}
 use Rattle.privacy_law.specs.Pieces.{addend, added}
 use Rattle.privacy_law.specs.Partner.{flipped, partner_xor}
 use Rattle.privacy_law.specs.Bijection.{AreCoins, IsBijection}
@@ -205,7 +205,7 @@ IsBijection-xor m n r left_out b b2 = record {
 pub piece_room : (n left_out size r long : ℕ) → 1 ≤ left_out → left_out ≤ n → left_out ≢ n → size ≡ size_of r → long ≡ (n - 1) * size_of r
     → (left_out - 1) * size + size ≤ long
 piece_room n left_out size r long first last ne is whole =
-    let fits = rows_fit (left_out - 1) (n - 1) size (omega (arith, first, last, ne)) in
+    let fits = row_within (left_out - 1) (n - 1) size (omega (arith, first, last, ne)) in
     let same = whole ∙ ap (λ s. (n - 1) * s) (sym is) in
     omega (arith, fits, same)
 

@@ -9,7 +9,7 @@ use Rattle.port_rules.specs.World.{Cell, World}
 use Rattle.port_rules.specs.Number.{INPUT}
 use Rattle.port_rules.specs.Moves.{Rose, Touches, Hands, Fails, counted}
 use Rattle.port_rules.specs.Whole.{Reads, IsFront}
-use Rattle.port_rules.proofs.Cells.{took_none, reads_more, reads_end, touches_more}
+use Rattle.port_rules.proofs.Cells.{at_told, took_none, reads_more, reads_end, touches_more}
 use Rattle.wire_frames.specs.declared.scheme.TheConstants.{SHAMIR, XOR}
 use Rattle.wire_frames.specs.Sizes.{answer_len}
 use Rattle.wire_frames.specs.Answer.{answers, block_len}
@@ -43,10 +43,6 @@ pub record HasSeen (reader : Reading) (old new : World) : Type 0 where
   pub reads : Reads INPUT (seen_by reader) old new
   pub others : Touches INPUT old new
   pub begins : Begins (seen_by reader)
-
--- what is said where bytes are told holds of these bytes
-pub at_told : (P : List ℕ → Type 0) (o : Option (List ℕ)) (bytes : List ℕ) → o ≡ Some bytes → IfSome o P → P bytes
-at_told P o bytes is p = subst (λ (x : Option (List ℕ)). IfSome x P) is p
 
 -- what holds of the bytes read holds of those that were held
 pub of_held : (P : List ℕ → Type 0) (o : Option (List ℕ)) (read : List ℕ) → IfSome o (λ h. read ≡ h) → P read

@@ -1,6 +1,5 @@
 -- What several bitmaps give, bitmap by bitmap.
-use Rattle.std.proofs.Common.{◌≡◌, ℕ, ◌+◌, ◌*◌, ◌/◌, ◌%◌, ◌<◌, List, length, slice_index, sym, ap, ap₂, ◌∙◌, arith, ◌≤◌}
-use Rattle.std.proofs.Math.Nat.{mul-le-mul_right}
+use Rattle.std.proofs.Common.{◌≡◌, ℕ, ◌+◌, ◌*◌, ◌/◌, ◌%◌, ◌<◌, List, length, slice_index, sym, ap, ap₂, ◌∙◌, arith}
 use Rattle.std.proofs.lemmas.Nat.{div-mul-add, mod-mul-add, mul-add-lt, div-add-mod', div_below, mod_below}
 use Rattle.std.proofs.lemmas.List.{ext_get_or}
 use Rattle.gf256.specs.Sums.{run_sum}
@@ -12,10 +11,6 @@ use Rattle.chor_xor.proofs.ChosenSums.{length-chosen, chosen-column}
 use Rattle.server_product.specs.Queries.{piece}
 use Rattle.server_product.proofs.QuerySums.{run-same, piece-at, length-piece}
 use Rattle.server_answer.specs.Asked.{asked}
-
--- the bytes of the first pieces are among those of all
-pub part_fits : (n count r rows total : ℕ) → n ≤ count → r ≡ rows → total ≡ count * rows → n * r ≤ total
-part_fits n count r rows total l e size = omega (arith, mul-le-mul_right rows l, ap (λ k. n * k) e, size)
 
 -- what a row gives, by the bitmap's own piece
 pub asked-is : (bitmaps : List ℕ) (rows : List (List ℕ)) (width v c j : ℕ) → c < width

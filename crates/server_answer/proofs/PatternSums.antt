@@ -16,7 +16,7 @@ use Rattle.gf256.proofs.FieldLaws.{zero_mul, one_mul}
 use Rattle.gf256.proofs.Sums.{sum_to-same, sum_to-zero}
 use Rattle.server_product.specs.Queries.{piece}
 use Rattle.server_product.proofs.Workers.{at-range}
-use Rattle.server_product.proofs.QuerySums.{run-same, piece-at, put-below, put-at, put-above}
+use Rattle.server_product.proofs.QuerySums.{run-same, piece-at, put-below, put-at, put-above, part-size}
 use Rattle.chor_xor.specs.Bitmap.{bit_of, size_of}
 use Rattle.chor_xor.specs.Chosen.{given}
 use Rattle.server_answer.specs.Asked.{asked}
@@ -189,21 +189,13 @@ asked-part bitmaps rows width done end s p j es le l m =
     (subst (λ n. slice_index (piece n cut u) (j / 8) ≡ slice_index (piece n bitmaps (done + u)) (j / 8)) es same)
     ∙ sym (asked-is bitmaps rows width (done + u) k j small) ∙ ap (λ q. asked bitmaps rows width q j) (sym place)
 
--- so many places from one on up to another
-times-less : (done end size : ℕ) → done ≤ end → (end - done) * size ≡ end * size - done * size
-times-less done end size le =
-    let both : done + (end - done) ≡ end = omega (arith, le) in
-    let split : (done + (end - done)) * size ≡ done * size + (end - done) * size = grind arith in
-    let all = ap (λ n. n * size) both in
-    omega (arith, split, all)
-
 -- how long a list is that is cut out of a list of pieces
 pub set-size : (xs : List ℕ) (size done end count : ℕ) → done ≤ end → end ≤ count → length xs ≡ count * size
     → length (take (end * size - done * size) (drop (done * size) xs)) ≡ (end - done) * size
 set-size xs size done end count le most room =
     let ends = mul-le-mul_right size most in
     let rest = length-drop (done * size) xs in
-    length-take-le (end * size - done * size) (drop (done * size) xs) (omega (arith, rest, room, ends)) ∙ sym (times-less done end size le)
+    length-take-le (end * size - done * size) (drop (done * size) xs) (omega (arith, rest, room, ends)) ∙ sym (part-size done end size le)
 
 -- the sums of one set of bitmaps more
 pub set-more : (bitmaps sums new : List ℕ) (rows : List (List ℕ)) (width done end from to count s w : ℕ) → s ≡ size_of (length rows) → w ≡ width
@@ -217,7 +209,7 @@ set-more bitmaps sums new rows width done end from to count s w es ew le most ro
     let ends = mul-le-mul_right width most in
     let whole : length new ≡ (end - done) * width =
     long ∙ ap (λ w. length (take (end * w - done * w) (drop (done * w) sums))) ew ∙ set-size sums width done end count le most room in
-    let size = times-less done end width le in
+    let size = part-size done end width le in
     ap (λ w. slice_index (put_mid (done * w) (end * w - done * w) sums new) p) ew
     ∙ elim (cases_lt p (done * width)) [
       | inl low ↦ put-below (done * width) (end * width - done * width) sums new p (omega (arith, room, begins, ends)) low ∙ before p low

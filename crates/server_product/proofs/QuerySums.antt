@@ -162,7 +162,7 @@ entry-part queries rows width done end r p j er le l m =
     (sym (ap (λ x. x % width) place ∙ mod-mul-add (done + u) width k small))
 
 -- how many places a part has
-part-size : (done end width : ℕ) → done ≤ end → (end - done) * width ≡ end * width - done * width
+pub part-size : (done end width : ℕ) → done ≤ end → (end - done) * width ≡ end * width - done * width
 part-size done end width le =
     let whole : done + (end - done) ≡ end = omega arith in
     let e : (done + (end - done)) * width ≡ done * width + (end - done) * width = grind arith in

@@ -56,13 +56,6 @@ pub all-added : (f : ℕ → ℕ → ℕ) (rows workers worker p sum : ℕ) → 
 all-added f rows workers worker p sum end pos is =
     is ∙ ap (run_sum (f p) 0) (ap (first_row rows workers) end ∙ first-all rows workers pos)
 
--- where the part of a worker ends
-pub end-within : (worker workers places : ℕ) → worker < workers → worker * places + places ≤ workers * places
-end-within worker workers places l =
-    let h = mul-le-mul_right places (let s : worker + 1 ≤ workers = omega arith in s) in
-    let next : (worker + 1) * places ≡ worker * places + places = grind arith in
-    omega (arith, h, next)
-
 -- the parts of a worker and of those after it
 pub joined : (P : ℕ → List ℕ → Type 0) (first workers size : ℕ) (own others : List ℕ) → length own ≡ size → P first own
     → OfParts P (first + 1) workers size others → OfParts P first workers size (own ++ others)

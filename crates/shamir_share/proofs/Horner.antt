@@ -6,7 +6,8 @@ use Rattle.gf256.specs.Polynomial.{val}
 use Rattle.gf256.proofs.FieldLaws.{mul_comm, mul_zero}
 use Rattle.uni_poly.proofs.Values.{val-drop, val-drop_all}
 use Rattle.shamir_share.specs.Query.{row_coins, masks}
-use Rattle.shamir_share.proofs.Rows.{coin_at, length-row_coins, rows_fit, masks_at, length-masks}
+use Rattle.gf256.proofs.FlatRows.{row_within}
+use Rattle.shamir_share.proofs.Rows.{coin_at, length-row_coins, masks_at, length-masks}
 
 -- no coefficient
 pub horner_none : (p : List ℕ) (n a : ℕ) → length p ≤ n → 0 ≡ a ⊗ val (drop n p) a
@@ -26,7 +27,7 @@ pub values_none : (rows : List ℕ) (t a : ℕ) → length rows ≡ 4 * t → Ha
 values_none rows t a long = record { size = refl; at = at }
   where
     row : (k : ℕ) → k < 4 → 0 ≡ a ⊗ val (drop t (row_coins rows t k)) a
-    row k lt = horner_none (row_coins rows t k) t a (omega (arith, length-row_coins rows t k (let h = rows_fit k 4 t lt in omega (arith, h, long))))
+    row k lt = horner_none (row_coins rows t k) t a (omega (arith, length-row_coins rows t k (let h = row_within k 4 t lt in omega (arith, h, long))))
 
     at : (k : ℕ) → k < 4 → get_or (0 ∷ 0 ∷ 0 ∷ 0 ∷ []) k 0 ≡ a ⊗ val (drop t (row_coins rows t k)) a
     at zero lt = row 0 lt
@@ -44,7 +45,7 @@ values_next rows t e a values w x y z long bytes lt before hw hx hy hz = record 
   where
     row : (k v : ℕ) → k < 4 → v ≡ a ⊗ (get_or values k 0 ⊕ get_or rows (k * t + e) 0) → v ≡ a ⊗ val (drop e (row_coins rows t k)) a
     row k v few now =
-        let size = length-row_coins rows t k (let h = rows_fit k 4 t few in omega (arith, h, long)) in
+        let size = length-row_coins rows t k (let h = row_within k 4 t few in omega (arith, h, long)) in
         let coin = coin_at rows t k e lt in
         let byte = bytes (k * t + e) in
         horner_next (row_coins rows t k) e a (get_or values k 0) v (omega arith) (omega arith) (before.at k few) (now ∙ ap (λ c. a ⊗ (get_or values k 0 ⊕ c)) (sym coin))

@@ -19,7 +19,8 @@ use Rattle.gf256.proofs.LaneSums.{lanes-sum, lanes-times}
 use Rattle.uni_poly.proofs.Values.{val_to, val_nil}
 use Rattle.shamir_share.specs.Query.{row_coins, masks}
 use Rattle.shamir_share.specs.Lanes.{even_first, padded, part, paired, joined, value_from}
-use Rattle.shamir_share.proofs.Rows.{masks_at, length-masks, length-row_coins, rows_fit}
+use Rattle.gf256.proofs.FlatRows.{row_within}
+use Rattle.shamir_share.proofs.Rows.{masks_at, length-masks, length-row_coins}
 
 -- lanes that have the same
 pub lanes-same : (lanes : List ℕ) (f g : ℕ → ℕ) (at : ℕ) → ((k : ℕ) → k < 16 → f (at + k) ≡ g (at + k)) → AreLanes lanes f at → AreLanes lanes g at
@@ -173,7 +174,7 @@ pub narrow_values : (rows lanes : List ℕ) (t width a : ℕ) → 16 * t ≤ len
 narrow_values rows lanes t width a whole few some h =
     lanes-first lanes (part (padded rows t 0 width) width a) (value_from rows t 0 a) (λ k l.
     sym (add_zero _) ∙ ap (◌⊕◌ (part (padded rows t 0 width) width a k)) (sym (mul_zero (power a width)) ∙ ap (◌⊗◌ (power a width)) (sym (nothing_left rows t (0 + width) a k
-    (let fit = rows_fit k 16 t l in omega (arith, few, length-row_coins rows t k (omega (arith, fit, whole)))))))
+    (let fit = row_within k 16 t l in omega (arith, few, length-row_coins rows t k (omega (arith, fit, whole)))))))
     ∙ part_of_row rows t 0 width a k (padded rows t 0 width) (λ e m. of_row rows t 0 width k e m)) h
 
 -- what one more part makes of the values

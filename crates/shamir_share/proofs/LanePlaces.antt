@@ -11,7 +11,8 @@ use Rattle.gf256.proofs.Below.{all_below, all_below-at}
 use Rattle.shamir_share.specs.Query.{row_coins}
 use Rattle.shamir_share.specs.Lanes.{IsWidth, place, sorted_place, even_first, padded, AreCells}
 use Rattle.shamir_share.specs.declared.places.TheConstants.{PLACES}
-use Rattle.shamir_share.proofs.Rows.{coin_at, length-row_coins, rows_fit}
+use Rattle.gf256.proofs.FlatRows.{row_within}
+use Rattle.shamir_share.proofs.Rows.{coin_at, length-row_coins}
 
 -- the table holds the places of a width, from this row on
 abbrev Holds : ℕ → ℕ → Type 0
@@ -134,7 +135,7 @@ module _ (rows : List ℕ) (t from width apart : ℕ) (places : List ℕ) (is : 
         let s = stands width u k is.fills lu l in
         let r = u * (16 / width) + k / width in
         let e = k % width in
-        let fit = rows_fit r 16 t s.few in
+        let fit = row_within r 16 t s.few in
         let long = length-row_coins rows t r (omega (arith, fit, is.whole)) in
         let back = ap₂ (λ z j. get_or (row_coins rows t z) (from + j) 0) (sym s.row) (sym s.column) in
         let taken : ℕ → ℕ = λ p. cond (leb 128 p) 0 (get_or loaded (16 * ((0 + i) / 16) + p) 0) in

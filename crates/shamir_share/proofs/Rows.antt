@@ -1,7 +1,7 @@
 -- The coins of rows, and the masks that they make.
 use Rattle.std.proofs.Common.{◌≡◌, ℕ, ◌+◌, ◌-◌, ◌*◌, ◌<◌, ◌≤◌, List, [], ◌∷◌, ◌++◌, length, map, take, drop, get_or, refl, sym, ap, ap₂, ◌∙◌, inl, inr, arith, length-append, length-drop}
 use Rattle.std.specs.List.{slice_range}
-use Rattle.std.proofs.Math.Nat.{add-mul, mul-le-mul_right}
+use Rattle.std.proofs.Math.Nat.{add-mul}
 use Rattle.std.proofs.lemmas.Bool.{cases_lt}
 use Rattle.std.proofs.lemmas.List.{ext_get_or, get_or-take, get_or-drop, get_or-map, get_or_append_left, get_or-append_right, length-map, length-take, drop-drop, drop-take, take-take, take_all, take_rest, drop_more}
 use Rattle.std.proofs.lemmas.List.FromFn.{length-map-range_with_len, get_or-map-range_with_len}
@@ -9,6 +9,7 @@ use Rattle.gf256.specs.Field.{◌⊕◌, ◌⊗◌}
 use Rattle.gf256.specs.Polynomial.{val}
 use Rattle.gf256.proofs.Xor.{add_zero}
 use Rattle.gf256.proofs.FieldLaws.{mul_zero, mul_one}
+use Rattle.gf256.proofs.FlatRows.{row_within}
 use Rattle.uni_poly.proofs.Values.{val_nil, val_cons}
 use Rattle.shamir_share.specs.Query.{row_coins, masks}
 
@@ -22,15 +23,11 @@ pub length-row_coins : (coins : List ℕ) (t k : ℕ) → k * t + t ≤ length c
 unfolding row_coins
 length-row_coins coins t k enough = length-take t (drop (k * t) coins) ∙ omega (arith, length-drop (k * t) coins)
 
--- a row among the first ones
-pub rows_fit : (k n t : ℕ) → k < n → k * t + t ≤ n * t
-rows_fit k n t lt = let h = mul-le-mul_right t (let l : k + 1 ≤ n = omega arith in l) in omega (arith, h, add-mul k 1 t)
-
 -- row j of a slice of n rows is row m + j
 pub row_of_slice : (coins : List ℕ) (t m n j : ℕ) → j < n → row_coins (slice_range coins (m * t) ((m + n) * t)) t j ≡ row_coins coins t (m + j)
 unfolding row_coins
 row_of_slice coins t m n j lt =
-    let fit = rows_fit j n t lt in
+    let fit = row_within j n t lt in
     let size : (m + n) * t - m * t ≡ j * t + (n * t - j * t) = omega (arith, add-mul m n t) in
     let place : m * t + j * t ≡ (m + j) * t = sym (add-mul m j t) in
     ap (λ k. take t (drop (j * t) (take k (drop (m * t) coins)))) size
@@ -112,7 +109,7 @@ pub masks_of_first : (coins : List ℕ) (t n a : ℕ) → masks (take (n * t) co
 unfolding row_coins
 masks_of_first coins t n a =
     masks_same (take (n * t) coins) coins t n a (λ j l.
-    let fit = rows_fit j n t l in
+    let fit = row_within j n t l in
     let size : n * t ≡ j * t + (n * t - j * t) = omega (arith, fit) in
     ap (λ k. take t (drop (j * t) (take k coins))) size
     ∙ ap (take t) (drop-take (j * t) (n * t - j * t) coins)

@@ -1,11 +1,10 @@
 -- The sum of the payloads of shards, one after the other.
-use Rattle.std.proofs.Common.{◌≡◌, ◌∙◌, inr, ℕ, suc, ◌+◌, ◌<◌, List, [], ◌∷◌, ◌++◌, length, get_or, refl, sym, ap, ap₂, subst, arith, length-append}
+use Rattle.std.proofs.Common.{◌≡◌, ◌∙◌, inr, ℕ, ◌+◌, ◌<◌, List, [], ◌∷◌, ◌++◌, length, get_or, refl, sym, ap, subst, arith, length-append}
 use Rattle.std.proofs.lemmas.List.{ext_get_or, get_or_append_left}
 use Rattle.std.proofs.Math.Seq.{get_or-append_seam}
 use Rattle.std.proofs.lemmas.List.FromFn.{length-map-range_with_len, get_or-map-range_with_len}
 use Rattle.gf256.specs.Field.{◌⊕◌}
 use Rattle.gf256.specs.Sums.{sum_to}
-use Rattle.gf256.proofs.Sums.{sum_to-same}
 use Rattle.port_rules.specs.declared.port.TheConstants.{PORT_COUNT}
 use Rattle.port_rules.specs.World.{Cell, World}
 use Rattle.port_rules.specs.Number.{link}
@@ -13,25 +12,12 @@ use Rattle.port_rules.specs.Moves.{Touches}
 use Rattle.port_rules.specs.Each.{Each}
 use Rattle.port_rules.proofs.Ranges.{each_as, each_more, each_none, range_more, range_none, range_still}
 use Rattle.chor_xor.specs.Chosen.{combined, combined_at}
+use Rattle.chor_xor.proofs.ChosenSums.{combined_at-push}
 use Rattle.wire_frames.specs.declared.header.QueryHeader.{QueryHeader}
 use Rattle.shard_front.specs.declared.spread.Spread.{Spread}
 use Rattle.shard_front.specs.Spread.{shards}
 use Rattle.shard_front.specs.Shard.{AddsPayload, ShardAnswers, ShardIsLost}
 use Rattle.shard_front.specs.Asked.{FirstLost, SumsFirst}
-
--- one payload more
-combined_more : (payloads : List (List ℕ)) (payload : List ℕ) (k : ℕ)
-    → combined_at (payloads ++ payload ∷ []) k ≡ combined_at payloads k ⊕ get_or payload k 0
-unfolding combined_at sum_to
-combined_more payloads payload k =
-    let all = payloads ++ payload ∷ [] in
-    let f : ℕ → ℕ = λ i. get_or (get_or all i []) k 0 in
-    let more : length all ≡ suc (length payloads) = omega (arith, length-append payloads (payload ∷ [])) in
-    ap (sum_to f) more
-    ∙ ap₂ ◌⊕◌
-    (sum_to-same f (λ i. get_or (get_or payloads i []) k 0) (length payloads)
-    (λ i l. ap (λ (row : List ℕ). get_or row k 0) (get_or_append_left payloads (payload ∷ []) [] i l)))
-    (ap (λ (row : List ℕ). get_or row k 0) (get_or-append_seam payloads payload [] []))
 
 -- none
 combined_none : (k : ℕ) → combined_at [] k ≡ 0
@@ -81,7 +67,7 @@ module _ (spread : Spread) (query : QueryHeader) (vectors : List ℕ) (addresses
           count = length-append s.payloads (adds.payload ∷ []) ∙ ap (λ (k : ℕ). k + 1) count;
           each = each_more (Answers all) (link 1) n w v u fits kept s.others touch last;
         };
-        sum_is = λ k. adds.sum k ∙ ap (λ (b : ℕ). b ⊕ get_or adds.payload k 0) (s.sum_is k) ∙ sym (combined_more s.payloads adds.payload k);
+        sum_is = λ k. adds.sum k ∙ ap (λ (b : ℕ). b ⊕ get_or adds.payload k 0) (s.sum_is k) ∙ sym (combined_at-push s.payloads adds.payload k);
         others = range_more (link 1) n w v u s.others touch;
       }
 

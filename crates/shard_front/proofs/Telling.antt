@@ -2,11 +2,12 @@
 use Rattle.std.proofs.Common.{◌≡◌, ◌≢◌, ◌∙◌, inl, inr, ℕ, ◌+◌, ◌<◌, ◌≤◌, cond, eqb, Bool, true, false, List, [], ◌++◌, take, get_or, refl, sym, ap, subst, arith}
 use Rattle.std.proofs.lemmas.Bool.{cases_lt}
 use Rattle.std.proofs.lemmas.Bool.Decides.{eqb_tells}
-use Rattle.std.specs.Prelude.{◌⊎◌, Option, Some, None, IfSome}
+use Rattle.std.specs.Prelude.{◌⊎◌, Option, Some, None}
 use Rattle.std.specs.Option.{option_map}
 use Rattle.port_rules.specs.World.{Cell, World}
 use Rattle.port_rules.specs.Number.{GUEST, link}
 use Rattle.port_rules.specs.Moves.{Touches}
+use Rattle.port_rules.proofs.Cells.{at_told}
 use Rattle.wire_frames.specs.declared.header.QueryHeader.{QueryHeader}
 use Rattle.wire_frames.specs.Answer.{usable}
 use Rattle.wire_frames.specs.Sizes.{answer_len}
@@ -22,10 +23,6 @@ use Rattle.shard_front.specs.Asked.{AllAnswer, Asks, FirstAnswer, FirstLost, ask
 use Rattle.shard_front.specs.Fronted.{BreaksRelay, Fronts, IsRelayed, Relays, TouchesFirst}
 use Rattle.shard_front.specs.Relay.{AreLinks, Counts, FrontsBytes, FrontsTold, GivePayloads, GivesRelay, IsFrontOfRelay, IsRelay, Links, payload_from}
 
--- what is told holds of what is held
-of_told : (P : List ℕ → Type 0) (o : Option (List ℕ)) (h : List ℕ) → o ≡ Some h → IfSome o P → P h
-of_told P o h e told = subst (λ (x : Option (List ℕ)). IfSome x P) e told
-
 module _ (spread : Spread) (query : QueryHeader) (vectors : List ℕ) (i : ℕ) (address : List ℕ) (c d : Cell) (h : List ℕ) (e : c.holds ≡ Some h) where
   abbrev front : List ℕ
   front = take (answer_len query.count spread.width) h
@@ -33,7 +30,7 @@ module _ (spread : Spread) (query : QueryHeader) (vectors : List ℕ) (i : ℕ) 
   -- a shard that answered gives its payload, and no call on its link failed
   answer_gives : (payload : List ℕ) → ShardAnswers spread query vectors i address payload c d → payload_from spread query i h false ≡ Some payload
   answer_gives payload a =
-      let bytes_are : a.bytes ≡ front = of_told (λ held. a.bytes ≡ take (answer_len query.count spread.width) held) c.holds h e a.answered.told in
+      let bytes_are : a.bytes ≡ front = at_told (λ held. a.bytes ≡ take (answer_len query.count spread.width) held) c.holds h e a.answered.told in
       ap (λ (l : List ℕ). usable l (header_to spread query i)) (sym bytes_are) ∙ a.usable
 
   answer_counts : (payload : List ℕ) → ShardAnswers spread query vectors i address payload c d → d.faults ≡ c.faults
@@ -43,7 +40,7 @@ module _ (spread : Spread) (query : QueryHeader) (vectors : List ℕ) (i : ℕ) 
   pub lost_how : ShardIsLost spread query vectors i address c d → (b : Bool) × (payload_from spread query i h b ≡ None) × Counts b c.faults d.faults
   lost_how (inl broke) = (true, refl, broke.rose)
   lost_how (inr bad) =
-      let bytes_are : bad.bytes ≡ front = of_told (λ held. bad.bytes ≡ take (answer_len query.count spread.width) held) c.holds h e bad.answered.told in (
+      let bytes_are : bad.bytes ≡ front = at_told (λ held. bad.bytes ≡ take (answer_len query.count spread.width) held) c.holds h e bad.answered.told in (
         false,
         ap (λ (l : List ℕ). usable l (header_to spread query i)) (sym bytes_are) ∙ bad.unusable,
         ap (λ (x : Cell). x.faults) bad.answered.cell,
@@ -157,7 +154,7 @@ module _ (spread : Spread) (is : IsSpread spread) (guest : List ℕ) (held : ℕ
     links_relay met n frame r = by met r.asked r.others
       where
         asks : IsQueryOf (terms_of spread) r.query r.vectors guest
-        asks = of_told (IsQueryOf (terms_of spread) r.query r.vectors) (w.at GUEST).holds guest holds r.told
+        asks = at_told (IsQueryOf (terms_of spread) r.query r.vectors) (w.at GUEST).holds guest holds r.told
 
         by : (met : Relayed) → Asks spread r.query r.vectors addresses met frame w u → TouchesFirst (asked_for spread met) w u → LinksRelay spread guest held met frame w u
         by Served a touches = all_relay r.query r.vectors addresses r.good asks frame a
@@ -203,7 +200,7 @@ module _ (spread : Spread) (is : IsSpread spread) (guest : List ℕ) (held : ℕ
         -- its query was refused
         told_refused : (status : ℕ) → Dismisses (terms_of spread) (IsRefused status) w u → FrontsBytes spread guest held before (Refused status) w u
         told_refused status d =
-            let told_is = of_told (IsDismissal (terms_of spread) (IsRefused status) d.n d.frame) (w.at GUEST).holds guest holds d.told in
+            let told_is = at_told (IsDismissal (terms_of spread) (IsRefused status) d.n d.frame) (w.at GUEST).holds guest holds d.told in
             record {
               failed = λ i. false;
               out = d.frame;
@@ -215,7 +212,7 @@ module _ (spread : Spread) (is : IsSpread spread) (guest : List ℕ) (held : ℕ
         -- or it is gone
         told_gone : Dismisses (terms_of spread) IsGone w u → FrontsBytes spread guest held before Gone w u
         told_gone d =
-            let told_is = of_told (IsDismissal (terms_of spread) IsGone d.n d.frame) (w.at GUEST).holds guest holds d.told in
+            let told_is = at_told (IsDismissal (terms_of spread) IsGone d.n d.frame) (w.at GUEST).holds guest holds d.told in
             record {
               failed = λ i. false;
               out = d.frame;
@@ -239,7 +236,7 @@ module _ (spread : Spread) (is : IsSpread spread) (guest : List ℕ) (held : ℕ
 
         told_broken : BreaksTaking (terms_of spread) w u → FrontsBytes spread guest held before GuestFault w u
         told_broken b =
-            let broken = of_told (IsBrokenTaking (terms_of spread) b.n b.given) (w.at GUEST).holds guest holds b.told in
+            let broken = at_told (IsBrokenTaking (terms_of spread) b.n b.given) (w.at GUEST).holds guest holds b.told in
             record {
               failed = λ i. false;
               out = b.given;

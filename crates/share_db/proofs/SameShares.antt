@@ -13,7 +13,8 @@ use Rattle.gf256.proofs.FieldLaws.{mul_comm, mul_zero, mul_add, add_mul, mul_lef
 use Rattle.uni_poly.specs.Coefficients.{IsScaledSum}
 use Rattle.uni_poly.proofs.Addition.{val-scaled_sum}
 use Rattle.shamir_share.specs.Query.{row_coins}
-use Rattle.shamir_share.proofs.Rows.{coin_at, length-row_coins, rows_fit}
+use Rattle.gf256.proofs.FlatRows.{row_within}
+use Rattle.shamir_share.proofs.Rows.{coin_at, length-row_coins}
 use Rattle.privacy_law.specs.Bijection.{AreCoins, IsBijection}
 use Rattle.privacy_law.specs.Hiding.{hiding}
 use Rattle.privacy_law.proofs.HidingPolynomial.{length-hiding, hiding_rest}
@@ -48,7 +49,7 @@ coins_changed coins from to tau coalition i long l few =
     let new = partner_db coins from to tau coalition in
     let g = hiding coalition in
     let d = get_or from i 0 ⊕ get_or to i 0 in
-    let fit = rows_fit i (length from) tau l in
+    let fit = row_within i (length from) tau l in
     let before = length-row_coins coins tau i (omega (arith, fit, long)) in
     let after = length-row_coins new tau i (omega (arith, fit, long, length-partner_db coins from to tau coalition)) in
     record {
@@ -76,7 +77,7 @@ same_value coins from to tau coalition i a long l few bytes nonzero member =
     let t = get_or to i 0 in
     let m = a ⊗ val (row_coins coins tau i) a in
     let size = length-hiding coalition bytes nonzero in
-    let fit = rows_fit i (length from) tau l in
+    let fit = row_within i (length from) tau l in
     let room = length-row_coins coins tau i (omega (arith, fit, long)) in
     let changed : val (row_coins new tau i) a ≡ val (row_coins coins tau i) a ⊕ (f ⊕ t) ⊗ val rest a =
     val-scaled_sum _ (row_coins coins tau i) rest (f ⊕ t) a (coins_changed coins from to tau coalition i long l (omega (arith, size, few)))

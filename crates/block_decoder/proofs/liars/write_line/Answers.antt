@@ -2,15 +2,15 @@ use Rattle.std.proofs.Common.{[], ◌∷◌, ◌++◌}
 use Rattle.std.specs.Prelude.{codes}
 use Rattle.std.proofs.lemmas.Result.{err_from_is_err_and}
 use Rattle.wire_frames.specs.Answer.{answers}
-use Rattle.port_rules.proofs.Pieces.{written_next, written_first, written_cut, written_both}
+use Rattle.port_rules.proofs.Pieces.{written_next, written_cut, written_both}
 use Rattle.block_decoder.specs.Text.{words_of}
-use Rattle.port_rules.proofs.Cells.{touches_more}
+use Rattle.port_rules.proofs.Cells.{touches_more, fails_first}
 use Rattle.block_decoder.proofs.liars.write_line.Goals as goal
 
 pub returns-in_err-write_all-clause-written : goal.returns-in_err-write_all-clause-written
 returns-in_err-write_all-clause-written g c =
     let p = err_from_is_err_and c.from_residual.result c.from_residual.ensures.1 in
-    rw p.1 (written_first 1 (codes "liars") _ _ _ c.in_err-write_all.ensures.failed)
+    rw p.1 (fails_first 1 (codes "liars") _ _ _ c.in_err-write_all.ensures.failed)
 
 pub returns-in_err-write_others-clause-written : goal.returns-in_err-write_others-clause-written
 returns-in_err-write_others-clause-written g c =

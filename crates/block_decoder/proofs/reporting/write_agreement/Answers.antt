@@ -2,8 +2,8 @@ use Rattle.std.proofs.Common.{[], ◌∷◌, ◌++◌, ap}
 use Rattle.std.specs.Prelude.{flat_map, codes}
 use Rattle.std.proofs.lemmas.Result.{err_from_is_err_and}
 use Rattle.hex.specs.Hex.{encode_lower}
-use Rattle.port_rules.proofs.Cells.{fails_next, touches_more}
-use Rattle.port_rules.proofs.Pieces.{written_next, written_first, written_cut, written_both}
+use Rattle.port_rules.proofs.Cells.{fails_next, touches_more, fails_first}
+use Rattle.port_rules.proofs.Pieces.{written_next, written_cut, written_both}
 use Rattle.block_decoder.specs.Text.{agree_line, number_word, line_of}
 use Rattle.block_decoder.proofs.reporting.write_agreement.Goals as goal
 
@@ -11,7 +11,7 @@ pub returns-in_err-write_all-clause-written : goal.returns-in_err-write_all-clau
 unfolding agree_line
 returns-in_err-write_all-clause-written g c =
     let p = err_from_is_err_and c.from_residual.result c.from_residual.ensures.1 in
-    rw p.1 (written_first 1 (codes "agree ") _ _ _ c.in_err-write_all.ensures.failed)
+    rw p.1 (fails_first 1 (codes "agree ") _ _ _ c.in_err-write_all.ensures.failed)
 
 pub returns-in_err-write_hex-clause-written : goal.returns-in_err-write_hex-clause-written
 unfolding agree_line

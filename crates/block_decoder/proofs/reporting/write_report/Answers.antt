@@ -5,10 +5,10 @@ use Rattle.wire_frames.specs.Answer.{answers}
 use Rattle.port_rules.specs.Number.{OUTPUT}
 use Rattle.port_rules.specs.Moves.{gave}
 use Rattle.port_rules.specs.Written.{Written}
-use Rattle.port_rules.proofs.Pieces.{written_next, written_first}
+use Rattle.port_rules.proofs.Pieces.{written_next}
 use Rattle.block_decoder.specs.Report.{Agreement}
 use Rattle.block_decoder.specs.Text.{agree_line, liars_line, report_text}
-use Rattle.port_rules.proofs.Cells.{touches_more}
+use Rattle.port_rules.proofs.Cells.{touches_more, fails_first}
 use Rattle.block_decoder.proofs.reporting.write_report.Goals as goal
 
 pub returns-in_err-write_agreements-clause-written : goal.returns-in_err-write_agreements-clause-written
@@ -16,7 +16,7 @@ unfolding report_text
 returns-in_err-write_agreements-clause-written g c =
     let p = err_from_is_err_and c.from_residual.result c.from_residual.ensures.1 in
     let lines = ap (flat_map agree_line) c.agreements.ensures.all in
-    rw (p.1, ← lines) (written_first 1 (flat_map agree_line c.agreements.result.now) _ _ _ c.in_err-write_agreements.ensures.written)
+    rw (p.1, ← lines) (fails_first 1 (flat_map agree_line c.agreements.result.now) _ _ _ c.in_err-write_agreements.ensures.written)
 
 pub returns-clause-written : goal.returns-clause-written
 unfolding report_text

@@ -1,9 +1,9 @@
 use Rattle.std.proofs.Common.{[], ◌∷◌}
 use Rattle.hex.specs.Hex.{encode_lower}
 use Rattle.block_decoder.specs.Text.{block_line}
-use Rattle.port_rules.proofs.Pieces.{written_next, written_first, written_both}
+use Rattle.port_rules.proofs.Pieces.{written_next, written_both}
 use Rattle.std.proofs.lemmas.Result.{err_from_is_err_and}
-use Rattle.port_rules.proofs.Cells.{touches_more}
+use Rattle.port_rules.proofs.Cells.{touches_more, fails_first}
 use Rattle.block_decoder.proofs.write.write_block.Goals as goal
 
 pub returns-clause-written : goal.returns-clause-written
@@ -16,7 +16,7 @@ pub returns-in_err-write_hex-clause-written : goal.returns-in_err-write_hex-clau
 unfolding block_line
 returns-in_err-write_hex-clause-written g c =
     let p = err_from_is_err_and c.from_residual.result c.from_residual.ensures.1 in
-    rw p.1 (written_first 1 (encode_lower c.args.block.now) (10 ∷ []) _ _ c.in_err-write_hex.ensures.written)
+    rw p.1 (fails_first 1 (encode_lower c.args.block.now) (10 ∷ []) _ _ c.in_err-write_hex.ensures.written)
 
 pub returns-in_err-write_hex-clause-others : goal.returns-in_err-write_hex-clause-others
 returns-in_err-write_hex-clause-others g c = c.in_err-write_hex.ensures.others

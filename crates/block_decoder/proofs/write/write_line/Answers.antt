@@ -1,16 +1,16 @@
 use Rattle.std.proofs.Common.{[], ◌∷◌, ◌++◌}
 use Rattle.std.specs.Prelude.{flat_map}
 use Rattle.std.proofs.lemmas.Result.{err_from_is_err_and}
-use Rattle.port_rules.proofs.Pieces.{written_next, written_first, written_cut, written_both}
+use Rattle.port_rules.proofs.Pieces.{written_next, written_cut, written_both}
 use Rattle.block_decoder.specs.Text.{number_word, line_of}
-use Rattle.port_rules.proofs.Cells.{touches_more}
+use Rattle.port_rules.proofs.Cells.{touches_more, fails_first}
 use Rattle.block_decoder.proofs.write.write_line.Goals as goal
 
 pub returns-in_err-write_all-clause-written : goal.returns-in_err-write_all-clause-written
 unfolding line_of
 returns-in_err-write_all-clause-written g c =
     let p = err_from_is_err_and c.from_residual.result c.from_residual.ensures.1 in
-    rw (p.1, ← c.as_bytes.ensures.value) (written_first 1 c.as_bytes.result.now _ _ _ c.in_err-write_all.ensures.failed)
+    rw (p.1, ← c.as_bytes.ensures.value) (fails_first 1 c.as_bytes.result.now _ _ _ c.in_err-write_all.ensures.failed)
 
 pub returns-in_err-write_numbers-clause-written : goal.returns-in_err-write_numbers-clause-written
 unfolding line_of

@@ -3,9 +3,9 @@ use Rattle.std.specs.Prelude.{flat_map}
 use Rattle.port_rules.specs.Number.{OUTPUT}
 use Rattle.port_rules.specs.Moves.{gave}
 use Rattle.port_rules.specs.Written.{Written}
-use Rattle.port_rules.proofs.Pieces.{written_next, written_first}
+use Rattle.port_rules.proofs.Pieces.{written_next}
 use Rattle.block_decoder.specs.Text.{block_line, line_of}
-use Rattle.port_rules.proofs.Cells.{touches_more}
+use Rattle.port_rules.proofs.Cells.{touches_more, fails_first}
 use Rattle.std.proofs.lemmas.Result.{err_from_is_err_and}
 use Rattle.block_decoder.proofs.write.write_listing.Goals as goal
 
@@ -27,4 +27,4 @@ returns-clause-others g c = touches_more _ _ _ _ c.in_ok-write_line.ensures.othe
 pub returns-in_err-write_line-clause-written : goal.returns-in_err-write_line-clause-written
 returns-in_err-write_line-clause-written g c =
     let p = err_from_is_err_and c.from_residual.result c.from_residual.ensures.1 in
-    rw (p.1, ← c.len.ensures.count) (written_first 1 _ _ _ _ c.in_err-write_line.ensures.written)
+    rw (p.1, ← c.len.ensures.count) (fails_first 1 _ _ _ _ c.in_err-write_line.ensures.written)

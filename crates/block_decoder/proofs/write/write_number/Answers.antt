@@ -1,8 +1,8 @@
 use Rattle.std.proofs.Common.{[], ◌∷◌, decimal}
 use Rattle.std.proofs.lemmas.Result.{err_from_is_err_and}
-use Rattle.port_rules.proofs.Pieces.{written_next, written_first, written_both}
+use Rattle.port_rules.proofs.Pieces.{written_next, written_both}
 use Rattle.block_decoder.specs.Text.{number_word}
-use Rattle.port_rules.proofs.Cells.{touches_more}
+use Rattle.port_rules.proofs.Cells.{touches_more, fails_first}
 use Rattle.block_decoder.proofs.write.write_number.Goals as goal
 
 pub returns-clause-written : goal.returns-clause-written
@@ -16,7 +16,7 @@ pub returns-in_err-write_all-clause-written : goal.returns-in_err-write_all-clau
 unfolding number_word
 returns-in_err-write_all-clause-written g c =
     let p = err_from_is_err_and c.from_residual.result c.from_residual.ensures.1 in
-    rw p.1 (written_first 1 (32 ∷ []) (decimal c.args.n) _ _ c.in_err-write_all.ensures.failed)
+    rw p.1 (fails_first 1 (32 ∷ []) (decimal c.args.n) _ _ c.in_err-write_all.ensures.failed)
 
 pub returns-in_err-write_all-clause-others : goal.returns-in_err-write_all-clause-others
 returns-in_err-write_all-clause-others g c = c.in_err-write_all.ensures.others

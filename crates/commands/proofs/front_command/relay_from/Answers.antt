@@ -5,7 +5,8 @@ use Rattle.shard_front.specs.Spread.{IsSpread, shards}
 use Rattle.commands.specs.FrontOrder.{FrontOrder}
 use Rattle.commands.specs.FrontOutcome.{FrontEnds, FrontedAll, FrontedSome}
 use Rattle.commands.specs.declared.status.Status.{Status}
-use Rattle.commands.proofs.Fronting.{front_not_ready, front_spread, front_touches, front_touches_door, front_unnamed, fronted_all, fronted_some}
+use Rattle.commands.proofs.Serving.{unnamed_by_door}
+use Rattle.commands.proofs.Fronting.{front_not_ready, front_spread, front_touches, front_touches_door, fronted_all, fronted_some}
 use Rattle.commands.proofs.front_command.relay_from.Goals as goal
 
 pub returns-in_err-listen-clause-ends : goal.returns-in_err-listen-clause-ends
@@ -22,7 +23,7 @@ pub returns-in_err-listen-clause-others : goal.returns-in_err-listen-clause-othe
 returns-in_err-listen-clause-others g c = front_touches_door _ _ _ c.listen.ensures.others
 
 pub returns-in_err-listen-clause-unnamed : goal.returns-in_err-listen-clause-unnamed
-returns-in_err-listen-clause-unnamed g c = front_unnamed _ _ c.listen.ensures.others
+returns-in_err-listen-clause-unnamed g c = unnamed_by_door _ _ c.listen.ensures.others
 
 pub relay_guests-requires-clause-spread : goal.relay_guests-requires-clause-spread
 relay_guests-requires-clause-spread g c =
@@ -47,7 +48,7 @@ pub returns-in_default-clause-others : goal.returns-in_default-clause-others
 returns-in_default-clause-others g c = front_touches c.args.order.now _ _ _ _ c.requires c.listen.ensures.others c.relay_guests.ensures.others
 
 pub returns-in_default-clause-unnamed : goal.returns-in_default-clause-unnamed
-returns-in_default-clause-unnamed g c = c.relay_guests.ensures.unnamed ∙ front_unnamed _ _ c.listen.ensures.others
+returns-in_default-clause-unnamed g c = c.relay_guests.ensures.unnamed ∙ unnamed_by_door _ _ c.listen.ensures.others
 
 pub returns-clause-relayed : goal.returns-clause-relayed
 returns-clause-relayed g c =
@@ -62,4 +63,4 @@ pub returns-clause-others : goal.returns-clause-others
 returns-clause-others g c = front_touches c.args.order.now _ _ _ _ c.requires c.listen.ensures.others c.relay_guests.ensures.others
 
 pub returns-clause-unnamed : goal.returns-clause-unnamed
-returns-clause-unnamed g c = c.relay_guests.ensures.unnamed ∙ front_unnamed _ _ c.listen.ensures.others
+returns-clause-unnamed g c = c.relay_guests.ensures.unnamed ∙ unnamed_by_door _ _ c.listen.ensures.others

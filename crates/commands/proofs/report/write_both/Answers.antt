@@ -1,6 +1,6 @@
 use Rattle.std.proofs.lemmas.Result.{err_from_is_err_and}
-use Rattle.port_rules.proofs.Cells.{touches_more}
-use Rattle.port_rules.proofs.Pieces.{written_first, written_next}
+use Rattle.port_rules.proofs.Cells.{touches_more, fails_first}
+use Rattle.port_rules.proofs.Pieces.{written_next}
 use Rattle.block_decoder.specs.Text.{report_text, text}
 use Rattle.commands.proofs.report.write_both.Goals as goal
 
@@ -14,7 +14,7 @@ returns-clause-written g c =
 pub returns-in_err-write_verdict-clause-written : goal.returns-in_err-write_verdict-clause-written
 returns-in_err-write_verdict-clause-written g c =
     let p = err_from_is_err_and c.from_residual.result c.from_residual.ensures.1 in
-    rw p.1 (written_first 1 (text c.args.verdict.now) _ _ _ c.in_err-write_verdict.ensures.written)
+    rw p.1 (fails_first 1 (text c.args.verdict.now) _ _ _ c.in_err-write_verdict.ensures.written)
 
 pub returns-in_err-write_verdict-clause-others : goal.returns-in_err-write_verdict-clause-others
 returns-in_err-write_verdict-clause-others g c = c.in_err-write_verdict.ensures.others

@@ -5,8 +5,8 @@ use Rattle.std.proofs.lemmas.Result.{err_from_is_err_and}
 use Rattle.block_decoder.specs.Text.{text}
 use Rattle.port_rules.specs.Number.{OUTPUT}
 use Rattle.port_rules.specs.Moves.{gave}
-use Rattle.port_rules.proofs.Cells.{touches_more}
-use Rattle.port_rules.proofs.Pieces.{written_both, written_first, written_next}
+use Rattle.port_rules.proofs.Cells.{touches_more, fails_first}
+use Rattle.port_rules.proofs.Pieces.{written_both, written_next}
 use Rattle.commands.proofs.selfrun_command.write_report.Goals as goal
 
 -- nothing follows
@@ -29,7 +29,7 @@ returns-clause-written g c =
 pub returns-in_err-write_verdict-clause-written : goal.returns-in_err-write_verdict-clause-written
 returns-in_err-write_verdict-clause-written g c =
     let p = err_from_is_err_and c.from_residual.result c.from_residual.ensures.1 in
-    rw p.1 (written_first 1 (text c.args.verdict.now) _ _ _ c.in_err-write_verdict.ensures.written)
+    rw p.1 (fails_first 1 (text c.args.verdict.now) _ _ _ c.in_err-write_verdict.ensures.written)
 
 pub returns-in_err-write_verdict-clause-others : goal.returns-in_err-write_verdict-clause-others
 returns-in_err-write_verdict-clause-others g c = c.in_err-write_verdict.ensures.others

@@ -7,7 +7,8 @@ use Rattle.commands.specs.ServeOrder.{ServeOrder}
 use Rattle.commands.specs.ServeSteps.{OpensDesk}
 use Rattle.commands.specs.declared.status.Status.{Status}
 use Rattle.commands.specs.declared.status.Status.TheVariants.{Memory}
-use Rattle.commands.proofs.Loading.{both_touch, desk_opened, desk_unloaded, desk_unmade, desk_unopened}
+use Rattle.port_rules.proofs.Cells.{touches_more}
+use Rattle.commands.proofs.Loading.{desk_opened, desk_unloaded, desk_unmade, desk_unopened}
 use Rattle.commands.proofs.serve_command.open_desk.Goals as goal
 
 pub returns-in_default-clause-opens : goal.returns-in_default-clause-opens
@@ -33,7 +34,7 @@ returns-in_err-matrix-clause-opens g c =
     (desk_unloaded o c.in_err-matrix.field-0.0 start opened loaded c.in-Ok.ensures.ok c.in_err-matrix.ensures.loads))
 
 pub returns-in_err-matrix-clause-others : goal.returns-in_err-matrix-clause-others
-returns-in_err-matrix-clause-others g c = both_touch _ _ _ _ c.open.ensures.others c.load.ensures.others
+returns-in_err-matrix-clause-others g c = touches_more _ _ _ _ c.open.ensures.others c.load.ensures.others
 
 pub returns-in_err-open-clause-opens : goal.returns-in_err-open-clause-opens
 returns-in_err-open-clause-opens g c =
@@ -55,7 +56,7 @@ returns-in_err-open-clause-opens g c =
     (desk_unmade o c.in_ok-matrix.matrix start opened loaded c.in-Ok.ensures.ok c.in_ok-matrix.ensures.loads))
 
 pub returns-in_err-open-clause-others : goal.returns-in_err-open-clause-others
-returns-in_err-open-clause-others g c = both_touch _ _ _ _ c.open.ensures.others c.load.ensures.others
+returns-in_err-open-clause-others g c = touches_more _ _ _ _ c.open.ensures.others c.load.ensures.others
 
 pub returns-clause-opens : goal.returns-clause-opens
 returns-clause-opens g c =
@@ -75,4 +76,4 @@ returns-clause-opens g c =
     (desk_opened o c.in_ok-open.field-0 c.in_ok-matrix.matrix start opened loaded c.in_ok-open.ensures c.in-Ok.ensures.ok c.in_ok-matrix.ensures.loads)
 
 pub returns-clause-others : goal.returns-clause-others
-returns-clause-others g c = both_touch _ _ _ _ c.open.ensures.others c.load.ensures.others
+returns-clause-others g c = touches_more _ _ _ _ c.open.ensures.others c.load.ensures.others

@@ -2,15 +2,15 @@ use Rattle.std.proofs.Common.{rules, ◌≡◌, ◌+◌, ◌*◌, length, get_or
 use Rattle.std.specs.Option.{unwrap_or}
 use Rattle.std.proofs.lemmas.Result.{IfOk-from_err}
 use borrow.Author.Count.{falls, below_none}
-use Rattle.gs_interpolate.proofs.Places.{places_fit}
+use Rattle.gf256.proofs.FlatRows.{row_within}
 use Rattle.gs_interpolate.proofs.Pushed.{pushed_size, pushed_each}
 use Rattle.gs_interpolate.proofs.family.coefficients.Goals as goal
 
 pub overflow_mul-i : goal.overflow_mul-i
-overflow_mul-i c = omega (arith, places_fit c.loop-i.i c.args.count c.args.lanes (omega arith))
+overflow_mul-i c = omega (arith, row_within c.loop-i.i c.args.count c.args.lanes (omega arith))
 
 pub overflow_add-i : goal.overflow_add-i
-overflow_add-i c = omega (arith, places_fit c.loop-i.i c.args.count c.args.lanes (omega arith))
+overflow_add-i c = omega (arith, row_within c.loop-i.i c.args.count c.args.lanes (omega arith))
 
 pub loop-i-init : goal.loop-i-init
 loop-i-init c = record {

@@ -3,7 +3,8 @@ use borrow.Rule.Slice.PartMut.{put_mid}
 use borrow.Author.Count.{falls}
 use Rattle.gf256.specs.Field.{◌⊕◌, ◌⊗◌}
 use Rattle.gs_interpolate.specs.Family.{multiplier, IsRowStep}
-use Rattle.gs_interpolate.proofs.Places.{places_fit, length-part, length-power}
+use Rattle.gf256.proofs.FlatRows.{row_within}
+use Rattle.gs_interpolate.proofs.Places.{length-part, length-power}
 use Rattle.gs_interpolate.proofs.Steps.{with_own_multiple, row_step-none, row_step-next, carried_on}
 use Rattle.gs_interpolate.proofs.family.step_held_row.Goals as goal
 
@@ -22,7 +23,7 @@ loop-i-preserved g c =
     let before = c.args.row.now in
     let part = c.step_held_cell-carry.new.cell in
     let whole : i * n + n - i * n ≡ n = omega arith in
-    let fit = places_fit i c.args.count n c.loop-i-test.true in
+    let fit = row_within i c.args.count n c.loop-i-test.true in
     let room : i * n + n ≤ length before = omega (arith, fit, c.requires.room) in
     let held = ap (λ k. take k (drop (i * n) row)) whole in
     let own = c.step_held_cell-carry.ensures.own ∙ ap (λ xs. get_or xs c.args.p 0) held in
@@ -48,10 +49,10 @@ pub last_lanes-high-requires-clause-lanes : goal.last_lanes-high-requires-clause
 last_lanes-high-requires-clause-lanes g c = c.requires.lanes
 
 pub overflow_mul-start : goal.overflow_mul-start
-overflow_mul-start g c = omega (arith, places_fit c.loop-i.i c.args.count (length c.args.factors.now) c.loop-i-test.true, c.requires.room)
+overflow_mul-start g c = omega (arith, row_within c.loop-i.i c.args.count (length c.args.factors.now) c.loop-i-test.true, c.requires.room)
 
 pub overflow_add-cell : goal.overflow_add-cell
-overflow_add-cell g c = omega (arith, places_fit c.loop-i.i c.args.count (length c.args.factors.now) c.loop-i-test.true, c.requires.room)
+overflow_add-cell g c = omega (arith, row_within c.loop-i.i c.args.count (length c.args.factors.now) c.loop-i-test.true, c.requires.room)
 
 pub slice_bounds-cell-count : goal.slice_bounds-cell-count
 slice_bounds-cell-count g c = omega arith
@@ -60,7 +61,7 @@ pub slice_bounds-cell-start : goal.slice_bounds-cell-start
 slice_bounds-cell-start g c = omega arith
 
 pub slice_bounds-cell-end : goal.slice_bounds-cell-end
-slice_bounds-cell-end g c = omega (arith, places_fit c.loop-i.i c.args.count (length c.args.factors.now) c.loop-i-test.true, c.requires.room, c.loop-i.auto.row)
+slice_bounds-cell-end g c = omega (arith, row_within c.loop-i.i c.args.count (length c.args.factors.now) c.loop-i-test.true, c.requires.room, c.loop-i.auto.row)
 
 pub step_held_cell-carry-requires-clause-vectors : goal.step_held_cell-carry-requires-clause-vectors
 step_held_cell-carry-requires-clause-vectors g c = c.requires.vectors

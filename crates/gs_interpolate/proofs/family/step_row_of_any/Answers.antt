@@ -3,7 +3,8 @@ use borrow.Rule.Slice.PartMut.{put_mid}
 use borrow.Author.Count.{falls}
 use Rattle.gf256.specs.Field.{◌⊕◌, ◌⊗◌}
 use Rattle.gs_interpolate.specs.Family.{multiplier, IsRowStep}
-use Rattle.gs_interpolate.proofs.Places.{places_fit, length-part, length-power}
+use Rattle.gf256.proofs.FlatRows.{row_within}
+use Rattle.gs_interpolate.proofs.Places.{length-part, length-power}
 use Rattle.gs_interpolate.proofs.Steps.{with_own_multiple, row_step-none, row_step-next, carried_on}
 use Rattle.gs_interpolate.proofs.family.step_row_of_any.Goals as goal
 
@@ -22,7 +23,7 @@ loop-i-preserved c =
     let before = c.args.row.now in
     let part = c.step_cell-carry.new.cell in
     let whole : i * n + n - i * n ≡ n = omega arith in
-    let fit = places_fit i c.args.count n c.loop-i-test.true in
+    let fit = row_within i c.args.count n c.loop-i-test.true in
     let room : i * n + n ≤ length before = omega (arith, fit, c.requires.room) in
     let held = ap (λ k. take k (drop (i * n) row)) whole in
     let own = c.step_cell-carry.ensures.own ∙ ap (λ xs. get_or xs c.args.p 0) held in
@@ -39,10 +40,10 @@ loop-i-preserved c =
     }
 
 pub overflow_mul-start : goal.overflow_mul-start
-overflow_mul-start c = omega (arith, places_fit c.loop-i.i c.args.count (length c.args.factors.now) c.loop-i-test.true, c.requires.room)
+overflow_mul-start c = omega (arith, row_within c.loop-i.i c.args.count (length c.args.factors.now) c.loop-i-test.true, c.requires.room)
 
 pub overflow_add-start : goal.overflow_add-start
-overflow_add-start c = omega (arith, places_fit c.loop-i.i c.args.count (length c.args.factors.now) c.loop-i-test.true, c.requires.room)
+overflow_add-start c = omega (arith, row_within c.loop-i.i c.args.count (length c.args.factors.now) c.loop-i-test.true, c.requires.room)
 
 pub slice_bounds-step_cell-count : goal.slice_bounds-step_cell-count
 slice_bounds-step_cell-count c = omega arith
@@ -51,7 +52,7 @@ pub slice_bounds-step_cell-start : goal.slice_bounds-step_cell-start
 slice_bounds-step_cell-start c = omega arith
 
 pub slice_bounds-step_cell-end : goal.slice_bounds-step_cell-end
-slice_bounds-step_cell-end c = omega (arith, places_fit c.loop-i.i c.args.count (length c.args.factors.now) c.loop-i-test.true, c.requires.room, c.loop-i.auto.row)
+slice_bounds-step_cell-end c = omega (arith, row_within c.loop-i.i c.args.count (length c.args.factors.now) c.loop-i-test.true, c.requires.room, c.loop-i.auto.row)
 
 pub step_cell-carry-requires-clause-size : goal.step_cell-carry-requires-clause-size
 step_cell-carry-requires-clause-size c =

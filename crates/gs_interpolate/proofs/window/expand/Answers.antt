@@ -1,13 +1,14 @@
 use Rattle.std.proofs.Common.{◌≡◌, ◌+◌, ◌-◌, ◌*◌, ◌/◌, ◌<◌, ◌≤◌, ◌++◌, List, ℕ, length, get_or, take, drop, sym, ap, subst, ◌∙◌, arith, take_at}
 use Rattle.std.proofs.Math.Nat.{div-mul-le_self, mul-le-mul_right}
 use Rattle.gf256.specs.Field.{◌⊕◌, ◌⊗◌}
-use Rattle.gs_interpolate.proofs.Places.{places_fit, part_before, length-part}
+use Rattle.gf256.proofs.FlatRows.{row_within}
+use Rattle.gs_interpolate.proofs.Places.{part_before, length-part}
 use Rattle.gs_interpolate.proofs.Windows.{AreExpanded, rest_from, expanded-none, expanded-next, rest-none, rest-next}
 use Rattle.gs_interpolate.proofs.window.expand.Goals as goal
 
 -- a row has the place of each coefficient
 row_fits : (row : List ℕ) (n i : ℕ) → 0 < i → i ≤ length row / n → (i - 1) * n + n ≤ length row
-row_fits row n i some within = omega (arith, places_fit (i - 1) (length row / n) n (omega arith), div-mul-le_self (length row) n)
+row_fits row n i some within = omega (arith, row_within (i - 1) (length row / n) n (omega arith), div-mul-le_self (length row) n)
 
 pub overflow_mul-start : goal.overflow_mul-start
 overflow_mul-start c = omega (arith, row_fits c.args.row.now c.args.lanes c.loop-i.i (omega arith) (omega arith))
@@ -62,7 +63,7 @@ loop-i-preserved c =
     let next = c.horner.new.next in
     let one : c.loop-i.i ≡ k + 1 = omega arith in
     let whole : k * n + n - k * n ≡ n = omega arith in
-    let room : k * n + n ≤ length row = omega (arith, places_fit k (length row / n) n (omega arith), div-mul-le_self (length row) n) in
+    let room : k * n + n ≤ length row = omega (arith, row_within k (length row / n) n (omega arith), div-mul-le_self (length row) n) in
     let first = take (k * n + n - k * n) (drop (k * n) row) in
     let held : first ≡ take n (drop (k * n) row) = ap (λ j. take j (drop (k * n) row)) whole in
     let small : length first ≡ n = ap length held ∙ length-part row (k * n) n room in

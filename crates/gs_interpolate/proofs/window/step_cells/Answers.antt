@@ -4,7 +4,8 @@ use Rattle.std.proofs.lemmas.Bool.{cases_lt}
 use borrow.Rule.Slice.PartMut.{put_mid}
 use Rattle.gs_interpolate.specs.Family.{multiplier, IsRowStep}
 use Rattle.gs_interpolate.specs.Window.{window_row}
-use Rattle.gs_interpolate.proofs.Places.{places_fit, length-part, part_written, part_kept}
+use Rattle.gf256.proofs.FlatRows.{row_within}
+use Rattle.gs_interpolate.proofs.Places.{length-part, part_written, part_kept}
 use Rattle.gs_interpolate.proofs.window.step_cells.Goals as goal
 
 pub step_row-requires-clause-room : goal.step_row-requires-clause-room
@@ -15,7 +16,7 @@ step_row-requires-clause-room c =
     let w = c.loop-w.w in
     let cells = c.loop-w.cells in
     let whole : w * s + s - w * s ≡ s = omega arith in
-    let fit = places_fit w m s (omega arith) in
+    let fit = row_within w m s (omega arith) in
     let fewer : (m - w) * n ≤ m * n = mul-le-mul_right n (omega arith) in
     let long = ap (λ k. length (take k (drop (w * s) cells))) whole ∙ length-part cells (w * s) s (omega (arith, fit, c.requires.size)) in
     omega (arith, fewer, long)
@@ -30,7 +31,7 @@ loop-w-preserved c =
     let cells = c.loop-w.cells in
     let new = c.step_row.new.row in
     let whole : w * s + s - w * s ≡ s = omega arith in
-    let fit = places_fit w m s (omega arith) in
+    let fit = row_within w m s (omega arith) in
     let room : w * s + s ≤ length cells = omega (arith, fit, c.requires.size) in
     let held = ap (λ k. take k (drop (w * s) cells)) whole in
     let size : length new ≡ s = c.step_row.auto.row ∙ ap length held ∙ length-part cells (w * s) s room in
@@ -38,9 +39,9 @@ loop-w-preserved c =
     let back = ap (λ k. put_mid (w * s) k cells new) whole in
     let here : window_row n m now w ≡ new = part_written cells new (w * s) s room size in
     let other = λ (k : ℕ) (l : k < m) (apart : (k < w) ⊎ (w < k)).
-    let there = places_fit k m s l in
+    let there = row_within k m s l in
     part_kept cells new (w * s) s (k * s) room (omega (arith, there, c.requires.size)) size
-    (elim apart [ inl x ↦ inl (places_fit k w s x) | inr x ↦ inr (places_fit w k s x) ]) in
+    (elim apart [ inl x ↦ inl (row_within k w s x) | inr x ↦ inr (row_within w k s x) ]) in
     record {
       each = subst (λ xs. (k : ℕ) → c.args.v ≤ k → k < w + 1 → k < m → IsRowStep n (window_row n m xs k) (window_row n m old k) c.args.factors.now c.args.p (multiplier c.args.factors.now c.args.p) (m - k)) (sym back)
           (λ k from l h.
@@ -77,23 +78,23 @@ step_row-requires-clause-inside c = omega arith
 pub overflow_mul-size : goal.overflow_mul-size
 overflow_mul-size c =
     let size = c.args.m * length c.args.factors.now in
-    let fit = places_fit c.loop-w.w c.args.m size (omega arith) in
+    let fit = row_within c.loop-w.w c.args.m size (omega arith) in
     omega (arith, fit, c.requires.size)
 
 pub overflow_mul-start : goal.overflow_mul-start
 overflow_mul-start c =
     let size = c.args.m * length c.args.factors.now in
-    let fit = places_fit c.loop-w.w c.args.m size (omega arith) in
+    let fit = row_within c.loop-w.w c.args.m size (omega arith) in
     omega (arith, fit, c.requires.size)
 
 pub overflow_add-start : goal.overflow_add-start
 overflow_add-start c =
     let size = c.args.m * length c.args.factors.now in
-    let fit = places_fit c.loop-w.w c.args.m size (omega arith) in
+    let fit = row_within c.loop-w.w c.args.m size (omega arith) in
     omega (arith, fit, c.requires.size)
 
 pub slice_bounds-step_row-end : goal.slice_bounds-step_row-end
 slice_bounds-step_row-end c =
     let size = c.args.m * length c.args.factors.now in
-    let fit = places_fit c.loop-w.w c.args.m size (omega arith) in
+    let fit = row_within c.loop-w.w c.args.m size (omega arith) in
     omega (arith, fit, c.requires.size)

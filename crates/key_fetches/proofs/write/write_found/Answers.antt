@@ -1,6 +1,7 @@
 use Rattle.std.proofs.Common.{codes}
 use Rattle.std.proofs.lemmas.Result.{err_from_is_err_and}
-use Rattle.port_rules.proofs.Pieces.{written_first, written_next}
+use Rattle.port_rules.proofs.Cells.{fails_first}
+use Rattle.port_rules.proofs.Pieces.{written_next}
 use Rattle.block_decoder.specs.Text.{block_line}
 use Rattle.key_fetches.specs.Text.{found_line}
 use Rattle.key_fetches.proofs.write.write_found.Goals as goal
@@ -15,4 +16,4 @@ pub returns-in_err-write_all-clause-written : goal.returns-in_err-write_all-clau
 unfolding found_line
 returns-in_err-write_all-clause-written g c =
     let p = err_from_is_err_and c.from_residual.result c.from_residual.ensures.1 in
-    rw p.1 (written_first 1 (codes "found ") (block_line c.args.row.now) _ _ c.in_err-write_all.ensures.failed)
+    rw p.1 (fails_first 1 (codes "found ") (block_line c.args.row.now) _ _ c.in_err-write_all.ensures.failed)

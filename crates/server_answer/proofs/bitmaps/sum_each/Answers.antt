@@ -1,10 +1,10 @@
 use Rattle.std.proofs.Common.{◌≡◌, ℕ, ◌+◌, ◌*◌, ◌<◌, slice_index, length, subst, sym, ap, ◌∙◌, arith}
 use Rattle.gf256.specs.Sums.{run_sum}
 use Rattle.server_product.specs.Queries.{piece}
-use Rattle.server_product.proofs.QuerySums.{pieces-more}
+use Rattle.server_product.proofs.QuerySums.{pieces-more, part_fits}
 use Rattle.chor_xor.specs.Bitmap.{size_of}
 use Rattle.chor_xor.specs.Chosen.{given}
-use Rattle.server_answer.proofs.AnswerSums.{all-asked, part_fits}
+use Rattle.server_answer.proofs.AnswerSums.{all-asked}
 use Rattle.server_answer.proofs.bitmaps.sum_each.Goals as goal
 
 pub loop-v-preserved : goal.loop-v-preserved

@@ -1,7 +1,7 @@
 use Rattle.std.proofs.Common.{◌≤◌, ◌-◌, ◌*◌, ◌∙◌, ap, sym, arith}
 use Rattle.chor_xor.specs.Bitmap.{size_of}
 use Rattle.server_answer.proofs.PatternSums.{set-size, set-more}
-use Rattle.server_answer.proofs.AnswerSums.{part_fits}
+use Rattle.server_product.proofs.QuerySums.{part_fits}
 use Rattle.std.proofs.Math.Nat.{mul-le-mul_right}
 use Rattle.server_answer.proofs.bitmaps.sum_in_sets.Goals as goal
 

@@ -1,5 +1,5 @@
 use Rattle.server_product.proofs.QuerySums.{length-piece}
-use Rattle.server_product.proofs.Workers.{end-within}
+use Rattle.gf256.proofs.FlatRows.{row_within}
 use Rattle.std.proofs.Math.Nat.{mul-le-mul_right}
 use Rattle.std.proofs.Common.{◌≡◌, ◌+◌, ◌-◌, length, refl, sym, subst, ◌∙◌, arith, ◌≤◌}
 use Rattle.std.proofs.lemmas.Nat.Bits.{shr_and_one}
@@ -48,7 +48,7 @@ pub overflow_shr-pattern : goal.overflow_shr-pattern
 overflow_shr-pattern c = omega arith
 
 pub overflow_mul-v : goal.overflow_mul-v
-overflow_mul-v c = omega (arith, end-within c.loop-v.v c.args.count (length c.args.row.now) (omega arith), c.requires.room)
+overflow_mul-v c = omega (arith, row_within c.loop-v.v c.args.count (length c.args.row.now) (omega arith), c.requires.room)
 
 pub overflow_add-v : goal.overflow_add-v
 overflow_add-v c = omega arith
@@ -64,7 +64,7 @@ slice_bounds-add_row-count c =
     mul-le-mul_right (length c.args.row.now) next
 
 pub slice_bounds-add_row-start : goal.slice_bounds-add_row-start
-slice_bounds-add_row-start c = omega (arith, end-within c.loop-v.v c.args.count (length c.args.row.now) (omega arith), c.requires.room)
+slice_bounds-add_row-start c = omega (arith, row_within c.loop-v.v c.args.count (length c.args.row.now) (omega arith), c.requires.room)
 
 pub slice_bounds-add_row-end : goal.slice_bounds-add_row-end
 slice_bounds-add_row-end c =

@@ -2,9 +2,8 @@ use Rattle.std.proofs.Common.{◌+◌, ◌*◌, slice_range, ap, ◌∙◌, arit
 use Rattle.chor_xor.specs.Bitmap.{size_of}
 use Rattle.chor_xor.specs.Chosen.{given}
 use Rattle.server_answer.specs.Asked.{asked}
-use Rattle.server_product.proofs.QuerySums.{rest-done, rest-kept}
+use Rattle.server_product.proofs.QuerySums.{rest-done, rest-kept, part_fits}
 use Rattle.server_answer.proofs.MaskSums.{given-is}
-use Rattle.server_answer.proofs.AnswerSums.{part_fits}
 use Rattle.server_answer.proofs.group.add_rest.Goals as goal
 
 pub loop-v-preserved : goal.loop-v-preserved

@@ -2,7 +2,7 @@ use Rattle.std.proofs.Common.{◌≡◌, ◌+◌, ◌*◌, ◌<◌, ◌≤◌, �
 use Rattle.std.proofs.Math.Nat.{mul-le-mul_right}
 use Rattle.std.proofs.lemmas.Simd.{length-put_chunk}
 use Rattle.server_product.proofs.QuerySums.{length-piece}
-use Rattle.server_product.proofs.Workers.{end-within}
+use Rattle.gf256.proofs.FlatRows.{row_within}
 use Rattle.server_answer.proofs.MaskSums.{mask_at, masks-more, masks-set}
 use Rattle.server_answer.proofs.group.set_masks.Goals as goal
 
@@ -44,7 +44,7 @@ slice_bounds-bitmap-count c =
     mul-le-mul_right c.args.size next
 
 pub slice_bounds-bitmap-start : goal.slice_bounds-bitmap-start
-slice_bounds-bitmap-start c = omega (arith, end-within c.loop-v.v c.args.count c.args.size (omega arith), c.requires.bitmaps)
+slice_bounds-bitmap-start c = omega (arith, row_within c.loop-v.v c.args.count c.args.size (omega arith), c.requires.bitmaps)
 
 pub slice_bounds-bitmap-end : goal.slice_bounds-bitmap-end
 slice_bounds-bitmap-end c =

@@ -1,6 +1,6 @@
 use Rattle.std.specs.Int.{bit_at}
 use Rattle.server_product.proofs.QuerySums.{length-piece}
-use Rattle.server_product.proofs.Workers.{end-within}
+use Rattle.gf256.proofs.FlatRows.{row_within}
 use Rattle.std.proofs.Math.Nat.{mul-le-mul_right}
 use Rattle.std.proofs.Common.{◌≡◌, ◌<◌, sym, subst, ◌∙◌, ◌≤◌, ◌+◌, arith, mul-le-mul, ◌-◌}
 use Rattle.std.proofs.lemmas.Nat.Bits.{bit_at-lt}
@@ -44,7 +44,7 @@ slice_bounds-is_set-count c =
     mul-le-mul_right c.args.size next
 
 pub slice_bounds-is_set-start : goal.slice_bounds-is_set-start
-slice_bounds-is_set-start c = omega (arith, end-within c.loop-v.v c.args.count c.args.size (omega arith), c.requires.bitmaps)
+slice_bounds-is_set-start c = omega (arith, row_within c.loop-v.v c.args.count c.args.size (omega arith), c.requires.bitmaps)
 
 pub slice_bounds-is_set-end : goal.slice_bounds-is_set-end
 slice_bounds-is_set-end c =

@@ -1,4 +1,4 @@
-use Rattle.server_product.proofs.Workers.{end-within}
+use Rattle.gf256.proofs.FlatRows.{row_within}
 use Rattle.std.proofs.Math.Nat.{mul-le-mul_right}
 use Rattle.std.proofs.Common.{◌≡◌, ℕ, ◌-◌, ◌<◌, slice_index, subst, ◌∙◌, ◌≤◌, ◌+◌, arith, mul-le-mul}
 use Rattle.server_product.proofs.QuerySums.{pieces-more, length-piece}
@@ -40,7 +40,7 @@ slice_bounds-own-count c =
     mul-le-mul_right c.args.width next
 
 pub slice_bounds-own-start : goal.slice_bounds-own-start
-slice_bounds-own-start c = omega (arith, end-within c.loop-v.v c.args.count c.args.width (omega arith), c.requires.room)
+slice_bounds-own-start c = omega (arith, row_within c.loop-v.v c.args.count c.args.width (omega arith), c.requires.room)
 
 pub slice_bounds-own-end : goal.slice_bounds-own-end
 slice_bounds-own-end c =

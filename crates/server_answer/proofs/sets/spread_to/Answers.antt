@@ -1,6 +1,6 @@
 use Rattle.server_answer.specs.declared.sets.TheConstants.{MOST_NARROW}
 use Rattle.server_product.proofs.QuerySums.{length-piece}
-use Rattle.server_product.proofs.Workers.{end-within}
+use Rattle.gf256.proofs.FlatRows.{row_within}
 use Rattle.std.proofs.Math.Nat.{mul-le-mul_right}
 use Rattle.std.proofs.Common.{◌≡◌, length, slice_index, ap, ap₂, sym, ◌∙◌, arith, ◌≤◌, ◌+◌, mul-le-mul, ◌*◌}
 use Rattle.std.proofs.lemmas.Nat.Bits.{shr_and_one}
@@ -59,7 +59,7 @@ slice_bounds-add_row-count c =
     mul-le-mul_right (length c.clear.new.row) next
 
 pub slice_bounds-add_row-start : goal.slice_bounds-add_row-start
-slice_bounds-add_row-start c = omega (arith, end-within c.loop-pattern.pattern 256 (length c.clear.new.row) (omega arith), c.requires.patterns, c.clear.auto.row)
+slice_bounds-add_row-start c = omega (arith, row_within c.loop-pattern.pattern 256 (length c.clear.new.row) (omega arith), c.requires.patterns, c.clear.auto.row)
 
 pub slice_bounds-add_row-end : goal.slice_bounds-add_row-end
 slice_bounds-add_row-end c =

@@ -2,7 +2,7 @@ use Rattle.std.proofs.Common.{◌≤◌, ◌+◌, slice_index, ◌∙◌, arith,
 use Rattle.std.proofs.Math.Nat.{mul-le-mul_right}
 use Rattle.server_product.specs.Blocks.{place_of}
 use Rattle.server_product.proofs.QuerySums.{pieces-more, length-piece}
-use Rattle.server_product.proofs.Workers.{end-within}
+use Rattle.gf256.proofs.FlatRows.{row_within}
 use Rattle.server_product.proofs.blocks.lay_out.Goals as goal
 
 pub loop-v-preserved : goal.loop-v-preserved
@@ -32,7 +32,7 @@ slice_bounds-lay_out_one-count c =
     mul-le-mul_right c.args.width next
 
 pub slice_bounds-lay_out_one-start : goal.slice_bounds-lay_out_one-start
-slice_bounds-lay_out_one-start c = omega (arith, end-within c.loop-v.v c.args.count c.args.width (omega arith), c.requires.room)
+slice_bounds-lay_out_one-start c = omega (arith, row_within c.loop-v.v c.args.count c.args.width (omega arith), c.requires.room)
 
 pub slice_bounds-lay_out_one-end : goal.slice_bounds-lay_out_one-end
 slice_bounds-lay_out_one-end c =

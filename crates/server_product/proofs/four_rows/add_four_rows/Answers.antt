@@ -3,7 +3,7 @@ use Rattle.std.specs.Int.{div_ceil}
 use Rattle.gf256.specs.Rows.{IsAdded}
 use Rattle.gf256.proofs.Added.{added-none, added-on}
 use Rattle.server_product.specs.Blocks.{four_at}
-use Rattle.server_product.proofs.Workers.{end-within}
+use Rattle.gf256.proofs.FlatRows.{row_within}
 use Rattle.server_product.proofs.four_rows.add_four_rows.Goals as goal
 
 pub loop-i-init : goal.loop-i-init
@@ -53,7 +53,7 @@ add_block-requires-clause-memory c = omega arith
 
 pub add_block-requires-clause-room : goal.add_block-requires-clause-room
 add_block-requires-clause-room c =
-    omega (arith, end-within c.loop-i.i (div_ceil (length c.args.a.now) 16) c.args.count (omega arith), c.requires.room)
+    omega (arith, row_within c.loop-i.i (div_ceil (length c.args.a.now) 16) c.args.count (omega arith), c.requires.room)
 
 pub loop-i-smaller : goal.loop-i-smaller
 loop-i-smaller c = omega arith

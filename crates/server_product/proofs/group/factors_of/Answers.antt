@@ -1,7 +1,7 @@
 use Rattle.std.proofs.Common.{◌≡◌, ℕ, ◌+◌, ◌*◌, ◌/◌, ◌%◌, ◌<◌, ◌≤◌, slice_index, ap, ap₂, ◌∙◌, refl, arith, mul-le-mul}
 use Rattle.std.proofs.Math.ListN.{length-set}
 use Rattle.server_product.proofs.QuerySums.{filled-four}
-use Rattle.server_product.proofs.Workers.{end-within}
+use Rattle.gf256.proofs.FlatRows.{row_within}
 use Rattle.server_product.proofs.group.factors_of.Goals as goal
 
 pub loop-v-preserved : goal.loop-v-preserved
@@ -84,7 +84,7 @@ overflow_add-from c =
     omega (arith, mul-le-mul most c.requires.memory)
 
 pub bounds-queries-from : goal.bounds-queries-from
-bounds-queries-from c = omega (arith, end-within c.loop-v.v c.args.count c.args.rows (omega arith), c.requires.queries)
+bounds-queries-from c = omega (arith, row_within c.loop-v.v c.args.count c.args.rows (omega arith), c.requires.queries)
 
 pub overflow_add-factors : goal.overflow_add-factors
 overflow_add-factors c =
@@ -92,7 +92,7 @@ overflow_add-factors c =
     omega (arith, mul-le-mul most c.requires.memory)
 
 pub bounds-queries-from-in-loop-v : goal.bounds-queries-from-in-loop-v
-bounds-queries-from-in-loop-v c = omega (arith, end-within c.loop-v.v c.args.count c.args.rows (omega arith), c.requires.queries)
+bounds-queries-from-in-loop-v c = omega (arith, row_within c.loop-v.v c.args.count c.args.rows (omega arith), c.requires.queries)
 
 pub overflow_add-factors-in-loop-v-2 : goal.overflow_add-factors-in-loop-v-2
 overflow_add-factors-in-loop-v-2 c =
@@ -100,7 +100,7 @@ overflow_add-factors-in-loop-v-2 c =
     omega (arith, mul-le-mul most c.requires.memory)
 
 pub bounds-queries-from-in-loop-v-2 : goal.bounds-queries-from-in-loop-v-2
-bounds-queries-from-in-loop-v-2 c = omega (arith, end-within c.loop-v.v c.args.count c.args.rows (omega arith), c.requires.queries)
+bounds-queries-from-in-loop-v-2 c = omega (arith, row_within c.loop-v.v c.args.count c.args.rows (omega arith), c.requires.queries)
 
 pub overflow_add-factors-in-loop-v-4 : goal.overflow_add-factors-in-loop-v-4
 overflow_add-factors-in-loop-v-4 c =
@@ -108,7 +108,7 @@ overflow_add-factors-in-loop-v-4 c =
     omega (arith, mul-le-mul most c.requires.memory)
 
 pub bounds-queries-from-in-loop-v-3 : goal.bounds-queries-from-in-loop-v-3
-bounds-queries-from-in-loop-v-3 c = omega (arith, end-within c.loop-v.v c.args.count c.args.rows (omega arith), c.requires.queries)
+bounds-queries-from-in-loop-v-3 c = omega (arith, row_within c.loop-v.v c.args.count c.args.rows (omega arith), c.requires.queries)
 
 pub loop-v-smaller : goal.loop-v-smaller
 loop-v-smaller c = omega arith

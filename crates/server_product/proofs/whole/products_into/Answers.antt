@@ -1,6 +1,7 @@
 use Rattle.std.proofs.Common.{◌≡◌, ◌*◌, length, ap, arith, slice_index}
 use Rattle.server_product.specs.Queries.{entry}
-use Rattle.server_product.proofs.Workers.{none-added, part-added, all-added, end-within}
+use Rattle.gf256.proofs.FlatRows.{row_within}
+use Rattle.server_product.proofs.Workers.{none-added, part-added, all-added}
 use Rattle.server_product.proofs.QuerySums.{products-are}
 use Rattle.server_product.proofs.whole.products_into.Goals as goal
 
@@ -41,14 +42,14 @@ add_row-requires g c = omega arith
 pub overflow_mul-start : goal.overflow_mul-start
 overflow_mul-start g c =
     let places = ap (λ p. c.args.workers * p) c.places_of-places.ensures in
-    omega (arith, end-within c.loop-worker.worker c.args.workers c.places_of-places.result (omega arith), places, c.requires.scratch)
+    omega (arith, row_within c.loop-worker.worker c.args.workers c.places_of-places.result (omega arith), places, c.requires.scratch)
 
 pub overflow_add-start : goal.overflow_add-start
 overflow_add-start g c =
     let places = ap (λ p. c.args.workers * p) c.places_of-places.ensures in
-    omega (arith, end-within c.loop-worker.worker c.args.workers c.places_of-places.result (omega arith), places, c.requires.scratch)
+    omega (arith, row_within c.loop-worker.worker c.args.workers c.places_of-places.result (omega arith), places, c.requires.scratch)
 
 pub slice_bounds-add_row-end : goal.slice_bounds-add_row-end
 slice_bounds-add_row-end g c =
     let places = ap (λ p. c.args.workers * p) c.places_of-places.ensures in
-    omega (arith, end-within c.loop-worker.worker c.args.workers c.places_of-places.result (omega arith), places, c.requires.scratch)
+    omega (arith, row_within c.loop-worker.worker c.args.workers c.places_of-places.result (omega arith), places, c.requires.scratch)

@@ -2,7 +2,8 @@ use Rattle.std.proofs.Common.{◌≡◌, ◌*◌, ◌+◌, ◌-◌, ◌<◌, ℕ
 use Rattle.std.proofs.lemmas.Simd.{get_or-replicate}
 use Rattle.gf256.specs.Rows.{AreLanes}
 use Rattle.shamir_share.specs.Lanes.{sorted_place, value_from}
-use Rattle.shamir_share.proofs.Rows.{length-row_coins, rows_fit}
+use Rattle.gf256.proofs.FlatRows.{row_within}
+use Rattle.shamir_share.proofs.Rows.{length-row_coins}
 use Rattle.shamir_share.proofs.LaneParts.{nothing_left, values_more}
 use Rattle.shamir_share.proofs.lanes.values_in_parts.Goals as goal
 
@@ -14,7 +15,7 @@ parts-init c = record {
     each = λ k l.
         let rows = c.args.rows.now in
         let t = c.args.t in
-        let fit = rows_fit k 16 t l in
+        let fit = row_within k 16 t l in
         let long = length-row_coins rows t k (omega (arith, fit, c.requires.whole)) in
         get_or-replicate 16 k 0 0 l ∙ sym (ap (value_from rows t (16 * c.div_ceil-part.result) c.args.products.now) (zero-add k) ∙ nothing_left rows t (16 * c.div_ceil-part.result) c.args.products.now k (omega (arith, long, c.div_ceil-part.ensures)));
   };

@@ -5,7 +5,8 @@ use Rattle.std.proofs.lemmas.Result.{err_from_is_err_and}
 use Rattle.port_rules.specs.Number.{RECORD}
 use Rattle.port_rules.specs.Moves.{gave}
 use Rattle.port_rules.specs.Whole.{FailsWithin}
-use Rattle.port_rules.proofs.Pieces.{written_next, written_first, written_both}
+use Rattle.port_rules.proofs.Cells.{fails_first}
+use Rattle.port_rules.proofs.Pieces.{written_next, written_both}
 use Rattle.wire_frames.specs.Layout.{record_header}
 use Rattle.wire_frames.proofs.write.write_present.Goals as goal
 
@@ -21,7 +22,7 @@ returns-in_err-write_all-clause-written g c =
     let before = g.P.Ports.world c.args.ports.now in
     let after = g.P.Ports.world c.write_all.new.ports in
     let cut = subst (λ (l : List ℕ). FailsWithin RECORD l before after) c.record_header_of-header.ensures c.in_err-write_all.ensures.failed in
-    rw p.1 (written_first RECORD header c.args.bytes.now before after cut)
+    rw p.1 (fails_first RECORD header c.args.bytes.now before after cut)
 
 pub returns-then-is_empty-clause-written : goal.returns-then-is_empty-clause-written
 returns-then-is_empty-clause-written g c =

@@ -3,7 +3,8 @@ use Rattle.std.proofs.lemmas.Result.{err_from_is_err_and}
 use Rattle.port_rules.specs.Number.{RECORD}
 use Rattle.port_rules.specs.Moves.{gave}
 use Rattle.port_rules.specs.Whole.{FailsWithin}
-use Rattle.port_rules.proofs.Pieces.{written_next, written_first}
+use Rattle.port_rules.proofs.Cells.{fails_first}
+use Rattle.port_rules.proofs.Pieces.{written_next}
 use Rattle.wire_frames.specs.Session.{header_bytes, records_bytes}
 use Rattle.wire_frames.proofs.write.write_session.Goals as goal
 
@@ -15,7 +16,7 @@ returns-in_err-write_all-clause-written g c =
     let before = g.P.Ports.world c.args.ports.now in
     let after = g.P.Ports.world c.write_all.new.ports in
     let cut = subst (λ (l : List ℕ). FailsWithin RECORD l before after) is c.in_err-write_all.ensures.failed in
-    rw p.1 (written_first RECORD (header_bytes session.params) (records_bytes 1 session.records) before after cut)
+    rw p.1 (fails_first RECORD (header_bytes session.params) (records_bytes 1 session.records) before after cut)
 
 pub returns-clause-written : goal.returns-clause-written
 returns-clause-written g c =

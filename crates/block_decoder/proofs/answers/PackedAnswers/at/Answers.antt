@@ -1,6 +1,7 @@
 use Rattle.std.proofs.Common.{◌≡◌, ◌*◌, length, ℕ, ◌+◌, ◌-◌, arith, ap, ◌∙◌, sym, get_or, take, drop}
 use Rattle.block_decoder.specs.Agreed.{answer_at}
-use Rattle.block_decoder.proofs.Agreed.{length-answers_of, answer_at-answers_of, row_within}
+use Rattle.gf256.proofs.FlatRows.{row_within}
+use Rattle.block_decoder.proofs.Agreed.{length-answers_of, answer_at-answers_of}
 use Rattle.block_decoder.proofs.answers.PackedAnswers.at.Goals as goal
 
 pub bounds-self-inside-place : goal.bounds-self-inside-place
