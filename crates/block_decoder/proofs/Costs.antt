@@ -10,11 +10,7 @@ use Rattle.block_decoder.specs.Numbers.{column_nodes}
 use Rattle.block_decoder.specs.Verdict.{IsUnlisted}
 use Rattle.block_decoder.proofs.Kept.{part-few, part-All, part-different}
 
--- with no step, the steps are as few as they may be
-pub no_step : (n more : ℕ) → n ≤ n + more
-no_step n more = omega arith
-
--- and what they were
+-- with no step, the steps are what they were
 pub no_steps : (columns nodes : ℕ) → (columns ≡ columns) × (nodes ≡ nodes)
 no_steps columns nodes = (refl, refl)
 

@@ -15,7 +15,8 @@ use Rattle.block_decoder.specs.Reported.{IsListedFrom, IsReportBeside, IsReportO
 use Rattle.block_decoder.specs.Verdict.{IsCombined, IsDecided, IsRefusal, IsUnlisted, IsVerdict, ListsNoMoreThan, least_columns}
 use Rattle.block_decoder.specs.declared.verdict.Verdict.{Verdict}
 use Rattle.block_decoder.proofs.Beside.{decided, beside, few_beside, least_listed, refused}
-use Rattle.block_decoder.proofs.Costs.{no_step, no_steps}
+use Rattle.std.proofs.Math.Nat.{le-add_right}
+use Rattle.block_decoder.proofs.Costs.{no_steps}
 use Rattle.block_decoder.proofs.FewBlocks.{few_decided}
 
 -- where an answer is refused, nothing is listed and no step taken
@@ -27,8 +28,8 @@ refused_with wanted all width t h verdict columns nodes is =
       verdict = decided;
       report = λ asked. none;
       unwanted = λ unasked. refl;
-      cols = no_step columns _;
-      nodes = no_step nodes _;
+      cols = le-add_right columns _;
+      nodes = le-add_right nodes _;
       least = le_refl columns;
       least_nodes = le_refl nodes;
       listed = omega (arith, nothing);
@@ -126,8 +127,8 @@ unjudged wanted session result columns nodes none = record {
   verdict = none _;
   report = none _;
   unwanted = none _;
-  cols = no_step columns _;
-  nodes = no_step nodes _;
+  cols = le-add_right columns _;
+  nodes = le-add_right nodes _;
   least = le_refl columns;
   least_nodes = le_refl nodes;
   listed = λ one. none _;
@@ -147,8 +148,8 @@ combined wanted session verdict columns nodes xor is =
       verdict = record { shamir = λ one. absurd (no_shamir one); xor = λ two. is };
       report = λ asked. record { shamir = λ one. absurd (no_shamir one); xor = λ two. refl };
       unwanted = λ unasked. refl;
-      cols = no_step columns _;
-      nodes = no_step nodes _;
+      cols = le-add_right columns _;
+      nodes = le-add_right nodes _;
       least = le_refl columns;
       least_nodes = le_refl nodes;
       listed = λ one. absurd (no_shamir one);

@@ -8,6 +8,7 @@ use Rattle.port_rules.specs.World.{Cell, Crowd, LinkThen, World, answers, answer
 use Rattle.port_rules.specs.Number.{DOOR, GUEST, link}
 use Rattle.port_rules.specs.Moves.{Touches}
 use Rattle.port_rules.specs.Guests.{Meets}
+use Rattle.port_rules.proofs.Served.{answers_push}
 use Rattle.port_rules.proofs.Links.{by_links-at, by_links-same}
 use Rattle.quantity_limits.specs.declared.TheConstants.{MOST_SHARDS}
 use Rattle.shard_front.specs.declared.spread.Spread.{Spread}
@@ -17,11 +18,6 @@ use Rattle.shard_front.specs.Spread.{shards}
 use Rattle.shard_front.specs.Fronted.{Fronts, TouchesFirst}
 use Rattle.shard_front.specs.Relay.{Counts, FrontsTold, GivesRelay}
 use Rattle.commands.specs.FrontAnswers.{FrontsGuests, Fronting, IsFronted, of_link}
-
--- once one more guest came in, its answer stands behind those of the guests that left
-answers_push : (xs : List ℕ) (y : ℕ) (left : List (List ℕ)) (a : List ℕ) → answers (Some (xs ++ y ∷ [])) (Some left) (Some a) ≡ Some (left ++ a ∷ [])
-answers_push [] y left a = refl
-answers_push (x ∷ xs) y left a = refl
 
 -- what is told of the link with a number, of the links now
 of_link_now : (w : World) (n : ℕ) → n < 256 → of_link (links_now w) n ≡ link_now (w.at (link n))

@@ -11,7 +11,7 @@ use Rattle.port_rules.specs.Guests.{Meets}
 use Rattle.port_rules.specs.Serving.{Gives, ServesOne, Serving, Served}
 
 -- once one more guest came in, its answer stands behind those of the guests that left
-answers_push : (xs : List ℕ) (y : ℕ) (left : List (List ℕ)) (a : List ℕ) → answers (Some (xs ++ y ∷ [])) (Some left) (Some a) ≡ Some (left ++ a ∷ [])
+pub answers_push : (xs : List ℕ) (y : ℕ) (left : List (List ℕ)) (a : List ℕ) → answers (Some (xs ++ y ∷ [])) (Some left) (Some a) ≡ Some (left ++ a ∷ [])
 answers_push [] y left a = refl
 answers_push (x ∷ xs) y left a = refl
 

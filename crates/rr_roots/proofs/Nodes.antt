@@ -8,10 +8,6 @@ use Rattle.rr_roots.specs.Descent.{IsRootOfSize, HasLowestColumnDegreeAtMost, Is
 use Rattle.rr_roots.proofs.Multiplicities.{multiplicity, multiplicity_root, roots_below, roots_below-more, roots_below-le}
 use Rattle.rr_roots.proofs.Children.{constants-bytes, constants-nonzero, constants-degree, begins_with_root}
 
--- with no step, the steps are as few as they may be
-pub no_step : (n more : ℕ) → n ≤ n + more
-no_step n more = omega arith
-
 -- a node counted, and those below it
 pub counted : (start now child more : ℕ) → start ≤ now → child ≡ now + 1 → child ≤ more → start ≤ more
 counted start now child more up tick rise = omega (arith, up, tick, rise)

@@ -1,4 +1,5 @@
-use Rattle.std.proofs.Common.{List, ℕ, ◌≡◌, ◌+◌, ◌≤◌, map, All, sym, ap, subst, ◌∙◌, Vec, Global, arith, ◌<◌, refl}
+use Rattle.std.proofs.Common.{List, ℕ, ◌≡◌, ◌≤◌, map, All, sym, ap, subst, ◌∙◌, Vec, Global, arith, ◌<◌, refl}
+use Rattle.std.proofs.Math.Nat.{le_refl, le-add_right}
 use Rattle.gf256.specs.Polynomial.{val}
 use Rattle.column_lists.specs.Agreement.{ListsAgreeing}
 use Rattle.column_runs.proofs.OnOne.{off_one}
@@ -6,24 +7,17 @@ use Rattle.column_lists.proofs.OnOne.{lists_one}
 use Rattle.std.proofs.lemmas.Result.{IfOk-from_err, IfOk-weaker}
 use Rattle.column_lists.proofs.column_list.Goals as goal
 
--- with no step, the steps are as few as they may be
-no_step : (n more : ℕ) → n ≤ n + more
-no_step n more = omega arith
-
-not_fewer : (n : ℕ) → n ≤ n
-not_fewer n = omega arith
-
 first_enough : (t h k : ℕ) → t < h → h ≤ k → t < k
 first_enough t h k less l = omega (arith, less, l)
 
 pub returns-in_err-first-clause-most : goal.returns-in_err-first-clause-most
-returns-in_err-first-clause-most g c = no_step c.args.nodes.now _
+returns-in_err-first-clause-most g c = le-add_right c.args.nodes.now _
 
 pub returns-in_err-vec-clause-most : goal.returns-in_err-vec-clause-most
-returns-in_err-vec-clause-most g c = no_step c.args.nodes.now _
+returns-in_err-vec-clause-most g c = le-add_right c.args.nodes.now _
 
 pub returns-then-lie_on-clause-most : goal.returns-then-lie_on-clause-most
-returns-then-lie_on-clause-most g c = no_step c.args.nodes.now _
+returns-then-lie_on-clause-most g c = le-add_right c.args.nodes.now _
 
 pub returns-clause-most : goal.returns-clause-most
 returns-clause-most g c = c.list_roots.ensures.most
@@ -55,7 +49,7 @@ pub returns-in_err-first-clause-short : goal.returns-in_err-first-clause-short
 returns-in_err-first-clause-short g c = λ one. refl
 
 pub returns-in_err-first-clause-rises : goal.returns-in_err-first-clause-rises
-returns-in_err-first-clause-rises g c = not_fewer c.args.nodes.now
+returns-in_err-first-clause-rises g c = le_refl c.args.nodes.now
 
 pub returns-in_err-vec-clause-cols : goal.returns-in_err-vec-clause-cols
 returns-in_err-vec-clause-cols g c = c.tick.ensures
@@ -64,7 +58,7 @@ pub returns-in_err-vec-clause-short : goal.returns-in_err-vec-clause-short
 returns-in_err-vec-clause-short g c = λ one. refl
 
 pub returns-in_err-vec-clause-rises : goal.returns-in_err-vec-clause-rises
-returns-in_err-vec-clause-rises g c = not_fewer c.args.nodes.now
+returns-in_err-vec-clause-rises g c = le_refl c.args.nodes.now
 
 pub returns-then-lie_on-clause-cols : goal.returns-then-lie_on-clause-cols
 returns-then-lie_on-clause-cols g c = c.tick.ensures
@@ -73,7 +67,7 @@ pub returns-then-lie_on-clause-short : goal.returns-then-lie_on-clause-short
 returns-then-lie_on-clause-short g c = λ one. refl
 
 pub returns-then-lie_on-clause-rises : goal.returns-then-lie_on-clause-rises
-returns-then-lie_on-clause-rises g c = not_fewer c.args.nodes.now
+returns-then-lie_on-clause-rises g c = le_refl c.args.nodes.now
 
 pub returns-clause-exact : goal.returns-clause-exact
 returns-clause-exact g c = c.list_roots.ensures.exact

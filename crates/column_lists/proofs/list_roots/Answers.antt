@@ -1,4 +1,5 @@
-use Rattle.std.proofs.Common.{ℕ, Fits, w32, ◌+◌, ◌≤◌, length, map, sym, subst, arith, ◌<◌, ap, ◌∙◌, [], ◌∷◌, ◌≡◌, List, Vec, Global}
+use Rattle.std.proofs.Common.{ℕ, Fits, w32, ◌≤◌, length, map, sym, subst, arith, ◌<◌, ap, ◌∙◌, [], ◌∷◌, ◌≡◌, List, Vec, Global}
+use Rattle.std.proofs.Math.Nat.{le_refl, le-add_right}
 use Rattle.interpolation.specs.Monomials.{conditions, monomials}
 use Rattle.column_lists.specs.declared.TheConstants.{MOST_COST}
 use Rattle.column_lists.proofs.Counting.{multiplicity-in_range, degree-in_range}
@@ -8,13 +9,6 @@ use Rattle.std.specs.List.{filter}
 use Rattle.std.proofs.lemmas.List.{length-map}
 use Rattle.std.proofs.lemmas.Result.{IfOk-from_err}
 use Rattle.column_lists.proofs.list_roots.Goals as goal
-
--- with no step, the steps are as few as they may be
-no_step : (n more : ℕ) → n ≤ n + more
-no_step n more = omega arith
-
-not_fewer : (n : ℕ) → n ≤ n
-not_fewer n = omega arith
 
 -- where some are kept, there were some
 kept_some : (old new : List (Vec ℕ Global)) (test : List ℕ → Bool)
@@ -56,7 +50,7 @@ interpolate-requires-clause-few g c =
     subst (λ (m : ℕ). conditions (length c.args.points.now) m ≤ MOST_COST) (sym c.plan-plan.ensures.multiplicity) c.requires.cheap
 
 pub returns-in_err-q-clause-most : goal.returns-in_err-q-clause-most
-returns-in_err-q-clause-most g c = no_step c.args.nodes.now _
+returns-in_err-q-clause-most g c = le-add_right c.args.nodes.now _
 
 pub returns-in_err-list-clause-most : goal.returns-in_err-list-clause-most
 returns-in_err-list-clause-most g c =
@@ -77,7 +71,7 @@ returns-clause-most g c =
     c.requires.degree c.in_ok-q.ensures c.plan-plan.ensures.degree c.plan-plan.ensures.multiplicity c.y_roots.ensures.most
 
 pub returns-in_err-q-clause-rises : goal.returns-in_err-q-clause-rises
-returns-in_err-q-clause-rises g c = not_fewer c.args.nodes.now
+returns-in_err-q-clause-rises g c = le_refl c.args.nodes.now
 
 pub returns-in_err-list-clause-rises : goal.returns-in_err-list-clause-rises
 returns-in_err-list-clause-rises g c = c.in_err-list.ensures.rises

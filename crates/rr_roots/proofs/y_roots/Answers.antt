@@ -3,12 +3,11 @@ use Rattle.bi_poly.specs.Rows.{IsZero}
 use Rattle.rr_roots.specs.Descent.{Appends, IsRootOfSize}
 use Rattle.rr_roots.specs.Values.{ArePowers}
 use Rattle.rr_roots.specs.Roots.{HasDegreeInYAtMost}
-use Rattle.std.proofs.Math.Nat.{le_refl}
+use Rattle.std.proofs.Math.Nat.{le_refl, le-add_right}
 use Rattle.std.proofs.lemmas.List.{length-map}
 use Rattle.std.proofs.lemmas.Result.{IfOk-from_err}
 use Rattle.rr_roots.proofs.Children.{lowest_degree}
 use Rattle.rr_roots.proofs.Levels.{listed}
-use Rattle.rr_roots.proofs.Nodes.{no_step}
 use Rattle.rr_roots.proofs.y_roots.Goals as goal
 
 same_size : (a b : ℕ) → a ≡ b → a ≤ b
@@ -31,13 +30,13 @@ returns-clause-most g c = λ d h.
     c.in_ok-descend.ensures.most d (lowest_degree c.in_ok-whole.whole d (subst (λ q. HasDegreeInYAtMost q d) (sym c.in_ok-whole.ensures) h))
 
 pub returns-in_err-whole-clause-most : goal.returns-in_err-whole-clause-most
-returns-in_err-whole-clause-most g c = λ d h. no_step c.args.nodes.now _
+returns-in_err-whole-clause-most g c = λ d h. le-add_right c.args.nodes.now _
 
 pub returns-in_err-whole-clause-rises : goal.returns-in_err-whole-clause-rises
 returns-in_err-whole-clause-rises g c = le_refl c.args.nodes.now
 
 pub returns-in_err-powers-clause-most : goal.returns-in_err-powers-clause-most
-returns-in_err-powers-clause-most g c = λ d h. no_step c.args.nodes.now _
+returns-in_err-powers-clause-most g c = λ d h. le-add_right c.args.nodes.now _
 
 pub returns-in_err-powers-clause-rises : goal.returns-in_err-powers-clause-rises
 returns-in_err-powers-clause-rises g c = le_refl c.args.nodes.now

@@ -6,7 +6,7 @@ use Rattle.block_decoder.specs.Numbers.{bound_of, most_columns, most_nodes}
 use Rattle.block_decoder.specs.Verdict.{IsDecided, IsUnlisted, ListsNoMoreThan}
 use Rattle.block_decoder.proofs.Agreed.{length-answers_of}
 use Rattle.block_decoder.proofs.Columns.{indices-answers_of, columns-answers_of}
-use Rattle.block_decoder.proofs.Costs.{no_step}
+use Rattle.std.proofs.Math.Nat.{le-add_right}
 use Rattle.std.proofs.lemmas.Result.{IfOk-from_err}
 use Rattle.block_decoder.proofs.decoder.decide.Goals as goal
 
@@ -64,10 +64,10 @@ returns-clause-few g c =
     subst (λ (k : ℕ). ListsNoMoreThan (bound_of k c.args.t c.args.h) c.in_ok-verdict.verdict) n c.in_ok-verdict.ensures.few
 
 pub returns-in_err-answers-clause-cols : goal.returns-in_err-answers-clause-cols
-returns-in_err-answers-clause-cols g c = no_step c.args.cols.now _
+returns-in_err-answers-clause-cols g c = le-add_right c.args.cols.now _
 
 pub returns-in_err-answers-clause-nodes : goal.returns-in_err-answers-clause-nodes
-returns-in_err-answers-clause-nodes g c = no_step c.args.nodes.now _
+returns-in_err-answers-clause-nodes g c = le-add_right c.args.nodes.now _
 
 pub returns-in_err-answers-clause-least : goal.returns-in_err-answers-clause-least
 returns-in_err-answers-clause-least g c = le_refl c.args.cols.now

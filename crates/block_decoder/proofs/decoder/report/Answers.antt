@@ -11,7 +11,7 @@ use Rattle.block_decoder.proofs.Agreed.{length-answers_of}
 use Rattle.block_decoder.proofs.Columns.{indices-answers_of, columns-answers_of}
 use Rattle.block_decoder.proofs.FewBlocks.{few_agreements}
 use Rattle.block_decoder.proofs.Reported.{listed-reported}
-use Rattle.block_decoder.proofs.Costs.{no_step}
+use Rattle.std.proofs.Math.Nat.{le-add_right}
 use Rattle.block_decoder.proofs.decoder.report.Goals as goal
 
 pub find_agreements-requires-clause-columns : goal.find_agreements-requires-clause-columns
@@ -79,10 +79,10 @@ returns-clause-few g c =
     (subst (λ (k : ℕ). k * c.args.t < c.args.h * c.args.h) (sym n) c.requires.strong) is)) (returns-clause-report g c)
 
 pub returns-in_err-answers-clause-cols : goal.returns-in_err-answers-clause-cols
-returns-in_err-answers-clause-cols g c = no_step c.args.cols.now _
+returns-in_err-answers-clause-cols g c = le-add_right c.args.cols.now _
 
 pub returns-in_err-answers-clause-nodes : goal.returns-in_err-answers-clause-nodes
-returns-in_err-answers-clause-nodes g c = no_step c.args.nodes.now _
+returns-in_err-answers-clause-nodes g c = le-add_right c.args.nodes.now _
 
 pub returns-in_err-answers-clause-least : goal.returns-in_err-answers-clause-least
 returns-in_err-answers-clause-least g c = le_refl c.args.cols.now

@@ -1,17 +1,15 @@
 use Rattle.std.proofs.Common.{inl, inr, ◌∙◌, List, [], refl, subst, ℕ, ◌≡◌, ◌+◌, ◌-◌, ◌<◌, ◌≤◌, length, ◌⊎◌, arith, ap, sym, le_refl}
+use Rattle.wire_frames.proofs.Spellings.{from_zero}
 use Rattle.block_decoder.specs.Gains.{Gains}
 use Rattle.block_decoder.specs.Narrowing.{agreement_on, ContinuesFrom}
 use Rattle.block_decoder.specs.Report.{Agreement, agreement_cmp}
 use Rattle.block_decoder.proofs.Candidates.{first-candidate}
 use Rattle.block_decoder.proofs.Reported.{report-gains}
 use Rattle.block_decoder.proofs.Visits.{counts-few}
-use Rattle.block_decoder.proofs.Costs.{no_step}
+use Rattle.std.proofs.Math.Nat.{le-add_right}
 use Rattle.std.proofs.lemmas.Result.{IfOk-from_err}
 use Rattle.std.specs.List.Sorted.{IsStrictlySortedBy}
 use Rattle.block_decoder.proofs.narrowing.find_agreements.Goals as goal
-
-from_zero : (n : ℕ) → 0 ≤ n
-from_zero n = omega arith
 
 -- where there is an agreement, it was new, and so all columns were decoded
 found_all : (width old new : ℕ) (report before : List Agreement) → before ≡ [] → (report ≡ before) ⊎ (old + (width - 0) ≤ new)
@@ -55,10 +53,10 @@ returns-clause-nodes g c =
     few.1
 
 pub returns-in_err-block-clause-cols : goal.returns-in_err-block-clause-cols
-returns-in_err-block-clause-cols g c = no_step c.args.cols.now _
+returns-in_err-block-clause-cols g c = le-add_right c.args.cols.now _
 
 pub returns-in_err-block-clause-nodes : goal.returns-in_err-block-clause-nodes
-returns-in_err-block-clause-nodes g c = no_step c.args.nodes.now _
+returns-in_err-block-clause-nodes g c = le-add_right c.args.nodes.now _
 
 pub returns-in_err-block-clause-least : goal.returns-in_err-block-clause-least
 returns-in_err-block-clause-least g c = (le_refl c.args.cols.now, le_refl c.args.nodes.now)

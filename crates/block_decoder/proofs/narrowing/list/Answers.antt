@@ -3,7 +3,7 @@ use Rattle.column_lists.specs.declared.TheConstants.{MOST_COST}
 use Rattle.column_lists.specs.Numbers.{cost}
 use Rattle.block_decoder.specs.Numbers.{column_nodes}
 use Rattle.block_decoder.proofs.Kept.{length-points, points-All, points-different}
-use Rattle.block_decoder.proofs.Costs.{no_step}
+use Rattle.std.proofs.Math.Nat.{le-add_right}
 use Rattle.std.proofs.lemmas.Result.{IfOk-from_err}
 use Rattle.column_lists.specs.Agreement.{ListsAgreeing}
 use Rattle.block_decoder.proofs.narrowing.list.Goals as goal
@@ -53,10 +53,10 @@ returns-clause-nodes g c =
     subst (λ (n : ℕ). c.column_list.new.nodes ≤ c.args.nodes.now + column_nodes n c.args.t c.args.h) size c.column_list.ensures.most
 
 pub returns-in_err-points-clause-cols : goal.returns-in_err-points-clause-cols
-returns-in_err-points-clause-cols g c = no_step c.args.cols.now 1
+returns-in_err-points-clause-cols g c = le-add_right c.args.cols.now 1
 
 pub returns-in_err-points-clause-nodes : goal.returns-in_err-points-clause-nodes
-returns-in_err-points-clause-nodes g c = no_step c.args.nodes.now _
+returns-in_err-points-clause-nodes g c = le-add_right c.args.nodes.now _
 
 pub returns-in_err-points-clause-rises : goal.returns-in_err-points-clause-rises
 returns-in_err-points-clause-rises g c = (le_refl c.args.cols.now, le_refl c.args.nodes.now)

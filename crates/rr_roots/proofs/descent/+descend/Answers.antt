@@ -1,5 +1,5 @@
 use Rattle.std.proofs.Common.{◌≡◌, ◌≢◌, ◌<◌, ◌≤◌, ◌+◌, ◌-◌, ℕ, Fits, w8, w64, le_of_lt, List, [], ◌∷◌, ◌++◌, length, map, take, vec_len, refl, sym, ap, subst, ◌∙◌, arith}
-use Rattle.std.proofs.Math.Nat.{le_refl}
+use Rattle.std.proofs.Math.Nat.{le_refl, le-add_right}
 use Rattle.std.proofs.Math.Seq.{take-append_seam}
 use Rattle.std.proofs.lemmas.List.{length-append}
 use Rattle.std.proofs.lemmas.Result.{on_ok_weaker, IfOk-from_err}
@@ -11,7 +11,7 @@ use Rattle.rr_roots.proofs.Levels.{appends-none_yet, appends-skip, appends-more,
 use Rattle.rr_roots.proofs.Multiplicities.{multiplicity}
 use Rattle.rr_roots.proofs.ByteValues.{value-tested, value-zero}
 use borrow.Author.Count.{falls}
-use Rattle.rr_roots.proofs.Nodes.{no_step, counted, none_begins, nodes-skip, nodes-more, nodes-most, nodes-spent, nodes-least}
+use Rattle.rr_roots.proofs.Nodes.{counted, none_begins, nodes-skip, nodes-more, nodes-most, nodes-spent, nodes-least}
 use Rattle.rr_roots.proofs.descent.+descend.Goals as goal
 
 -- where it is not 0, it is more
@@ -50,7 +50,7 @@ pub loop-byte-init : goal.loop-byte-init
 loop-byte-init g t c = record {
   kept = refl;
   appends = appends-none_yet (IsRootOfSize c.args.q c.args.left) c.args.prefix.now.items (map (λ r. r.items) c.args.roots.now.items);
-  most = no_step c.args.nodes.now _;
+  most = le-add_right c.args.nodes.now _;
   least = λ found. absurd (never (length c.args.roots.now.items) found);
   rises = le_refl c.args.nodes.now;
 }
@@ -158,13 +158,13 @@ pub returns-clause-least : goal.returns-clause-least
 returns-clause-least g t c = c.loop-byte.invariant.least
 
 pub returns-then-left-eq0-clause-most : goal.returns-then-left-eq0-clause-most
-returns-then-left-eq0-clause-most g t c = λ d h. no_step c.args.nodes.now _
+returns-then-left-eq0-clause-most g t c = λ d h. le-add_right c.args.nodes.now _
 
 pub returns-then-left-eq0-clause-rises : goal.returns-then-left-eq0-clause-rises
 returns-then-left-eq0-clause-rises g t c = le_refl c.args.nodes.now
 
 pub returns-in_err-node-clause-most : goal.returns-in_err-node-clause-most
-returns-in_err-node-clause-most g t c = λ d h. no_step c.args.nodes.now _
+returns-in_err-node-clause-most g t c = λ d h. le-add_right c.args.nodes.now _
 
 pub returns-in_err-node-clause-rises : goal.returns-in_err-node-clause-rises
 returns-in_err-node-clause-rises g t c = le_refl c.args.nodes.now
