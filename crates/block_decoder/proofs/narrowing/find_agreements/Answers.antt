@@ -1,5 +1,4 @@
 use Rattle.std.proofs.Common.{inl, inr, ◌∙◌, List, [], refl, subst, ℕ, ◌≡◌, ◌+◌, ◌-◌, ◌<◌, ◌≤◌, length, ◌⊎◌, arith, ap, sym, le_refl}
-use Rattle.wire_frames.proofs.Spellings.{from_zero}
 use Rattle.block_decoder.specs.Gains.{Gains}
 use Rattle.block_decoder.specs.Narrowing.{agreement_on, ContinuesFrom}
 use Rattle.block_decoder.specs.Report.{Agreement, agreement_cmp}
@@ -10,6 +9,9 @@ use Rattle.std.proofs.Math.Nat.{le-add_right}
 use Rattle.std.proofs.lemmas.Result.{IfOk-from_err}
 use Rattle.std.specs.List.Sorted.{IsStrictlySortedBy}
 use Rattle.block_decoder.proofs.narrowing.find_agreements.Goals as goal
+
+from_zero : (n : ℕ) → 0 ≤ n
+from_zero n = omega arith
 
 -- where there is an agreement, it was new, and so all columns were decoded
 found_all : (width old new : ℕ) (report before : List Agreement) → before ≡ [] → (report ≡ before) ⊎ (old + (width - 0) ≤ new)
