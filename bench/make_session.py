@@ -43,14 +43,21 @@ def answers(degree, servers, width, liars, first, seed):
         yield total
 
 
+def session(degree, agreement, width, payloads, blocks=0):
+    """The parts of a recorded session with these payloads in order, None of a server that was silent; a number of blocks
+    makes it one of version 2, with so many of the width."""
+    version = 2 if blocks else 1
+    numbers = struct.pack(">QII", 7, 1, width)
+    yield b"PIRS" + bytes([version, 1, degree, agreement, len(payloads), blocks, 0, 0]) + numbers
+    for index, payload in enumerate(payloads, 1):
+        frame = b"" if payload is None else b"PIRA" + bytes([version, 1, index, 0]) + numbers + payload
+        yield struct.pack(">BBI", index, payload is not None, len(frame)) + frame
+
+
 def main():
     degree, agreement, servers, width, liars, seed = map(int, sys.argv[1:7])
-    numbers = struct.pack(">QII", 7, 1, width)
-    out = sys.stdout.buffer
-    out.write(b"PIRS" + bytes([1, 1, degree, agreement, servers, 0, 0, 0]) + numbers)
-    for index, payload in enumerate(answers(degree, servers, width, liars, 0, seed), 1):
-        frame = b"PIRA" + bytes([1, 1, index, 0]) + numbers + payload
-        out.write(struct.pack(">BBI", index, 1, len(frame)) + frame)
+    payloads = list(answers(degree, servers, width, liars, 0, seed))
+    sys.stdout.buffer.writelines(session(degree, agreement, width, payloads))
 
 
 if __name__ == "__main__":
