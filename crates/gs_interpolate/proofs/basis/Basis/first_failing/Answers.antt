@@ -2,9 +2,9 @@ use Rattle.std.proofs.Common.{◌≡◌, ◌≢◌, ℕ, ◌+◌, ◌*◌, ◌<�
 use Rattle.std.proofs.lemmas.Bool.{cases_lt, cases_eq}
 use Rattle.std.proofs.lemmas.List.{get_or_default, get_or_past}
 use borrow.Author.Count.{falls}
-use Rattle.gs_interpolate.specs.Basis.{IsBefore, IsPivot}
-use Rattle.gs_interpolate.proofs.basis.Basis.pivot.Goals as goal
-use Rattle.gs_interpolate.proofs.basis.Basis.pivot.Goals.{then-values-j-ne0+then-weight, else-values-j-ne0, else-values-j-ne0-via-then-values-j-ne0+else-weight, else-values-j-ne0-via-else-values-j-ne0}
+use Rattle.gs_interpolate.specs.Basis.{IsBefore, IsFirstFailing}
+use Rattle.gs_interpolate.proofs.basis.Basis.first_failing.Goals as goal
+use Rattle.gs_interpolate.proofs.basis.Basis.first_failing.Goals.{then-values-j-ne0+then-weight, else-values-j-ne0, else-values-j-ne0-via-then-values-j-ne0+else-weight, else-values-j-ne0-via-else-values-j-ne0}
 
 -- of the places below n whose value is not 0, that at place p has the first leading monomial
 abbrev IsFirst : ℕ → List ℕ → List ℕ → ℕ → ℕ → Type 0
@@ -60,12 +60,12 @@ pub weight-requires-then-values-j-ne0-clause-place : goal.weight-requires-then-v
 weight-requires-then-values-j-ne0-clause-place c = omega arith
 
 pub overflow_step-j : goal.overflow_step-j
-overflow_step-j c = omega (arith, c.in_ok-pivot.ensures.inside)
+overflow_step-j c = omega (arith, c.in_ok-first.ensures.inside)
 
 pub loop-j-init : goal.loop-j-init
 loop-j-init c =
-    let found = c.in_ok-pivot.ensures in
-    let p = c.in_ok-pivot.pivot in
+    let found = c.in_ok-first.ensures in
+    let p = c.in_ok-first.first in
     let es = c.args.self.now.exponents.items in
     let values = c.args.values.now in
     record {
@@ -85,7 +85,7 @@ loop-j-preserved c =
     let es = c.args.self.now.exponents.items in
     let values = c.args.values.now in
     let j = c.loop-j.j in
-    let p = c.loop-j.pivot in
+    let p = c.loop-j.first in
     let first = c.loop-j.invariant.first in
     let at_j = λ (x : ℕ) (is : x ≡ get_or es j x). is ∙ get_or_default es j x 0 (subst (λ n. j < n) c.requires.size c.loop-j-test.true) in
     let at_p = λ (x : ℕ) (is : x ≡ get_or es p x). is ∙ get_or_default es p x 0 (subst (λ n. p < n) c.requires.size c.loop-j.invariant.inside) in
@@ -95,9 +95,9 @@ loop-j-preserved c =
           let other = w.weight-then-values-j-ne0.ensures ∙ ap (λ e. e + t * p) (at_p _ w.index-then-values-j-ne0.ensures) in
           record {
             passed = omega arith;
-            inside = subst (λ q. q < length values) (sym w.pivot-is) c.loop-j-test.true;
-            fails = subst (λ q. get_or values q 0 ≢ 0) (sym w.pivot-is) w.if-values-j-ne0.true;
-            first = subst (λ q. IsFirst t es values q (j + 1)) (sym w.pivot-is) (yields t es values p j first (omega (arith, own, other, w.if-weight.true)));
+            inside = subst (λ q. q < length values) (sym w.first-is) c.loop-j-test.true;
+            fails = subst (λ q. get_or values q 0 ≢ 0) (sym w.first-is) w.if-values-j-ne0.true;
+            first = subst (λ q. IsFirst t es values q (j + 1)) (sym w.first-is) (yields t es values p j first (omega (arith, own, other, w.if-weight.true)));
           }
       | else-values-j-ne0 w ↦
           let kept : IsFirst t es values p (j + 1) =
@@ -110,9 +110,9 @@ loop-j-preserved c =
           ] in
           record {
             passed = omega arith;
-            inside = subst (λ q. q < length values) (sym w.pivot-is) c.loop-j.invariant.inside;
-            fails = subst (λ q. get_or values q 0 ≢ 0) (sym w.pivot-is) c.loop-j.invariant.fails;
-            first = subst (λ q. IsFirst t es values q (j + 1)) (sym w.pivot-is) kept;
+            inside = subst (λ q. q < length values) (sym w.first-is) c.loop-j.invariant.inside;
+            fails = subst (λ q. get_or values q 0 ≢ 0) (sym w.first-is) c.loop-j.invariant.fails;
+            first = subst (λ q. IsFirst t es values q (j + 1)) (sym w.first-is) kept;
           }
     ]
 
@@ -129,7 +129,7 @@ returns c =
           ];
     }
 
-pub returns-in_err-pivot : goal.returns-in_err-pivot
-returns-in_err-pivot c =
-    subst (λ o. MatchOption o ((j : ℕ) → get_or c.args.values.now j 0 ≡ 0) (IsPivot c.args.t c.args.self.now.exponents.items c.args.values.now))
-    (sym c.from_residual.ensures) c.in_err-pivot.ensures
+pub returns-in_err-first : goal.returns-in_err-first
+returns-in_err-first c =
+    subst (λ o. MatchOption o ((j : ℕ) → get_or c.args.values.now j 0 ≡ 0) (IsFirstFailing c.args.t c.args.self.now.exponents.items c.args.values.now))
+    (sym c.from_residual.ensures) c.in_err-first.ensures
