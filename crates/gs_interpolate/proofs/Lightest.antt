@@ -10,7 +10,7 @@ use Rattle.interpolation.specs.Monomials.{conditions}
 use Rattle.interpolation.specs.Interpolant.{IsInterpolant}
 use Rattle.gs_interpolate.specs.Layout.{IsLayout}
 use Rattle.gs_interpolate.specs.Family.{member}
-use Rattle.gs_interpolate.specs.Basis.{IsBasis, IsLightest}
+use Rattle.gs_interpolate.specs.Basis.{IsLight, IsBasis, IsLightest}
 use Rattle.gs_interpolate.proofs.Combinations.{hasse-same}
 use Rattle.gs_interpolate.proofs.Places.{cell-member}
 
@@ -31,12 +31,12 @@ one_below (x ∷ es) (n ∷ ns) e l =
     ]
 
 module _ (points : List (ℕ × ℕ)) (m t d n : ℕ) (ns : List ℕ) (rows : List (List ℕ)) (es : List ℕ) (q : List (List ℕ))
-    (layout : IsLayout ns (conditions (length points) m + 1) t d) (size : length rows ≡ length ns) (basis : IsBasis t n rows es)
+    (layout : IsLayout ns (conditions (length points) m + 1) t d) (size : length rows ≡ length ns) (basis : IsBasis t d n rows es)
     (few : sum es ≤ conditions (length points) m)
-    (zeros : All (λ p. (j : ℕ) → j < length rows → HasZero (member n rows j) p.0 p.1 m) points)
-    (light : IsLightest t n rows es q) where
-  -- its weight
-  weight : get_or es light.place 0 + t * light.place ≤ d
+    (zeros : All (λ p. (j : ℕ) → j < length rows → IsLight t d es j → HasZero (member n rows j) p.0 p.1 m) points)
+    (lightest : IsLightest t d n rows es q) where
+  -- it is light: if all were dropped, each exponent would be the length of its row or more
+  weight : IsLight t d es lightest.place
   weight =
       let long = basis.size in
       let all = layout.sum in
@@ -44,40 +44,40 @@ module _ (points : List (ℕ × ℕ)) (m t d n : ℕ) (ns : List ℕ) (rows : Li
       let inside = r.1 in
       let below = r.2 in
       let within = layout.within r.0 inside in
-      let least = light.least r.0 (omega arith) in
+      let least = lightest.least r.0 (omega arith) in
       omega arith
 
   pub lightest_interpolates : IsInterpolant q points m t d
   lightest_interpolates =
-      let led = basis.each light.place light.inside in
+      let led = basis.each lightest.place lightest.inside weight in
       let leads = led.leads in
       let w = weight in
       record {
-        nonzero = λ z. leads.reached (sym (light.is light.place (get_or es light.place 0)) ∙ z light.place (get_or es light.place 0));
+        nonzero = λ z. leads.reached (sym (lightest.is weight lightest.place (get_or es lightest.place 0)) ∙ z lightest.place (get_or es lightest.place 0));
         weighted_degree = λ j i nonzero.
-            elim (cases_lt (get_or es light.place 0 + t * light.place) (i + t * j)) [
-              | inl later ↦ absurd (nonzero (light.is j i ∙ leads.last j i (inl later)))
+            elim (cases_lt (get_or es lightest.place 0 + t * lightest.place) (i + t * j)) [
+              | inl later ↦ absurd (nonzero (lightest.is weight j i ∙ leads.last j i (inl later)))
               | inr l ↦ omega arith
             ];
-        zeros = λ k p l u v h. hasse-same q (member n rows light.place) u v (get_or points k p).0 (get_or points k p).1 light.is ∙ zeros k p l light.place light.inside u v h;
-        rows = let all = light.size in let most = layout.rows in omega arith;
-        each = λ j. let each = light.each j in omega arith;
+        zeros = λ k p l u v h. hasse-same q (member n rows lightest.place) u v (get_or points k p).0 (get_or points k p).1 (lightest.is weight) ∙ zeros k p l lightest.place lightest.inside weight u v h;
+        rows = let all = lightest.size in let most = layout.rows in omega arith;
+        each = λ j. let each = lightest.each j in omega arith;
       }
 
--- the rows of the polynomial with the first weight, without what is past that weight
-pub is_lightest : (t n : ℕ) (rows : List (List ℕ)) (es : List ℕ) (q : List (List ℕ)) (place most : ℕ) → IsBasis t n rows es → place < length rows
+-- the rows of the polynomial with the least weight, without what is past that weight
+pub is_lightest : (t d n : ℕ) (rows : List (List ℕ)) (es : List ℕ) (q : List (List ℕ)) (place most : ℕ) → IsBasis t d n rows es → place < length rows
     → most ≡ get_or es place 0 + t * place → ((j : ℕ) → j < length rows → get_or es place 0 + t * place ≤ get_or es j 0 + t * j)
     → length q ≡ length rows → ((j : ℕ) → j < length rows → length (row q j) ≡ most + 1 - t * j)
-    → ((j i : ℕ) → j < length rows → i < most + 1 - t * j → get_or (row q j) i 0 ≡ get_or (row rows j) (i * n + place) 0) → IsLightest t n rows es q
+    → ((j i : ℕ) → j < length rows → i < most + 1 - t * j → get_or (row q j) i 0 ≡ get_or (row rows j) (i * n + place) 0) → IsLightest t d n rows es q
 unfolding cell coef
-is_lightest t n rows es q place most basis inside weight least size long same = record {
+is_lightest t d n rows es q place most basis inside weight least size long same = record {
   place = place;
   inside = inside;
   least = least;
-  is = λ j i.
+  is = λ light j i.
       let wide = basis.wide in
       let some : 1 ≤ n = omega arith in
-      let led = basis.each place inside in
+      let led = basis.each place inside light in
       let leads = led.leads in
       elim (cases_lt j (length rows)) [
         | inl l ↦

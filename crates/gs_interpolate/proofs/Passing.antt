@@ -5,7 +5,7 @@ use Rattle.std.proofs.lemmas.Bool.{cases_lt, cases_eq}
 use Rattle.bi_poly.specs.Hasse.{hasse, HasZero}
 use Rattle.interpolation.specs.Monomials.{conditions}
 use Rattle.gs_interpolate.specs.Family.{member}
-use Rattle.gs_interpolate.specs.Basis.{values, IsBasis, IsMeeting, IsPassing}
+use Rattle.gs_interpolate.specs.Basis.{IsLight, IsBasis, IsMeeting, IsPassing}
 use Rattle.gs_interpolate.proofs.Meeting.{met-size, met-basis, met-kept, met-gained, met-rise}
 
 -- how many orders (u, v) with u + v < m have their v below n
@@ -70,28 +70,29 @@ conditions-more i k m l =
     let more : (i + 1) * orders m m ≤ k * orders m m = mul-le-mul_right (orders m m) (omega arith) in
     omega (arith, e, f, g, more)
 
--- The derivatives of order (i, w) at (a, b) are 0 for each w below v, and for v itself where i is below u.
-pub record IsUnder (t n : ℕ) (rows : List (List ℕ)) (es : List ℕ) (made : List (List ℕ)) (raised : List ℕ) (a b m v u : ℕ) : Type 0 where
+-- The derivatives of order (i, w) of the light polynomials at (a, b) are 0 for each w below v, and for v itself where i is below u.
+pub record IsUnder (t d n : ℕ) (rows : List (List ℕ)) (es : List ℕ) (made : List (List ℕ)) (raised : List ℕ) (a b m v u : ℕ) : Type 0 where
   pub size : length made ≡ length rows
-  pub basis : IsBasis t n made raised
-  pub zeros : (i w j : ℕ) → j < length rows → i + w < m → (w < v) ⊎ ((w ≡ v) × (i < u)) → hasse (member n made j) i w a b ≡ 0
-  pub kept : (x y k : ℕ) → ((j : ℕ) → j < length rows → HasZero (member n rows j) x y k) → (j : ℕ) → j < length rows → HasZero (member n made j) x y k
+  pub basis : IsBasis t d n made raised
+  pub zeros : (i w j : ℕ) → j < length rows → IsLight t d raised j → i + w < m → (w < v) ⊎ ((w ≡ v) × (i < u)) → hasse (member n made j) i w a b ≡ 0
+  pub kept : (x y k : ℕ) → ((j : ℕ) → j < length rows → IsLight t d es j → HasZero (member n rows j) x y k)
+      → (j : ℕ) → j < length rows → IsLight t d raised j → HasZero (member n made j) x y k
   pub rise : sum raised ≤ sum es + (orders m v + u)
 
 -- none yet
-pub under-none : (t n : ℕ) (rows : List (List ℕ)) (es : List ℕ) (a b m : ℕ) → IsBasis t n rows es → IsUnder t n rows es rows es a b m 0 0
-under-none t n rows es a b m h = record {
+pub under-none : (t d n : ℕ) (rows : List (List ℕ)) (es : List ℕ) (a b m : ℕ) → IsBasis t d n rows es → IsUnder t d n rows es rows es a b m 0 0
+under-none t d n rows es a b m h = record {
   size = refl;
   basis = h;
-  zeros = λ i w j h l o. absurd (elim o [ inl x ↦ omega arith | inr x ↦ omega arith ]);
+  zeros = λ i w j h light l o. absurd (elim o [ inl x ↦ omega arith | inr x ↦ omega arith ]);
   kept = λ x y k z. z;
   rise = omega arith;
 }
 
 -- the exponents stay small
-pub under-room : (t n : ℕ) (rows : List (List ℕ)) (es : List ℕ) (made : List (List ℕ)) (raised : List ℕ) (a b m v u most : ℕ)
-    → IsUnder t n rows es made raised a b m v u → u + v < m → sum es + conditions 1 m < most → sum raised < most
-under-room t n rows es made raised a b m v u most h l room =
+pub under-room : (t d n : ℕ) (rows : List (List ℕ)) (es : List ℕ) (made : List (List ℕ)) (raised : List ℕ) (a b m v u most : ℕ)
+    → IsUnder t d n rows es made raised a b m v u → u + v < m → sum es + conditions 1 m < most → sum raised < most
+under-room t d n rows es made raised a b m v u most h l room =
     let rise = h.rise in
     let next = orders-next m v (v + 1) refl in
     let grows = orders_le m (v + 1) m (omega arith) in
@@ -99,32 +100,32 @@ under-room t n rows es made raised a b m v u most h l room =
     omega arith
 
 -- one more
-pub under-met : (t n : ℕ) (rows : List (List ℕ)) (es : List ℕ) (mid : List (List ℕ)) (ms : List ℕ) (made : List (List ℕ)) (raised : List ℕ) (a b m v u : ℕ)
-    → IsUnder t n rows es mid ms a b m v u → u + v < m → IsMeeting t n mid ms made raised (values n mid u v a b) a → IsUnder t n rows es made raised a b m v (u + 1)
-under-met t n rows es mid ms made raised a b m v u h l met = record {
-  size = met-size t n mid ms made raised u v a b h.basis met ∙ h.size;
-  basis = met-basis t n mid ms made raised u v a b h.basis met;
-  zeros = λ i w j inside k o.
+pub under-met : (t d n : ℕ) (rows : List (List ℕ)) (es : List ℕ) (mid : List (List ℕ)) (ms : List ℕ) (made : List (List ℕ)) (raised : List ℕ) (a b m v u : ℕ)
+    → IsUnder t d n rows es mid ms a b m v u → u + v < m → IsMeeting t d n mid ms made raised u v a b → IsUnder t d n rows es made raised a b m v (u + 1)
+under-met t d n rows es mid ms made raised a b m v u h l met = record {
+  size = met-size t d n mid ms made raised u v a b h.basis met ∙ h.size;
+  basis = met-basis t d n mid ms made raised u v a b h.basis met;
+  zeros = λ i w j inside light k o.
       elim (cases_eq w v) [
         | inl row ↦
             elim (cases_eq i u) [
               | inl same ↦
                   ap (λ x. hasse (member n made j) x w a b) same ∙ ap (λ x. hasse (member n made j) u x a b) row
-                  ∙ met-gained t n mid ms made raised u v a b h.basis met (λ c g s e. h.zeros c v g (here g s) (omega arith) (inr (refl, omega arith))) j (there j inside)
+                  ∙ met-gained t d n mid ms made raised u v a b h.basis met (λ c g s still e. h.zeros c v g (here g s) still (omega arith) (inr (refl, omega arith))) j (there j inside) light
               | inr other ↦
-                  met-kept t n mid ms made raised u v a b h.basis met i w a b
-                  (λ g s. h.zeros i w g (here g s) k (inr (row, elim o [ inl x ↦ absurd (omega arith) | inr x ↦ omega (arith, other) ])))
-                  (λ c g s e. h.zeros c w g (here g s) (omega arith) (inr (row, elim o [ inl x ↦ absurd (omega arith) | inr x ↦ omega (arith, other) ]))) j (there j inside)
+                  met-kept t d n mid ms made raised u v a b h.basis met i w a b
+                  (λ g s still. h.zeros i w g (here g s) still k (inr (row, elim o [ inl x ↦ absurd (omega arith) | inr x ↦ omega (arith, other) ])))
+                  (λ c g s still e. h.zeros c w g (here g s) still (omega arith) (inr (row, elim o [ inl x ↦ absurd (omega arith) | inr x ↦ omega (arith, other) ]))) j (there j inside) light
             ]
         | inr other ↦
             let below : w < v = elim o [ inl x ↦ x | inr x ↦ absurd (other x.0) ] in
-            met-kept t n mid ms made raised u v a b h.basis met i w a b
-            (λ g s. h.zeros i w g (here g s) k (inl below)) (λ c g s e. h.zeros c w g (here g s) (omega arith) (inl below)) j (there j inside)
+            met-kept t d n mid ms made raised u v a b h.basis met i w a b
+            (λ g s still. h.zeros i w g (here g s) still k (inl below)) (λ c g s still e. h.zeros c w g (here g s) still (omega arith) (inl below)) j (there j inside) light
       ];
-  kept = λ x y k z j inside i w s.
-      met-kept t n mid ms made raised u v a b h.basis met i w x y
-      (λ g q. h.kept x y k z g (here g q) i w s) (λ c g q e. h.kept x y k z g (here g q) c w (omega arith)) j (there j inside);
-  rise = let r = met-rise t n mid ms made raised u v a b h.basis met in let s = h.rise in omega arith;
+  kept = λ x y k z j inside light i w s.
+      met-kept t d n mid ms made raised u v a b h.basis met i w x y
+      (λ g q still. h.kept x y k z g (here g q) still i w s) (λ c g q still e. h.kept x y k z g (here g q) still c w (omega arith)) j (there j inside) light;
+  rise = let r = met-rise t d n mid ms made raised u v a b h.basis met in let s = h.rise in omega arith;
 }
   where
     here : (g : ℕ) → g < length mid → g < length rows
@@ -134,13 +135,13 @@ under-met t n rows es mid ms made raised a b m v u h l met = record {
     there g l = let size = h.size in omega arith
 
 -- all of one v
-pub under-row : (t n : ℕ) (rows : List (List ℕ)) (es : List ℕ) (made : List (List ℕ)) (raised : List ℕ) (a b m v u : ℕ)
-    → IsUnder t n rows es made raised a b m v u → u ≡ m - v → IsUnder t n rows es made raised a b m (v + 1) 0
-under-row t n rows es made raised a b m v u h e = record {
+pub under-row : (t d n : ℕ) (rows : List (List ℕ)) (es : List ℕ) (made : List (List ℕ)) (raised : List ℕ) (a b m v u : ℕ)
+    → IsUnder t d n rows es made raised a b m v u → u ≡ m - v → IsUnder t d n rows es made raised a b m (v + 1) 0
+under-row t d n rows es made raised a b m v u h e = record {
   size = h.size;
   basis = h.basis;
-  zeros = λ i w j inside k o.
-      h.zeros i w j inside k
+  zeros = λ i w j inside light k o.
+      h.zeros i w j inside light k
       (elim (cases_lt w v) [
         | inl below ↦ inl below
         | inr past ↦ let same : w ≡ v = elim o [ inl x ↦ omega arith | inr x ↦ absurd (omega arith) ] in inr (same, omega arith)
@@ -150,12 +151,12 @@ under-row t n rows es made raised a b m v u h e = record {
 }
 
 -- all
-pub under-all : (t n : ℕ) (rows : List (List ℕ)) (es : List ℕ) (made : List (List ℕ)) (raised : List ℕ) (a b m v : ℕ)
-    → IsUnder t n rows es made raised a b m v 0 → v ≡ m → IsPassing t n rows es made raised a b m
-under-all t n rows es made raised a b m v h e = record {
+pub under-all : (t d n : ℕ) (rows : List (List ℕ)) (es : List ℕ) (made : List (List ℕ)) (raised : List ℕ) (a b m v : ℕ)
+    → IsUnder t d n rows es made raised a b m v 0 → v ≡ m → IsPassing t d n rows es made raised a b m
+under-all t d n rows es made raised a b m v h e = record {
   size = h.size;
   basis = h.basis;
-  zeros = λ j inside i w k. h.zeros i w j inside k (inl (omega arith));
+  zeros = λ j inside light i w k. h.zeros i w j inside light k (inl (omega arith));
   kept = h.kept;
   rise = let s = h.rise in let c = conditions-one m in let same = ap (orders m) e in omega arith;
 }

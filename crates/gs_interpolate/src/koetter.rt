@@ -1,20 +1,28 @@
 //! Interpolation by Koetter's iteration.
 
 use crate::Interpolate;
-use crate::basis::Basis;
+use crate::basis::{Basis, Weights};
 use crate::family::Tables;
 use crate::layout::row_lengths;
 use bi_poly::BiPoly;
 use std::alloc::{AllocError, Global};
 
 /// Interpolation by Koetter's iteration (Koetter 1996): it goes over the conditions one after the other, and keeps
-/// polynomials that meet all so far, whose leading monomials in the weighted order have different degrees in y. At the end
-/// the lightest is light enough, since each condition makes one of them heavier by one and no other.
+/// polynomials that meet all so far, whose leading monomials in the weighted order have different degrees in y. Each
+/// condition makes one of them heavier by one and no other.
 ///
-/// It keeps as many polynomials as it takes rows of monomials to outnumber the conditions, and not always `d / t + 1`. They
-/// stand side by side, so that each product is of 16 coefficients at once. At each point their derivatives are found once,
-/// and follow the steps from condition to condition. For c conditions and n polynomials it takes about `c^2 / 2` times
-/// `n / 16` such products for the steps, and for each point, with multiplicity m, at most `m * c * n / 16` for the derivatives.
+/// What weighs more than `d` never weighs less later, so it is dropped: nobody looks at it any more, and no coefficient that
+/// weighs more than `d` is kept. One polynomial is left at the end, for if all were dropped, each would have been raised as
+/// many times as its row has monomials that weigh at most `d`, and these are more than the conditions.
+///
+/// It begins with as many polynomials as it takes rows of monomials to outnumber the conditions, and not always `d / t + 1`.
+/// They stand side by side, so that each product is of 16 coefficients at once. At each point their derivatives are found
+/// once, and follow the steps from condition to condition.
+///
+/// Let there be n polynomials, in whose rows s monomials weigh at most `d`: more than the conditions, by at most the last
+/// row. Whatever the points are, the steps take at most about `s^2 / 2` times `n / 16` such products, since none is raised
+/// twice from the same weight, and the derivatives at each point, with multiplicity m, about `m * s * n / 16`. The rows take
+/// about `s * n` bytes.
 pub struct Koetter;
 
 impl Interpolate for Koetter {
@@ -30,9 +38,10 @@ impl Interpolate for Koetter {
         let lengths = row_lengths(alloc, conditions as u32 + 1, t, d)?;
         let mut basis = Basis::new(alloc, lengths.len())?;
         let tables = Tables::new(alloc)?;
+        let weights = Weights { t, d };
         for &(a, b) in points {
-            basis.pass(alloc, t, a, b, m, &tables)?;
+            basis.pass(alloc, weights, a, b, m, &tables)?;
         }
-        basis.into_lightest(alloc, t)
+        basis.into_lightest(alloc, weights)
     }
 }

@@ -14,7 +14,7 @@ pub loop-j-preserved : goal.loop-j-preserved
 loop-j-preserved c =
     let f : Vec ℕ Global → List ℕ = λ r. r.items in
     let n = c.args.self.lanes in
-    let t = c.args.t in
+    let t = c.args.weights.t in
     let place = c.lightest-place.result in
     let most = c.weight-most.result in
     let rows = map f c.args.self.rows.items in
@@ -53,7 +53,7 @@ pub returns : goal.returns
 returns c =
     let f : Vec ℕ Global → List ℕ = λ r. r.items in
     let n = c.args.self.lanes in
-    let t = c.args.t in
+    let t = c.args.weights.t in
     let es = c.args.self.exponents.items in
     let rows = map f c.args.self.rows.items in
     let count = length-map c.args.self.rows.items f in
@@ -62,15 +62,15 @@ returns c =
     let inside : place < length rows = omega (arith, c.lightest-place.ensures.inside, count) in
     let weight : c.weight-most.result ≡ get_or es place 0 + t * place =
     c.weight-most.ensures ∙ ap (λ e. e + t * place) (c.index.ensures ∙ get_or_default es place _ 0 (omega (arith, inside, c.requires.basis.size))) in
-    subst (IsLightest t n rows es) (sym c.from_rows.ensures)
-    (is_lightest t n rows es (map f c.loop-j.rows.items) place c.weight-most.result c.requires.basis inside weight
+    subst (IsLightest t c.args.weights.d n rows es) (sym c.from_rows.ensures)
+    (is_lightest t c.args.weights.d n rows es (map f c.loop-j.rows.items) place c.weight-most.result c.requires.basis inside weight
     (λ j l. c.lightest-place.ensures.least j (omega (arith, l, count)))
     (length-map c.loop-j.rows.items f ∙ c.loop-j.invariant.size ∙ all)
     (λ j l. c.loop-j.invariant.each j (omega (arith, l, all)))
     (λ j i l h. c.loop-j.invariant.cells j i (omega (arith, l, all)) h))
 
-pub overflow_cast-t : goal.overflow_cast-t
-overflow_cast-t c = omega arith
+pub overflow_cast-weights : goal.overflow_cast-weights
+overflow_cast-weights c = omega arith
 
 pub lightest-place-requires-clause-weight : goal.lightest-place-requires-clause-weight
 lightest-place-requires-clause-weight c = omega arith
@@ -95,8 +95,8 @@ overflow_add-most c =
     let place : c.lightest-place.result ≤ MOST_PLACES = omega (arith, c.lightest-place.ensures.inside) in
     omega (arith, mul-le-mul c.requires.weight place, c.weight-most.ensures)
 
-pub overflow_mul-t : goal.overflow_mul-t
-overflow_mul-t c =
+pub overflow_mul-weights : goal.overflow_mul-weights
+overflow_mul-weights c =
     let place : c.loop-j.j ≤ MOST_PLACES = omega arith in
     omega (arith, mul-le-mul c.requires.weight place)
 

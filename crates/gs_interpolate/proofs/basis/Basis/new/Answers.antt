@@ -12,7 +12,7 @@ use Rattle.gs_interpolate.proofs.Pushed.{pushed_size, pushed_each}
 use Rattle.gs_interpolate.proofs.basis.Basis.new.Goals as goal
 
 pub returns-clause-basis : goal.returns-clause-basis
-returns-clause-basis c = λ t.
+returns-clause-basis c = λ t d.
     let f : Vec ℕ Global → List ℕ = λ r. r.items in
     let n = c.args.n in
     let lanes = (n + 15) / 16 * 16 in
@@ -27,7 +27,7 @@ returns-clause-basis c = λ t.
       whole = λ j l.
           let power = c.loop-j.invariant.each j (omega (arith, l, all)) in
           ap (λ k. k % lanes) (power.size ∙ sym once) ∙ mul-mod_left 1 lanes;
-      each = λ j l.
+      each = λ j l _.
           subst (λ e. IsLed t (member lanes rows j) e j) (sym (ap (λ es. get_or es j 0) zeros ∙ get_or-replicate n j 0 0 (omega (arith, l, all))))
           (led-power t lanes rows wide (λ k h. c.loop-j.invariant.each k (omega (arith, h, all))) j l);
     }

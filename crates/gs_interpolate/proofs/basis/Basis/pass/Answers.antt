@@ -1,6 +1,7 @@
 use Rattle.std.proofs.Common.{ℕ, List, length, map, refl, ap, subst, ◌∙◌, arith, take_at, Vec, Global, ◌≡◌, ◌*◌, ◌-◌, ◌%◌, ◌≤◌, ◌<◌, sym, mul-le-mul}
 use Rattle.gs_interpolate.specs.Window.{IsWindow}
-use Rattle.gs_interpolate.specs.Basis.{values, IsBasis, IsMeeting}
+use Rattle.gs_interpolate.specs.Basis.{IsBasis, IsLightWindow, IsMeeting}
+use Rattle.gs_interpolate.proofs.FamilySteps.{light_window}
 use Rattle.gs_interpolate.proofs.Passing.{under-none, under-room, under-met, under-row, under-all}
 use Rattle.std.proofs.lemmas.List.{length-map, length-replicate}
 use Rattle.std.proofs.lemmas.Result.{IfOk-from_err}
@@ -12,7 +13,7 @@ use Rattle.gs_interpolate.proofs.basis.Basis.pass.Goals as goal
 pub meet-requires-clause-room : goal.meet-requires-clause-room
 meet-requires-clause-room c =
     let f : Vec ℕ Global → List ℕ = λ r. r.items in
-    under-room c.args.t c.args.self.now.lanes (map f c.args.self.now.rows.items) c.args.self.now.exponents.items
+    under-room c.args.weights.t c.args.weights.d c.args.self.now.lanes (map f c.args.self.now.rows.items) c.args.self.now.exponents.items
     (map f c.orders.self.rows.items) c.orders.self.exponents.items
     c.args.a c.args.b c.args.m c.rows.v c.orders.u _ c.orders.invariant.under (omega arith) c.requires.room
 
@@ -20,7 +21,10 @@ pub orders-preserved : goal.orders-preserved
 orders-preserved c =
     let f : Vec ℕ Global → List ℕ = λ r. r.items in
     let h = c.orders.invariant in
-    let t = c.args.t in
+    let t = c.args.weights.t in
+    let d = c.args.weights.d in
+    let es = c.orders.self.exponents.items in
+    let raised = c.meet.new.self.exponents.items in
     let n = c.args.self.now.lanes in
     let m = c.args.m in
     let a = c.args.a in
@@ -30,13 +34,12 @@ orders-preserved c =
     let made = map f c.meet.new.self.rows.items in
     let met = c.in_ok-meet.ensures in
     let follows =
-    subst (λ k. (b : ℕ) → IsWindow n k c.orders.window.cells.items mid a b v → IsWindow n k c.meet.new.window.cells.items made a b v) h.order
-    (subst (λ l. (b : ℕ) → IsWindow l c.orders.window.m c.orders.window.cells.items mid a b v → IsWindow l c.orders.window.m c.meet.new.window.cells.items made a b v) h.lanes met.window) in
+    subst (λ k. (b : ℕ) → IsLightWindow t d n k c.orders.window.cells.items mid es a b v → IsLightWindow t d n k c.meet.new.window.cells.items made raised a b v) h.order
+    (subst (λ l. (b : ℕ) → IsLightWindow t d l c.orders.window.m c.orders.window.cells.items mid es a b v
+    → IsLightWindow t d l c.orders.window.m c.meet.new.window.cells.items made raised a b v) h.lanes met.window) in
     let meeting =
-    subst (λ k. (b : ℕ) → IsWindow n k c.orders.window.cells.items mid a b v
-    → IsMeeting t n mid c.orders.self.exponents.items made c.meet.new.self.exponents.items (values n mid u v a b) a) h.order
-    (subst (λ l. (b : ℕ) → IsWindow l c.orders.window.m c.orders.window.cells.items mid a b v
-    → IsMeeting t l mid c.orders.self.exponents.items made c.meet.new.self.exponents.items (values l mid u v a b) a) h.lanes met.met) in
+    subst (λ k. (b : ℕ) → IsLightWindow t d n k c.orders.window.cells.items mid es a b v → IsMeeting t d n mid es made raised u v a b) h.order
+    (subst (λ l. (b : ℕ) → IsLightWindow t d l c.orders.window.m c.orders.window.cells.items mid es a b v → IsMeeting t d l mid es made raised u v a b) h.lanes met.met) in
     record {
       lanes = met.lanes.0 ∙ h.lanes;
       side = met.lanes.1 ∙ h.side;
@@ -46,8 +49,8 @@ orders-preserved c =
           ∙ c.meet.auto.factors ∙ ap length c.deref_mut.ensures.value ∙ h.room;
       window = follows c.args.b h.window;
       under =
-          under-met t n (map f c.args.self.now.rows.items) c.args.self.now.exponents.items mid c.orders.self.exponents.items
-          made c.meet.new.self.exponents.items a c.args.b m v u h.under (omega arith) (meeting c.args.b h.window);
+          under-met t d n (map f c.args.self.now.rows.items) c.args.self.now.exponents.items mid es
+          made raised a c.args.b m v u h.under (omega arith) (meeting c.args.b h.window);
     }
 
 pub rows-preserved : goal.rows-preserved
@@ -60,16 +63,16 @@ rows-preserved c =
       side = h.side;
       order = h.order;
       room = h.room;
-      window = record { size = window.size; each = λ u w g from l k. window.each u w g (omega arith) l k };
+      window = record { size = window.size; each = λ u w g from l k low. window.each u w g (omega arith) l k low };
       under =
-          under-row c.args.t c.args.self.now.lanes (map f c.args.self.now.rows.items) c.args.self.now.exponents.items
+          under-row c.args.weights.t c.args.weights.d c.args.self.now.lanes (map f c.args.self.now.rows.items) c.args.self.now.exponents.items
           (map f c.orders.self.rows.items) c.orders.self.exponents.items c.args.a c.args.b c.args.m c.rows.v c.orders.u h.under (omega arith);
     }
 
 pub returns-clause-passed : goal.returns-clause-passed
 returns-clause-passed c =
     let f : Vec ℕ Global → List ℕ = λ r. r.items in
-    under-all c.args.t c.args.self.now.lanes (map f c.args.self.now.rows.items) c.args.self.now.exponents.items
+    under-all c.args.weights.t c.args.weights.d c.args.self.now.lanes (map f c.args.self.now.rows.items) c.args.self.now.exponents.items
     (map f c.rows.self.rows.items) c.rows.self.exponents.items c.args.a c.args.b c.args.m c.rows.v c.rows.invariant.under (omega arith)
 
 pub overflow_sub-u-end : goal.overflow_sub-u-end
@@ -147,8 +150,9 @@ rows-init c =
       side = made.lanes;
       order = made.order;
       room = ap length (c.in_ok-factors.ensures.items_if_clones_equal (λ y e. e)) ∙ length-replicate c.args.self.now.lanes 0;
-      window = subst (λ rows. IsWindow c.args.self.now.lanes c.args.m c.in_ok-window.window.cells.items (map f rows) c.args.a c.args.b 0) c.deref.ensures.value made.window;
-      under = under-none c.args.t c.args.self.now.lanes rows c.args.self.now.exponents.items c.args.a c.args.b c.args.m c.requires.basis;
+      window = light_window c.args.weights.t c.args.weights.d c.args.self.now.lanes c.args.m c.args.a c.args.b c.in_ok-window.window.cells.items rows c.args.self.now.exponents.items
+          (subst (λ rows. IsWindow c.args.self.now.lanes c.args.m c.in_ok-window.window.cells.items (map f rows) c.args.a c.args.b 0) c.deref.ensures.value made.window);
+      under = under-none c.args.weights.t c.args.weights.d c.args.self.now.lanes rows c.args.self.now.exponents.items c.args.a c.args.b c.args.m c.requires.basis;
     }
 
 pub orders-init : goal.orders-init
@@ -173,4 +177,4 @@ returns-clause-lanes c = c.rows.invariant.lanes
 pub meet-requires-clause-basis : goal.meet-requires-clause-basis
 meet-requires-clause-basis c =
     let f : Vec ℕ Global → List ℕ = λ r. r.items in
-    subst (λ n. IsBasis c.args.t n (map f c.orders.self.rows.items) c.orders.self.exponents.items) (sym c.orders.invariant.lanes) c.orders.invariant.under.basis
+    subst (λ n. IsBasis c.args.weights.t c.args.weights.d n (map f c.orders.self.rows.items) c.orders.self.exponents.items) (sym c.orders.invariant.lanes) c.orders.invariant.under.basis

@@ -1,4 +1,4 @@
-use Rattle.std.proofs.Common.{◌≡◌, ◌≤◌, ◌*◌, ◌^◌, ◌+◌, ◌<◌, ℕ, List, Vec, Global, length, map, set, get_or, refl, sym, ap, subst, ◌∙◌, arith, mul-le-mul, take_at}
+use Rattle.std.proofs.Common.{◌≡◌, ◌≤◌, ◌*◌, ◌^◌, ◌+◌, ◌<◌, ℕ, List, Vec, Global, min, length, map, set, get_or, refl, sym, ap, subst, ◌∙◌, arith, mul-le-mul, take_at}
 use Rattle.std.proofs.lemmas.Result.{IfOk-from_err}
 use Rattle.std.proofs.lemmas.List.{get_or_default}
 use Rattle.std.proofs.lemmas.List.Sums.{get_or-le-sum_by}
@@ -9,11 +9,11 @@ use Rattle.gs_interpolate.proofs.basis.Basis.step.Goals as goal
 pub index-requires : goal.index-requires
 index-requires c = omega arith
 
-pub weight-reach-requires-clause-weight : goal.weight-reach-requires-clause-weight
-weight-reach-requires-clause-weight c = omega arith
+pub weight-heaviest-requires-clause-weight : goal.weight-heaviest-requires-clause-weight
+weight-heaviest-requires-clause-weight c = omega arith
 
-pub weight-reach-requires-clause-place : goal.weight-reach-requires-clause-place
-weight-reach-requires-clause-place c = omega arith
+pub weight-heaviest-requires-clause-place : goal.weight-heaviest-requires-clause-place
+weight-heaviest-requires-clause-place c = omega arith
 
 pub step_rows-requires-clause-inside : goal.step_rows-requires-clause-inside
 step_rows-requires-clause-inside c = omega arith
@@ -27,16 +27,15 @@ step_rows-requires-clause-places c = omega arith
 pub index_mut-requires : goal.index_mut-requires
 index_mut-requires c = omega arith
 
-pub overflow_add-reach : goal.overflow_add-reach
-overflow_add-reach c =
+pub overflow_add-heaviest : goal.overflow_add-heaviest
+overflow_add-heaviest c =
     let place : c.args.p ≤ MOST_PLACES = omega arith in
-    omega (arith, mul-le-mul c.requires.weight place, c.weight-reach.ensures)
+    omega (arith, mul-le-mul c.requires.weight place, c.weight-heaviest.ensures)
 
 pub step_rows-requires-clause-small : goal.step_rows-requires-clause-small
 step_rows-requires-clause-small c =
-    let place : c.args.p ≤ MOST_PLACES = omega arith in
-    let reach : c.weight-reach.result + 2 ≤ 2 ^ 33 = omega (arith, mul-le-mul c.requires.weight place, c.weight-reach.ensures) in
-    omega (arith, mul-le-mul reach c.requires.lanes, ap (λ n. (c.weight-reach.result + 2) * n) c.requires.factors)
+    let reach : c.min-reach.result + 1 ≤ 2 ^ 33 = omega (arith, c.min-reach.ensures) in
+    omega (arith, mul-le-mul reach c.requires.lanes, ap (λ n. (c.min-reach.result + 1) * n) c.requires.factors)
 
 pub overflow_add-index_mut : goal.overflow_add-index_mut
 overflow_add-index_mut c =
@@ -70,14 +69,15 @@ returns-clause-rows c =
     let before = map f c.args.self.now.rows.items in
     let factors = c.args.factors.now in
     let p = c.args.p in
-    let t = c.args.t in
+    let t = c.args.weights.t in
     let own = multiplier factors p in
     let made = map f c.step_rows.new.rows in
     let inside : p < length es = omega arith in
-    let reach : c.weight-reach.result + 2 ≡ get_or es p 0 + t * p + 2 =
-    ap (λ n. n + 2) (c.weight-reach.ensures ∙ ap (λ e. e + t * p) (c.index.ensures ∙ get_or_default es p _ 0 inside)) in
+    let reach : c.min-reach.result + 1 ≡ min (get_or es p 0 + t * p + 1) c.args.weights.d + 1 =
+    ap (λ n. n + 1) c.min-reach.ensures
+    ∙ ap (λ n. min (n + 1) c.args.weights.d + 1) (c.weight-heaviest.ensures ∙ ap (λ e. e + t * p) (c.index.ensures ∙ get_or_default es p _ 0 inside)) in
     let back = take_at c.step_rows.new.rows _ c.args.self.now.rows.len (c.step_rows.auto.rows ∙ c.deref_mut.ensures.len) in
-    subst (λ rows. IsFamilyStep c.args.self.now.lanes (map f rows) before factors p own t (get_or es p 0 + t * p + 2)) (sym back)
+    subst (λ rows. IsFamilyStep c.args.self.now.lanes (map f rows) before factors p own t (min (get_or es p 0 + t * p + 1) c.args.weights.d + 1)) (sym back)
     (subst (λ n. IsFamilyStep c.args.self.now.lanes made before factors p own t n) reach
-    (subst (λ rows. IsFamilyStep c.args.self.now.lanes made (map f rows) factors p own t (c.weight-reach.result + 2)) c.deref_mut.ensures.value
-    (subst (λ n. IsFamilyStep n made (map f c.deref_mut.result.now) factors p own t (c.weight-reach.result + 2)) c.requires.factors c.in_ok-step_rows.ensures)))
+    (subst (λ rows. IsFamilyStep c.args.self.now.lanes made (map f rows) factors p own t (c.min-reach.result + 1)) c.deref_mut.ensures.value
+    (subst (λ n. IsFamilyStep n made (map f c.deref_mut.result.now) factors p own t (c.min-reach.result + 1)) c.requires.factors c.in_ok-step_rows.ensures)))

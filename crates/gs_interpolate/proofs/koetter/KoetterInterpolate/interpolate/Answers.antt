@@ -51,7 +51,7 @@ pub loop-a-init : goal.loop-a-init
 loop-a-init c = record {
   size = omega (arith, c.in_ok-basis.ensures.size, c.len.ensures);
   lanes = refl;
-  basis = c.in_ok-basis.ensures.basis c.args.t;
+  basis = c.in_ok-basis.ensures.basis c.args.t c.args.d;
   zeros = λ k j l. absurd (omega arith);
   few = let none = c.in_ok-basis.ensures.sum in omega arith;
 }
@@ -74,15 +74,15 @@ loop-a-preserved c =
     record {
       size = size ∙ h.size;
       lanes = lanes ∙ h.lanes;
-      basis = subst (λ n. IsBasis c.args.t n rows new.exponents.items) (sym lanes) P.basis;
-      zeros = λ k j l inside.
+      basis = subst (λ n. IsBasis c.args.t c.args.d n rows new.exponents.items) (sym lanes) P.basis;
+      zeros = λ k j l inside low.
           let here : j < length (map f old.rows.items) = omega (arith, inside, size, before) in
           subst (λ n. HasZero (member n rows j) (get_or points k (0, 0)).0 (get_or points k (0, 0)).1 m) (sym lanes)
           (elim (cases_lt k i) [
-            | inl below ↦ P.kept _ _ m (λ g s. h.zeros k g below (omega (arith, s, before))) j here
+            | inl below ↦ P.kept _ _ m (λ g s. h.zeros k g below (omega (arith, s, before))) j here low
             | inr past ↦
                 let same : i ≡ k = omega arith in
-                subst (λ x. HasZero (member old.lanes rows j) (get_or points x (0, 0)).0 (get_or points x (0, 0)).1 m) same (P.zeros j here)
+                subst (λ x. HasZero (member old.lanes rows j) (get_or points x (0, 0)).0 (get_or points x (0, 0)).1 m) same (P.zeros j here low)
           ]);
       few = let rise = P.rise in let few = h.few in let next = conditions-next i m in omega arith;
     }
@@ -101,8 +101,8 @@ returns c =
     (λ q light.
     lightest_interpolates points m c.args.t c.args.d n c.in_ok-lengths.lengths.items rows c.loop-a.basis.exponents.items q
     c.in_ok-lengths.ensures (count ∙ h.size) h.basis (subst (λ k. sum c.loop-a.basis.exponents.items ≤ conditions k m) all h.few)
-    (λ k d l j inside.
-    subst (λ p. HasZero (member n rows j) p.0 p.1 m) (get_or_default points k (0, 0) d l) (h.zeros k j (omega (arith, l, all)) (omega (arith, inside, count))))
+    (λ k d l j inside low.
+    subst (λ p. HasZero (member n rows j) p.0 p.1 m) (get_or_default points k (0, 0) d l) (h.zeros k j (omega (arith, l, all)) (omega (arith, inside, count)) low))
     light)
     c.into_lightest.ensures
 
