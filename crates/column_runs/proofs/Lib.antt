@@ -3,6 +3,8 @@ pub mod Misses
 pub mod ColumnPoints
 pub mod Basis
 pub mod Extension
+pub mod Weights
+pub mod Pushed
 pub mod SameLanes
 pub mod DifferenceRows
 pub mod Agreed
