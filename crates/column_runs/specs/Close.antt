@@ -15,6 +15,6 @@ pub record IsClose (phi : List ℕ) (points : List (ℕ × ℕ)) (t h : ℕ) : T
 abbrev pub EachMisses : ℕ → List (ℕ × ℕ) → ℕ → Type 0
 EachMisses n points t = (phi : List ℕ) → IsPolynomial t phi → n ≤ misses phi points
 
--- how many of h points and more each polynomial of degree at most t misses where none is found that is close
+-- where none is found that is close to h points or more, each polynomial of degree at most t misses at least so many of them
 unfoldable pub least_misses : ℕ → ℕ → ℕ
 least_misses t h = min (h - t) (h / (t + 1))
