@@ -3,6 +3,8 @@
 #![tactic(auto)]
 
 #[cfg(test)]
+mod close_columns;
+#[cfg(test)]
 mod field;
 #[cfg(test)]
 mod interpolants;

@@ -12,7 +12,7 @@ use uni_poly::steps::Steps;
 use uni_poly::{eval, interpolate};
 
 /// Whether the first members ascend, and the least is not 0.
-fn are_places(points: &[(u8, u8)]) -> bool
+pub fn are_places(points: &[(u8, u8)]) -> bool
     ensures distinct { IsTrue result → AllPairs (λ p q. p.0 ≢ q.0) points.now }
     ensures nonzero { IsTrue result → All (λ p. p.0 ≢ 0) points.now }
 {

@@ -1,7 +1,10 @@
 pub mod OnOne
+pub mod Misses
 pub mod ColumnPoints
 pub mod Basis
 pub mod Extension
+pub mod Weights
+pub mod Pushed
 pub mod SameLanes
 pub mod DifferenceRows
 pub mod Agreed

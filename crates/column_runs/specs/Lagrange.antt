@@ -13,6 +13,15 @@ basis_polynomial xs j = product (vanishing (take j xs)) (vanishing (drop (j + 1)
 unfoldable pub factor : List ℕ → ℕ → ℕ → ℕ
 factor xs j a = val (basis_polynomial xs j) a ⊗ inverse (val (basis_polynomial xs j) (slice_index xs j))
 
+-- what the value of that polynomial at the member left out is multiplied by to be 1
+unfoldable pub weight : List ℕ → ℕ → ℕ
+weight xs j = inverse (val (basis_polynomial xs j) (slice_index xs j))
+
+-- the weights of the xs but the first
+pub record AreWeights (xs weights : List ℕ) : Type 0 where
+  pub size : length xs ≡ length weights + 1
+  pub each : (i : ℕ) → i < length weights → slice_index weights i ≡ weight xs (i + 1)
+
 -- the first value, plus the sum of each factor times the difference of the next value from the first
 unfoldable pub extended : List ℕ → (ℕ → ℕ) → ℕ
 extended factors values = values 0 ⊕ sum_to (λ i. slice_index factors i ⊗ (values (i + 1) ⊕ values 0)) (length factors)

@@ -1,9 +1,10 @@
 //! Lagrange interpolation: values of polynomials by their values at enough places.
 
-ghost use Rattle.std.specs.Prelude.{◌≡◌, ◌≢◌, ◌<◌, length, map, AllPairs, IfOk};
+ghost use Rattle.std.specs.Prelude.{◌≡◌, ◌≢◌, ℕ, ◌+◌, ◌<◌, length, map, take, drop, slice_index, AllPairs, IfOk};
+ghost use Rattle.gf256.specs.Field.{◌⊗◌};
 ghost use Rattle.gf256.specs.Polynomial.{val};
 ghost use Rattle.uni_poly.specs.Product.{vanishing};
-ghost use Rattle.column_runs.specs.Lagrange.{basis_polynomial, factor, AreFactors, Extends};
+ghost use Rattle.column_runs.specs.Lagrange.{basis_polynomial, weight, AreFactors, AreWeights, Extends};
 
 use gf256::{add, inv, mul};
 use std::alloc::{AllocError, Global};
@@ -18,43 +19,89 @@ pub struct Factors {
 }
 
 /// The factors by which the values of a polynomial of degree at most `t` at the first `t + 1` of the `xs` give those at the
-/// others, and its constant (Lagrange 1795).
+/// others, and its constant (Lagrange 1795). What they share, a weight for each of the first, is made once, so that all
+/// together take about `t * t` products, and `4 * t` more for each of the others.
 pub fn factors_by_first(alloc: Global, xs: &[u8], t: u32) -> Result<Factors, AllocError>
     requires enough { t < length xs.now }
     requires distinct { AllPairs (λ x y. x ≢ y) xs.now }
     ensures { IfOk result (λ f. AreFactors xs.now t (map (λ v. v.items) f.others.items) f.zero.items) }
 {
     let base = &xs[..t as usize + 1];
+    let weights = weights_of(alloc, base)?;
     let mut others = Vec::with_capacity(alloc, xs.len() - base.len())?;
     for place in base.len()..xs.len() {
-        others.push(factors_for(alloc, base, xs[place])?)?;
+        others.push(factors_for(alloc, base, &weights, xs[place])?)?;
     }
-    let zero = factors_for(alloc, base, 0)?;
+    let zero = factors_for(alloc, base, &weights, 0)?;
     Ok(Factors { others, zero })
+}
+
+/// The weights of the `xs` but the first.
+fn weights_of(alloc: Global, xs: &[u8]) -> Result<Vec<u8>, AllocError>
+    requires some { 0 < length xs.now }
+    requires distinct { AllPairs (λ x y. x ≢ y) xs.now }
+    ensures { IfOk result (λ v. AreWeights xs.now v.items) }
+{
+    let mut weights = Vec::with_capacity(alloc, xs.len() - 1)?;
+    for place in 1..xs.len() {
+        weights.push(weight(xs, place))?;
+    }
+    Ok(weights)
+}
+
+/// The inverse of the product of the differences of the place of the `xs` from the others.
+fn weight(xs: &[u8], place: usize) -> u8
+    requires within { place < length xs.now }
+    requires distinct { AllPairs (λ x y. x ≢ y) xs.now }
+    ensures { result ≡ weight xs.now place }
+{
+    inv(basis_value(xs, place, xs[place]))
 }
 
 /// The factors for the value at `x`: for each of the `xs` but the first the factor of the difference of the value there
 /// from that at the first (Lagrange 1795).
-fn factors_for(alloc: Global, xs: &[u8], x: u8) -> Result<Vec<u8>, AllocError>
-    requires some { 0 < length xs.now }
+fn factors_for(alloc: Global, xs: &[u8], weights: &[u8], x: u8) -> Result<Vec<u8>, AllocError>
     requires distinct { AllPairs (λ x y. x ≢ y) xs.now }
+    requires weights { AreWeights xs.now weights.now }
     ensures { IfOk result (λ v. Extends xs.now x v.items) }
 {
-    let mut factors = Vec::with_capacity(alloc, xs.len() - 1)?;
-    for place in 1..xs.len() {
-        factors.push(factor(xs, place, x))?;
-    }
+    let mut factors = times_those_before(alloc, xs, weights, x)?;
+    multiply_by_those_behind(xs, x, &mut factors);
     Ok(factors)
 }
 
-/// The value at `x` of the polynomial that is 1 at the place of the `xs`, and 0 at the others.
-fn factor(xs: &[u8], place: usize, x: u8) -> u8
-    requires within { place < length xs.now }
-    requires distinct { AllPairs (λ x y. x ≢ y) xs.now }
-    ensures { result ≡ factor xs.now place x }
+/// Each of the weights of the `xs` but the first, times the product of `x - a` over those before its own.
+fn times_those_before(
+    alloc: Global,
+    xs: &[u8],
+    weights: &[u8],
+    x: u8,
+) -> Result<Vec<u8>, AllocError>
+    requires { length xs.now ≡ length weights.now + 1 }
+    ensures size { IfOk result (λ v. length v.items ≡ length weights.now) }
+    ensures each { IfOk result (λ v. (i : ℕ) → i < length weights.now
+        → slice_index v.items i ≡ slice_index weights.now i ⊗ val (vanishing (take (i + 1) xs.now)) x) }
 {
-    let own = basis_value(xs, place, xs[place]);
-    mul(basis_value(xs, place, x), inv(own))
+    let mut made = Vec::with_capacity(alloc, weights.len())?;
+    let mut product = 1;
+    for i in 0..weights.len() {
+        product = mul(add(x, xs[i]), product);
+        made.push(mul(weights[i], product))?;
+    }
+    Ok(made)
+}
+
+/// Multiplies what there is for each of the `xs` but the first by the product of `x - a` over those behind its own.
+fn multiply_by_those_behind(xs: &[u8], x: u8, factors: &mut [u8])
+    requires { length xs.now ≡ length factors.old + 1 }
+    ensures { (i : ℕ) → i < length factors.old
+        → slice_index factors.new i ≡ slice_index factors.old i ⊗ val (vanishing (drop (i + 2) xs.now)) x }
+{
+    let mut product = 1;
+    for i in (0..factors.len()).rev() {
+        factors[i] = mul(factors[i], product);
+        product = mul(add(x, xs[i + 1]), product);
+    }
 }
 
 /// The product of `x - a` over the `xs` but that at the place.

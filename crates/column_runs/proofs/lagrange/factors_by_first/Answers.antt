@@ -78,9 +78,6 @@ pub factors_for-requires-2-clause-distinct : goal.factors_for-requires-2-clause-
 factors_for-requires-2-clause-distinct c =
     distinct-take (c.args.t + 1) c.args.xs.now c.requires.distinct
 
-pub returns-in_err-others : goal.returns-in_err-others
-returns-in_err-others c = IfOk-from_err c.from_residual.result _ c.from_residual.ensures.0
-
 pub returns-in_err-factors_for : goal.returns-in_err-factors_for
 returns-in_err-factors_for c = IfOk-from_err c.from_residual-in_err-factors_for.result _ c.from_residual-in_err-factors_for.ensures.0
 
@@ -112,8 +109,9 @@ overflow_sub-xs c =
     let first = length-take-le (c.args.t + 1) c.args.xs.now (omega (arith, c.requires.enough)) in
     omega (arith, first, c.requires.enough)
 
-pub factors_for-requires-clause-some : goal.factors_for-requires-clause-some
-factors_for-requires-clause-some c = first_some c.args.xs.now c.args.t c.requires.enough
+pub weights_of-requires-clause-some : goal.weights_of-requires-clause-some
+weights_of-requires-clause-some c = first_some c.args.xs.now c.args.t c.requires.enough
 
-pub factors_for-requires-2-clause-some : goal.factors_for-requires-2-clause-some
-factors_for-requires-2-clause-some c = first_some c.args.xs.now c.args.t c.requires.enough
+pub weights_of-requires-clause-distinct : goal.weights_of-requires-clause-distinct
+weights_of-requires-clause-distinct c =
+    distinct-take (c.args.t + 1) c.args.xs.now c.requires.distinct

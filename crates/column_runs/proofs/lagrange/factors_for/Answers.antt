@@ -1,36 +1,33 @@
-use Rattle.std.proofs.Common.{◌≡◌, ◌+◌, ◌<◌, ◌++◌, ◌∷◌, ℕ, List, [], length, get_or, below_more, refl, sym, ap, ◌∙◌, arith, length-append}
-use Rattle.std.proofs.lemmas.List.{get_or_append_left}
-use Rattle.std.proofs.Math.Seq.{get_or-append_seam}
+use Rattle.std.proofs.Common.{◌≡◌, ◌+◌, ◌<◌, length, get_or, drop, take, sym, ap, subst, ◌∙◌, arith}
+use Rattle.gf256.specs.Field.{◌⊗◌}
+use Rattle.gf256.specs.Polynomial.{val}
+use Rattle.uni_poly.specs.Product.{vanishing}
 use Rattle.uni_poly.proofs.Coefficients.{bytes_from_get_or}
-use Rattle.column_runs.specs.Lagrange.{factor}
+use Rattle.column_runs.specs.Lagrange.{weight, Extends}
+use Rattle.column_runs.proofs.DifferenceRows.{items-with}
 use Rattle.column_runs.proofs.Extension.{extends}
+use Rattle.column_runs.proofs.Weights.{factor-by_weight}
 use Rattle.column_runs.proofs.lagrange.factors_for.Goals as goal
-
--- a factor more
-each_more : (made more : List ℕ) (n x : ℕ) (f : ℕ → ℕ) → length made ≡ n → more ≡ made ++ x ∷ [] → x ≡ f n
-    → ((i : ℕ) → i < n → get_or made i 0 ≡ f i) → (i : ℕ) → i < n + 1 → get_or more i 0 ≡ f i
-each_more made more n x f size e here before =
-    below_more (λ i. get_or more i 0 ≡ f i) n
-    (λ i l. ap (λ fs. get_or fs i 0) e ∙ get_or_append_left made (x ∷ []) 0 i (omega (arith, l, size)) ∙ before i l)
-    (ap (λ fs. get_or fs n 0) e ∙ ap (λ j. get_or (made ++ x ∷ []) j 0) (sym size) ∙ get_or-append_seam made x [] 0 ∙ here)
-
-pub loop-place-preserved : goal.loop-place-preserved
-loop-place-preserved c =
-    let made = c.loop-place.factors.items in
-    let x = c.factor.result in
-    let size = c.loop-place.invariant.size in
-    record {
-      size = ap (λ fs. length fs + 1) c.in_ok-push.ensures.items ∙ ap (λ n. n + 1) (length-append made (x ∷ []) ∙ size);
-      each = λ i l.
-          each_more made c.push.new.self.items (length made) x (λ i. factor c.args.xs.now (i + 1) c.args.x) refl c.in_ok-push.ensures.items
-          (c.factor.ensures ∙ ap (λ j. factor c.args.xs.now j c.args.x) (sym size))
-          (λ i m. c.loop-place.invariant.each i (omega (arith, m, size))) i (omega (arith, l, size));
-    }
 
 pub returns : goal.returns
 returns c =
     let xs = c.args.xs.now in
-    let size = c.loop-place.invariant.size in
-    let end : c.loop-place.place ≡ length xs = omega (arith, c.requires.some) in
-    extends xs c.loop-place.factors.items c.args.x (bytes_from_get_or xs (λ k. (c.type_inv.xs k).fits)) c.requires.distinct (sym end ∙ sym size)
-    (λ i l. c.loop-place.invariant.each i (omega (arith, l, size)))
+    let x = c.args.x in
+    let weights = c.args.weights.now in
+    let made = c.in_ok-factors.factors in
+    let new = c.multiply_by_those_behind.new.factors in
+    let value = c.deref_mut.ensures.value in
+    let same : length new ≡ length made.items = c.multiply_by_those_behind.auto.factors ∙ ap length value in
+    let count = c.in_ok-factors.ensures.size in
+    let size = c.requires.weights.size in
+    subst (Extends xs x) (sym (items-with made new same))
+    (extends xs new x (bytes_from_get_or xs (λ k. (c.type_inv.xs k).fits)) c.requires.distinct (omega (arith, size, count, same))
+    (λ i l.
+    let within : i < length weights = omega (arith, l, same, count) in
+    let two : i + 2 ≡ i + 1 + 1 = omega arith in
+    c.multiply_by_those_behind.ensures i (omega (arith, l, c.multiply_by_those_behind.auto.factors))
+    ∙ ap (λ v. v ⊗ val (vanishing (drop (i + 2) xs)) x)
+    (ap (λ fs. get_or fs i 0) value ∙ c.in_ok-factors.ensures.each i within
+    ∙ ap (λ w. w ⊗ val (vanishing (take (i + 1) xs)) x) (c.requires.weights.each i within))
+    ∙ ap (λ n. (weight xs (i + 1) ⊗ val (vanishing (take (i + 1) xs)) x) ⊗ val (vanishing (drop n xs)) x) two
+    ∙ factor-by_weight xs (i + 1) x))
