@@ -1,5 +1,7 @@
 -- The vectors that the decoder visits, put together from those below each next polynomial.
-use Rattle.std.proofs.Common.{◌≡◌, ◌≢◌, ℕ, ◌+◌, ◌-◌, ◌*◌, ◌<◌, ◌≤◌, List, [], ◌∷◌, ◌++◌, length, All, Contains, refl, sym, ap, subst, ◌∙◌, arith, append_assoc}
+use Rattle.std.proofs.Common.{◌≡◌, ◌≢◌, ℕ, suc, ◌+◌, ◌-◌, ◌*◌, ◌<◌, ◌≤◌, min, inl, inr, le_of_lt, List, [], ◌∷◌, ◌++◌, length, All, Contains, refl, sym, ap, subst, ◌∙◌, arith, append_assoc}
+use Rattle.std.proofs.Math.Nat.{mul-le-mul_right, min-eq_left, min-eq_right}
+use Rattle.std.proofs.lemmas.Bool.{cases_lt}
 use Rattle.std.proofs.lemmas.List.{length-append}
 use Rattle.std.proofs.lemmas.List.Elements.{All-nil, All-cons, All-append, All-weaker, Contains-append_left, Contains-append_right}
 use Rattle.std.proofs.lemmas.List.Kept.{AllPairs-cons}
@@ -7,13 +9,40 @@ use Rattle.std.proofs.lemmas.List.Sums.{length-filter}
 use Rattle.gf256.specs.Polynomial.{IsPolynomial}
 use Rattle.wire_frames.specs.Answer.{Answer}
 use Rattle.block_decoder.specs.Agreed.{holds_first, weight, HasColumns}
-use Rattle.block_decoder.specs.Numbers.{bound_of, column_nodes, most_columns, most_nodes}
+use Rattle.block_decoder.specs.Numbers.{bound_of, column_nodes, most_columns, most_lists, most_nodes}
 use Rattle.block_decoder.specs.Narrowing.{IsVisited, IsVisitedBy, AreVisited, CountsFrom, CountsBy}
 use Rattle.block_decoder.proofs.HeavyByLength.{few_by_length}
 use Rattle.block_decoder.proofs.Leaves.{few_nodes, nodes-nothing, nodes-none, nodes-after, nodes-more, nodes-whole}
 use Rattle.block_decoder.proofs.Pairs.{AllPairs-nil, AllPairs-append}
 use Rattle.block_decoder.proofs.Runs.{HasRun, visits}
 use Rattle.block_decoder.proofs.Vectors.{differ_by_beginning, differ_by_last}
+
+-- ---- the nodes of lists
+
+-- those of some lists, and of others after them
+lists_both : (a b c most n0 n1 n2 : ℕ) → c ≡ a + b → n1 ≤ n0 + a * most → n2 ≤ n1 + b * most → n2 ≤ n0 + c * most
+lists_both a b c most n0 n1 n2 e f g =
+    let k = ap (λ n. n * most) e in
+    let s : (a + b) * most ≡ a * most + b * most = omega arith in
+    omega (arith, f, g, k, s)
+
+-- those of one list are no more than those of some
+lists_some : (a most n0 n1 : ℕ) → n1 ≤ n0 + most → n1 ≤ n0 + suc a * most
+lists_some a most n0 n1 l = let s : suc a * most ≡ a * most + most = omega arith in omega (arith, l, s)
+
+-- and of fewer no more than of more
+lists_up : (a b most n0 n1 : ℕ) → a ≤ b → n1 ≤ n0 + a * most → n1 ≤ n0 + b * most
+lists_up a b most n0 n1 l f = let m = mul-le-mul_right most l in omega (arith, f, m)
+
+-- two bounds on the number of lists are one
+lesser_lists : (a b most n0 n1 : ℕ) → n1 ≤ n0 + a * most → n1 ≤ n0 + b * most → n1 ≤ n0 + min a b * most
+lesser_lists a b most n0 n1 first second =
+    elim (cases_lt b a) [
+      | inl less ↦ subst (λ m. n1 ≤ n0 + m * most) (sym (min-eq_right (le_of_lt less))) second
+      | inr few ↦ subst (λ m. n1 ≤ n0 + m * most) (sym (min-eq_left few)) first
+    ]
+
+-- ---- what is visited
 
 module _ (answers : List Answer) (width t h most : ℕ) (v : List (List ℕ)) where
   -- nothing is visited yet
@@ -22,6 +51,7 @@ module _ (answers : List Answer) (width t h most : ℕ) (v : List (List ℕ)) wh
     visited = [];
     are = record { different = AllPairs-nil (λ v w. v ≢ w); each = All-nil (IsVisited answers width t h v) };
     cols = omega (arith, cols);
+    lists = omega (arith, nodes);
     nodes = nodes-nothing answers t h most v n0 n1 nodes;
   }
 
@@ -31,6 +61,7 @@ module _ (answers : List Answer) (width t h most : ℕ) (v : List (List ℕ)) wh
     different = AllPairs-nil (λ v w. v ≢ w);
     each = All-nil (IsVisitedBy [] answers width t h v);
     cols = omega arith;
+    lists = omega arith;
     nodes = nodes-none answers t h most v nodes;
   }
 
@@ -56,6 +87,7 @@ module _ (answers : List Answer) (width t h most : ℕ) (v : List (List ℕ)) wh
             (λ u is. record { next = p; listed = Contains-append_right nexts (p ∷ []) p (0, omega arith, refl); visited = is })
             below.visited below.are.each);
         cols = omega (arith, size, first, second);
+        lists = lists_both (length before.visited) (length below.visited) (length (before.visited ++ below.visited)) most n0 n1 n2 (omega (arith, size)) before.lists below.lists;
         nodes = nodes-more answers width t h most columns v degree nexts p n0 n1 n2 others next_degree new fewer before.nodes below.nodes;
       }
     where
@@ -73,7 +105,7 @@ pub counts-run : (answers : List Answer) (width t h most : ℕ) (v : List (List 
     → CountsFrom answers width t h most v c0 c1 n0 n0
 counts-run answers width t h most v n bytes c0 c1 n0 r e =
     let count = r.count in
-    record { visited = r.visited; are = r.are; cols = omega (arith, e, count); nodes = nodes-nothing answers t h most v n0 n0 (omega arith) }
+    record { visited = r.visited; are = r.are; cols = omega (arith, e, count); lists = omega arith; nodes = nodes-nothing answers t h most v n0 n0 (omega arith) }
 
 -- a run, the column after it, and what is below each polynomial of that column
 pub counts-whole : (answers : List Answer) (width t h most : ℕ) (v : List (List ℕ)) (n : ℕ) (bytes : List ℕ)
@@ -114,6 +146,8 @@ counts-whole answers width t h most v n bytes nexts c0 c1 c2 n0 n1 n2 r degree s
             });
       };
       cols = omega (arith, c, cols, size, count);
+      lists = lists_both (length (w ∷ r.visited)) (length below.visited) (length ((w ∷ r.visited) ++ below.visited)) most n0 n1 n2 (omega (arith, size))
+          (lists_some (length r.visited) most n0 n1 nodes) below.lists;
       nodes = nodes-after answers t h most v r.more n0 n2 (sym (length-filter (holds_first w) answers) ∙ ap length r.held ∙ length-filter (holds_first v) answers)
           (nodes-whole answers t h most w nexts n0 n1 n2 enough nodes below.nodes);
     }
@@ -132,8 +166,13 @@ few_visits answers width t h columns less strong vs are =
 pub counts-few : (answers : List Answer) (width t h c0 c1 n0 n1 : ℕ) → HasColumns width answers → t < h
     → length answers * t < h * h → CountsFrom answers width t h (column_nodes (length answers) t h) [] c0 c1 n0 n1
     → (c1 ≤ c0 + most_columns (length answers) t h width) × (n1 ≤ n0 + most_nodes (length answers) t h width)
-unfolding most_columns most_nodes
+unfolding most_columns most_lists most_nodes
 counts-few answers width t h c0 c1 n0 n1 columns less strong counts =
     let few = few_visits answers width t h columns less strong counts.visited counts.are in
     let cols = counts.cols in
-    (omega (arith, few, cols), few_nodes answers t h (column_nodes (length answers) t h) n0 n1 less strong counts.nodes)
+    let most = column_nodes (length answers) t h in (
+      omega (arith, few, cols),
+      lesser_lists (most_columns (length answers) t h width) (most_lists (length answers) t h) most n0 n1
+          (lists_up (length counts.visited) (most_columns (length answers) t h width) most n0 n1 few counts.lists)
+          (few_nodes answers t h most n0 n1 less strong counts.nodes),
+    )

@@ -87,12 +87,14 @@ pub record AreVisited (answers : List Answer) (width t h : ℕ)
   pub different : AllPairs (λ v w. v ≢ w) visited
   pub each : All (IsVisited answers width t h polynomials) visited
 
--- no more columns were decoded than there are different such vectors, and the nodes of few lists were counted
+-- no more columns were decoded than there are different such vectors, in none more nodes were counted than one list has, and
+-- those of few lists in all
 pub record CountsFrom (answers : List Answer) (width t h most : ℕ)
     (polynomials : List (List ℕ)) (old_cols new_cols old_nodes new_nodes : ℕ) : Type 0 where
   pub visited : List (List (List ℕ))
   pub are : AreVisited answers width t h polynomials visited
   pub cols : new_cols ≤ old_cols + length visited
+  pub lists : new_nodes ≤ old_nodes + length visited * most
   pub nodes : NodesFrom answers t h most polynomials old_nodes new_nodes
 
 -- whatever came of it: what narrowing a candidate counted
@@ -121,12 +123,14 @@ pub record IsVisitedBy (nexts : List (List ℕ)) (answers : List Answer) (width 
   pub listed : Contains nexts next
   pub visited : IsVisited answers width t h (v ++ next ∷ []) vector
 
--- no more columns were decoded than there are different such vectors, and the nodes of few lists were counted
+-- no more columns were decoded than there are different such vectors, in none more nodes were counted than one list has, and
+-- those of few lists in all
 pub record CountsBy (nexts : List (List ℕ)) (answers : List Answer) (width t h most : ℕ) (v : List (List ℕ)) (old_cols new_cols old_nodes new_nodes : ℕ) : Type 0 where
   pub visited : List (List (List ℕ))
   pub different : AllPairs (λ v w. v ≢ w) visited
   pub each : All (IsVisitedBy nexts answers width t h v) visited
   pub cols : new_cols ≤ old_cols + length visited
+  pub lists : new_nodes ≤ old_nodes + length visited * most
   pub nodes : NodesBy nexts answers t h most v old_nodes new_nodes
 
 -- what was counted below a column's first polynomials

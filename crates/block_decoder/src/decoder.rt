@@ -43,9 +43,9 @@ use uni_poly::steps::Steps;
 /// A step of `cols` is a column decoded for a candidate, and a step of `nodes` a coefficient that is fixed in looking
 /// for the polynomials of such a list. Both are bounded also where memory runs out. `cols` rises by 1 at most for the
 /// first column and by [`bound`] for each further one. `nodes` rises by `(t + 1) * (d / t)` at most for each list,
-/// where d is the degree of [`plan`](column_lists::plan), and there are at most [`bound`] times k - `h` + 1 lists,
-/// however wide the block is: all candidates of a list have fewer answers, and two that have parted share at most
-/// `t`. `cols` rises by at least one for a listing, and by `s` where a block is listed; for the other verdicts neither
+/// where d is the degree of [`plan`](column_lists::plan). There are no more lists than columns are decoded, and at most
+/// [`bound`] times k - `h` + 1, however wide the block is: all candidates of a list have fewer answers, and two that have
+/// parted share at most `t`. `cols` rises by at least one for a listing, and by `s` where a block is listed; for the other verdicts neither
 /// rises. A listing has at most [`bound`] blocks.
 ///
 /// The payloads are read where they lie. Memory is taken for one block, for the places of all answers and of those of each

@@ -263,14 +263,14 @@ fn as_many_blocks_as_the_bound(rt: HostRuntime) -> Result<(), Fail> {
 }
 
 /// The verdict on eight equal answers, of which three are to agree: where 8 * 1 is just below 3 * 3, the bound on blocks is
-/// 16. So 33 columns are decoded at most, and a list is made at most 96 times, as it would be for a wider block.
+/// 16. So 33 columns are decoded at most, and a list is made at most as often; for a wider block at most 96 times.
 fn decided_among_eight<C: Ledger, N: Ledger>(
     alloc: Global,
     cols: &mut Steps<C>,
     nodes: &mut Steps<N>,
 ) -> Result<Verdict, AllocError>
     ensures cols { cols.new ≤ cols.old + 33 }
-    ensures nodes { nodes.new ≤ nodes.old + 96 * column_nodes 8 1 3 }
+    ensures nodes { nodes.new ≤ nodes.old + 33 * column_nodes 8 1 3 }
     ensures few { IfOk result (ListsNoMoreThan 16) }
 {
     let indices = [1, 2, 3, 4, 5, 6, 7, 8];
