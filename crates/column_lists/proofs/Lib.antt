@@ -4,3 +4,4 @@ pub mod Agreeing
 pub mod Kept
 pub mod Listed
 pub mod OnOne
+pub mod Near

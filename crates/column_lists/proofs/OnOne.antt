@@ -13,7 +13,7 @@ use Rattle.column_lists.specs.Agreement.{agreements, ListsAgreeing}
 use Rattle.column_lists.proofs.Agreeing.{takes, places, length-places, places-bytes, places-distinct}
 
 -- a polynomial that agrees with more of the points than its degree is the one on which all lie
-only_one : (psi phi : List ℕ) (points : List (ℕ × ℕ)) (t h : ℕ) → t < h → IsPolynomial t psi → IsPolynomial t phi → All (λ p. val phi p.0 ≡ p.1) points
+pub only_one : (psi phi : List ℕ) (points : List (ℕ × ℕ)) (t h : ℕ) → t < h → IsPolynomial t psi → IsPolynomial t phi → All (λ p. val phi p.0 ≡ p.1) points
     → AllPairs (λ p q. p.0 ≢ q.0) points → All (λ p. p.0 < 256) points → h ≤ agreements psi points → psi ≡ phi
 unfolding places takes
 only_one psi phi points t h more is one on distinct small enough =

@@ -5,7 +5,8 @@
 //! that each polynomial that agrees with enough of the points is one of its y-roots (Roth and Ruckenstein 2000).
 //!
 //! Promised: [`column_list`] lists exactly the polynomials that agree, each once and ascending, whatever way it
-//! interpolates, and counts and bounds its steps. Want of memory is the only error. [`plan`] gives the numbers that it works
+//! interpolates, and counts and bounds its steps. [`close_list`] gives the same list where it can be told without an
+//! interpolation in two variables. Want of memory is the only error. [`plan`] gives the numbers that [`column_list`] works
 //! with, and takes no memory. [`decode_run`] goes through many columns at once, as long as all points lie on one polynomial;
 //! it comes from `column_runs`.
 //!
@@ -13,6 +14,7 @@
 #![tactic(auto)]
 
 mod agreement;
+mod close;
 mod numbers;
 
 ghost use Rattle.std.specs.Prelude.{◌≡◌, ◌≢◌, ◌+◌, ◌*◌, ◌/◌, ◌<◌, ◌≤◌, length, map, All, AllPairs, IfOk};
@@ -23,6 +25,7 @@ ghost use Rattle.column_lists.specs.Agreement.{ListsAgreeing};
 
 use crate::agreement::{keep_agreeing, places_are_bytes};
 use bi_poly::laws::coefficients_are_bytes;
+pub use close::close_list;
 pub use column_runs::decode_run;
 use column_runs::one_polynomial::{lie_on, through_first};
 use interpolation::Interpolate;

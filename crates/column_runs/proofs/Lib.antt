@@ -1,4 +1,5 @@
 pub mod OnOne
+pub mod Misses
 pub mod ColumnPoints
 pub mod Basis
 pub mod Extension

@@ -1,13 +1,16 @@
-//! Columns of answers in which all points lie on one polynomial over GF(256), and runs of such columns.
+//! Columns of answers in which all points lie on one polynomial over GF(256), and runs of such columns; and columns in which
+//! all but a few do.
 //!
 //! Promised: [`decode_run`] takes the longest run, and gives the constant of each column's polynomial, which it finds by
-//! Lagrange's factors, rows of 16 columns at once. [`plain::plain_run`] does the same a column at a time. Want of memory is
-//! the only error.
+//! Lagrange's factors, rows of 16 columns at once. [`plain::plain_run`] does the same a column at a time.
+//! [`close_polynomial`] finds a polynomial that few points of a column are off, or each misses some of them. Want of memory
+//! is the only error.
 //!
 //! Not promised: anything of time. For p rows and degree t it takes `(p - t) * t` products of 16 bytes for each 16 columns,
-//! and memory for `t + 1` rows of 1024 columns.
+//! and memory for `t + 1` rows of 1024 columns; a column of p points that has no close polynomial some `p * p` products.
 #![tactic(auto)]
 
+mod close;
 mod lagrange;
 pub mod one_polynomial;
 pub mod plain;
@@ -15,4 +18,5 @@ mod rows;
 mod run;
 mod tile;
 
+pub use close::{close_polynomial, least_misses};
 pub use run::decode_run;
