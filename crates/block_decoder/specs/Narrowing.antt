@@ -5,12 +5,13 @@ use Rattle.gf256.specs.Polynomial.{val, IsPolynomial}
 use Rattle.column_lists.specs.declared.TheConstants.{MOST_COST}
 use Rattle.column_lists.specs.Numbers.{cost}
 use Rattle.column_lists.specs.Agreement.{ListsAgreeing}
+use Rattle.column_runs.specs.Close.{least_misses, EachMisses}
 use Rattle.column_runs.specs.OnOne.{LieOnOne}
 use Rattle.wire_frames.specs.Answer.{Answer}
 use Rattle.quantity_limits.specs.declared.TheConstants.{MOST_SERVERS}
 use Rattle.block_decoder.specs.Agreed.{holds_first, weight, constants_of}
 use Rattle.block_decoder.specs.Gains.{Gains}
-use Rattle.block_decoder.specs.Leaves.{NodesFrom, NodesBy}
+use Rattle.block_decoder.specs.Lists.{NodesFrom, NodesBy}
 use Rattle.block_decoder.specs.Numbers.{column_nodes}
 use Rattle.block_decoder.specs.Report.{Agreement, indices_of}
 use Rattle.block_decoder.specs.Vectors.{IsHeavyVector}
@@ -151,6 +152,11 @@ pub record HaveParted (width t h : ℕ) (kept : List Answer) (column : ℕ) (nex
   pub short : column < width
   pub lists : ListsAgreeing nexts (points_of kept column) t h
   pub apart : ¬ LieOnOne (points_of kept column) t
+
+-- points of which many are off each polynomial of small degree, and so many that h can lie on one all the same
+pub record AreFar (points : List (ℕ × ℕ)) (t h : ℕ) : Type 0 where
+  pub each_misses : EachMisses (least_misses t h) points t
+  pub enough : h + least_misses t h ≤ length points
 
 -- whatever came of it: what was counted below the first of them
 pub record HaveCounted (nexts : List (List ℕ)) (answers : List Answer) (width t h : ℕ) (kept : List Answer) (column : ℕ) (block : List ℕ) (c0 c1 n0 n1 : ℕ) : Type 0 where
