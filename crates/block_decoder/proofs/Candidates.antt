@@ -1,5 +1,5 @@
 -- A candidate from one column to the next.
-use Rattle.std.proofs.Common.{◌≡◌, ◌↔◌, ℕ, ◌+◌, ◌<◌, ◌≤◌, List, [], ◌∷◌, ◌++◌, length, get_or, map, take, drop, Contains, Vec, Global, refl, sym, ap, ap₂, subst, ◌∙◌, arith, inl, inr, eqb-true}
+use Rattle.std.proofs.Common.{◌≡◌, ◌↔◌, ◌⊎◌, ℕ, ◌+◌, ◌<◌, ◌≤◌, List, [], ◌∷◌, ◌++◌, length, get_or, map, take, drop, Contains, Vec, Global, refl, sym, ap, ap₂, subst, ◌∙◌, arith, inl, inr, eqb-true}
 use Rattle.std.specs.Cmp.Lexicographic.{slice_cmp}
 use Rattle.std.specs.List.{filter}
 use Rattle.std.specs.List.Sorted.{IsStrictlySortedBy}
@@ -7,24 +7,26 @@ use Rattle.std.specs.Ordering.{nat_cmp}
 use Rattle.std.specs.declared.cmp.Ordering.TheVariants.{Less}
 use Rattle.std.proofs.lemmas.Bool.{cases_lt}
 use Rattle.std.proofs.lemmas.Cmp.{nat_list_cmp_total}
-use Rattle.std.proofs.lemmas.List.{length-append, length-drop, map-append, take_all, get_or-take, length-take-le, take-append-drop, get_or_default, get_or-map}
-use Rattle.std.proofs.lemmas.List.Elements.{All-nil, All-cons, All-append, All-map, Contains-append_left}
+use Rattle.std.proofs.lemmas.List.{length-append, length-drop, map-append, take_all, get_or-take, length-take-le, get_or_default, get_or-map}
+use Rattle.std.proofs.lemmas.List.Elements.{All-nil, All-cons, All-append, All-map}
 use Rattle.std.proofs.lemmas.List.Sums.{length-filter}
 use Rattle.std.proofs.lemmas.Map.Keys.{Less-from_sorted}
 use Rattle.gf256.specs.Polynomial.{coef, val, IsPolynomial}
 use Rattle.wire_frames.specs.Answer.{Answer}
 use Rattle.column_lists.specs.Agreement.{agreements, ListsAgreeing}
+use Rattle.column_lists.proofs.Near.{agree-or-miss}
 use Rattle.column_runs.specs.OnOne.{LieOnOne}
 use Rattle.column_runs.specs.Run.{IsConstant, IsRun}
 use Rattle.block_decoder.specs.Agreed.{constants_of, holds_first, weight, HasColumns}
 use Rattle.block_decoder.specs.Gains.{Gains}
-use Rattle.block_decoder.specs.Narrowing.{agreement_on, holding, meets, points_of, IsCandidate, ContinuesFrom, ContinuesBy, CountsFrom, CountsBy}
+use Rattle.block_decoder.specs.Narrowing.{agreement_on, holding, meets, points_of, AreFar, IsCandidate, ContinuesFrom, ContinuesBy, CountsFrom, CountsBy}
 use Rattle.block_decoder.specs.Report.{Agreement, indices_of}
 use Rattle.block_decoder.proofs.Continued.{continues-whole, continues-by}
 use Rattle.block_decoder.proofs.Continues.{Gains-same}
 use Rattle.block_decoder.proofs.Counting.{all_pass}
 use Rattle.block_decoder.proofs.Holding.{filter-all, holding-more, weight-more}
-use Rattle.block_decoder.proofs.Kept.{points_at-is}
+use Rattle.block_decoder.proofs.Kept.{points_at-is, length-points}
+use Rattle.block_decoder.proofs.Lists.{MissMany}
 use Rattle.block_decoder.proofs.Members.{not_before_itself}
 use Rattle.block_decoder.proofs.Runs.{HasRun, has_run, run-candidate}
 use Rattle.block_decoder.proofs.Visits.{counts-more, counts-run, counts-whole}
@@ -58,6 +60,26 @@ first-candidate answers part t h block same enough = record {
   enough = subst (λ (l : List Answer). h ≤ length l) (sym same) enough;
   constants = refl;
 }
+
+-- ---- where the answers are close to no polynomial
+
+-- each polynomial of the column misses many of them
+miss-many : (answers : List Answer) (width t h : ℕ) → HasColumns width answers → (kept : List Answer) (column : ℕ) (block : List ℕ)
+    → (c : IsCandidate answers t h kept column block) → column < width → AreFar (points_of kept column) t h → MissMany answers t h c.polynomials
+miss-many answers width t h columns kept column block c short far =
+    let enough = far.enough in
+    let size = length-points kept column in
+    let now : weight c.polynomials answers ≡ length kept =
+    sym (length-filter (holds_first c.polynomials) answers) ∙ ap length (sym c.held) in
+    record {
+      enough = omega (arith, enough, size, now);
+      fewer = λ p degree.
+          let then = weight-more answers width column c.polynomials p columns.filled c.one_a_column short
+          ∙ ap (λ (part : List Answer). agreements p (points_of part column)) (sym c.held) in
+          let all = agree-or-miss p (points_of kept column) in
+          let off = far.each_misses p degree in
+          omega (arith, then, all, off, size, now);
+    }
 
 -- ---- after a run
 
@@ -129,12 +151,17 @@ module _ (answers : List Answer) (width t h : ℕ) (columns : HasColumns width a
       (λ b. let is = (run_of c).same b in (λ x. is.0 ((by b).0 x), λ y. (by b).1 (is.1 y))) gains
 
   pub counts-below : column + n < width → (nexts : List (List ℕ)) (c : IsCandidate answers t h kept column old)
-      (most c0 c1 c2 n0 n1 n2 : ℕ) → c1 ≤ c0 + n + 1 → n1 ≤ n0 + most
+      (most c0 c1 c2 n0 n1 n2 : ℕ) → c1 ≤ c0 + n + 1 → n1 ≤ n0 + most → ((n1 ≡ n0) ⊎ AreFar (points_of kept (column + n)) t h)
       → CountsBy nexts answers width t h most (after c).polynomials c1 c2 n1 n2
       → CountsFrom answers width t h most c.polynomials c0 c2 n0 n2
-  counts-below short nexts c most c0 c1 c2 n0 n1 n2 cols nodes below =
+  counts-below short nexts c most c0 c1 c2 n0 n1 n2 cols nodes far below =
       let long = c.one_a_column in
-      counts-whole answers width t h most c.polynomials n (drop column new) nexts c0 c1 c2 n0 n1 n2 (run_of c) c.degree (omega (arith, long, short)) (heavy_after c) cols nodes below
+      counts-whole answers width t h most c.polynomials n (drop column new) nexts c0 c1 c2 n0 n1 n2 (run_of c) c.degree (omega (arith, long, short)) (heavy_after c) cols nodes
+      (elim far [
+        | inl same ↦ inl (omega (arith, same))
+        | inr are ↦ inr (miss-many answers width t h columns kept (column + n) new (after c) short are)
+      ])
+      below
 
 -- ---- one polynomial more
 
@@ -189,23 +216,14 @@ module _ (answers : List Answer) (width t h : ℕ) (columns : HasColumns width a
       ]
 
   -- what is below it as well
-  pub counts-next : ¬ LieOnOne (points_of kept column) t → (old : List ℕ) (c : IsCandidate answers t h kept column old)
+  pub counts-next : (old : List ℕ) (c : IsCandidate answers t h kept column old)
       (i most c0 c1 c2 n0 n1 n2 : ℕ) → ¬ Contains (take i nexts) p
       → CountsBy (take i nexts) answers width t h most c.polynomials c0 c1 n0 n1
       → CountsFrom answers width t h most (c.polynomials ++ p ∷ []) c1 c2 n1 n2
       → CountsBy (take i nexts ++ p ∷ []) answers width t h most c.polynomials c0 c2 n0 n2
-  counts-next apart old c i most c0 c1 c2 n0 n1 n2 new before below =
-      let less = fewer (filter (meets p column) kept) refl apart in
-      let now : weight c.polynomials answers ≡ length kept =
-      sym (length-filter (holds_first c.polynomials) answers) ∙ ap length (sym c.held) in
-      let then : weight (c.polynomials ++ p ∷ []) answers ≡ length (filter (meets p column) kept) =
-      sym (length-filter (holds_first (c.polynomials ++ p ∷ [])) answers)
-      ∙ ap length (holding-more answers width column c.polynomials p columns.filled c.one_a_column short
-      ∙ ap (filter (meets p column)) (sym c.held)) in
+  counts-next old c i most c0 c1 c2 n0 n1 n2 new before below =
       counts-more answers width t h most c.polynomials (take i nexts) p c0 c1 c2 n0 n1 n2 columns c.degree
-      (λ q l. ((lists.exact q).0 (subst (λ (qs : List (List ℕ)). Contains qs q) (take-append-drop i nexts)
-      (Contains-append_left (take i nexts) (drop i nexts) q l))).0)
-      ((lists.exact p).0 listed).0 new (omega (arith, less, now, then)) before below
+      ((lists.exact p).0 listed).0 new before below
 
 -- the item of a loop over vectors
 pub item_is : (vectors : List (Vec ℕ Global)) (i : ℕ) (v : Vec ℕ Global) → i < length vectors

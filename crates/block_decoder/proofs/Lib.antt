@@ -28,7 +28,9 @@ mod Visits
 mod Costs
 pub mod FewBlocks
 pub mod HeavyByLength
-mod Leaves
+mod Products
+mod Lists
+pub mod FewLists
 mod Candidates
 mod Turns
 pub mod Reported

@@ -8,7 +8,7 @@ use Rattle.column_lists.specs.Agreement.{ListsAgreeing}
 use Rattle.column_runs.specs.Run.{IsRun}
 use Rattle.block_decoder.specs.Agreed.{holds_first, Filled, HasColumns}
 use Rattle.block_decoder.specs.Gains.{Gains}
-use Rattle.block_decoder.specs.Narrowing.{agreement_on, meets, points_of, CountsBy, IsCandidate, IsCounted, IsExtended, IsPart, ContinuesFrom, ContinuesBy, HaveParted, TurnsCounted, TurnsGained}
+use Rattle.block_decoder.specs.Narrowing.{agreement_on, meets, points_of, AreFar, CountsBy, IsCandidate, IsCounted, IsExtended, IsPart, ContinuesFrom, ContinuesBy, HaveParted, TurnsCounted, TurnsGained}
 use Rattle.block_decoder.specs.Numbers.{column_nodes}
 use Rattle.block_decoder.specs.Report.{Agreement, indices_of}
 use Rattle.block_decoder.proofs.Candidates.{apart_after, run-fits, after, exact-end, counts-end, exact-below, counts-below, counts-next, not_before, with_next, fewer}
@@ -95,7 +95,7 @@ module _ (answers : List Answer) (width t h : ℕ) (columns : HasColumns width a
         let more_nodes = below.nodes in
         record {
           counts = λ c. subst (λ (qs : List (List ℕ)). CountsBy qs answers width t h most c.polynomials c0 c2 n0 n2) (sym grown)
-              (counts-next answers width t h columns kept column nexts p at.short at.lists listed at.apart first c i most c0 c1 c2 n0 n1 n2 new (before.counts c) (below.counts (taken c)));
+              (counts-next answers width t h columns kept column nexts p at.short at.lists listed first c i most c0 c1 c2 n0 n1 n2 new (before.counts c) (below.counts (taken c)));
           cols = omega (arith, cols, more_cols);
           nodes = omega (arith, nodes, more_nodes);
         }
@@ -174,15 +174,15 @@ module _ (answers : List Answer) (width t h : ℕ) (kept : List Answer) (column 
       record { short = short; lists = lists; apart = apart_after answers width t h d.columns d.more_than kept column n old new d.fits d.size d.same d.run short }
 
   pub counted-below : column + n < width → (nexts : List (List ℕ)) (c2 c3 n0 n1 n2 : ℕ) → c2 ≤ c1 + 1 → c1 ≤ c2
-      → n1 ≤ n0 + column_nodes (length answers) t h → n0 ≤ n1
+      → n1 ≤ n0 + column_nodes (length answers) t h → n0 ≤ n1 → ((n1 ≡ n0) ⊎ AreFar (points_of kept (column + n)) t h)
       → TurnsCounted nexts answers width t h kept (column + n) new c2 c3 n1 n2
       → IsCounted answers width t h kept column old c0 c3 n0 n2
-  counted-below short nexts c2 c3 n0 n1 n2 one up most upper below =
+  counted-below short nexts c2 c3 n0 n1 n2 one up most upper far below =
       let cols = d.cols in
       let more_cols = below.cols in
       let more_nodes = below.nodes in
       record {
-        counts = λ c. counts-below answers width t h d.columns d.more_than kept column n old new d.fits d.size d.same d.run short nexts c (column_nodes (length answers) t h) c0 c2 c3 n0 n1 n2 (omega (arith, cols, one)) most
+        counts = λ c. counts-below answers width t h d.columns d.more_than kept column n old new d.fits d.size d.same d.run short nexts c (column_nodes (length answers) t h) c0 c2 c3 n0 n1 n2 (omega (arith, cols, one)) most far
             (below.counts (after answers width t h d.columns d.more_than kept column n old new d.fits d.size d.same d.run c));
         cols = omega (arith, cols, up, more_cols);
         nodes = omega (arith, upper, more_nodes);

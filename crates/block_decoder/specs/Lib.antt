@@ -9,5 +9,5 @@ pub mod Reported
 pub mod Judging
 pub mod Vectors
 pub mod Narrowing
-pub mod Leaves
+pub mod Lists
 pub mod Usable

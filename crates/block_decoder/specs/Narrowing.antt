@@ -5,12 +5,13 @@ use Rattle.gf256.specs.Polynomial.{val, IsPolynomial}
 use Rattle.column_lists.specs.declared.TheConstants.{MOST_COST}
 use Rattle.column_lists.specs.Numbers.{cost}
 use Rattle.column_lists.specs.Agreement.{ListsAgreeing}
+use Rattle.column_runs.specs.Close.{least_misses, EachMisses}
 use Rattle.column_runs.specs.OnOne.{LieOnOne}
 use Rattle.wire_frames.specs.Answer.{Answer}
 use Rattle.quantity_limits.specs.declared.TheConstants.{MOST_SERVERS}
 use Rattle.block_decoder.specs.Agreed.{holds_first, weight, constants_of}
 use Rattle.block_decoder.specs.Gains.{Gains}
-use Rattle.block_decoder.specs.Leaves.{NodesFrom, NodesBy}
+use Rattle.block_decoder.specs.Lists.{NodesFrom, NodesBy}
 use Rattle.block_decoder.specs.Numbers.{column_nodes}
 use Rattle.block_decoder.specs.Report.{Agreement, indices_of}
 use Rattle.block_decoder.specs.Vectors.{IsHeavyVector}
@@ -87,12 +88,14 @@ pub record AreVisited (answers : List Answer) (width t h : ℕ)
   pub different : AllPairs (λ v w. v ≢ w) visited
   pub each : All (IsVisited answers width t h polynomials) visited
 
--- no more columns were decoded than there are different such vectors, and the nodes of few lists were counted
+-- no more columns were decoded than there are different such vectors, in none more nodes were counted than one list has, and
+-- those of few lists in all
 pub record CountsFrom (answers : List Answer) (width t h most : ℕ)
     (polynomials : List (List ℕ)) (old_cols new_cols old_nodes new_nodes : ℕ) : Type 0 where
   pub visited : List (List (List ℕ))
   pub are : AreVisited answers width t h polynomials visited
   pub cols : new_cols ≤ old_cols + length visited
+  pub lists : new_nodes ≤ old_nodes + length visited * most
   pub nodes : NodesFrom answers t h most polynomials old_nodes new_nodes
 
 -- whatever came of it: what narrowing a candidate counted
@@ -121,12 +124,14 @@ pub record IsVisitedBy (nexts : List (List ℕ)) (answers : List Answer) (width 
   pub listed : Contains nexts next
   pub visited : IsVisited answers width t h (v ++ next ∷ []) vector
 
--- no more columns were decoded than there are different such vectors, and the nodes of few lists were counted
+-- no more columns were decoded than there are different such vectors, in none more nodes were counted than one list has, and
+-- those of few lists in all
 pub record CountsBy (nexts : List (List ℕ)) (answers : List Answer) (width t h most : ℕ) (v : List (List ℕ)) (old_cols new_cols old_nodes new_nodes : ℕ) : Type 0 where
   pub visited : List (List (List ℕ))
   pub different : AllPairs (λ v w. v ≢ w) visited
   pub each : All (IsVisitedBy nexts answers width t h v) visited
   pub cols : new_cols ≤ old_cols + length visited
+  pub lists : new_nodes ≤ old_nodes + length visited * most
   pub nodes : NodesBy nexts answers t h most v old_nodes new_nodes
 
 -- what was counted below a column's first polynomials
@@ -147,6 +152,11 @@ pub record HaveParted (width t h : ℕ) (kept : List Answer) (column : ℕ) (nex
   pub short : column < width
   pub lists : ListsAgreeing nexts (points_of kept column) t h
   pub apart : ¬ LieOnOne (points_of kept column) t
+
+-- points of which many are off each polynomial of small degree, and so many that h can lie on one all the same
+pub record AreFar (points : List (ℕ × ℕ)) (t h : ℕ) : Type 0 where
+  pub each_misses : EachMisses (least_misses t h) points t
+  pub enough : h + least_misses t h ≤ length points
 
 -- whatever came of it: what was counted below the first of them
 pub record HaveCounted (nexts : List (List ℕ)) (answers : List Answer) (width t h : ℕ) (kept : List Answer) (column : ℕ) (block : List ℕ) (c0 c1 n0 n1 : ℕ) : Type 0 where

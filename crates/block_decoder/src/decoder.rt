@@ -35,18 +35,25 @@ use uni_poly::steps::Steps;
 /// number), else `Listed`.
 ///
 /// It decodes the block column by column. As long as all answers of a candidate lie on one polynomial, there is no
-/// other way to go on; where they don't, each polynomial on which `h` of them lie, by the list decoding of Guruswami
-/// and Sudan (1999), is a candidate of its own, with the answers on it, which are fewer. `way` interpolates for that.
-/// It calls itself to a depth of k - `h` + 1 at most. There are at most [`MOST_SERVERS`](wire_frames::MOST_SERVERS)
-/// answers.
+/// other way to go on. Where fewer than `h - t` of them are off one, there is none but that: the candidate loses those that
+/// are off, and ends where fewer than `h` are left. Where none is so close, each polynomial on which `h` of them lie, by the
+/// list decoding of Guruswami and Sudan (1999), is a candidate of its own, with the answers on it, which are fewer. `way`
+/// interpolates for that. It calls itself to a depth of k - `h` + 1 at most. There are at most
+/// [`MOST_SERVERS`](wire_frames::MOST_SERVERS) answers.
 ///
 /// A step of `cols` is a column decoded for a candidate, and a step of `nodes` a coefficient that is fixed in looking
 /// for the polynomials of such a list. Both are bounded also where memory runs out. `cols` rises by 1 at most for the
 /// first column and by [`bound`] for each further one. `nodes` rises by `(t + 1) * (d / t)` at most for each list,
-/// where d is the degree of [`plan`](column_lists::plan), and there are at most [`bound`] times k - `h` + 1 lists,
-/// however wide the block is: all candidates of a list have fewer answers, and two that have parted share at most
-/// `t`. `cols` rises by at least one for a listing, and by `s` where a block is listed; for the other verdicts neither
-/// rises. A listing has at most [`bound`] blocks.
+/// where d is the degree of [`plan`](column_lists::plan), and there are no more lists than columns are decoded. However
+/// wide the block is, there are no more than the sum of `bound(k, t, a)` over a = h + w, h + 2w and so on up to k, where w
+/// is [`least_misses`](column_runs::least_misses), the lesser of `h - t` and `h / (t + 1)`. For a list is made only where
+/// h + w answers or more are left and each polynomial misses w of them or more: along one way lists are made at numbers of
+/// answers that lie w apart, and of candidates with a to a + w - 1 answers any two have parted, so that they share at most
+/// `t`, and there are at most `bound(k, t, a)` (Johnson 1962). This count of lists is the decoder's own, and never more than
+/// [`bound`] times k - `h` + 1 ([`lists_are_few`](crate::laws::lists_are_few)).
+///
+/// `cols` rises by at least one for a listing, and by `s` where a block is listed; for the other verdicts neither rises. A
+/// listing has at most [`bound`] blocks.
 ///
 /// The payloads are read where they lie. Memory is taken for one block, for the places of all answers and of those of each
 /// candidate, for the list that it comes from, and for the blocks that are listed; none column by column.

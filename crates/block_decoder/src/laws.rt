@@ -1,10 +1,11 @@
 //! The laws of verdicts and of agreement, each as a call whose contract is the law. A call changes nothing.
 
-ghost use Rattle.std.specs.Prelude.{◌≡◌, ◌+◌, ◌*◌, ◌<◌, ◌≤◌, length};
+ghost use Rattle.std.specs.Prelude.{◌≡◌, ◌+◌, ◌-◌, ◌*◌, ◌<◌, ◌≤◌, length};
 ghost use Rattle.std.specs.List.Sorted.{IsStrictlyIncreasing};
 ghost use Rattle.quantity_limits.specs.declared.TheConstants.{MOST_SERVERS};
 ghost use Rattle.wire_frames.specs.Answer.{answers};
 ghost use Rattle.block_decoder.specs.Agreed.{answers_of, Agreed};
+ghost use Rattle.block_decoder.specs.Numbers.{bound_of, most_lists};
 ghost use Rattle.block_decoder.specs.Report.{IsReport};
 ghost use Rattle.block_decoder.specs.Reported.{HasOneReport};
 ghost use Rattle.block_decoder.specs.Verdict.{HasOneVerdict, HasVerdict, IsDecided, IsVerdict, ListsAtMostOne};
@@ -97,3 +98,12 @@ pub fn close_session_is_listed(session: &Session, verdict: &Verdict)
     session.params();
     session.record_count();
 }
+
+/// The count of lists that bounds the steps of [`decide`](crate::decide), by numbers of answers that lie apart, is no greater
+/// than one list for each block that can be agreed on and each number of answers from `h` to k.
+pub fn lists_are_few(k: u32, t: u32, h: u32)
+    requires redundant { t < h }
+    requires agreement { h ≤ k }
+    requires strong { k * t < h * h }
+    ensures { most_lists k t h ≤ bound_of k t h * (k - h + 1) }
+{}

@@ -1,6 +1,6 @@
 //! Narrows the answers to those that agree, column by column.
 
-ghost use Rattle.std.specs.Prelude.{◌≡◌, ◌≢◌, ◌+◌, ◌*◌, ◌<◌, ◌≤◌, [], ◌∷◌, ◌++◌, length, map, take, drop, slice_index, All, AllPairs, IfOk, OnOk, MatchResult};
+ghost use Rattle.std.specs.Prelude.{◌≡◌, ◌≢◌, ◌+◌, ◌*◌, ◌<◌, ◌≤◌, ◌⊎◌, [], ◌∷◌, ◌++◌, length, map, take, drop, slice_index, All, AllPairs, IfOk, OnOk, MatchResult};
 ghost use Rattle.std.specs.List.{filter};
 ghost use Rattle.std.specs.List.Sorted.{IsStrictlySortedBy};
 ghost use Rattle.column_lists.specs.declared.TheConstants.{MOST_COST};
@@ -9,13 +9,13 @@ ghost use Rattle.column_lists.specs.Numbers.{cost};
 ghost use Rattle.column_runs.specs.Run.{IsRun};
 ghost use Rattle.quantity_limits.specs.declared.TheConstants.{MOST_SERVERS};
 ghost use Rattle.block_decoder.specs.Agreed.{HasColumns};
-ghost use Rattle.block_decoder.specs.Narrowing.{meets, points_of as points_in, CanBeListed, HaveCounted, HaveExtended, HaveParted, IsCandidate, IsCounted, IsExtended};
+ghost use Rattle.block_decoder.specs.Narrowing.{meets, points_of as points_in, AreFar, CanBeListed, HaveCounted, HaveExtended, HaveParted, IsCandidate, IsCounted, IsExtended};
 ghost use Rattle.block_decoder.specs.Report.{agreement_cmp, IsReport};
 ghost use Rattle.block_decoder.specs.Numbers.{column_nodes, most_columns, most_nodes};
 
 use crate::agreements::Report;
 use crate::answer_set::AnswerSet;
-use column_lists::{column_list, decode_run};
+use column_lists::{close_list, column_list, decode_run};
 use interpolation::Interpolate;
 use std::alloc::{AllocError, Global};
 use std::sync::ledger::Ledger;
@@ -86,7 +86,9 @@ impl<'a, I: Interpolate> Narrowing<'a, I> {
     /// block, and of the answers `kept` at which these hold.
     ///
     /// As long as all of these answers lie on one polynomial of small degree, there is no other way to go on. Where they
-    /// don't, each polynomial on which enough of them lie makes a candidate of its own, with fewer answers.
+    /// don't, each polynomial on which enough of them lie makes a candidate of its own, with fewer answers: one at most where
+    /// all but a few lie on it, and else as many as a list proper has, each of which has lost so many answers that lists are
+    /// few along each way.
     #[cycle(extend)]
     fn extend<C: Ledger, N: Ledger>(
         &self,
@@ -223,9 +225,43 @@ fn list<I: Interpolate, C: Ledger, N: Ledger>(
     ensures some { OnOk result (cols.old < cols.new) }
     ensures nodes { nodes.new ≤ nodes.old + column_nodes (length kept.now) t h }
     ensures rises { (cols.old ≤ cols.new) × (nodes.old ≤ nodes.new) }
+    ensures far { (nodes.new ≡ nodes.old) ⊎ AreFar (points_in kept.now column) t h }
 {
     let points = kept.points(alloc, column)?;
-    column_list(alloc, way, &points, t, h, cols, nodes)
+    list_points(alloc, way, &points, t, h, cols, nodes)
+}
+
+/// The polynomials of degree at most `t` that agree with `h` or more of the points.
+///
+/// Where all but a few lie on one, no other can be listed. A list proper is made only where no polynomial is so close and
+/// there are so many points that `h` of them can lie on one all the same.
+fn list_points<I: Interpolate, C: Ledger, N: Ledger>(
+    alloc: Global,
+    way: &I,
+    points: &[(u8, u8)],
+    t: u32,
+    h: u32,
+    cols: &mut Steps<C>,
+    nodes: &mut Steps<N>,
+) -> Result<Vec<Vec<u8>>, AllocError>
+    requires degree { (1 ≤ t) × (t < h) }
+    requires agreement { h ≤ length points.now }
+    requires few { length points.now ≤ MOST_SERVERS }
+    requires strong { length points.now * t < h * h }
+    requires cheap { cost (length points.now) t h ≤ MOST_COST }
+    requires distinct { AllPairs (λ p q. p.0 ≢ q.0) points.now }
+    requires nonzero { All (λ p. p.0 ≢ 0) points.now }
+    ensures exact { IfOk result (λ list. ListsAgreeing (map (λ r. r.items) list.items) points.now t h) }
+    ensures cols { cols.new ≤ cols.old + 1 }
+    ensures some { OnOk result (cols.old < cols.new) }
+    ensures nodes { nodes.new ≤ nodes.old + column_nodes (length points.now) t h }
+    ensures rises { (cols.old ≤ cols.new) × (nodes.old ≤ nodes.new) }
+    ensures far { (nodes.new ≡ nodes.old) ⊎ AreFar points.now t h }
+{
+    if let Some(list) = close_list(alloc, points, t, h, cols)? {
+        return Ok(list);
+    }
+    column_list(alloc, way, points, t, h, cols, nodes)
 }
 
 /// Puts the constant of a column's polynomial into the block, and has the answers that lie on the polynomial.

@@ -263,14 +263,14 @@ fn as_many_blocks_as_the_bound(rt: HostRuntime) -> Result<(), Fail> {
 }
 
 /// The verdict on eight equal answers, of which three are to agree: where 8 * 1 is just below 3 * 3, the bound on blocks is
-/// 16. So 33 columns are decoded at most, and a list is made at most 96 times, as it would be for a wider block.
+/// 16. So 33 columns are decoded at most. A list is made at most 7 times, as it would be for a wider block.
 fn decided_among_eight<C: Ledger, N: Ledger>(
     alloc: Global,
     cols: &mut Steps<C>,
     nodes: &mut Steps<N>,
 ) -> Result<Verdict, AllocError>
     ensures cols { cols.new ≤ cols.old + 33 }
-    ensures nodes { nodes.new ≤ nodes.old + 96 * column_nodes 8 1 3 }
+    ensures nodes { nodes.new ≤ nodes.old + 7 * column_nodes 8 1 3 }
     ensures few { IfOk result (ListsNoMoreThan 16) }
 {
     let indices = [1, 2, 3, 4, 5, 6, 7, 8];
@@ -305,6 +305,85 @@ fn counted_among_eight<C: Ledger, N: Ledger>(
 fn eight_equal_answers(rt: HostRuntime) -> Result<(), Fail> {
     let verdict = counted_among_eight::<Brand, Brand>(Blank::new(1), Blank::new(1), rt.alloc())?;
     assert!(rt; is_written(rt.alloc(), &verdict, b"blocks 1\n616263\n")?);
+    Ok(())
+}
+
+/// The verdict on eight equal answers, of which five are to agree at degree 3. A list is made at most 4 times: of six answers,
+/// where each polynomial misses one or more, in 2 ways, of seven and of eight in one.
+fn decided_at_degree_three<C: Ledger, N: Ledger>(
+    alloc: Global,
+    cols: &mut Steps<C>,
+    nodes: &mut Steps<N>,
+) -> Result<Verdict, AllocError>
+    ensures nodes { nodes.new ≤ nodes.old + 4 * column_nodes 8 3 5 }
+    ensures few { IfOk result (ListsNoMoreThan 16) }
+{
+    let indices = [1, 2, 3, 4, 5, 6, 7, 8];
+    decide(
+        alloc,
+        &Koetter,
+        &indices,
+        b"abcabcabcabcabcabcabcabc",
+        3,
+        5,
+        3,
+        cols,
+        nodes,
+    )
+}
+
+/// The verdict on twenty equal answers, of which eight are to agree at degree 3. A list is made at most 9 times: each polynomial
+/// misses two or more, so of 10 or 11 answers in 3 ways, of 12 or 13 in 2, and in one of 14, 16, 18, 20 and one more of each.
+fn decided_among_twenty<C: Ledger, N: Ledger>(
+    alloc: Global,
+    cols: &mut Steps<C>,
+    nodes: &mut Steps<N>,
+) -> Result<Verdict, AllocError>
+    ensures nodes { nodes.new ≤ nodes.old + 9 * column_nodes 20 3 8 }
+    ensures few { IfOk result (ListsNoMoreThan 25) }
+{
+    let indices = [
+        1, 2, 3, 4, 5, 6, 7, 8, 9, 10, 11, 12, 13, 14, 15, 16, 17, 18, 19, 20,
+    ];
+    decide(
+        alloc,
+        &Koetter,
+        &indices,
+        b"abababababababababababababababababababab",
+        3,
+        8,
+        2,
+        cols,
+        nodes,
+    )
+}
+
+/// Both, with counters made of the blanks.
+fn counted_at_degree_three<C: Ledger, N: Ledger>(
+    cols: Blank,
+    nodes: Blank,
+    alloc: Global,
+) -> Result<(Verdict, Verdict), AllocError>
+    requires cols { (cols.name ≡ C.name) × (cols.parts ≡ C.parts) × (0 < cols.parts) }
+    requires nodes { (nodes.name ≡ N.name) × (nodes.parts ≡ N.parts) × (0 < nodes.parts) }
+{
+    let mut cols: Steps<C> = Steps::new(cols);
+    let mut nodes: Steps<N> = Steps::new(nodes);
+    let eight = decided_at_degree_three(alloc, &mut cols, &mut nodes)?;
+    let twenty = decided_among_twenty(alloc, &mut cols, &mut nodes)?;
+    Ok((eight, twenty))
+}
+
+#[test]
+fn equal_answers_at_degree_three(rt: HostRuntime) -> Result<(), Fail> {
+    let alloc = rt.alloc();
+    let (eight, twenty) = counted_at_degree_three::<Brand, Brand>(
+        Blank::new(1),
+        Blank::new(1),
+        alloc,
+    )?;
+    assert!(rt; is_written(alloc, &eight, b"blocks 1\n616263\n")?);
+    assert!(rt; is_written(alloc, &twenty, b"blocks 1\n6162\n")?);
     Ok(())
 }
 

@@ -1,4 +1,5 @@
-use Rattle.block_decoder.specs.Numbers.{most_columns, most_nodes}
+use Rattle.block_decoder.specs.Numbers.{bounds_from, most_columns, most_lists, most_nodes}
+use Rattle.column_runs.specs.Close.{least_misses}
 use Rattle.program_tests.proofs.agreed_blocks.decided_among_eight.Goals as goal
 
 pub returns-clause-cols : goal.returns-clause-cols
@@ -6,5 +7,5 @@ unfolding most_columns
 returns-clause-cols g c = c.decide.ensures.cols
 
 pub returns-clause-nodes : goal.returns-clause-nodes
-unfolding most_nodes
+unfolding bounds_from least_misses most_columns most_lists most_nodes
 returns-clause-nodes g c = c.decide.ensures.nodes

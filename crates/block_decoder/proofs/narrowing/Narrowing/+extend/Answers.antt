@@ -166,7 +166,7 @@ extend-returns-in_err-list-clause-counted g t c =
     let fits = decoded-fits s.answers s.width s.degree s.agreement kept c.args.column n c.args.block.now c.decode.new.block c.args.cols.now c.decode.new.cols decoded in
     let short : c.args.column + n < s.width = below-width (c.args.column + n) s.width fits c.if-next-self.false in
     counted-below s.answers s.width s.degree s.agreement kept c.args.column n c.args.block.now c.decode.new.block c.args.cols.now c.decode.new.cols decoded short [] c.list.new.cols c.list.new.cols c.args.nodes.now c.list.new.nodes c.list.new.nodes
-    c.in_err-list.ensures.cols c.in_err-list.ensures.rises.0 (part-nodes s.answers kept s.degree s.agreement (kept-part s.answers s.degree s.agreement c.args.kept.now c.args.column c.args.block.now c.requires.candidate) s.listed c.args.nodes.now c.list.new.nodes c.in_err-list.ensures.nodes) c.in_err-list.ensures.rises.1
+    c.in_err-list.ensures.cols c.in_err-list.ensures.rises.0 (part-nodes s.answers kept s.degree s.agreement (kept-part s.answers s.degree s.agreement c.args.kept.now c.args.column c.args.block.now c.requires.candidate) s.listed c.args.nodes.now c.list.new.nodes c.in_err-list.ensures.nodes) c.in_err-list.ensures.rises.1 c.in_err-list.ensures.far
     (counted-none s.answers s.width s.degree s.agreement kept (c.args.column + n) c.decode.new.block c.list.new.cols c.list.new.nodes)
 
 pub extend-returns-in_err-list-clause-extended : goal.extend-returns-in_err-list-clause-extended
@@ -234,7 +234,7 @@ extend-returns-clause-counted g t c =
     let list = map (λ (v : Vec ℕ Global). v.items) vectors in
     let below = c.extend_by_each.ensures.counted in
     counted-below s.answers s.width s.degree s.agreement kept c.args.column n c.args.block.now c.decode.new.block c.args.cols.now c.decode.new.cols decoded short (take below.count list) c.list.new.cols c.extend_by_each.new.cols c.args.nodes.now c.list.new.nodes c.extend_by_each.new.nodes
-    c.in_ok-list.ensures.cols c.in_ok-list.ensures.rises.0 (part-nodes s.answers kept s.degree s.agreement (kept-part s.answers s.degree s.agreement c.args.kept.now c.args.column c.args.block.now c.requires.candidate) s.listed c.args.nodes.now c.list.new.nodes c.in_ok-list.ensures.nodes) c.in_ok-list.ensures.rises.1
+    c.in_ok-list.ensures.cols c.in_ok-list.ensures.rises.0 (part-nodes s.answers kept s.degree s.agreement (kept-part s.answers s.degree s.agreement c.args.kept.now c.args.column c.args.block.now c.requires.candidate) s.listed c.args.nodes.now c.list.new.nodes c.in_ok-list.ensures.nodes) c.in_ok-list.ensures.rises.1 c.in_ok-list.ensures.far
     below.counted
 
 pub extend-returns-clause-extended : goal.extend-returns-clause-extended
