@@ -1,8 +1,8 @@
 //! The cases of text files: what each is run on, and what is expected of it. The language stands in the README of
 //! `pir_cases`, which runs them.
 //!
-//! Promised is that a line that can't be read is told with its number. Nothing is proved of what a line means: the cases
-//! show it, and wrong ones were tried.
+//! Nothing is proved of what a line means, nor that one that can't be read is told with its number: the cases show the one,
+//! and wrong ones were tried for both.
 #![tactic(auto)]
 
 pub mod bytes;

@@ -5,8 +5,8 @@
 //! [`answer_into`](chor_xor::answer_into) gives, for each shape of a database and each number of
 //! workers from 1 to 16 and of bitmaps up to 16. It takes no memory, and can't fail.
 //!
-//! Not promised: that the workers run at the same time, or anything of time. Which rows are read
-//! depends on the bitmaps.
+//! Not promised: that each worker passes the gate, which is tested, that the workers run at the same
+//! time, or anything of time. Which rows are read depends on the bitmaps.
 #![tactic(auto)]
 
 mod bitmaps;

@@ -3,13 +3,14 @@
 //!
 //! Promised: [`product_into`] gives exactly this product, for each shape of a database and each
 //! number of workers from 1 to 16; it is the product that [`plain_into`] computes byte by byte.
-//! [`products_into`] gives this product for each of up to 16 queries, and reads the database once for
-//! a group of them. [`mul_add_row`] adds one row times one byte. No call takes memory, and none can
-//! fail. [`blocks`], [`run_on_parts`], [`rows_of`], [`share_of`] and [`lanes_of`] serve the XOR
-//! scheme's answers too.
+//! [`products_into`] gives this product for each of up to 16 queries. [`mul_add_row`] adds one row
+//! times one byte. No call takes memory, and none can fail. [`blocks`], [`run_on_parts`],
+//! [`rows_of`], [`share_of`] and [`lanes_of`] serve the XOR scheme's answers too.
 //!
-//! Not promised: that the workers run at the same time, or anything of time. Each query reads the
-//! whole database, but which entries of the field's tables it reads depends on its bytes.
+//! Not promised: that each worker passes the gate, which is tested, that the workers run at the same
+//! time, that the database is read once for a group of queries, as it is, or anything of time. Each
+//! query reads the whole database, but which entries of the field's tables it reads depends on its
+//! bytes.
 #![tactic(auto)]
 
 pub mod blocks;

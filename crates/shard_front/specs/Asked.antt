@@ -6,7 +6,6 @@ use Rattle.port_rules.specs.Each.{Each, TouchesRange}
 use Rattle.chor_xor.specs.Chosen.{combined, combined_at}
 use Rattle.wire_frames.specs.declared.header.QueryHeader.{QueryHeader}
 use Rattle.wire_frames.specs.Header.{answer_header}
-use Rattle.shard_front.specs.declared.TheConstants.{LOST}
 use Rattle.shard_front.specs.declared.spread.Spread.{Spread}
 use Rattle.shard_front.specs.declared.relayed.Relayed.{Relayed}
 use Rattle.shard_front.specs.declared.relayed.Relayed.TheVariants.{Served, Refused, Gone, GuestFault, ShardLost}
@@ -53,9 +52,13 @@ AsksShards spread query vectors addresses None sum old new =
 AsksShards spread query vectors addresses (Some number) sum old new =
     FirstLost spread query vectors addresses number old new × TouchesRange (link 1) number old new
 
+-- the status of the frame that names a lost shard
+abbrev pub lost_status : ℕ
+lost_status = 4
+
 -- the frame that names a lost shard: the header of its status, and the number
 abbrev pub lost_frame : QueryHeader → ℕ → List ℕ
-lost_frame query number = answer_header query LOST ++ number ∷ []
+lost_frame query number = answer_header query lost_status ++ number ∷ []
 
 -- what the shards make of a query: what its guest is met with, and the frame for it
 abbrev pub Asks : Spread → QueryHeader → List ℕ → List (List ℕ) → Relayed → List ℕ → World → World → Type 0

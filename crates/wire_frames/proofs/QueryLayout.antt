@@ -1,8 +1,8 @@
 -- The header of a query as a chain of fields, and what a reading of it answers.
-use Rattle.std.proofs.Common.{◌≡◌, ℕ, ◌+◌, ◌^◌, ◌<◌, ◌≤◌, List, [], ◌∷◌, length, take, drop, All, sym, subst, ap, ◌∙◌, arith, lit≤, lit<, length-drop}
+use Rattle.std.proofs.Common.{◌≡◌, ℕ, ◌+◌, ◌^◌, ◌<◌, ◌≤◌, List, [], ◌∷◌, length, take, drop, get_or, All, sym, subst, ap, ◌∙◌, arith, lit≤, lit<, length-drop}
 use Rattle.std.specs.Prelude.{Result, Err, IsErrAnd}
 use Rattle.std.specs.Int.{bytes_high_first}
-use Rattle.std.proofs.lemmas.List.{length-take, take_all}
+use Rattle.std.proofs.lemmas.List.{length-take, take_all, get_or-drop, get_or-take}
 use Rattle.std.proofs.lemmas.List.Elements.{All-drop, All-take}
 use Rattle.std.proofs.lemmas.Result.{err_from_is_err_and}
 use Rattle.wire_frames.specs.declared.field.Number.{Number}
@@ -173,22 +173,31 @@ session_goes_on bytes at place all enough w =
     w.stops.longest 8 (omega (arith, w.after, w.before)) (omega (arith, any.0))
     (subst (Starts (IsNumber session_field)) (sym whole) (starts-whole (IsNumber session_field) front (number front) any.1))
 
+-- the version that is read stands at its place
+pub version_at : (bytes : List ℕ) {version : ℕ} → IsNumber version_field (take 1 (drop FRAME_VERSION_PLACE bytes)) version → get_or bytes FRAME_VERSION_PLACE 0 ≡ version
+version_at bytes {version} h =
+    let front = byte_front SINGLE SEVERAL version _ (lit< tt) h in
+    sym (get_or-drop FRAME_VERSION_PLACE bytes 0 0) ∙ sym (get_or-take 1 (drop FRAME_VERSION_PLACE bytes) 0 0 (lit< tt)) ∙ ap (λ (l : List ℕ). get_or l 0 0) front
+
 -- a field stops being right: so does the header, in that field
 pub stops_in : {f : Number} {next : ℕ → List ℕ → QueryHeader → Type 0} {bytes : List ℕ} {fault : FrameFault} (field : Field) → first_place field + f.width ≡ end_place field
+    → (first_place field ≤ FRAME_STATUS_PLACE → FRAME_STATUS_PLACE < end_place field → field ≡ count_name (get_or bytes FRAME_VERSION_PLACE 0))
     → Leads IsQueryHeader (Then f next) (first_place field) bytes → ((v : ℕ) → f.least ≤ v → v ≤ f.most → Starts (next v) []) → ReadsField f field bytes (Err fault)
     → ReadsQuery bytes (Err fault)
-stops_in {f} {next} {bytes} {fault} field size leads some h =
+stops_in {f} {next} {bytes} {fault} field size named leads some h =
     let stops = leads-stop leads some h.0 in
     let after : first_place fault.field ≤ fault.place = omega (arith, h.0.after, ap first_place h.1) in
     let before : fault.place < end_place fault.field = omega (arith, h.0.before, size, ap end_place h.1) in
-    (record { stops = stops.0; after = after; before = before }, stops.1)
+    let name : fault.place ≡ FRAME_STATUS_PLACE → fault.field ≡ count_name (get_or bytes FRAME_VERSION_PLACE 0) = λ at. h.1 ∙ named (omega (arith, at, h.0.after)) (omega (arith, at, h.0.before, size)) in
+    (record { stops = stops.0; after = after; before = before; named = name }, stops.1)
 
 -- so does the byte that says for how many blocks a query asks
-pub stops_in_count : {bytes : List ℕ} {version scheme index : ℕ} {fault : FrameFault} → Leads IsQueryHeader (at_count version scheme index) FRAME_STATUS_PLACE bytes
+pub stops_in_count : {bytes : List ℕ} {version scheme index : ℕ} {fault : FrameFault} → get_or bytes FRAME_VERSION_PLACE 0 ≡ version
+    → Leads IsQueryHeader (at_count version scheme index) FRAME_STATUS_PLACE bytes
     → ReadsField (count_field version) (count_name version) bytes (Err fault) → ReadsQuery bytes (Err fault)
-stops_in_count {bytes} {version} {scheme} {index} {fault} leads h =
+stops_in_count {bytes} {version} {scheme} {index} {fault} told leads h =
     let here = subst (λ (at : ℕ). Leads IsQueryHeader (at_count version scheme index) at bytes) (sym (name_place version)) leads in
-    stops_in (count_name version) (omega (arith, name_place version, name_end version)) here (λ v _ most. some_shape version scheme index v most) h
+    stops_in (count_name version) (omega (arith, name_place version, name_end version)) (λ _ _. ap count_name (sym told)) here (λ v _ most. some_shape version scheme index v most) h
 
 -- what a `?` hands on of a reading
 pub query_exit : {bytes : List ℕ} (r : Result QueryHeader FrameFault) (fault : FrameFault) → IsErrAnd r (λ e. e ≡ fault) → ReadsQuery bytes (Err fault) → ReadsQuery bytes r

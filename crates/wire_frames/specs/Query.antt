@@ -1,5 +1,5 @@
 -- The header of a query, and what a reading of one answers.
-use Rattle.std.specs.Prelude.{◌≡◌, ℕ, ◌<◌, ◌≤◌, List, take, drop, Result, Ok, Err, ◌==◌, if◌then◌else◌}
+use Rattle.std.specs.Prelude.{◌≡◌, ℕ, ◌<◌, ◌≤◌, List, take, drop, get_or, Result, Ok, Err, ◌==◌, if◌then◌else◌}
 use Rattle.wire_frames.specs.declared.field.Number.{Number}
 use Rattle.wire_frames.specs.declared.header.QueryHeader.{QueryHeader}
 use Rattle.wire_frames.specs.declared.query.Field.{Field}
@@ -45,11 +45,12 @@ unfoldable pub count_name : ℕ → Field
 count_name version = if version == SEVERAL then Count else Zero
 
 -- the bytes begin a query's header up to the fault's place and not further, and that place is in
--- the fault's field
+-- the fault's field, whose name is that of the bytes' version where it says for how many blocks
 pub record IsFault (bytes : List ℕ) (fault : FrameFault) : Type 0 where
   pub stops : StopsAt IsQueryHeader bytes fault.place
   pub after : first_place fault.field ≤ fault.place
   pub before : fault.place < end_place fault.field
+  pub named : fault.place ≡ FRAME_STATUS_PLACE → fault.field ≡ count_name (get_or bytes FRAME_VERSION_PLACE 0)
 
 -- what a reading answers: the query whose header the bytes are, or a fault
 abbrev pub ReadsQuery : List ℕ → Result QueryHeader FrameFault → Type 0

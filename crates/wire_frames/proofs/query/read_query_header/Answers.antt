@@ -5,7 +5,7 @@ use Rattle.wire_frames.specs.declared.field.Number.{Number}
 use Rattle.std.specs.Prelude.{Ok, Err}
 use Rattle.wire_frames.specs.Query.{IsQueryHeader, ReadsField}
 use Rattle.wire_frames.proofs.Chains.{leads-done, no_more}
-use Rattle.wire_frames.proofs.QueryLayout.{query_of, some_version, some_scheme, some_index, some_count, to_magic, to_version, to_scheme, to_index, to_count, to_session, stops_in, stops_in_count, query_exit}
+use Rattle.wire_frames.proofs.QueryLayout.{query_of, some_version, some_scheme, some_index, some_count, to_magic, to_version, to_scheme, to_index, to_count, to_session, stops_in, stops_in_count, version_at, query_exit}
 use Rattle.wire_frames.proofs.Counts.{byte_most}
 use Rattle.wire_frames.proofs.ShapeFields.{some_s, to_r, to_s, to_end}
 use Rattle.quantity_limits.specs.declared.TheConstants.{MOST_BLOCKS}
@@ -68,25 +68,25 @@ overflow_cast-result-5 c = fits_word c.in_ok-r.ensures.most (lit< tt)
 pub returns-in_err-read_field : goal.returns-in_err-read_field
 returns-in_err-read_field c =
     let magic = to_magic c.args.bytes.now in
-    query_exit c.from_residual.result _ c.from_residual.ensures.1 (stops_in Magic refl magic (λ _ _ _. some_version) c.in_err-read_field.ensures)
+    query_exit c.from_residual.result _ c.from_residual.ensures.1 (stops_in Magic refl (λ after before. absurd (omega (arith, after, before))) magic (λ _ _ _. some_version) c.in_err-read_field.ensures)
 
 pub returns-in_err-version : goal.returns-in_err-version
 returns-in_err-version c =
     let version = to_version (to_magic c.args.bytes.now) c.in_ok-read_field.ensures in
-    query_exit c.from_residual-in_err-version.result _ c.from_residual-in_err-version.ensures.1 (stops_in Version refl version (λ v _ _. some_scheme v) c.in_err-version.ensures)
+    query_exit c.from_residual-in_err-version.result _ c.from_residual-in_err-version.ensures.1 (stops_in Version refl (λ after before. absurd (omega (arith, after, before))) version (λ v _ _. some_scheme v) c.in_err-version.ensures)
 
 pub returns-in_err-scheme : goal.returns-in_err-scheme
 returns-in_err-scheme c =
     let version = to_version (to_magic c.args.bytes.now) c.in_ok-read_field.ensures in
     let scheme = to_scheme version c.in_ok-version.ensures in
-    query_exit c.from_residual-in_err-scheme.result _ c.from_residual-in_err-scheme.ensures.1 (stops_in Scheme refl scheme (λ v _ _. some_index _ v) c.in_err-scheme.ensures)
+    query_exit c.from_residual-in_err-scheme.result _ c.from_residual-in_err-scheme.ensures.1 (stops_in Scheme refl (λ after before. absurd (omega (arith, after, before))) scheme (λ v _ _. some_index _ v) c.in_err-scheme.ensures)
 
 pub returns-in_err-index : goal.returns-in_err-index
 returns-in_err-index c =
     let version = to_version (to_magic c.args.bytes.now) c.in_ok-read_field.ensures in
     let scheme = to_scheme version c.in_ok-version.ensures in
     let index = to_index scheme c.in_ok-scheme.ensures in
-    query_exit c.from_residual-in_err-index.result _ c.from_residual-in_err-index.ensures.1 (stops_in Index refl index (λ v _ _. some_count _ _ v) c.in_err-index.ensures)
+    query_exit c.from_residual-in_err-index.result _ c.from_residual-in_err-index.ensures.1 (stops_in Index refl (λ after before. absurd (omega (arith, after, before))) index (λ v _ _. some_count _ _ v) c.in_err-index.ensures)
 
 pub returns-in_err-byte : goal.returns-in_err-byte
 returns-in_err-byte c =
@@ -94,7 +94,7 @@ returns-in_err-byte c =
     let scheme = to_scheme version c.in_ok-version.ensures in
     let index = to_index scheme c.in_ok-scheme.ensures in
     let count = to_count index c.in_ok-index.ensures in
-    query_exit c.from_residual-in_err-byte.result _ c.from_residual-in_err-byte.ensures.1 (stops_in_count count c.in_err-byte.ensures.reads)
+    query_exit c.from_residual-in_err-byte.result _ c.from_residual-in_err-byte.ensures.1 (stops_in_count (version_at c.args.bytes.now c.in_ok-version.ensures) count c.in_err-byte.ensures.reads)
 
 pub returns-in_err-r : goal.returns-in_err-r
 returns-in_err-r c =
@@ -105,7 +105,7 @@ returns-in_err-r c =
     let session = to_session count c.in_ok-byte.ensures.reads in
     let r = to_r _ _ session c.read_session-session.ensures in
     let few = byte_most c.in_ok-version.version MOST_BLOCKS in
-    query_exit c.from_residual-in_err-r.result _ c.from_residual-in_err-r.ensures.1 (stops_in Rows refl r (λ v least most. some_s _ _ v (omega arith) (omega (arith, few, c.in_ok-byte.ensures.reads.most)) least most) c.in_err-r.ensures)
+    query_exit c.from_residual-in_err-r.result _ c.from_residual-in_err-r.ensures.1 (stops_in Rows refl (λ after before. absurd (omega (arith, after, before))) r (λ v least most. some_s _ _ v (omega arith) (omega (arith, few, c.in_ok-byte.ensures.reads.most)) least most) c.in_err-r.ensures)
 
 pub returns-in_err-s : goal.returns-in_err-s
 returns-in_err-s c =
@@ -118,7 +118,7 @@ returns-in_err-s c =
     let s = to_s _ _ r c.in_ok-r.ensures in
     let told : c.max-count.result ≡ count_of c.in_ok-byte.byte = omega (arith, c.max-count.ensures) in
     let width = subst (λ (f : Number). ReadsField f Width c.args.bytes.now (Err c.in_err-s.field-0.0)) (c.width_field.ensures.is ∙ ap (λ (k : ℕ). width_field k c.in_ok-r.r) told) c.in_err-s.ensures in
-    query_exit c.from_residual-in_err-s.result _ c.from_residual-in_err-s.ensures.1 (stops_in Width refl s (λ _ _ _. no_more _) width)
+    query_exit c.from_residual-in_err-s.result _ c.from_residual-in_err-s.ensures.1 (stops_in Width refl (λ after before. absurd (omega (arith, after, before))) s (λ _ _ _. no_more _) width)
 
 pub returns : goal.returns
 returns c =
