@@ -1,5 +1,5 @@
 // The child programs.
-use crate::limits::LINK;
+use crate::limits::{Allowance, LINK};
 use crate::timed::connect;
 use crate::variables::CHILD;
 use std::alloc::{AllocError, Global};
@@ -55,7 +55,7 @@ impl<P: OpenProcess> Started<P> {
 
     // Lets it meet its guest and end, or kills it, and waits for it.
     fn end<R: Net + Clock>(&mut self, rt: &R) {
-        if !self.has_guest && connect(rt, &self.address, LINK).is_err() {
+        if !self.has_guest && connect(rt, &self.address, &mut Allowance::new(LINK)).is_err() {
             let _ = self.process.kill();
         }
         let _ = self.process.wait();

@@ -23,20 +23,26 @@ use std::os::fd::AsRawFd;
 ///   anew. Where there is no such file, it is made for its owner alone to read and write; the mode of one that is
 ///   there stays. The name `-` is that of a file here. Of shares one is open at a time: opening another one closes it.
 /// - `Door` is opened by the address to listen at, a text `host:port`.
-/// - `Guest` is the TCP stream to the guest that `next_guest` let in. That call first closes the stream
+/// - `Guest` is the TCP stream to the guest that `next_guest` let in. That call first closes all links, and the stream
 ///   to the guest before, also where no other comes in, and waits for as long as none comes. One who gave up before
 ///   being let in is passed over. Each call on the stream may take three seconds, and all of them five and one more for
 ///   each 65536 bytes that they moved; a call fails that takes longer, or comes later.
-/// - `Link(i)` is opened as a TCP stream to the address, a text `host:port`. Each call on it, to open it too, may
-///   take ten seconds (three where `Door` is open), and all of them twenty and one more for each 65536 bytes that they
-///   moved. The places of one name share that; how long looking a name up takes is the system's.
+/// - `Link(i)` is opened as a TCP stream to the address, a text `host:port`; the stream that it had before is closed
+///   first. Each call on it may take ten seconds, and all of them twenty and one more for each 65536 bytes that they
+///   moved. To open it is one call, at whichever of the places of one name; how long looking a name up takes is the
+///   system's. A read's seconds count from when bytes last moved on the stream, so that several servers that say nothing
+///   are waited for together; where they are over, what is there already is still read. Once a call was too late,
+///   opening the same link fails at once.
+/// - Where `Door` is open, a call on a link may take six seconds, and all calls on all links nine while one guest is in,
+///   and one more for each 65536 bytes that they moved. A link that was too late is tried again for the next guest. To
+///   open a link fails once the guest who is in has reset its stream.
 /// - `Child(i)` is this same program, which `start_child` starts with its words. It succeeds once the child's
 ///   standard output begins with the line `ready`, for which it waits. A child that says something else, or ends
 ///   before, is killed. A child's standard input stays open for as long as this program runs, and a child that waits
 ///   for a guest fails once it ends: so it ends too.
 ///
 /// A port that isn't open, or is opened or used in another way, fails. A second `open` that succeeds
-/// closes what the port had open.
+/// closes what the port had open; of a link, also one that fails.
 ///
 /// ```
 /// let mut ports = OsPorts::new(&rt)?;
@@ -90,7 +96,7 @@ impl<R: System> OsPorts<R> {
     pub fn end_children(&mut self)
         ensures { self.new.counts ≡ self.old.counts }
     {
-        self.streams.close_links();
+        self.streams.let_go();
         self.children.end(&self.rt);
     }
 
@@ -157,7 +163,7 @@ impl<R: System> Ports for OsPorts<R> {
     }
 
     fn next_guest(&mut self) -> Result<(), Failed> {
-        let met = self.streams.meet(&mut self.explainer);
+        let met = self.streams.meet(&self.rt, &mut self.explainer);
         self.told(Port::Door, None, met)
     }
 

@@ -27,7 +27,12 @@ fn is_interrupted(moved: &io::Result<usize>) -> bool {
     matches!(moved, Err(error) if error.kind() == ErrorKind::Interrupted)
 }
 
-impl<I: Drop, F: Drop, L: OpenListener + Drop, S: Drop> Streams<I, F, L, S> {
+impl<I: Drop, F: Drop, L: OpenListener + Drop, S: Read + Write + OpenStream + Drop> Streams<
+    I,
+    F,
+    L,
+    S,
+> {
     /// Nothing but standard output is open.
     pub fn new(alloc: Global) -> Self {
         Streams {
@@ -57,19 +62,19 @@ impl<I: Drop, F: Drop, L: OpenListener + Drop, S: Drop> Streams<I, F, L, S> {
         }
     }
 
-    /// Closes the stream to the guest before, waits for the next guest, opens the stream to it, and notes where it came
-    /// from.
-    pub fn meet(&mut self, explainer: &mut Explainer) -> io::Result<()>
+    /// Closes the links and the stream to the guest before, waits for the next guest, opens the stream to it, and notes
+    /// where it came from.
+    pub fn meet<C: Clock>(&mut self, clock: &C, explainer: &mut Explainer) -> io::Result<()>
     where
         L: OpenListener<Stream = S>,
     {
-        explainer.note_guest(self.connections.meet()?);
+        explainer.note_guest(self.connections.meet(clock)?);
         Ok(())
     }
 
-    /// Closes all links.
-    pub fn close_links(&mut self) {
-        self.connections.close_links();
+    /// Closes all links and the stream to the guest.
+    pub fn let_go(&mut self) {
+        self.connections.let_go();
     }
 
     /// Reads from the port. A read that a signal interrupts is tried again.
@@ -77,13 +82,12 @@ impl<I: Drop, F: Drop, L: OpenListener + Drop, S: Drop> Streams<I, F, L, S> {
     where
         I: Read,
         F: Read,
-        S: Read + OpenStream,
         ensures { IfOk result (λ n. n ≤ length into.new) }
     {
         for _ in 0..u64::MAX {
-            let read = match self.connections.stream(p) {
-                Some(stream) => stream.read(clock, into),
-                None => self.files.read(p, into),
+            let read = match p {
+                Port::Guest | Port::Link(_) => self.connections.read(clock, p, into),
+                _ => self.files.read(p, into),
             };
             if !is_interrupted(&read) {
                 return read;
@@ -96,14 +100,13 @@ impl<I: Drop, F: Drop, L: OpenListener + Drop, S: Drop> Streams<I, F, L, S> {
     pub fn write<R: Clock + Print>(&mut self, rt: &R, p: Port, piece: &[u8]) -> io::Result<usize>
     where
         F: Write,
-        S: Write + OpenStream,
         ensures { IfOk result (λ n. n ≤ length piece.now) }
     {
         for _ in 0..u64::MAX {
-            let written = match self.connections.stream(p) {
-                Some(stream) => stream.write(rt, piece),
-                None if p == Port::Output => io::writer(rt).write(piece),
-                None => self.files.write(p, piece),
+            let written = match p {
+                Port::Guest | Port::Link(_) => self.connections.write(rt, p, piece),
+                Port::Output => io::writer(rt).write(piece),
+                _ => self.files.write(p, piece),
             };
             if !is_interrupted(&written) {
                 return written;
