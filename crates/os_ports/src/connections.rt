@@ -130,9 +130,11 @@ impl<L: OpenListener + Drop, S: Read + Write + OpenStream + Drop> Connections<L,
     }
 
     /// Closes all links, and lets the guest who is in go.
-    pub fn let_go(&mut self) {
+    pub fn let_go<C: Clock>(&mut self, clock: &C) {
         self.links.let_go();
-        self.guest = None;
+        if let Some(guest) = self.guest.take() {
+            guest.let_go(clock);
+        }
     }
 
     /// Closes all links and the stream to the guest before, waits for the next guest, and opens the stream to it, which
@@ -141,7 +143,7 @@ impl<L: OpenListener + Drop, S: Read + Write + OpenStream + Drop> Connections<L,
     where
         L: OpenListener<Stream = S>,
     {
-        self.let_go();
+        self.let_go(clock);
         let (stream, address) = accept(self.door.as_ref(), &mut self.parent)?;
         self.guest = Some(Guest::new(stream, Instant::now(clock)?));
         Ok(address)

@@ -18,6 +18,12 @@ const LINK_WHOLE: u32 = 20;
 // So many where the process serves, all links of one guest together: less than a guest waits for its answer.
 const SERVER_LINK_WHOLE: u32 = 9;
 
+/// So many thousandths of a second it is waited for the end of what a guest sends who was refused.
+pub const PARTING_MILLIS: u64 = 500;
+
+/// So many bytes are taken of what a guest still sends who was refused.
+pub const PARTING_BYTES: u64 = 1 << 24;
+
 // So many thousandths of a second a read may take that comes late: what is there already is taken.
 const LATE_READ: u64 = 1;
 
@@ -86,8 +92,12 @@ impl Allowance {
         Duration::from_secs(seconds).saturating_sub(self.spent)
     }
 
-    // So long, or as long as is left in all, if that is less.
-    fn at_most(&self, call: Duration) -> io::Result<Duration>
+    /// So long, or as long as is left in all, if that is less.
+    ///
+    /// # Errors
+    ///
+    /// Of the kind `TimedOut` where that is no time.
+    pub fn at_most(&self, call: Duration) -> io::Result<Duration>
         ensures time { IfOk result (λ d. as_nanos d ≡ min (as_nanos call) (nanos_left self.now)) }
         ensures some { IfOk result (λ d. 0 < as_nanos d) }
         ensures none { OnErr result (min (as_nanos call) (nanos_left self.now) ≡ 0) }

@@ -26,7 +26,10 @@ use std::os::fd::AsRawFd;
 /// - `Guest` is the TCP stream to the guest that `next_guest` let in. That call first closes all links, and the stream
 ///   to the guest before, also where no other comes in, and waits for as long as none comes. One who gave up before
 ///   being let in is passed over. Each call on the stream may take three seconds, and all of them five and one more for
-///   each 65536 bytes that they moved; a call fails that takes longer, or comes later.
+///   each 65536 bytes that they moved; a call fails that takes longer, or comes later. Where the guest took 24 bytes and
+///   no more than 24 were taken of it, as of one that is refused for its header, it is let go of by halves: the sending
+///   side is shut, and what still comes is read and dropped, for at most half a second and 2^24 bytes. So it isn't reset
+///   before it has read why.
 /// - `Link(i)` is opened as a TCP stream to the address, a text `host:port`; the stream that it had before is closed
 ///   first. Each call on it may take ten seconds, and all of them twenty and one more for each 65536 bytes that they
 ///   moved. To open it is one call, at whichever of the places of one name; how long looking a name up takes is the
@@ -88,7 +91,8 @@ impl<R: System> OsPorts<R> {
         })
     }
 
-    /// Ends all children, and returns once none is left. It is the last call: it closes the links too.
+    /// Ends all children, and returns once none is left. It is the last call: it closes the links and the stream to the
+    /// guest too.
     ///
     /// A child is taken to be a server of one guest, whose address is the last of its words. It ends once
     /// it has met its guest: this program, where it opened a link to that address. To each other child it
@@ -96,7 +100,7 @@ impl<R: System> OsPorts<R> {
     pub fn end_children(&mut self)
         ensures { self.new.counts ≡ self.old.counts }
     {
-        self.streams.let_go();
+        self.streams.let_go(&self.rt);
         self.children.end(&self.rt);
     }
 

@@ -72,9 +72,9 @@ impl<I: Drop, F: Drop, L: OpenListener + Drop, S: Read + Write + OpenStream + Dr
         Ok(())
     }
 
-    /// Closes all links and the stream to the guest.
-    pub fn let_go(&mut self) {
-        self.connections.let_go();
+    /// Closes all links, and lets the guest who is in go.
+    pub fn let_go<C: Clock>(&mut self, clock: &C) {
+        self.connections.let_go(clock);
     }
 
     /// Reads from the port. A read that a signal interrupts is tried again.

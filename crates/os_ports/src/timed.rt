@@ -101,9 +101,24 @@ impl<S> TimedStream<S> {
         S: Read + OpenStream,
         ensures { IfOk result (λ n. n ≤ length into.new) }
     {
-        let start = Instant::now(clock)?;
-        let most = time.next_read(start.duration_since(self.quiet_since))?;
+        let quiet = self.quiet_since.elapsed(clock)?;
+        self.read_within(clock, time, time.next_read(quiet)?, into)
+    }
+
+    /// Reads from the stream what comes within this time.
+    pub fn read_within<C: Clock>(
+        &mut self,
+        clock: &C,
+        time: &mut Allowance,
+        most: Duration,
+        into: &mut [u8],
+    ) -> io::Result<usize>
+    where
+        S: Read + OpenStream,
+        ensures { IfOk result (λ n. n ≤ length into.new) }
+    {
         self.stream.set_read_timeout(Some(most))?;
+        let start = Instant::now(clock)?;
         let moved = self.stream.read(into);
         self.counted(clock, time, start, most, moved)
     }
