@@ -24,6 +24,7 @@ mod parent;
 mod port_name;
 mod ports;
 mod standard;
+mod standard_error;
 mod streams;
 mod system;
 mod timed;

@@ -15,7 +15,8 @@ use std::os::fd::AsRawFd;
 
 /// Files, standard streams, TCP streams, a listener and child programs as ports. Each failed call is counted, also one
 /// for want of memory. Where the variable `PIR_EXPLAIN` of the environment is `1`, it is also explained, by a line on
-/// standard error with the port, the file or address, and the system's words.
+/// standard error with the port, the file or address, and the system's words; a line that standard error doesn't take at
+/// once is dropped.
 ///
 /// - `Input` is opened as standard input by the name `-`, and else as the file of that name.
 /// - `Output` is standard output.
@@ -80,7 +81,8 @@ impl<R: System> OsPorts<R> {
         let counts = Counts::new(rt.alloc())?;
         let standard = StandardStreams::hold(&rt)?;
         let alloc = rt.alloc();
-        let explainer = Explainer::new(alloc, is_one(&rt, EXPLAIN));
+        let is_asked = is_one(&rt, EXPLAIN);
+        let explainer = Explainer::new(&rt, is_asked);
         Ok(OsPorts {
             rt,
             streams: Streams::new(alloc),
