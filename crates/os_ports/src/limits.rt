@@ -24,6 +24,10 @@ pub const PARTING_MILLIS: u64 = 500;
 /// So many bytes are taken of what a guest still sends who was refused.
 pub const PARTING_BYTES: u64 = 1 << 24;
 
+/// So many thousandths of a second all children together may take to end, once the links to them are closed: more than
+/// their guests may take of them, and what they have begun.
+pub const CHILDREN_MILLIS: u64 = 30000;
+
 // So many thousandths of a second a read may take that comes late: what is there already is taken.
 const LATE_READ: u64 = 1;
 

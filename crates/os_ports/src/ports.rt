@@ -22,7 +22,10 @@ use std::os::fd::AsRawFd;
 /// - `Output` is standard output.
 /// - `Database` and `Coins` are opened as files to read, `Record` and `Share(i)` as files to write, which are made
 ///   anew. Where there is no such file, it is made for its owner alone to read and write; the mode of one that is
-///   there stays. The name `-` is that of a file here. Of shares one is open at a time: opening another one closes it.
+///   there stays. The name `-` is that of a file here.
+/// - Of shares one is open at a time. The next call that opens a port, or gives to Output, first waits until it is on the
+///   disk, and closes it; where the system says that it may not be there, that call fails, and what is explained besides
+///   is an error of that share. A share isn't opened by a name of the database, or of another share's file.
 /// - `Door` is opened by the address to listen at, a text `host:port`.
 /// - `Guest` is the TCP stream to the guest that `next_guest` let in. That call first closes all links, and the stream
 ///   to the guest before, also where no other comes in, and waits for as long as none comes. One who gave up before
@@ -42,7 +45,8 @@ use std::os::fd::AsRawFd;
 ///   open a link fails once the guest who is in has reset its stream.
 /// - `Child(i)` is this same program, which `start_child` starts with its words. It succeeds once the child's
 ///   standard output begins with the line `ready`, for which it waits. A child that says something else, or ends
-///   before, is killed. A child's standard input stays open for as long as this program runs, and a child that waits
+///   before, is killed. What it writes on standard error is lost, unless failed calls are explained; then it has this
+///   program's. A child's standard input stays open for as long as this program runs, and a child that waits
 ///   for a guest fails once it ends: so it ends too.
 ///
 /// A port that isn't open, or is opened or used in another way, fails. A second `open` that succeeds
@@ -86,7 +90,7 @@ impl<R: System> OsPorts<R> {
         Ok(OsPorts {
             rt,
             streams: Streams::new(alloc),
-            children: Children::new(alloc),
+            children: Children::new(alloc, is_asked),
             explainer,
             counts,
             standard,
@@ -98,7 +102,7 @@ impl<R: System> OsPorts<R> {
     ///
     /// A child is taken to be a server of one guest, whose address is the last of its words. It ends once
     /// it has met its guest: this program, where it opened a link to that address. To each other child it
-    /// connects here once. A child to which it can't connect is killed.
+    /// connects here once. A child to which it can't connect is killed, and one that hasn't ended after half a minute.
     pub fn end_children(&mut self)
         ensures { self.new.counts ≡ self.old.counts }
     {
@@ -153,7 +157,9 @@ impl<R: System> Ports for OsPorts<R> {
     ghost world = { λ s. counts_alone s.counts };
 
     fn open(&mut self, p: Port, name: &str) -> Result<(), Failed> {
-        let opened = self.streams.open(&self.rt, p, name, &mut self.children);
+        let opened = self
+            .streams
+            .open(&self.rt, p, name, &mut self.children, &mut self.explainer);
         self.explainer.note_opened(p, name, &opened);
         self.told(p, Some(name), opened)
     }
@@ -164,7 +170,7 @@ impl<R: System> Ports for OsPorts<R> {
     }
 
     fn give(&mut self, p: Port, piece: &[u8]) -> Result<usize, Failed> {
-        let given = some_taken(self.streams.write(&self.rt, p, piece));
+        let given = some_taken(self.streams.write(&self.rt, p, piece, &mut self.explainer));
         self.told(p, None, given)
     }
 

@@ -7,7 +7,8 @@ use crate::explainer::Explainer;
 use crate::files::OpenFiles;
 use port_rules::Port;
 use std::alloc::Global;
-use std::io::{self, ErrorKind, Input, Print, Read, Write};
+use std::fs::OpenFile;
+use std::io::{self, Eprint, ErrorKind, Input, Print, Read, Write};
 use std::net::{Net, OpenListener, OpenStream};
 use std::os::fd::AsRawFd;
 use std::process::OpenProcess;
@@ -27,34 +28,52 @@ fn is_interrupted(moved: &io::Result<usize>) -> bool {
     matches!(moved, Err(error) if error.kind() == ErrorKind::Interrupted)
 }
 
-impl<I: Drop, F: Drop, L: OpenListener + Drop, S: Read + Write + OpenStream + Drop> Streams<
-    I,
-    F,
-    L,
-    S,
-> {
+impl<
+    I: Drop,
+    F: OpenFile + Drop,
+    L: OpenListener + Drop,
+    S: Read + Write + OpenStream + Drop,
+> Streams<I, F, L, S> {
     /// Nothing but standard output is open.
     pub fn new(alloc: Global) -> Self {
         Streams {
-            files: OpenFiles::new(),
+            files: OpenFiles::new(alloc),
             connections: Connections::new(alloc),
         }
     }
 
-    /// Opens the port by this name. The children are told of the address of a link.
+    // Puts the share on the disk that is open, and closes it. Where that fails, it is explained as of that share, and fails
+    // the call that comes next.
+    fn settle<R: Eprint>(&mut self, rt: &R, explainer: &mut Explainer) -> io::Result<()> {
+        match self.files.settle() {
+            Ok(()) => Ok(()),
+            Err(unsettled) => {
+                explainer.explain(rt, Port::Share(unsettled.server), None, &unsettled.error);
+                Err(io::Error::new(
+                    ErrorKind::Other,
+                    "the share before may not have reached the disk",
+                ))
+            }
+        }
+    }
+
+    /// Opens the port by this name, once the share is on the disk that was written before. The children are told of the
+    /// address of a link.
     pub fn open<R, P>(
         &mut self,
         rt: &R,
         p: Port,
         name: &str,
         children: &mut Children<P>,
+        explainer: &mut Explainer,
     ) -> io::Result<()>
     where
         R: Files<File = F> + Input<Reader = I> + Net<Listener = L, Stream = S>,
-        R: Env + Clock + AllocGlobal,
+        R: Env + Clock + Eprint + AllocGlobal,
         L: AsRawFd,
         P: OpenProcess + Drop,
     {
+        self.settle(rt, explainer)?;
         match p {
             Port::Door => self.connections.listen(rt, name),
             Port::Link(i) => self.connections.open_link(rt, i, name, children),
@@ -96,12 +115,22 @@ impl<I: Drop, F: Drop, L: OpenListener + Drop, S: Read + Write + OpenStream + Dr
         Err(io::Error::from(ErrorKind::Interrupted))
     }
 
-    /// Writes to the port. A write that a signal interrupts is tried again.
-    pub fn write<R: Clock + Print>(&mut self, rt: &R, p: Port, piece: &[u8]) -> io::Result<usize>
+    /// Writes to the port; to Output once the share is on the disk that was written before. A write that a signal interrupts
+    /// is tried again.
+    pub fn write<R: Clock + Print + Eprint>(
+        &mut self,
+        rt: &R,
+        p: Port,
+        piece: &[u8],
+        explainer: &mut Explainer,
+    ) -> io::Result<usize>
     where
         F: Write,
         ensures { IfOk result (λ n. n ≤ length piece.now) }
     {
+        if p == Port::Output {
+            self.settle(rt, explainer)?;
+        }
         for _ in 0..u64::MAX {
             let written = match p {
                 Port::Guest | Port::Link(_) => self.connections.write(rt, p, piece),

@@ -65,12 +65,16 @@ fn reads_record<P: Ports>(ports: &mut P, path: &str) -> bool {
         && reads_last(ports, Port::Database, path)
 }
 
-/// Whether a share at the path is read back. The share that is opened next closes the one before.
+/// Whether a share at the path is read back. Another share, which can't be made at the same path, closes it all the same; nor
+/// can one be made at the path of the database.
 fn reads_share<P: Ports>(ports: &mut P, path: &str) -> bool {
     takes(ports, Port::Share(1), path, b"the first text")
-        && takes(ports, Port::Share(2), path, b"last")
+        && ports.open(Port::Share(2), path).is_err()
         && ports.give(Port::Share(1), b"more").is_err()
+        && takes(ports, Port::Share(1), path, b"last")
         && reads_last(ports, Port::Database, path)
+        && ports.open(Port::Share(1), path).is_err()
+        && reads_last(ports, Port::Coins, path)
 }
 
 /// Whether a record or a share at a path where there was no file is read back, and no other than its owner may read it. The
