@@ -1,5 +1,5 @@
 -- How long a stream to another program may take.
-use Rattle.std.specs.Prelude.{ℕ, ◌+◌, ◌-◌, ◌*◌, ◌/◌, min}
+use Rattle.std.specs.Prelude.{ℕ, ◌+◌, ◌-◌, ◌*◌, ◌/◌, min, max}
 use Rattle.std.specs.Duration.{as_nanos}
 use Rattle.os_ports.specs.declared.limits.Allowance.{Allowance}
 
@@ -14,3 +14,7 @@ nanos_left a = seconds (a.limit.whole + a.moved / 65536) - as_nanos a.spent
 -- the nanoseconds that its next call may take
 abbrev pub call_nanos : Allowance → ℕ
 call_nanos a = min (seconds a.limit.call) (nanos_left a)
+
+-- the nanoseconds that a read may take which comes so many after bytes last moved: until a call of then is over, and a millisecond at least
+abbrev pub read_nanos : Allowance → ℕ → ℕ
+read_nanos a quiet = min (max (seconds a.limit.call - quiet) 1000000) (nanos_left a)

@@ -1,5 +1,5 @@
 // The child programs.
-use crate::limits::LINK;
+use crate::limits::{Allowance, CHILDREN_MILLIS, LINK};
 use crate::timed::connect;
 use crate::variables::CHILD;
 use std::alloc::{AllocError, Global};
@@ -7,8 +7,11 @@ use std::io::{ErrorKind, Read};
 use std::net::Net;
 use std::process::{Child, Command, OpenProcess, Processes, Stdio};
 use std::rt::Env;
-use std::time::Clock;
-use std::{env, io};
+use std::time::{Clock, Duration};
+use std::{env, io, thread};
+
+// So many thousandths of a second lie between two looks at whether a child has ended, at most.
+const LONGEST_PAUSE: u64 = 50;
 
 // A program that was started and said that it is ready.
 #[derive(Drop)]
@@ -26,6 +29,8 @@ struct Started<P: OpenProcess> {
 #[derive(Drop)]
 pub struct Children<P: OpenProcess> {
     started: Vec<Started<P>>,
+    // Whether they write on standard error. Else the fault of a child would stand there before this program's own.
+    are_heard: bool,
 }
 
 impl<P: OpenProcess> Started<P> {
@@ -53,9 +58,33 @@ impl<P: OpenProcess> Started<P> {
         self.has_guest = self.has_guest || self.address.as_str() == address;
     }
 
-    // Lets it meet its guest and end, or kills it, and waits for it.
-    fn end<R: Net + Clock>(&mut self, rt: &R) {
-        if !self.has_guest && connect(rt, &self.address, LINK).is_err() {
+    // Whether it ends before so many thousandths of a second are over, which are counted down.
+    fn ends_within<C: Clock>(&mut self, clock: &C, left: &mut u64) -> bool {
+        let mut pause = 1;
+        for _ in 0..u64::MAX {
+            match self.process.try_wait() {
+                Ok(None) => {}
+                _ => return true,
+            }
+            if *left == 0 {
+                return false;
+            }
+            thread::sleep(clock, Duration::from_millis(pause));
+            *left = left.saturating_sub(pause);
+            pause = if pause < LONGEST_PAUSE {
+                pause * 2
+            } else {
+                pause
+            };
+        }
+        false
+    }
+
+    // Lets it meet its guest and end, or kills it, and waits for it. It is killed too where that isn't done in time.
+    fn end<R: Net + Clock>(&mut self, rt: &R, left: &mut u64) {
+        let mut time = Allowance::new(LINK);
+        let is_met = self.has_guest || connect(rt, &self.address, &mut time).is_ok();
+        if !(is_met && self.ends_within(rt, left)) {
             let _ = self.process.kill();
         }
         let _ = self.process.wait();
@@ -72,13 +101,16 @@ fn own_name<R: Env + AllocGlobal>(rt: &R) -> io::Result<String> {
 }
 
 // Gives the command its words, and what every child has.
-fn set_up(command: &mut Command, words: &[String]) -> Result<(), AllocError> {
+fn set_up(command: &mut Command, words: &[String], is_heard: bool) -> Result<(), AllocError> {
     for word in words {
         command.arg(word.as_str())?;
     }
     command.env(CHILD, "1")?;
     command.stdin(Stdio::piped());
     command.stdout(Stdio::piped());
+    if !is_heard {
+        command.stderr(Stdio::null());
+    }
     Ok(())
 }
 
@@ -115,10 +147,11 @@ fn await_or_kill<P: OpenProcess>(child: &mut Child<P>) -> io::Result<()> {
 }
 
 impl<P: OpenProcess + Drop> Children<P> {
-    /// No children.
-    pub fn new(alloc: Global) -> Self {
+    /// No children. What is said is whether those to come write on standard error.
+    pub fn new(alloc: Global, are_heard: bool) -> Self {
         Children {
             started: Vec::new(alloc),
+            are_heard,
         }
     }
 
@@ -138,7 +171,7 @@ impl<P: OpenProcess + Drop> Children<P> {
     where
         R: Processes<Started = P> + AllocGlobal,
     {
-        set_up(command, words)?;
+        set_up(command, words, self.are_heard)?;
         // No memory is needed once the child runs, so that none is left behind.
         self.started.reserve(1)?;
         let address = address_of(rt.alloc(), words)?;
@@ -155,10 +188,12 @@ impl<P: OpenProcess + Drop> Children<P> {
     }
 
     /// Connects once to each child to which no link was opened, so that it meets its guest and ends, and
-    /// waits for all children. One to which it can't connect would wait for its guest, and is killed.
+    /// waits for all children. One to which it can't connect would wait for its guest, and is killed; so is one
+    /// that hasn't ended in time, as one that was stopped.
     pub fn end<R: Net + Clock>(&mut self, rt: &R) {
+        let mut left = CHILDREN_MILLIS;
         for child in self.started.iter_mut() {
-            child.end(rt);
+            child.end(rt, &mut left);
         }
         self.started.clear();
     }

@@ -1,29 +1,24 @@
 // The streams to servers and to the guest, and where guests come in.
+ghost use Rattle.std.specs.Prelude.{◌≤◌, length, IfOk};
+
 use crate::children::Children;
 use crate::closed::closed;
-use crate::limits::{GUEST, LINK, Limit, SERVER_LINK};
+use crate::guest::Guest;
+use crate::links::Links;
 use crate::parent::Parent;
-use crate::timed::{TimedStream, connect};
 use crate::variables::{CHILD, is_one};
 use port_rules::Port;
 use std::alloc::Global;
-use std::io::{self, ErrorKind};
-use std::net::{Net, OpenListener, SocketAddr, TcpListener};
+use std::io::{self, ErrorKind, Read, Write};
+use std::net::{Net, OpenListener, OpenStream, SocketAddr, TcpListener};
 use std::os::fd::AsRawFd;
 use std::process::OpenProcess;
 use std::rt::Env;
-use std::time::Clock;
+use std::time::{Clock, Instant};
 
 // The errors of Linux by which `accept` tells that one connection was given up: ENONET, EPROTO, ENOPROTOOPT,
 // EOPNOTSUPP, ENETDOWN, ENETUNREACH, ECONNABORTED, EHOSTDOWN and EHOSTUNREACH.
 const GIVEN_UP: [i32; 9] = [64, 71, 92, 95, 100, 101, 103, 112, 113];
-
-// The stream to a server.
-#[derive(Drop)]
-struct Link<S> {
-    server: u8,
-    stream: TimedStream<S>,
-}
 
 /// The open streams, and the listener.
 #[derive(Drop)]
@@ -31,8 +26,8 @@ pub struct Connections<L, S> {
     door: Option<L>,
     // Where this program is a child, once Door is open.
     parent: Option<Parent>,
-    guest: Option<TimedStream<S>>,
-    links: Vec<Link<S>>,
+    guest: Option<Guest<S>>,
+    links: Links<S>,
 }
 
 // Whether an `accept` failed for one connection alone, which its other side or the network gave up: accept(2) names
@@ -89,28 +84,18 @@ where
     }
 }
 
-// The stream to the server.
-fn link_to<S>(links: &mut [Link<S>], server: u8) -> Option<&mut TimedStream<S>> {
-    for link in links {
-        if link.server == server {
-            return Some(&mut link.stream);
-        }
-    }
-    None
-}
-
-impl<L: OpenListener + Drop, S: Drop> Connections<L, S> {
+impl<L: OpenListener + Drop, S: Read + Write + OpenStream + Drop> Connections<L, S> {
     /// Nothing is open.
     pub fn new(alloc: Global) -> Self {
         Connections {
             door: None,
             parent: None,
             guest: None,
-            links: Vec::new(alloc),
+            links: Links::new(alloc),
         }
     }
 
-    /// Listens at the address.
+    /// Listens at the address: from here on this process serves.
     pub fn listen<R>(&mut self, rt: &R, address: &str) -> io::Result<()>
     where
         R: Net<Listener = L> + Env + AllocGlobal,
@@ -119,10 +104,12 @@ impl<L: OpenListener + Drop, S: Drop> Connections<L, S> {
         let door = TcpListener::bind(rt, address)?;
         self.parent = watch_parent(rt, &door)?;
         self.door = Some(door);
+        self.links.serve();
         Ok(())
     }
 
-    /// Opens the link to the server, and tells the children of its address.
+    /// Opens the link to the server, and tells the children of its address. Where the guest who is in reset its stream,
+    /// nobody waits for what the server would say, and that fails.
     pub fn open_link<R, P>(
         &mut self,
         rt: &R,
@@ -134,52 +121,53 @@ impl<L: OpenListener + Drop, S: Drop> Connections<L, S> {
         R: Net<Stream = S> + Clock,
         P: OpenProcess + Drop,
     {
-        let stream = connect(rt, address, self.limit())?;
+        if let Some(guest) = &self.guest {
+            guest.check()?;
+        }
+        self.links.open(rt, server, address)?;
         children.note_link(address);
-        self.put_link(server, stream)
-    }
-
-    // How long a link may take that is opened now.
-    fn limit(&self) -> Limit {
-        if self.door.is_some() {
-            SERVER_LINK
-        } else {
-            LINK
-        }
-    }
-
-    // Takes the stream as the link to the server.
-    fn put_link(&mut self, server: u8, stream: TimedStream<S>) -> io::Result<()> {
-        match link_to(&mut self.links, server) {
-            Some(link) => *link = stream,
-            None => self.links.push(Link { server, stream })?,
-        }
         Ok(())
     }
 
-    /// Closes all links.
-    pub fn close_links(&mut self) {
-        self.links.clear();
+    /// Closes all links, and lets the guest who is in go.
+    pub fn let_go<C: Clock>(&mut self, clock: &C) {
+        self.links.let_go();
+        if let Some(guest) = self.guest.take() {
+            guest.let_go(clock);
+        }
     }
 
-    /// Closes the stream to the guest before, waits for the next guest, and opens the stream to it, which came from the
-    /// address.
-    pub fn meet(&mut self) -> io::Result<SocketAddr>
+    /// Closes all links and the stream to the guest before, waits for the next guest, and opens the stream to it, which
+    /// came from the address.
+    pub fn meet<C: Clock>(&mut self, clock: &C) -> io::Result<SocketAddr>
     where
         L: OpenListener<Stream = S>,
     {
-        self.guest = None;
+        self.let_go(clock);
         let (stream, address) = accept(self.door.as_ref(), &mut self.parent)?;
-        self.guest = Some(TimedStream::new(stream, GUEST));
+        self.guest = Some(Guest::new(stream, Instant::now(clock)?));
         Ok(address)
     }
 
-    /// The stream of the port, where that is open.
-    pub fn stream(&mut self, p: Port) -> Option<&mut TimedStream<S>> {
-        match p {
-            Port::Guest => self.guest.as_mut(),
-            Port::Link(i) => link_to(&mut self.links, i),
-            _ => None,
+    /// Reads from the port, where it is open.
+    pub fn read<C: Clock>(&mut self, clock: &C, p: Port, into: &mut [u8]) -> io::Result<usize>
+        ensures { IfOk result (λ n. n ≤ length into.new) }
+    {
+        match (p, self.guest.as_mut()) {
+            (Port::Guest, Some(guest)) => guest.read(clock, into),
+            (Port::Link(i), _) => self.links.read(clock, i, into),
+            _ => Err(closed()),
+        }
+    }
+
+    /// Writes to the port, where it is open.
+    pub fn write<C: Clock>(&mut self, clock: &C, p: Port, piece: &[u8]) -> io::Result<usize>
+        ensures { IfOk result (λ n. n ≤ length piece.now) }
+    {
+        match (p, self.guest.as_mut()) {
+            (Port::Guest, Some(guest)) => guest.write(clock, piece),
+            (Port::Link(i), _) => self.links.write(clock, i, piece),
+            _ => Err(closed()),
         }
     }
 }

@@ -1,7 +1,7 @@
 // How long a stream to another program may take.
 ghost use Rattle.std.specs.Prelude.{◌≡◌, ◌+◌, ◌-◌, ◌^◌, ◌<◌, min, IfOk, OnErr};
 ghost use Rattle.std.specs.Duration.{as_nanos, max_nanos};
-ghost use Rattle.os_ports.specs.Limits.{call_nanos, nanos_left};
+ghost use Rattle.os_ports.specs.Limits.{call_nanos, nanos_left, read_nanos};
 
 use std::io::{self, ErrorKind};
 use std::time::Duration;
@@ -9,11 +9,27 @@ use std::time::Duration;
 // So many seconds a call on a link may take, to open it too.
 const LINK_CALL: u32 = 10;
 
-// So many where the process serves, since its guest waits meanwhile.
-const SERVER_LINK_CALL: u32 = 3;
+// So many where the process serves: more than a stranger may hold the shard at its end.
+const SERVER_LINK_CALL: u32 = 6;
 
 // So many all calls on a link may take before it moved a byte.
 const LINK_WHOLE: u32 = 20;
+
+// So many where the process serves, all links of one guest together: less than a guest waits for its answer.
+const SERVER_LINK_WHOLE: u32 = 9;
+
+/// So many thousandths of a second it is waited for the end of what a guest sends who was refused.
+pub const PARTING_MILLIS: u64 = 500;
+
+/// So many bytes are taken of what a guest still sends who was refused.
+pub const PARTING_BYTES: u64 = 1 << 24;
+
+/// So many thousandths of a second all children together may take to end, once the links to them are closed: more than
+/// their guests may take of them, and what they have begun.
+pub const CHILDREN_MILLIS: u64 = 30000;
+
+// So many thousandths of a second a read may take that comes late: what is there already is taken.
+const LATE_READ: u64 = 1;
 
 // So many a call on the stream to a guest may take.
 const GUEST_CALL: u32 = 3;
@@ -38,10 +54,10 @@ pub const LINK: Limit = Limit {
     whole: LINK_WHOLE,
 };
 
-/// A link of a process that serves.
+/// All links that a process opens for one guest.
 pub const SERVER_LINK: Limit = Limit {
     call: SERVER_LINK_CALL,
-    whole: LINK_WHOLE,
+    whole: SERVER_LINK_WHOLE,
 };
 
 /// The stream to a guest.
@@ -50,7 +66,7 @@ pub const GUEST: Limit = Limit {
     whole: GUEST_WHOLE,
 };
 
-/// The time that one stream may take, and what it took so far.
+/// The time that one stream may take, or several that share it, and what was taken so far.
 #[derive(Clone, Copy)]
 pub struct Allowance {
     limit: Limit,
@@ -80,6 +96,25 @@ impl Allowance {
         Duration::from_secs(seconds).saturating_sub(self.spent)
     }
 
+    /// So long, or as long as is left in all, if that is less.
+    ///
+    /// # Errors
+    ///
+    /// Of the kind `TimedOut` where that is no time.
+    pub fn at_most(&self, call: Duration) -> io::Result<Duration>
+        ensures time { IfOk result (λ d. as_nanos d ≡ min (as_nanos call) (nanos_left self.now)) }
+        ensures some { IfOk result (λ d. 0 < as_nanos d) }
+        ensures none { OnErr result (min (as_nanos call) (nanos_left self.now) ≡ 0) }
+    {
+        let left = self.left();
+        let time = if call < left { call } else { left };
+        if time.is_zero() {
+            Err(io::Error::from(ErrorKind::TimedOut))
+        } else {
+            Ok(time)
+        }
+    }
+
     /// How long the next call may take: as long as any one call, or as is left in all.
     ///
     /// # Errors
@@ -90,14 +125,24 @@ impl Allowance {
         ensures some { IfOk result (λ d. 0 < as_nanos d) }
         ensures none { OnErr result (call_nanos self.now ≡ 0) }
     {
-        let call = Duration::from_secs(u64::from(self.limit.call));
-        let left = self.left();
-        let time = if call < left { call } else { left };
-        if time.is_zero() {
-            Err(io::Error::from(ErrorKind::TimedOut))
-        } else {
-            Ok(time)
-        }
+        self.at_most(Duration::from_secs(u64::from(self.limit.call)))
+    }
+
+    /// How long a read may take that comes so long after bytes last moved: until one call could have taken them; or a
+    /// moment, where that is past; or as is left in all. So several streams that are silent at once are waited for
+    /// together.
+    ///
+    /// # Errors
+    ///
+    /// Of the kind `TimedOut` where no time is left in all.
+    pub fn next_read(&self, quiet: Duration) -> io::Result<Duration>
+        ensures time { IfOk result (λ d. as_nanos d ≡ read_nanos self.now (as_nanos quiet)) }
+        ensures some { IfOk result (λ d. 0 < as_nanos d) }
+        ensures none { OnErr result (read_nanos self.now (as_nanos quiet) ≡ 0) }
+    {
+        let call = Duration::from_secs(u64::from(self.limit.call)).saturating_sub(quiet);
+        let least = Duration::from_millis(LATE_READ);
+        self.at_most(if call < least { least } else { call })
     }
 
     /// Counts a call that took so long and moved so many bytes.

@@ -1,40 +1,47 @@
-// Streams to other programs, each with the time that it may take.
+// Streams to other programs, whose calls take a limited time.
 ghost use Rattle.std.specs.Prelude.{◌≡◌, ◌≤◌, length, IfOk, Ok};
 
-use crate::limits::{Allowance, Limit};
+use crate::limits::Allowance;
 use std::io::{self, ErrorKind, Read, Write};
-use std::net::{Net, OpenStream, TcpStream, ToSocketAddrs};
+use std::net::{Net, OpenStream, Shutdown, TcpStream, ToSocketAddrs};
 use std::time::{Clock, Duration, Instant};
 
-/// A stream on which each call fails that takes too long, or that comes once the time of the stream is up.
+/// A stream on which each call fails that takes too long, or that comes once the time is up. The time is passed to each,
+/// since several streams may share one.
 #[derive(Drop)]
 pub struct TimedStream<S> {
     stream: S,
-    allowance: Allowance,
+    // When bytes last moved, or it was opened.
+    quiet_since: Instant,
 }
 
-/// Connects to the address, at the first of its places that answers. All places share the time of the stream; to look
-/// a name up takes none of it.
+/// Connects to the address, at the first of its places that answers. To try them all is one call: each may take its part
+/// of what is left of it, so that the last is tried too. To look a name up takes none of the time.
 ///
 /// # Errors
 ///
-/// That of the last place that was tried; of the kind `TimedOut` where the time was up before the next.
+/// That of the last place that was tried; of the kind `TimedOut` where the time was up before the first.
 pub fn connect<R: Net + Clock>(
     rt: &R,
     address: &str,
-    limit: Limit,
+    time: &mut Allowance,
 ) -> io::Result<TimedStream<R::Stream>> {
-    let mut allowance = Allowance::new(limit);
+    let mut left = time.next_call()?;
     let mut fault = io::Error::from(ErrorKind::NotFound);
-    for place in address.to_socket_addrs(rt)? {
-        let most = allowance.next_call()?;
+    let places = address.to_socket_addrs(rt)?;
+    let mut untried = u32::try_from(places.len()).unwrap_or(1);
+    for place in places {
+        let most = if untried > 1 { left / untried } else { left };
         let start = Instant::now(rt)?;
         let connected = TcpStream::connect_timeout(rt, &place, most);
-        allowance.count(start.elapsed(rt).unwrap_or(most), 0);
+        let took = start.elapsed(rt).unwrap_or(most);
+        time.count(took, 0);
         match connected {
-            Ok(stream) => return Ok(TimedStream { stream, allowance }),
+            Ok(stream) => return Ok(TimedStream::new(stream, start)),
             Err(error) => fault = error,
         }
+        left = left.saturating_sub(took);
+        untried = untried.saturating_sub(1);
     }
     Err(fault)
 }
@@ -49,11 +56,11 @@ fn late(error: io::Error) -> io::Error {
 }
 
 impl<S> TimedStream<S> {
-    /// A stream that took no time so far.
-    pub fn new(stream: S, limit: Limit) -> Self {
+    /// A stream that was opened then.
+    pub fn new(stream: S, opened: Instant) -> Self {
         TimedStream {
             stream,
-            allowance: Allowance::new(limit),
+            quiet_since: opened,
         }
     }
 
@@ -61,6 +68,7 @@ impl<S> TimedStream<S> {
     fn counted<C: Clock>(
         &mut self,
         clock: &C,
+        time: &mut Allowance,
         start: Instant,
         most: Duration,
         moved: io::Result<usize>,
@@ -71,39 +79,84 @@ impl<S> TimedStream<S> {
         let took = start.elapsed(clock).unwrap_or(most);
         match moved {
             Ok(n) => {
-                self.allowance.count(took, n);
+                time.count(took, n);
+                self.quiet_since = start.checked_add(took).unwrap_or(start);
                 Ok(n)
             }
             Err(error) => {
-                self.allowance.count(took, 0);
+                time.count(took, 0);
                 Err(late(error))
             }
         }
     }
 
     /// Reads from the stream.
-    pub fn read<C: Clock>(&mut self, clock: &C, into: &mut [u8]) -> io::Result<usize>
+    pub fn read<C: Clock>(
+        &mut self,
+        clock: &C,
+        time: &mut Allowance,
+        into: &mut [u8],
+    ) -> io::Result<usize>
     where
         S: Read + OpenStream,
         ensures { IfOk result (λ n. n ≤ length into.new) }
     {
-        let most = self.allowance.next_call()?;
+        let quiet = self.quiet_since.elapsed(clock)?;
+        self.read_within(clock, time, time.next_read(quiet)?, into)
+    }
+
+    /// Reads from the stream what comes within this time.
+    pub fn read_within<C: Clock>(
+        &mut self,
+        clock: &C,
+        time: &mut Allowance,
+        most: Duration,
+        into: &mut [u8],
+    ) -> io::Result<usize>
+    where
+        S: Read + OpenStream,
+        ensures { IfOk result (λ n. n ≤ length into.new) }
+    {
         self.stream.set_read_timeout(Some(most))?;
         let start = Instant::now(clock)?;
         let moved = self.stream.read(into);
-        self.counted(clock, start, most, moved)
+        self.counted(clock, time, start, most, moved)
     }
 
     /// Writes to the stream.
-    pub fn write<C: Clock>(&mut self, clock: &C, piece: &[u8]) -> io::Result<usize>
+    pub fn write<C: Clock>(
+        &mut self,
+        clock: &C,
+        time: &mut Allowance,
+        piece: &[u8],
+    ) -> io::Result<usize>
     where
         S: Write + OpenStream,
         ensures { IfOk result (λ n. n ≤ length piece.now) }
     {
-        let most = self.allowance.next_call()?;
+        let most = time.next_call()?;
         self.stream.set_write_timeout(Some(most))?;
         let start = Instant::now(clock)?;
         let moved = self.stream.write(piece);
-        self.counted(clock, start, most, moved)
+        self.counted(clock, time, start, most, moved)
+    }
+
+    /// Fails with the error of the stream, where its other side reset it. One that was only ended there has none.
+    pub fn check(&self) -> io::Result<()>
+    where
+        S: OpenStream,
+    {
+        match self.stream.take_error()? {
+            Some(error) => Err(error),
+            None => Ok(()),
+        }
+    }
+
+    /// Tells the other side that nothing more is sent.
+    pub fn end_sending(&self) -> io::Result<()>
+    where
+        S: OpenStream,
+    {
+        self.stream.shutdown(Shutdown::Write)
     }
 }

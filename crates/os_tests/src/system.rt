@@ -8,7 +8,7 @@ use os_ports::{OsPorts, System};
 use port_rules::{Filled, Port, Ports, read_exactly, write_all};
 use std::alloc::{AllocError, Global};
 use std::io::{Print, Read, Write};
-use std::net::{Ipv4Addr, Net, OpenListener, TcpListener};
+use std::net::{Ipv4Addr, Net, OpenListener, TcpListener, TcpStream};
 use std::os::unix::fs::MetadataExt;
 use std::rt::{Env, Files};
 use std::test::Fail;
@@ -65,12 +65,16 @@ fn reads_record<P: Ports>(ports: &mut P, path: &str) -> bool {
         && reads_last(ports, Port::Database, path)
 }
 
-/// Whether a share at the path is read back. The share that is opened next closes the one before.
+/// Whether a share at the path is read back. Another share, which can't be made at the same path, closes it all the same; nor
+/// can one be made at the path of the database.
 fn reads_share<P: Ports>(ports: &mut P, path: &str) -> bool {
     takes(ports, Port::Share(1), path, b"the first text")
-        && takes(ports, Port::Share(2), path, b"last")
+        && ports.open(Port::Share(2), path).is_err()
         && ports.give(Port::Share(1), b"more").is_err()
+        && takes(ports, Port::Share(1), path, b"last")
         && reads_last(ports, Port::Database, path)
+        && ports.open(Port::Share(1), path).is_err()
+        && reads_last(ports, Port::Coins, path)
 }
 
 /// Whether a record or a share at a path where there was no file is read back, and no other than its owner may read it. The
@@ -153,21 +157,23 @@ fn links_carry_on_loopback<R: Net + AllocGlobal, P: Ports>(
     links_carry(&door, ports, &address)
 }
 
-/// Whether the next guest comes in over this link, is read, and is given a reply.
-fn meets<P: Ports>(ports: &mut P, link: u8, address: &str) -> bool {
+/// Whether the next guest comes in over this stream, is read, and is given a reply.
+fn meets<P: Ports, S: Write>(ports: &mut P, stream: &mut S) -> io::Result<bool> {
+    stream.write_all(b"query!")?;
     let mut text = [0; 6];
-    ports.open(Port::Link(link), address).is_ok()
-        && ports.next_guest().is_ok()
-        && write_all(ports, Port::Link(link), b"query!").is_ok()
-        && read_exactly(ports, Port::Guest, &mut text) == Filled::Full
-        && text == *b"query!"
-        && write_all(ports, Port::Guest, b"reply").is_ok()
+    Ok(
+        ports.next_guest().is_ok()
+            && read_exactly(ports, Port::Guest, &mut text) == Filled::Full
+            && text == *b"query!"
+            && write_all(ports, Port::Guest, b"reply").is_ok(),
+    )
 }
 
-/// Whether the stream to the guest at this link ended after its reply.
-fn is_let_go<P: Ports>(ports: &mut P, link: u8) -> bool {
-    let mut text = *b"......";
-    read_exactly(ports, Port::Link(link), &mut text) == Filled::Ended(5) && text == *b"reply."
+/// Whether the stream of the guest ended after its reply.
+fn is_let_go<S: Read + Drop>(mut stream: S) -> io::Result<bool> {
+    let mut text = [0; 5];
+    stream.read_exact(&mut text)?;
+    Ok(text == *b"reply" && is_closed(stream)?)
 }
 
 /// An address on loopback at which nobody listens: that of a listener that is gone.
@@ -176,15 +182,18 @@ fn free_address<R: Net + AllocGlobal>(rt: &R) -> io::Result<String> {
     Ok(format!(in rt.alloc(); "{}", door.local_addr()?)?)
 }
 
-/// Whether two guests come in. The stream to the first ends, since the second is in.
+/// Whether two guests come in at the address. The stream to the first ends, since the second is in.
+fn meets_two_at<R: Net, P: Ports>(rt: &R, ports: &mut P, address: &str) -> io::Result<bool> {
+    let mut first = TcpStream::connect(rt, address)?;
+    let well = meets(ports, &mut first)?;
+    let mut second = TcpStream::connect(rt, address)?;
+    Ok(well && meets(ports, &mut second)? && is_let_go(first)?)
+}
+
+/// The same at an address of its own.
 fn meets_two<R: Net + AllocGlobal, P: Ports>(rt: &R, ports: &mut P) -> io::Result<bool> {
     let address = free_address(rt)?;
-    Ok(
-        ports.open(Port::Door, &address).is_ok()
-            && meets(ports, 1, &address)
-            && meets(ports, 2, &address)
-            && is_let_go(ports, 1),
-    )
+    Ok(ports.open(Port::Door, &address).is_ok() && meets_two_at(rt, ports, &address)?)
 }
 
 // What this executable is told to run in a child: the one test, by its full name.
