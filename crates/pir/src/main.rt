@@ -1,7 +1,14 @@
-//! The program `pir`. It makes the ports of the system and reads the words; `commands::run` does the rest.
+//! The program `pir`. It makes the ports of the system and reads the words; `commands::run` does the rest. Where the variable
+//! `PIR_EXPLAIN` is `1`, it says behind the line of the status what else is known of why.
 #![tactic(auto)]
 
+mod exchange;
+mod explanation;
+mod noted;
+
 use commands::{Ending, Status, ending_of, run};
+use explanation::explanation;
+use noted::{NotedPorts, Notes};
 use os_ports::{OsPorts, System};
 use std::env;
 use std::io::{self, ErrorKind};
@@ -23,19 +30,68 @@ fn words_of<R: Env + AllocGlobal>(rt: &R) -> Result<Vec<String>, Status> {
     Ok(words)
 }
 
-/// Runs the program's words over the system's ports, and then ends the children that were started and closes all ports.
-/// They are closed there, and not in `main`, whose proof would go through each of their parts at each way out.
-fn run_over<R, S>(rt: &R, mut ports: OsPorts<S>) -> Status
+/// Whether it is asked why a run ended as it did.
+fn is_asked<R: Env>(rt: &R) -> bool {
+    let mut value = [0; 1];
+    matches!(rt.var("PIR_EXPLAIN", &mut value), Ok(1)) && value == *b"1"
+}
+
+/// How a run ended, and the lines that explain it, which are none where that isn't asked for.
+#[derive(Drop)]
+struct Ended {
+    status: Status,
+    why: String,
+}
+
+/// How a run of these words ended, by its status and what is noted of its calls. Where there is no memory for an
+/// explanation, it is left out.
+fn explained<R: AllocGlobal>(
+    rt: &R,
+    words: Option<&[String]>,
+    status: Status,
+    notes: &Option<Notes>,
+) -> Ended {
+    let why = match notes {
+        Some(notes) => explanation(rt.alloc(), words, &status, notes),
+        None => Ok(String::new(rt.alloc())),
+    };
+    Ended {
+        status,
+        why: why.unwrap_or(String::new(rt.alloc())),
+    }
+}
+
+/// Runs the program's words over these ports.
+fn run_words<R, S>(rt: &R, ports: &mut NotedPorts<OsPorts<S>>) -> Ended
 where
     R: Env + AllocGlobal + Threads + Sync,
     S: System,
 {
-    let status = match words_of(rt) {
-        Ok(words) => run(rt, rt.alloc(), &words, &mut ports),
-        Err(status) => status,
+    match words_of(rt) {
+        Ok(words) => {
+            let status = run(rt, rt.alloc(), &words, ports);
+            explained(rt, Some(&words), status, &ports.notes)
+        }
+        Err(status) => explained(rt, None, status, &ports.notes),
+    }
+}
+
+/// Runs the program's words over the system's ports, and then ends the children that were started and closes all ports.
+/// They are closed there, and not in `main`, whose proof would go through each of their parts at each way out.
+fn run_over<R, S>(rt: &R, ports: OsPorts<S>) -> Ended
+where
+    R: Env + AllocGlobal + Threads + Sync,
+    S: System,
+{
+    let notes = if is_asked(rt) {
+        Some(Notes::new(rt.alloc()))
+    } else {
+        None
     };
-    ports.end();
-    status
+    let mut ports = NotedPorts { ports, notes };
+    let ended = run_words(rt, &mut ports);
+    ports.ports.end();
+    ended
 }
 
 /// How the program ends where there are no ports: for want of memory, or since a standard stream is closed and its
@@ -50,13 +106,17 @@ fn status_without_ports(error: &io::Error) -> Status {
 
 fn main(rt: HostRuntime) -> ExitCode {
     // The ports come first: nothing else is to be given the number of a standard stream.
-    let status = match OsPorts::new(&rt) {
+    let ended = match OsPorts::new(&rt) {
         Ok(ports) => run_over(&rt, ports),
-        Err(error) => status_without_ports(&error),
+        Err(error) => explained(&rt, None, status_without_ports(&error), &None),
     };
-    let Ending { code, line } = ending_of(&status);
+    let Ending { code, line } = ending_of(&ended.status);
     if !line.is_empty() {
         let _ = eprintln!(rt; "{line}");
+    }
+    let why = ended.why.as_str();
+    if !why.is_empty() {
+        let _ = eprint!(rt; "{why}");
     }
     code
 }

@@ -12,3 +12,4 @@ pub mod SplitForm
 pub mod FrontForm
 pub mod Form
 pub mod Table
+pub mod Reason

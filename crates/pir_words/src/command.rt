@@ -28,7 +28,7 @@ pub enum Kind {
 #[derive(Clone, Copy)]
 pub struct Form<'a> {
     name: &'a str,
-    arguments: &'a [(&'a str, Kind)],
+    pub(crate) arguments: &'a [(&'a str, Kind)],
 }
 
 /// The commands of `pir`.
@@ -131,14 +131,14 @@ const COMMANDS: &[Form<'static>] = &[
 
 impl Kind {
     /// Whether the argument's name is written.
-    fn is_long(self) -> bool
+    pub(crate) fn is_long(self) -> bool
         ensures { result ≡ is_long self }
     {
         matches!(self, Kind::Required | Kind::Optional | Kind::Flag)
     }
 
     /// Whether it has to be given.
-    fn is_required(self) -> bool
+    pub(crate) fn is_required(self) -> bool
         ensures { result ≡ is_required self }
     {
         matches!(self, Kind::Required | Kind::Operand | Kind::Operands)
@@ -199,4 +199,14 @@ pub fn pir_command<'a>(alloc: Global) -> Result<Command<'a>, AllocError>
     ensures { IfOk result (λ c. app_of c ≡ pir) }
 {
     pir_with(alloc, COMMANDS)
+}
+
+/// The form of the command of this name.
+pub fn form_named(name: &str) -> Option<Form<'static>> {
+    for form in COMMANDS {
+        if form.name == name {
+            return Some(*form);
+        }
+    }
+    None
 }

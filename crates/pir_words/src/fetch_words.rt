@@ -45,7 +45,7 @@ fn xor_sharing_at(matches: &ArgMatches, servers: u8) -> Option<Sharing>
 
 /// The degree and the agreement of `servers` servers in a scheme.
 #[tactic(auto, unfolding(crate::specs::FetchForm::fetch_sharing_in))]
-fn fetch_sharing_at(matches: &ArgMatches, scheme: Scheme, servers: u8) -> Option<Sharing>
+pub(crate) fn fetch_sharing_at(matches: &ArgMatches, scheme: Scheme, servers: u8) -> Option<Sharing>
     ensures { result ≡ fetch_sharing_in scheme servers (given matches.now) }
 {
     match scheme {
@@ -57,7 +57,7 @@ fn fetch_sharing_at(matches: &ArgMatches, scheme: Scheme, servers: u8) -> Option
 /// The degree in which the database is shared, 0 where it isn't given: with that of the queries it is less than the
 /// agreement. In the XOR scheme it is not given.
 #[tactic(auto, unfolding(crate::specs::FetchForm::tau_in))]
-fn tau_at(matches: &ArgMatches, scheme: Scheme, sharing: Sharing) -> Option<u8>
+pub(crate) fn tau_at(matches: &ArgMatches, scheme: Scheme, sharing: Sharing) -> Option<u8>
     ensures { result ≡ tau_in scheme sharing (given matches.now) }
 {
     let given = text_at(matches, "tau");

@@ -13,10 +13,11 @@
 //! `read_command`.
 #![tactic(auto)]
 
-ghost use Rattle.std.specs.Prelude.{◌≡◌, true, false, IfErr, IfOk, map, string_bytes};
+ghost use Rattle.std.specs.Prelude.{◌≡◌, true, false, IfErr, IfOk, IfSome, is_none, is_some, map, string_bytes};
 ghost use Rattle.clap.specs.Words.{subcommand_of, subcommand_rows_of};
 ghost use Rattle.pir_words.specs.Numbers.{given};
 ghost use Rattle.pir_words.specs.Command.{pir};
+ghost use Rattle.pir_words.specs.Reason.{Hides};
 ghost use Rattle.pir_words.specs.Form.{IsReadAs, InRange, are_taken, asked_by, asked_in, asked_of};
 
 mod asked;
@@ -27,29 +28,36 @@ mod fetch_words;
 mod front_words;
 mod lookup_words;
 mod ranges;
+mod reason;
 mod replay_words;
 mod selfrun_words;
 mod serve_words;
 mod split_words;
 mod text;
+mod value_faults;
 mod values;
+mod word_faults;
 
 pub use asked::{Asked, WordsFault};
 pub use blocks::Blocks;
 use clap::ArgMatches;
+use clap::error::ErrorKind;
 use command::pir_command;
 use demo_words::read_demo;
 use fetch_words::read_fetch;
 use front_words::read_front;
 use lookup_words::read_lookup;
 pub use quantity_limits::MOST_SHARDS;
+pub use reason::{Amount, Named, OptionFault, Reason, Relation, Wanted};
 use replay_words::read_replay;
 use selfrun_words::read_selfrun;
 use serve_words::read_serve;
 use split_words::read_split;
-use std::alloc::Global;
+use std::alloc::{AllocError, Global};
 pub use text::{Text, Texts};
+use value_faults::value_reason;
 use wire_frames::MOST_DEGREE;
+use word_faults::word_fault;
 
 /// The least port of a demonstration, whose servers listen at those that follow it.
 pub const LEAST_PORT: u16 = 1024;
@@ -159,4 +167,44 @@ pub fn read_words(alloc: Global, words: &[String]) -> Result<Asked, WordsFault>
 {
     let matches = parse(alloc, words)?;
     read_matches(alloc, &matches)
+}
+
+/// Why words that have no form have none.
+fn refusal<'a>(alloc: Global, words: &'a [String]) -> Result<Reason<'a>, AllocError>
+    ensures { IfOk result Hides }
+{
+    match pir_command(alloc)?.try_get_matches_from(words) {
+        Ok(matches) => Ok(value_reason(&matches)),
+        Err(error) => match error.kind() {
+            ErrorKind::OutOfMemory => Err(AllocError),
+            kind => match word_fault(words) {
+                Some(reason) => Ok(reason),
+                None => Ok(Reason::Refused(kind)),
+            },
+        },
+    }
+}
+
+/// Why the words have no form, where they have none: a fault of their options first, and then the first value that isn't in its
+/// range. No value of `--key`, `--block` or `--more` stands in it.
+///
+/// # Errors
+///
+/// `AllocError` if memory is short.
+///
+/// ```
+/// // The words are `serve --database rows --width 82000 --conns 1 --listen localhost:7001`.
+/// if let Some(reason) = reason_for(alloc, &words)? {
+///     eprintln!(rt; "words: {reason}")?; // words: --width 82000 is above 65536
+/// }
+/// ```
+pub fn reason_for<'a>(alloc: Global, words: &'a [String]) -> Result<Option<Reason<'a>>, AllocError>
+    ensures given { IfOk result (λ reason. is_none reason ≡ is_some (asked_of (map string_bytes words.now))) }
+    ensures hides { IfOk result (λ reason. IfSome reason Hides) }
+{
+    match read_words(alloc, words) {
+        Ok(_) => Ok(None),
+        Err(WordsFault::Memory) => Err(AllocError),
+        Err(WordsFault::Usage) => Ok(Some(refusal(alloc, words)?)),
+    }
 }
