@@ -6,7 +6,7 @@ use Rattle.std.proofs.Math.Seq.{take-add}
 use Rattle.std.proofs.lemmas.List.{take_all, drop_all, length-take-le, length-drop}
 use Rattle.port_rules.specs.World.{Cell, World}
 use Rattle.port_rules.specs.Number.{DATABASE}
-use Rattle.port_rules.specs.Moves.{Hands, took, counted, Rose}
+use Rattle.port_rules.specs.Moves.{Hands, took, counted, RoseOnce}
 use Rattle.port_rules.specs.Whole.{Reads, IsFront, Ends, FailsShort}
 use Rattle.port_rules.proofs.Cells.{reads_more, took-took}
 use Rattle.block_matrix.specs.Loading.{ReadsUpTo}
@@ -71,7 +71,7 @@ reads_failed most room read w v u within so_far fails =
             ∙ ap (λ (c : Cell). counted (u.at DATABASE).faults (took after.n c)) so_far.cell
             ∙ ap (counted (u.at DATABASE).faults) (took-took after.n (length read) (w.at DATABASE));
         held = held_more after.n read (w.at DATABASE).holds (v.at DATABASE).holds before so_far.told after.held;
-        rose = subst (λ (f : ℕ). Rose f (u.at DATABASE).faults) (ap (λ (c : Cell). c.faults) so_far.cell) after.rose;
+        rose = subst (λ (f : ℕ). RoseOnce f (u.at DATABASE).faults) (ap (λ (c : Cell). c.faults) so_far.cell) after.rose;
       };
       fewer = omega (arith, within, fails.fewer);
     }

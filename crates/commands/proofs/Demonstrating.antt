@@ -9,6 +9,7 @@ use Rattle.port_rules.specs.declared.port.TheConstants.{PORT_COUNT}
 use Rattle.port_rules.specs.World.{Cell, World}
 use Rattle.port_rules.specs.Number.{OUTPUT, COINS, link, child}
 use Rattle.port_rules.specs.Moves.{Rose, gave, named}
+use Rattle.port_rules.proofs.Rises.{once_rose}
 use Rattle.port_rules.proofs.Ranges.{each_within}
 use Rattle.wire_frames.specs.Session.{Transcript}
 use Rattle.query_rounds.specs.Plan.{need}
@@ -112,7 +113,7 @@ module _ (o : DemoOrder) (old new : World) (few : o.servers < 256) (none : NoneR
   started : StartsSome (words_of_children o) old new → ⊥
   started s =
       let fewer : s.before < o.servers = omega (arith, s.fewer, length-map-range_with_len (λ i. words_to_serve o.database o.width (address_from o.port i)) 1 o.servers) in
-      ready s.before fewer (subst (λ (c : Cell). Rose c.faults (new.at ((child 1) + s.before)).faults) (s.starts.ports ((child 1) + s.before) (omega (arith, fewer, few))) s.fails.rose)
+      ready s.before fewer (subst (λ (c : Cell). Rose c.faults (new.at ((child 1) + s.before)).faults) (s.starts.ports ((child 1) + s.before) (omega (arith, fewer, few))) (once_rose _ _ s.fails.rose))
 
   none_after : (v : World) → ((q : ℕ) → q < PORT_COUNT → v.at q ≡ old.at q) → NoneRose files v new
   none_after v same = (

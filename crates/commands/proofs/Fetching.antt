@@ -4,7 +4,7 @@ use Rattle.std.specs.Prelude.{Option, Some, None, IfSome, unwrap_or, Result, Ok,
 use Rattle.port_rules.specs.declared.port.TheConstants.{PORT_COUNT}
 use Rattle.port_rules.specs.World.{Cell, World}
 use Rattle.port_rules.specs.Number.{COINS, OUTPUT, RECORD, link}
-use Rattle.port_rules.specs.Moves.{Fails, Rose, Touches, took, gave, named, counted}
+use Rattle.port_rules.specs.Moves.{Fails, RoseOnce, Touches, took, gave, named, counted}
 use Rattle.port_rules.specs.Tossed.{RunsOut}
 use Rattle.port_rules.proofs.Cells.{touches_more}
 use Rattle.port_rules.proofs.Ranges.{each_within}
@@ -94,7 +94,7 @@ unrecorded_before (Some name) session w u z still cut = record {
     | inl a ↦ inl (a ∙ ap (counted (z.at RECORD).faults) still)
     | inr b ↦ inr (b ∙ ap (λ (c : Cell). counted (z.at RECORD).faults (gave (take cut.n (session_bytes session)) (named name c))) still)
   ];
-  rose = subst (λ (c : Cell). Rose c.faults (z.at RECORD).faults) still cut.rose;
+  rose = subst (λ (c : Cell). RoseOnce c.faults (z.at RECORD).faults) still cut.rose;
 }
 
 -- a fetch that reports a verdict ends with its status
@@ -209,7 +209,7 @@ module _ (o : FetchOrder) (w v u : World) (plan : IsPlan o.plan) (is_open : v.at
       n = fetched.0.after.n;
       fewer = fetched.0.fewer;
       cell = inr (fetched.0.after.cell ∙ ap (λ (c : Cell). counted (u.at COINS).faults (took fetched.0.after.n c)) is_open);
-      rose = subst (λ (c : Cell). Rose c.faults (u.at COINS).faults) is_open fetched.0.after.rose;
+      rose = subst (λ (c : Cell). RoseOnce c.faults (u.at COINS).faults) is_open fetched.0.after.rose;
     };
     others = touches_more _ _ _ _ touch fetched.1;
   }

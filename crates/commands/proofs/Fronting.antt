@@ -3,9 +3,10 @@ use Rattle.std.proofs.Common.{◌≡◌, ◌⊎◌, inl, inr, ◌∙◌, ℕ, �
 use Rattle.std.specs.Prelude.{Ok, Err, nat_le}
 use Rattle.std.proofs.lemmas.Bool.{cases_lt, le-leb, lt-leb}
 use Rattle.port_rules.specs.World.{Cell, World}
-use Rattle.port_rules.specs.Number.{OUTPUT, DOOR, GUEST}
-use Rattle.port_rules.specs.Moves.{Rose, Touches, Fails, counted, gave}
+use Rattle.port_rules.specs.Number.{OUTPUT, DOOR, GUEST, link}
+use Rattle.port_rules.specs.Moves.{RoseAtMost, RoseOnce, Touches, Fails, counted, gave}
 use Rattle.port_rules.specs.Guests.{Meets}
+use Rattle.port_rules.proofs.Rises.{at_most_once, at_most_still, once_rose}
 use Rattle.pir_words.specs.FrontForm.{IsFront}
 use Rattle.quantity_limits.specs.declared.TheConstants.{MOST_SHARDS}
 use Rattle.shard_front.specs.declared.spread.Spread.{Spread}
@@ -14,6 +15,7 @@ use Rattle.shard_front.specs.declared.relayed.Relayed.TheVariants.{Served, Refus
 use Rattle.shard_front.specs.Spread.{IsSpread, shards}
 use Rattle.shard_front.specs.Fronted.{Fronts, Relays, TouchesFirst}
 use Rattle.shard_front.specs.Relay.{FrontsTold}
+use Rattle.shard_front.proofs.Counting.{guest_once, link_once}
 use Rattle.commands.specs.Told.{NoneRose}
 use Rattle.commands.specs.ServeSteps.{ready, Listens, TouchesDoor}
 use Rattle.commands.specs.FrontOrder.{FrontOrder}
@@ -106,6 +108,8 @@ fronted_none spread addresses w = record {
   first = refl;
   last = refl;
   each = λ i l. absurd (omega arith);
+  guest_faults = omega arith;
+  link_faults = λ i l. omega arith;
 }
 
 module _ (spread : Spread) (addresses : List (List ℕ)) where
@@ -113,9 +117,26 @@ module _ (spread : Spread) (addresses : List (List ℕ)) where
   moved : (m m' : Relayed) (a a' b b' : World) → m ≡ m' → a ≡ a' → b ≡ b' → FrontsNext spread addresses m a b → FrontsNext spread addresses m' a' b'
   moved m m' a a' b b' p q r h = subst (λ (x : Relayed). FrontsNext spread addresses x a' b') p (subst (λ (x : World). FrontsNext spread addresses m x b') q (subst (λ (x : World). FrontsNext spread addresses m a x) r h))
 
+  -- one guest more, while whom at most one call failed on Guest
+  guest_more : (n : ℕ) (met : Relayed) (w v u : World) → RoseAtMost n (w.at GUEST).faults (v.at GUEST).faults → FrontsNext spread addresses met v u → RoseAtMost (n + 1) (w.at GUEST).faults (u.at GUEST).faults
+  guest_more n met w v u few next = elim (guest_once spread addresses met next.mid u next.fronts) [
+    | inl still ↦ at_most_still n (w.at GUEST).faults (v.at GUEST).faults (u.at GUEST).faults few (still ∙ next.meets.faults)
+    | inr once ↦ at_most_once n (w.at GUEST).faults (v.at GUEST).faults (u.at GUEST).faults few (subst (λ (k : ℕ). RoseOnce k (u.at GUEST).faults) next.meets.faults once)
+  ]
+
+  -- and on each link
+  link_more : (n i : ℕ) (met : Relayed) (w v u : World) → shards spread ≤ MOST_SHARDS → i < shards spread → RoseAtMost n (w.at (link 1 + i)).faults (v.at (link 1 + i)).faults → FrontsNext spread addresses met v u
+      → RoseAtMost (n + 1) (w.at (link 1 + i)).faults (u.at (link 1 + i)).faults
+  link_more n i met w v u most there few next =
+      let same : (next.mid.at (link 1 + i)).faults ≡ (v.at (link 1 + i)).faults = ap (λ (c : Cell). c.faults) (next.meets.others (link 1 + i) (omega (arith, most, there)) (omega arith)) in
+      elim (link_once spread addresses next.mid u most i there met next.fronts) [
+        | inl still ↦ at_most_still n (w.at (link 1 + i)).faults (v.at (link 1 + i)).faults (u.at (link 1 + i)).faults few (still ∙ same)
+        | inr once ↦ at_most_once n (w.at (link 1 + i)).faults (v.at (link 1 + i)).faults (u.at (link 1 + i)).faults few (subst (λ (k : ℕ). RoseOnce k (u.at (link 1 + i)).faults) same once)
+      ]
+
   -- one guest more
-  pub fronted_more : (n : ℕ) (met : Relayed) (w v u : World) → FrontsInTurn spread addresses n w v → FrontsNext spread addresses met v u → FrontsInTurn spread addresses (n + 1) w u
-  fronted_more n met w v u t next = record {
+  pub fronted_more : (n : ℕ) (met : Relayed) (w v u : World) → shards spread ≤ MOST_SHARDS → FrontsInTurn spread addresses n w v → FrontsNext spread addresses met v u → FrontsInTurn spread addresses (n + 1) w u
+  fronted_more n met w v u most t next = record {
     worlds = worlds;
     mets = mets;
     first = before 0 (omega arith) ∙ t.first;
@@ -129,6 +150,8 @@ module _ (spread : Spread) (addresses : List (List ℕ)) where
           (sym (before i (omega (arith, last)) ∙ ap t.worlds last ∙ t.last))
           (sym (after (i + 1) (omega (arith, more)))) next
     ];
+    guest_faults = guest_more n met w v u t.guest_faults next;
+    link_faults = λ i l. link_more n i met w v u most l (t.link_faults i l) next;
   }
     where
       worlds : ℕ → World
@@ -172,7 +195,7 @@ front_dry spread addresses n served w v u fewer same guests turns fails touch = 
   none = fails;
   others = touch;
   door = fails.cell ∙ ap (counted (u.at DOOR).faults) same;
-  rose = subst (λ (c : Cell). Rose c.faults (u.at DOOR).faults) same fails.rose;
+  rose = subst (λ (c : Cell). RoseOnce c.faults (u.at DOOR).faults) same fails.rose;
 }
 
 pub front_dry_touch : (n : ℕ) (w v u : World) → TouchesRelaying n w v → Touches DOOR v u → TouchesRelaying n w u
@@ -235,7 +258,7 @@ module _ (o : FrontOrder) (front : Spread) (w u x : World) (is : front ≡ o.spr
   pub fronted_some : FrontRunsDry front o.addresses o.guests u x → FrontedSome o w x
   fronted_some dry = record {
     door = dry.door ∙ ap (counted (x.at DOOR).faults) l.door;
-    rose = subst (λ (c : Cell). Rose c.faults (x.at DOOR).faults) l.door dry.rose;
+    rose = subst (λ (c : Cell). RoseOnce c.faults (x.at DOOR).faults) l.door dry.rose;
     written = output_is;
     listening = u;
     nobody = t;
@@ -256,8 +279,8 @@ front_touches o front w u x is t given =
 
 -- Door's count rose
 front_door_rose : (o : FrontOrder) (old new : World) → NoneRose own_ports old new → FrontEnds o DoorFault old new → ⊥
-front_door_rose o old new none (inl shut) = none.1.0 shut.0.rose
-front_door_rose o old new none (inr dry) = none.1.0 dry.rose
+front_door_rose o old new none (inl shut) = none.1.0 (once_rose _ _ shut.0.rose)
+front_door_rose o old new none (inr dry) = none.1.0 (once_rose _ _ dry.rose)
 
 -- each guest is met
 front_met : (o : FrontOrder) (status : Status) (old new : World) → NoneRose own_ports old new → FrontEnds o status old new → ((status ≡ One) × FrontedAll o old new) ⊎ (status ≡ Memory)
@@ -270,7 +293,7 @@ front_met o (TooFew k h) old new none said = absurd said
 front_met o (TooWeak k t h) old new none said = absurd said
 front_met o (TooCostly equations) old new none said = absurd said
 front_met o ReadFault old new none said = absurd said
-front_met o WriteFault old new none said = absurd (none.0 said.0.written.rose)
+front_met o WriteFault old new none said = absurd (none.0 (once_rose _ _ said.0.written.rose))
 front_met o (BadInput bad) old new none said = absurd said
 front_met o DoorFault old new none said = absurd (front_door_rose o old new none said)
 front_met o ChildFault old new none said = absurd said

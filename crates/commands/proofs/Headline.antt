@@ -5,6 +5,7 @@ use Rattle.std.proofs.lemmas.List.{length-take}
 use Rattle.port_rules.specs.World.{World}
 use Rattle.port_rules.specs.Number.{INPUT, OUTPUT, COINS}
 use Rattle.port_rules.specs.Moves.{gave, named}
+use Rattle.port_rules.proofs.Rises.{once_rose}
 use Rattle.wire_frames.specs.Limits.{IsInRange}
 use Rattle.wire_frames.specs.Session.{Transcript, IsSession}
 use Rattle.wire_frames.proofs.OneSession.{one_session}
@@ -55,8 +56,8 @@ answered name wanted Absent old new bytes session told whole none said = absurd 
 answered name wanted (TooFew k h) old new bytes session told whole none said = inl (answered_by name wanted (TooFew k h) old new bytes session told whole said)
 answered name wanted (TooWeak k t h) old new bytes session told whole none said = inl (answered_by name wanted (TooWeak k t h) old new bytes session told whole said)
 answered name wanted (TooCostly equations) old new bytes session told whole none said = inl (answered_by name wanted (TooCostly equations) old new bytes session told whole said)
-answered name wanted ReadFault old new bytes session told whole none said = absurd (none.0 said.rose)
-answered name wanted WriteFault old new bytes session told whole none said = absurd (none.1.0 said.written.rose)
+answered name wanted ReadFault old new bytes session told whole none said = absurd (none.0 (once_rose _ _ said.rose))
+answered name wanted WriteFault old new bytes session told whole none said = absurd (none.1.0 (once_rose _ _ said.written.rose))
 answered name wanted (BadInput EmptyFile) old new bytes session told whole none said = absurd said
 answered name wanted (BadInput (TooBig limit)) old new bytes session told whole none said = absurd said
 answered name wanted DoorFault old new bytes session told whole none said = absurd said
@@ -81,8 +82,8 @@ refused name wanted Absent old new bytes told nothing none said = absurd said
 refused name wanted (TooFew k h) old new bytes told nothing none said = absurd (no_report name wanted (TooFew k h) old new bytes told nothing said)
 refused name wanted (TooWeak k t h) old new bytes told nothing none said = absurd (no_report name wanted (TooWeak k t h) old new bytes told nothing said)
 refused name wanted (TooCostly equations) old new bytes told nothing none said = absurd (no_report name wanted (TooCostly equations) old new bytes told nothing said)
-refused name wanted ReadFault old new bytes told nothing none said = absurd (none.0 said.rose)
-refused name wanted WriteFault old new bytes told nothing none said = absurd (none.1.0 said.written.rose)
+refused name wanted ReadFault old new bytes told nothing none said = absurd (none.0 (once_rose _ _ said.rose))
+refused name wanted WriteFault old new bytes told nothing none said = absurd (none.1.0 (once_rose _ _ said.written.rose))
 refused name wanted (BadInput EmptyFile) old new bytes told nothing none said = absurd said
 refused name wanted (BadInput (TooBig limit)) old new bytes told nothing none said = absurd said
 refused name wanted DoorFault old new bytes told nothing none said = absurd said
@@ -116,7 +117,7 @@ replay_promised name wanted status old new said = record {
 -- a record that can't be written rose
 unrecorded_rose : (keep : Option (List ℕ)) (session : Transcript) (old new : World) → NoneRose (record_port keep) old new → Unrecorded keep session old new → ⊥
 unrecorded_rose None session old new none cut = cut
-unrecorded_rose (Some name) session old new none cut = none.0 cut.rose
+unrecorded_rose (Some name) session old new none cut = none.0 (once_rose _ _ cut.rose)
 
 -- where there are coins enough, the verdict is reported
 reported : (o : FetchOrder) (status : Status) (old new : World) (held : List ℕ) → (old.at COINS).holds ≡ Some held → need o.plan (length o.blocks) ≤ length held → NoneRose (files_of o) old new
@@ -129,8 +130,8 @@ reported o Absent old new held told enough none said = absurd said
 reported o (TooFew k h) old new held told enough none said = inl said
 reported o (TooWeak k t h) old new held told enough none said = inl said
 reported o (TooCostly equations) old new held told enough none said = inl said
-reported o ReadFault old new held told enough none said = absurd (none.1.0 said.unread.rose)
-reported o WriteFault old new held told enough none said = absurd (elim said.cut [ inl c ↦ unrecorded_rose o.keep said.session old new none.1.1 c.0 | inr c ↦ none.0 c.1.rose ])
+reported o ReadFault old new held told enough none said = absurd (none.1.0 (once_rose _ _ said.unread.rose))
+reported o WriteFault old new held told enough none said = absurd (elim said.cut [ inl c ↦ unrecorded_rose o.keep said.session old new none.1.1 c.0 | inr c ↦ none.0 (once_rose _ _ c.1.rose) ])
 reported o (BadInput EmptyFile) old new held told enough none said = absurd said
 reported o (BadInput (TooBig limit)) old new held told enough none said = absurd said
 reported o DoorFault old new held told enough none said = absurd said
@@ -159,8 +160,8 @@ too_few o Absent old new held told few none said = absurd said
 too_few o (TooFew k h) old new held told few none said = absurd (no_coins o (TooFew k h) old new held told few said)
 too_few o (TooWeak k t h) old new held told few none said = absurd (no_coins o (TooWeak k t h) old new held told few said)
 too_few o (TooCostly equations) old new held told few none said = absurd (no_coins o (TooCostly equations) old new held told few said)
-too_few o ReadFault old new held told few none said = absurd (none.1.0 said.unread.rose)
-too_few o WriteFault old new held told few none said = absurd (elim said.cut [ inl c ↦ unrecorded_rose o.keep said.session old new none.1.1 c.0 | inr c ↦ none.0 c.1.rose ])
+too_few o ReadFault old new held told few none said = absurd (none.1.0 (once_rose _ _ said.unread.rose))
+too_few o WriteFault old new held told few none said = absurd (elim said.cut [ inl c ↦ unrecorded_rose o.keep said.session old new none.1.1 c.0 | inr c ↦ none.0 (once_rose _ _ c.1.rose) ])
 too_few o (BadInput EmptyFile) old new held told few none said = absurd said
 too_few o (BadInput (TooBig limit)) old new held told few none said = absurd said
 too_few o DoorFault old new held told few none said = absurd said

@@ -4,10 +4,13 @@ use Rattle.std.specs.Prelude.{nat_le}
 use Rattle.std.proofs.lemmas.Bool.{cases_lt, le-leb, lt-leb}
 use Rattle.port_rules.specs.World.{Cell, World}
 use Rattle.port_rules.specs.Number.{GUEST}
+use Rattle.port_rules.specs.Moves.{RoseAtMost, RoseOnce}
+use Rattle.port_rules.proofs.Rises.{at_most_once, at_most_still}
 use Rattle.serve_core.specs.Service.{Service}
 use Rattle.serve_core.specs.Attended.{Attends, AttendsNext}
 use Rattle.serve_core.specs.declared.met.Met.{Met}
 use Rattle.serve_core.specs.declared.met.Met.TheVariants.{Served, Refused, Gone, GuestFault}
+use Rattle.serve_core.proofs.ServingOne.{attended_once}
 use Rattle.commands.specs.ServeSteps.{AttendsInTurn}
 
 -- before the first guest
@@ -18,11 +21,19 @@ turns_none service w = record {
   first = refl;
   last = refl;
   each = λ i l. absurd (omega arith);
+  faults = omega arith;
 }
 
 -- the same guest, met so, between the same worlds
 moved : (service : Service) (m m' : Met) (a a' b b' : World) → m ≡ m' → a ≡ a' → b ≡ b' → AttendsNext service m a b → AttendsNext service m' a' b'
 moved service m m' a a' b b' p q r h = subst (λ (x : Met). AttendsNext service x a' b') p (subst (λ (x : World). AttendsNext service m x b') q (subst (λ (x : World). AttendsNext service m a x) r h))
+
+-- one guest more, on which at most one call failed
+faults_more : (service : Service) (n : ℕ) (met : Met) (w v u : World) → RoseAtMost n (w.at GUEST).faults (v.at GUEST).faults → AttendsNext service met v u → RoseAtMost (n + 1) (w.at GUEST).faults (u.at GUEST).faults
+faults_more service n met w v u few next = elim (attended_once service met next.mid u next.attends) [
+  | inl still ↦ at_most_still n (w.at GUEST).faults (v.at GUEST).faults (u.at GUEST).faults few (still ∙ next.meets.faults)
+  | inr once ↦ at_most_once n (w.at GUEST).faults (v.at GUEST).faults (u.at GUEST).faults few (subst (λ (k : ℕ). RoseOnce k (u.at GUEST).faults) next.meets.faults once)
+]
 
 -- one guest more
 pub turns_more : (service : Service) (n : ℕ) (met : Met) (w v u : World) → AttendsInTurn service n w v → AttendsNext service met v u → AttendsInTurn service (n + 1) w u
@@ -40,6 +51,7 @@ turns_more service n met w v u t next = record {
         (sym (before i (omega (arith, last)) ∙ ap t.worlds last ∙ t.last))
         (sym (after (i + 1) (omega (arith, more)))) next
   ];
+  faults = faults_more service n met w v u t.faults next;
 }
   where
     worlds : ℕ → World

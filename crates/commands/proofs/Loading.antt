@@ -2,7 +2,7 @@
 use Rattle.std.proofs.Common.{◌≡◌, ◌∙◌, inl, inr, Ok, Err, length, refl, sym, ap, subst, arith}
 use Rattle.port_rules.specs.World.{Cell, World}
 use Rattle.port_rules.specs.Number.{DATABASE}
-use Rattle.port_rules.specs.Moves.{Fails, Rose, counted, named, took}
+use Rattle.port_rules.specs.Moves.{Fails, RoseOnce, counted, named, took}
 use Rattle.block_matrix.specs.Loading.{Holds, HoldsMore, HoldsNone, Loads, Stopped, asked_for}
 use Rattle.block_matrix.specs.Database.{Database}
 use Rattle.block_matrix.specs.declared.matrix.LoadFault.{LoadFault}
@@ -25,7 +25,7 @@ desk_unloaded o Unloadable w v u is_open loads = record {
   n = loads.after.n;
   fewer = loads.fewer;
   cell = inr (loads.after.cell ∙ ap (λ (c : Cell). counted (u.at DATABASE).faults (took loads.after.n c)) is_open);
-  rose = subst (λ (c : Cell). Rose c.faults (u.at DATABASE).faults) is_open loads.after.rose;
+  rose = subst (λ (c : Cell). RoseOnce c.faults (u.at DATABASE).faults) is_open loads.after.rose;
 }
 desk_unloaded o NoRoom w v u is_open loads = subst (λ (c : Cell). Stopped (asked_for o.width) c (u.at DATABASE)) is_open loads
 

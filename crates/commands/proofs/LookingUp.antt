@@ -9,6 +9,7 @@ use Rattle.port_rules.specs.World.{Cell, World}
 use Rattle.port_rules.specs.Number.{COINS, OUTPUT, link}
 use Rattle.port_rules.specs.Moves.{Touches, gave, named}
 use Rattle.port_rules.proofs.Carried.{fails_writing_before}
+use Rattle.port_rules.proofs.Rises.{once_rose}
 use Rattle.wire_frames.specs.declared.scheme.TheConstants.{SHAMIR}
 use Rattle.wire_frames.specs.Answer.{answers}
 use Rattle.wire_frames.proofs.Turns.{in_turn-one}
@@ -169,8 +170,8 @@ reported o (TooFew k h) old new held told enough none said = inl said
 reported o (TooWeak k t h) old new held told enough none said = inl said
 reported o (TooCostly equations) old new held told enough none said = inl said
 reported o ReadFault old new held told enough none said =
-    absurd (elim said.part [ inl unopened ↦ none.1.0 unopened.0.rose | inr later ↦ none.1.0 later.coins.rose ])
-reported o WriteFault old new held told enough none said = absurd (none.0 said.cut.rose)
+    absurd (elim said.part [ inl unopened ↦ none.1.0 (once_rose _ _ unopened.0.rose) | inr later ↦ none.1.0 (once_rose _ _ later.coins.rose) ])
+reported o WriteFault old new held told enough none said = absurd (none.0 (once_rose _ _ said.cut.rose))
 reported o (BadInput EmptyFile) old new held told enough none said = absurd said
 reported o (BadInput (TooBig limit)) old new held told enough none said = absurd said
 reported o (BadInput (Session place)) old new held told enough none said = absurd said
@@ -201,8 +202,8 @@ too_few o (TooFew k h) old new held told few none said = absurd (no_end o (TooFe
 too_few o (TooWeak k t h) old new held told few none said = absurd (no_end o (TooWeak k t h) old new held told few said)
 too_few o (TooCostly equations) old new held told few none said = absurd (no_end o (TooCostly equations) old new held told few said)
 too_few o ReadFault old new held told few none said =
-    absurd (elim said.part [ inl unopened ↦ none.1.0 unopened.0.rose | inr later ↦ none.1.0 later.coins.rose ])
-too_few o WriteFault old new held told few none said = absurd (none.0 said.cut.rose)
+    absurd (elim said.part [ inl unopened ↦ none.1.0 (once_rose _ _ unopened.0.rose) | inr later ↦ none.1.0 (once_rose _ _ later.coins.rose) ])
+too_few o WriteFault old new held told few none said = absurd (none.0 (once_rose _ _ said.cut.rose))
 too_few o (BadInput EmptyFile) old new held told few none said = absurd said
 too_few o (BadInput (TooBig limit)) old new held told few none said = absurd said
 too_few o (BadInput (Session place)) old new held told few none said = absurd said

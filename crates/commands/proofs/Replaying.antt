@@ -3,7 +3,7 @@ use Rattle.std.proofs.Common.{◌≡◌, ◌⊎◌, ◌∙◌, inl, inr, ℕ, Bo
 use Rattle.std.specs.Prelude.{Option, None, Err}
 use Rattle.port_rules.specs.World.{Cell, World}
 use Rattle.port_rules.specs.Number.{INPUT, OUTPUT}
-use Rattle.port_rules.specs.Moves.{Fails, Rose, Touches, gave, named}
+use Rattle.port_rules.specs.Moves.{Fails, RoseOnce, Touches, gave, named}
 use Rattle.port_rules.proofs.Carried.{fails_writing_before}
 use Rattle.wire_frames.specs.Session.{Transcript}
 use Rattle.block_decoder.specs.Report.{Agreement}
@@ -97,7 +97,7 @@ module _ (name : List ℕ) (wanted : Bool) (w v u : World) (is_open : v.at INPUT
   pub unjudged : {T : Type 0} → (P : T → List ℕ → Type 0) (fault : ReplayFault) → ReadTo P (Err fault) v u → ReplayEnds name wanted (of_replay fault) w u
   unjudged P Unreadable read = record {
     input = inr (subst (λ (c : Cell). BreaksOff c (u.at INPUT)) is_open read);
-    rose = subst (λ (c : Cell). Rose c.faults (u.at INPUT).faults) is_open read.rose;
+    rose = subst (λ (c : Cell). RoseOnce c.faults (u.at INPUT).faults) is_open read.rose;
     output = still;
   }
   unjudged P (BadSession place) read = record { read = subst (λ (c : Cell). Refuses place c (u.at INPUT)) is_open read; output = still }

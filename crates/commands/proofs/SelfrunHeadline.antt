@@ -2,6 +2,7 @@
 use Rattle.std.proofs.Common.{◌≡◌, ◌⊎◌, inl, inr, [], ◌∷◌, refl}
 use Rattle.port_rules.specs.World.{World}
 use Rattle.port_rules.specs.Number.{OUTPUT}
+use Rattle.port_rules.proofs.Rises.{once_rose}
 use Rattle.drawn_workload.specs.declared.order.Workload.{Workload}
 use Rattle.commands.specs.Told.{NoneRose}
 use Rattle.block_decoder.specs.declared.verdict.Verdict.{Verdict}
@@ -22,7 +23,7 @@ selfrun_reported w (TooFew k h) old new none said = inl said
 selfrun_reported w (TooWeak k t h) old new none said = inl said
 selfrun_reported w (TooCostly equations) old new none said = inl said
 selfrun_reported w ReadFault old new none said = absurd said
-selfrun_reported w WriteFault old new none said = absurd (none.0 said.written.rose)
+selfrun_reported w WriteFault old new none said = absurd (none.0 (once_rose _ _ said.written.rose))
 selfrun_reported w (BadInput bad) old new none said = absurd said
 selfrun_reported w DoorFault old new none said = absurd said
 selfrun_reported w ChildFault old new none said = absurd said

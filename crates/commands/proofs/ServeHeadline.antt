@@ -3,6 +3,7 @@ use Rattle.std.proofs.Common.{◌≡◌, ◌⊎◌, inl, inr, ℕ, ◌<◌, ◌�
 use Rattle.std.specs.Prelude.{Some}
 use Rattle.port_rules.specs.World.{World}
 use Rattle.port_rules.specs.Number.{DATABASE}
+use Rattle.port_rules.proofs.Rises.{once_rose}
 use Rattle.block_matrix.specs.Database.{limit}
 use Rattle.port_rules.proofs.Cells.{at_told}
 use Rattle.commands.specs.Told.{NoneRose}
@@ -15,8 +16,8 @@ use Rattle.commands.specs.declared.status.Bad.TheVariants.{Session, EmptyFile, T
 
 -- Door's count rose
 door_rose : (o : ServeOrder) (old new : World) → NoneRose files old new → ServeEnds o DoorFault old new → ⊥
-door_rose o old new none (inl shut) = none.1.1.0 shut.rose
-door_rose o old new none (inr dry) = none.1.1.0 dry.rose
+door_rose o old new none (inl shut) = none.1.1.0 (once_rose _ _ shut.rose)
+door_rose o old new none (inr dry) = none.1.1.0 (once_rose _ _ dry.rose)
 
 module _ (o : ServeOrder) (old new : World) (none : NoneRose files old new) (bytes : List ℕ) (held : (old.at DATABASE).holds ≡ Some bytes) where
   -- a database is served
@@ -29,8 +30,8 @@ module _ (o : ServeOrder) (old new : World) (none : NoneRose files old new) (byt
   served (TooFew k h) some few said = absurd said
   served (TooWeak k t h) some few said = absurd said
   served (TooCostly equations) some few said = absurd said
-  served ReadFault some few said = absurd (none.1.0 said.0.rose)
-  served WriteFault some few said = absurd (none.0 said.written.rose)
+  served ReadFault some few said = absurd (none.1.0 (once_rose _ _ said.0.rose))
+  served WriteFault some few said = absurd (none.0 (once_rose _ _ said.written.rose))
   served (BadInput (Session place)) some few said = absurd said
   served (BadInput EmptyFile) some few said =
       let empty = at_told (λ (h : List ℕ). h ≡ []) (old.at DATABASE).holds bytes held said.0.none in
@@ -61,8 +62,8 @@ module _ (o : ServeOrder) (old new : World) (none : NoneRose files old new) (byt
   empty_file (TooFew k h) size said = absurd said
   empty_file (TooWeak k t h) size said = absurd said
   empty_file (TooCostly equations) size said = absurd said
-  empty_file ReadFault size said = absurd (none.1.0 said.0.rose)
-  empty_file WriteFault size said = absurd (none.0 said.written.rose)
+  empty_file ReadFault size said = absurd (none.1.0 (once_rose _ _ said.0.rose))
+  empty_file WriteFault size said = absurd (none.0 (once_rose _ _ said.written.rose))
   empty_file (BadInput (Session place)) size said = absurd said
   empty_file (BadInput EmptyFile) size said = inl refl
   empty_file (BadInput (TooBig most)) size said =
@@ -83,8 +84,8 @@ module _ (o : ServeOrder) (old new : World) (none : NoneRose files old new) (byt
   too_big (TooFew k h) more said = absurd said
   too_big (TooWeak k t h) more said = absurd said
   too_big (TooCostly equations) more said = absurd said
-  too_big ReadFault more said = absurd (none.1.0 said.0.rose)
-  too_big WriteFault more said = absurd (none.0 said.written.rose)
+  too_big ReadFault more said = absurd (none.1.0 (once_rose _ _ said.0.rose))
+  too_big WriteFault more said = absurd (none.0 (once_rose _ _ said.written.rose))
   too_big (BadInput (Session place)) more said = absurd said
   too_big (BadInput EmptyFile) more said =
       let empty = at_told (λ (h : List ℕ). h ≡ []) (old.at DATABASE).holds bytes held said.0.none in

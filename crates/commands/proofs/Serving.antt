@@ -3,7 +3,7 @@ use Rattle.std.proofs.Common.{◌≡◌, inl, ℕ, ◌+◌, ◌-◌, ◌^◌, �
 use Rattle.std.specs.Prelude.{Ok, Err}
 use Rattle.port_rules.specs.World.{Cell, World, answers}
 use Rattle.port_rules.specs.Number.{OUTPUT, DATABASE, DOOR, GUEST}
-use Rattle.port_rules.specs.Moves.{Rose, Touches, Fails, named, counted, gave}
+use Rattle.port_rules.specs.Moves.{Rose, RoseOnce, Touches, Fails, named, counted, gave}
 use Rattle.port_rules.proofs.Carried.{fails_writing_before}
 use Rattle.port_rules.specs.Guests.{Meets}
 use Rattle.port_rules.specs.Serving.{Served as IsServing}
@@ -95,7 +95,7 @@ guests_dry service n served w v u fewer same s turns fails touch = record {
   none = fails;
   others = touch;
   door = fails.cell ∙ ap (counted (u.at DOOR).faults) same;
-  rose = subst (λ (c : Cell). Rose c.faults (u.at DOOR).faults) same fails.rose;
+  rose = subst (λ (c : Cell). RoseOnce c.faults (u.at DOOR).faults) same fails.rose;
 }
 
 pub guests_dry_touch : (w v u : World) → TouchesGuests w v → Touches DOOR v u → TouchesGuests w u
@@ -153,7 +153,7 @@ module _ (o : ServeOrder) (service : Service) (w v : World) (has : HasOpenDesk o
     database = database;
     loaded = loaded_after u t;
     door = l.door ∙ ap (counted (u.at DOOR).faults) door_is;
-    rose = subst (λ (c : Cell). Rose c.faults (u.at DOOR).faults) door_is l.rose;
+    rose = subst (λ (c : Cell). RoseOnce c.faults (u.at DOOR).faults) door_is l.rose;
     output = l.output ∙ has.others.others 1 (omega arith) (omega arith);
     nobody = nobody u t;
   }
@@ -225,7 +225,7 @@ module _ (o : ServeOrder) (service : Service) (w v : World) (has : HasOpenDesk o
       database = database;
       loaded = loaded_at_end;
       door = dry.door ∙ ap (counted (x.at DOOR).faults) door_opened;
-      rose = subst (λ (c : Cell). Rose c.faults (x.at DOOR).faults) door_opened dry.rose;
+      rose = subst (λ (c : Cell). RoseOnce c.faults (x.at DOOR).faults) door_opened dry.rose;
       written = output_is;
       served = dry.served;
       fewer = dry.fewer;

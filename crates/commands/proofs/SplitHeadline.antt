@@ -5,6 +5,7 @@ use Rattle.std.specs.Int.{div_ceil}
 use Rattle.std.proofs.lemmas.List.{length-take}
 use Rattle.port_rules.specs.World.{World}
 use Rattle.port_rules.specs.Number.{COINS, DATABASE}
+use Rattle.port_rules.proofs.Rises.{once_rose}
 use Rattle.block_matrix.specs.Database.{Database}
 use Rattle.share_files.specs.Limit.{shared_limit}
 use Rattle.share_files.proofs.Limits.{length-cells}
@@ -27,8 +28,8 @@ pub record IsSized (o : SplitOrder) (m : Database) (size : ℕ) : Type 0 where
 module _ (o : SplitOrder) (old new : World) (wide : 0 < o.width) (none : NoneRose files old new) (written : NoShareRose o.servers old new) (bytes : List ℕ) (held : (old.at DATABASE).holds ≡ Some bytes) where
   -- no call on a port that is read failed
   no_read_fault : SplitEnds o ReadFault old new → ⊥
-  no_read_fault (inl unread) = none.1.0 unread.0.rose
-  no_read_fault (inr later) = none.1.1.0 later.unread.rose
+  no_read_fault (inl unread) = none.1.0 (once_rose _ _ unread.0.rose)
+  no_read_fault (inr later) = none.1.1.0 (once_rose _ _ later.unread.rose)
 
   -- nor one on a port that is written
   no_write_fault : SplitEnds o WriteFault old new → ⊥
@@ -36,8 +37,8 @@ module _ (o : SplitOrder) (old new : World) (wide : 0 < o.width) (none : NoneRos
     | inl part ↦
         let size = length-share_names o.into o.servers in
         let fewer = part.0.shares.fewer in
-        written part.0.shares.done (omega (arith, size, fewer)) part.0.shares.cut.rose
-    | inr mute ↦ none.0 mute.1.rose
+        written part.0.shares.done (omega (arith, size, fewer)) (once_rose _ _ part.0.shares.cut.rose)
+    | inr mute ↦ none.0 (once_rose _ _ mute.1.rose)
   ]
 
   -- what was loaded is what Database held

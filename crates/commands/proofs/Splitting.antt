@@ -3,7 +3,7 @@ use Rattle.std.proofs.Common.{◌≡◌, ◌∙◌, inl, inr, ℕ, ◌<◌, List
 use Rattle.std.specs.Prelude.{Ok, Err}
 use Rattle.port_rules.specs.World.{Cell, World}
 use Rattle.port_rules.specs.Number.{COINS, DATABASE, OUTPUT}
-use Rattle.port_rules.specs.Moves.{Rose, Touches, took, gave, named, counted}
+use Rattle.port_rules.specs.Moves.{RoseOnce, Touches, took, gave, named, counted}
 use Rattle.port_rules.specs.Files.{Unread}
 use Rattle.port_rules.specs.Tossed.{RunsOut}
 use Rattle.port_rules.proofs.Carried.{fails_writing_before}
@@ -34,7 +34,7 @@ unread_before p name most w v u still cut = record {
     | inl a ↦ inl (a ∙ ap (counted (u.at p).faults) still)
     | inr b ↦ inr (b ∙ ap (λ (c : Cell). counted (u.at p).faults (took cut.n (named name c))) still)
   ];
-  rose = subst (λ (c : Cell). Rose c.faults (u.at p).faults) still cut.rose;
+  rose = subst (λ (c : Cell). RoseOnce c.faults (u.at p).faults) still cut.rose;
 }
 
 -- not every share was written
@@ -138,7 +138,7 @@ module _ (o : SplitOrder) (w v u : World) (is_open : v.at DATABASE ≡ named o.d
       n = loads.after.n;
       fewer = loads.fewer;
       cell = inr (loads.after.cell ∙ ap (λ (c : Cell). counted (u.at DATABASE).faults (took loads.after.n c)) is_open);
-      rose = subst (λ (c : Cell). Rose c.faults (u.at DATABASE).faults) is_open loads.after.rose;
+      rose = subst (λ (c : Cell). RoseOnce c.faults (u.at DATABASE).faults) is_open loads.after.rose;
     },
     both_touch,
   )

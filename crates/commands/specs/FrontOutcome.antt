@@ -5,7 +5,7 @@ use Rattle.port_rules.specs.Number.{OUTPUT, DOOR, GUEST, link}
 use Rattle.port_rules.specs.Moves.{Fails, Touches, gave, named, counted}
 use Rattle.port_rules.specs.Touched.{One, From, Crowd, TouchesOnly}
 use Rattle.shard_front.specs.Spread.{shards}
-use Rattle.commands.specs.Told.{DidRise, NoneRose}
+use Rattle.commands.specs.Told.{DidRiseOnce, NoneRose}
 use Rattle.commands.specs.ServeSteps.{ready, IsMute, IsShut, TouchesDoor}
 use Rattle.commands.specs.FrontOrder.{FrontOrder}
 use Rattle.commands.specs.FrontAnswers.{FrontsGuests}
@@ -27,7 +27,7 @@ pub record FrontedAll (o : FrontOrder) (old new : World) : Type 0 where
 -- the same, but when some guests were met no further one came in
 pub record FrontedSome (o : FrontOrder) (old new : World) : Type 0 where
   pub door : new.at DOOR ≡ counted (new.at DOOR).faults (named o.listen (old.at DOOR))
-  pub rose : DidRise DOOR old new
+  pub rose : DidRiseOnce DOOR old new
   pub written : new.at OUTPUT ≡ gave ready (old.at OUTPUT)
   pub listening : World
   pub nobody : TouchesDoor old listening

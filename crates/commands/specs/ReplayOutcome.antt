@@ -12,7 +12,7 @@ use Rattle.block_decoder.specs.declared.verdict.Verdict.{Verdict}
 use Rattle.replay.specs.Replayed.{BreaksOff, NoSession, ReadsLittle, ReadsWhole, Refuses, SpellsOne}
 use Rattle.commands.specs.Table.{status_of}
 use Rattle.commands.specs.Said.{IsBeside, ToldWhole, whole_text}
-use Rattle.commands.specs.Told.{DidRise, NoneRose}
+use Rattle.commands.specs.Told.{DidRiseOnce, NoneRose}
 use Rattle.commands.specs.declared.status.Status.{Status}
 use Rattle.commands.specs.declared.status.Status.TheVariants.{Usage, Absent, ReadFault, WriteFault, BadInput, DoorFault, ChildFault, Memory}
 use Rattle.commands.specs.declared.status.Bad.TheVariants.{Session, EmptyFile, TooBig, CoinsEnded}
@@ -50,7 +50,7 @@ pub record Refused (name : List ℕ) (place : ℕ) (old new : World) : Type 0 wh
 -- Input can't be opened; or it was, and a call failed when what begins a session was taken. Nothing is written
 pub record Unreadable (name : List ℕ) (old new : World) : Type 0 where
   pub input : (new.at INPUT ≡ counted (new.at INPUT).faults (old.at INPUT)) ⊎ BreaksOff (named name (old.at INPUT)) (new.at INPUT)
-  pub rose : DidRise INPUT old new
+  pub rose : DidRiseOnce INPUT old new
   pub output : new.at OUTPUT ≡ old.at OUTPUT
 
 -- memory ran out, early or when a whole session was read, and nothing is written

@@ -8,7 +8,7 @@ use Rattle.port_rules.specs.Touched.{One, Crowd, TouchesOnly}
 use Rattle.port_rules.specs.Files.{Unread}
 use Rattle.block_matrix.specs.Database.{Database, limit}
 use Rattle.block_matrix.specs.Loading.{asked_for}
-use Rattle.commands.specs.Told.{DidRise, NoneRose}
+use Rattle.commands.specs.Told.{DidRise, DidRiseOnce, NoneRose}
 use Rattle.commands.specs.ServeOrder.{ServeOrder, service_of}
 use Rattle.commands.specs.ServeSteps.{ready, Loaded, HasNoBytes, HasTooMany, HasBegun, AttendsInTurn, ServesGuests, RepliesToGuests}
 use Rattle.commands.specs.declared.status.Status.{Status}
@@ -38,7 +38,7 @@ pub record NoFurtherGuest (o : ServeOrder) (old new : World) : Type 0 where
   pub database : Database
   pub loaded : Loaded o.database o.width database old new
   pub door : new.at DOOR ≡ counted (new.at DOOR).faults (named o.listen (old.at DOOR))
-  pub rose : DidRise DOOR old new
+  pub rose : DidRiseOnce DOOR old new
   pub written : new.at OUTPUT ≡ gave ready (old.at OUTPUT)
   pub served : ℕ
   pub fewer : served < o.guests
@@ -55,7 +55,7 @@ pub record CannotListen (o : ServeOrder) (old new : World) : Type 0 where
   pub database : Database
   pub loaded : Loaded o.database o.width database old new
   pub door : new.at DOOR ≡ counted (new.at DOOR).faults (old.at DOOR)
-  pub rose : DidRise DOOR old new
+  pub rose : DidRiseOnce DOOR old new
   pub output : new.at OUTPUT ≡ old.at OUTPUT
   pub nobody : Nobody old new
 

@@ -2,7 +2,7 @@
 use Rattle.std.specs.Prelude.{◌≡◌, ℕ, ◌+◌, ◌<◌, List, [], codes, Result, Ok, Err, ◌∷◌}
 use Rattle.port_rules.specs.World.{World}
 use Rattle.port_rules.specs.Number.{OUTPUT, DATABASE, DOOR, GUEST}
-use Rattle.port_rules.specs.Moves.{Fails, Touches, gave, named, counted}
+use Rattle.port_rules.specs.Moves.{Fails, RoseAtMost, Touches, gave, named, counted}
 use Rattle.port_rules.specs.Whole.{FailsWithin}
 use Rattle.port_rules.specs.Touched.{One, Crowd, TouchesOnly}
 use Rattle.port_rules.specs.Files.{Unread}
@@ -12,7 +12,7 @@ use Rattle.block_matrix.specs.Loading.{Holds, HoldsMore, HoldsNone, Stopped, ask
 use Rattle.serve_core.specs.Service.{Service}
 use Rattle.serve_core.specs.Attended.{AttendsNext, HasReply, IsServed}
 use Rattle.serve_core.specs.declared.met.Met.{Met}
-use Rattle.commands.specs.Told.{DidRise}
+use Rattle.commands.specs.Told.{DidRiseOnce}
 use Rattle.commands.specs.ServeOrder.{ServeOrder}
 use Rattle.commands.specs.declared.status.Status.{Status}
 use Rattle.commands.specs.declared.status.Status.TheVariants.{ReadFault, WriteFault, BadInput, DoorFault, Memory}
@@ -61,7 +61,7 @@ pub record IsOpen (address : List ℕ) (old new : World) : Type 0 where
 -- Door could not be opened, and nothing is written
 pub record IsShut (old new : World) : Type 0 where
   pub door : new.at DOOR ≡ counted (new.at DOOR).faults (old.at DOOR)
-  pub rose : DidRise DOOR old new
+  pub rose : DidRiseOnce DOOR old new
   pub output : new.at OUTPUT ≡ old.at OUTPUT
 
 -- Door was opened, but Output has taken only a front of what says so
@@ -88,13 +88,15 @@ ServesGuests service n old new = Served (IsServed service) n old new
 abbrev pub RepliesToGuests : Service → ℕ → World → World → Type 0
 RepliesToGuests service n old new = Served (λ guest out before after. HasReply service guest out) n old new
 
--- n guests came in, and each was attended to, one after the other: the worlds between them, and what each was met with
+-- n guests came in, and each was attended to, one after the other: the worlds between them, and what each was met with. No
+-- more calls on Guest failed than guests came in
 pub record AttendsInTurn (service : Service) (n : ℕ) (old new : World) : Type 0 where
   pub worlds : ℕ → World
   pub mets : ℕ → Met
   pub first : worlds 0 ≡ old
   pub last : worlds n ≡ new
   pub each : (i : ℕ) → i < n → AttendsNext service (mets i) (worlds i) (worlds (i + 1))
+  pub faults : RoseAtMost n (old.at GUEST).faults (new.at GUEST).faults
 
 -- when some of n guests were served, no further one came in
 pub record RunsDry (service : Service) (n : ℕ) (old new : World) : Type 0 where
@@ -106,7 +108,7 @@ pub record RunsDry (service : Service) (n : ℕ) (old new : World) : Type 0 wher
   pub none : Fails DOOR last new
   pub others : Touches DOOR last new
   pub door : new.at DOOR ≡ counted (new.at DOOR).faults (old.at DOOR)
-  pub rose : DidRise DOOR old new
+  pub rose : DidRiseOnce DOOR old new
 
 -- Door and Guest alone are touched, and guests come and go
 abbrev pub TouchesGuests : World → World → Type 0

@@ -2,11 +2,15 @@
 use Rattle.std.specs.Prelude.{ℕ, ◌+◌, ◌<◌, List, [], ◌∷◌}
 use Rattle.port_rules.specs.World.{World}
 use Rattle.port_rules.specs.Number.{child, share_file}
-use Rattle.port_rules.specs.Moves.{Rose}
+use Rattle.port_rules.specs.Moves.{Rose, RoseOnce}
 
 -- a call on the port failed in this run, or its count stands at its limit
 abbrev pub DidRise : ℕ → World → World → Type 0
 DidRise p old new = Rose (old.at p).faults (new.at p).faults
+
+-- one call on the port failed in this run and no second one, or its count stands at its limit
+abbrev pub DidRiseOnce : ℕ → World → World → Type 0
+DidRiseOnce p old new = RoseOnce (old.at p).faults (new.at p).faults
 
 -- no call on one of these ports failed in this run
 abbrev pub NoneRose : List ℕ → World → World → Type 0

@@ -10,7 +10,7 @@ use Rattle.std.proofs.lemmas.List.Elements.{All-append}
 use Rattle.std.proofs.lemmas.Nat.{mod-mul-add}
 use Rattle.port_rules.specs.World.{Cell, World}
 use Rattle.port_rules.specs.Number.{COINS}
-use Rattle.port_rules.specs.Moves.{Rose, took, counted}
+use Rattle.port_rules.specs.Moves.{RoseOnce, took, counted}
 use Rattle.port_rules.specs.Whole.{FailsShort}
 use Rattle.port_rules.proofs.Cells.{took-took}
 use Rattle.query_rounds.specs.declared.plan.FetchPlan.{FetchPlan}
@@ -87,7 +87,7 @@ fails_next p count rounds first mid new a failed =
           ∙ ap (λ (k : ℕ). counted (new.at COINS).faults (took (k + n) first)) (sym a.size);
       told = held_left size n (coins_of rounds) first.holds (mid.at COINS).holds a.size
           (ap (λ (c : Cell). c.holds) a.cell) a.told failed.after.held;
-      rose = subst (λ (k : ℕ). Rose k (new.at COINS).faults) (ap (λ (c : Cell). c.faults) a.cell) failed.after.rose;
+      rose = subst (λ (k : ℕ). RoseOnce k (new.at COINS).faults) (ap (λ (c : Cell). c.faults) a.cell) failed.after.rose;
     }
 
 -- what was held, where exactly n more bytes were left

@@ -5,8 +5,9 @@ use Rattle.std.specs.Option.{option_map}
 use Rattle.std.proofs.lemmas.List.{append-nil, length-take-le, take_all}
 use Rattle.port_rules.specs.World.{Cell, World}
 use Rattle.port_rules.specs.Number.{link}
-use Rattle.port_rules.specs.Moves.{Rose}
+use Rattle.port_rules.specs.Moves.{Rose, RoseOnce}
 use Rattle.port_rules.proofs.Ranges.{each_as}
+use Rattle.port_rules.proofs.Rises.{once_rose}
 use Rattle.wire_frames.specs.Sizes.{answer_len}
 use Rattle.query_rounds.specs.declared.plan.FetchPlan.{FetchPlan}
 use Rattle.query_rounds.specs.Link.{LinkAsked}
@@ -18,13 +19,13 @@ rose_again : (a b c : ℕ) → Rose a b → (c ≡ b) ⊎ Rose b c → Rose a c
 rose_again a b c first (inl same) = subst (λ (k : ℕ). Rose a k) (sym same) first
 rose_again a b c first (inr next) = omega (arith, first, next)
 
--- the count of a link that was asked stayed or rose
+-- the count of a link that was asked stayed, or rose by one
 link_counts : (address frame : List ℕ) (most : ℕ) (answer : Option (List ℕ)) (old new : Cell)
-    → LinkAsked address frame most answer old new → (new.faults ≡ old.faults) ⊎ Rose old.faults new.faults
+    → LinkAsked address frame most answer old new → (new.faults ≡ old.faults) ⊎ RoseOnce old.faults new.faults
 link_counts address frame most None old new asked = inr asked.rose
 link_counts address frame most (Some bytes) old new asked = inl (ap (λ (c : Cell). c.faults) asked.cell)
 
--- so did that of a link that was asked in turn
+-- that of a link that was asked in turn stayed or rose
 counts : (p : FetchPlan) (address : List ℕ) (i : ℕ) (rounds : List Round) (old new : Cell)
     → AskedInTurn p address i rounds old new → (new.faults ≡ old.faults) ⊎ Rose old.faults new.faults
 counts p address i [] old new asked = inl (ap (λ (c : Cell). c.faults) asked)
@@ -37,7 +38,7 @@ counts p address i (round ∷ rounds) old new asked =
         | inl still ↦ inl (still ∙ same)
         | inr rose ↦ inr (subst (λ (k : ℕ). Rose k new.faults) same rose)
       ]
-      | inr rose ↦ inr (rose_again old.faults asked.0.faults new.faults rose rest)
+      | inr once ↦ inr (rose_again old.faults asked.0.faults new.faults (once_rose _ _ once) rest)
     ]
 
 -- nothing more was taken
@@ -71,19 +72,19 @@ takes_frame address frame most None old new asked = elim asked.how [
     front = [];
     is = refl;
     took = ap (λ (c : Cell). c.accepted) unopened ∙ taken_none old.accepted;
-    whole = λ stayed. absurd (stayed asked.rose);
+    whole = λ stayed. absurd (stayed (once_rose _ _ asked.rose));
   }
   | inr (inl cut) ↦ record {
     front = take cut.n frame;
     is = ap (λ (k : ℕ). take k frame) (sym (length-take-le cut.n frame (omega (arith, cut.proper))));
     took = ap (λ (c : Cell). c.accepted) cut.cell;
-    whole = λ stayed. absurd (stayed asked.rose);
+    whole = λ stayed. absurd (stayed (once_rose _ _ asked.rose));
   }
   | inr (inr silent) ↦ record {
     front = frame;
     is = sym (take_all (length frame) frame (omega arith));
     took = ap (λ (c : Cell). c.accepted) silent.cell;
-    whole = λ stayed. absurd (stayed asked.rose);
+    whole = λ stayed. absurd (stayed (once_rose _ _ asked.rose));
   }
 ]
 
@@ -93,6 +94,7 @@ takes_frames : (p : FetchPlan) (address : List ℕ) (i : ℕ) (rounds : List Rou
 takes_frames p address i [] old new asked = record {
   fronts = [];
   are = tt;
+  most = let same : new.faults ≡ old.faults = ap (λ (c : Cell). c.faults) asked in omega (arith, same);
   took = ap (λ (c : Cell). c.accepted) asked ∙ taken_none old.accepted;
   whole = λ _. ap (λ (c : Cell). c.accepted) asked ∙ taken_none old.accepted;
 }
@@ -107,6 +109,7 @@ takes_frames p address i (round ∷ rounds) old new asked =
     record {
       fronts = first.front ∷ rest.fronts;
       are = (first.is, rest.are);
+      most = let most = rest.most in elim counted [ inl same ↦ omega (arith, most, same) | inr once ↦ omega (arith, most, once) ];
       took = rest.took ∙ ap (option_map (λ taken. taken ++ concat rest.fronts)) first.took
           ∙ taken_both first.front (concat rest.fronts) old.accepted;
       whole = λ stayed. elim counted [
@@ -115,7 +118,7 @@ takes_frames p address i (round ∷ rounds) old new asked =
             ∙ ap (option_map (λ taken. taken ++ concat (frames_to p (i + 1) rounds)))
             (first.whole (λ rose. stayed (rose_again old.faults mid.faults new.faults rose later)))
             ∙ taken_both frame (concat (frames_to p (i + 1) rounds)) old.accepted
-        | inr rose ↦ absurd (stayed (rose_again old.faults mid.faults new.faults rose later))
+        | inr once ↦ absurd (stayed (rose_again old.faults mid.faults new.faults (once_rose _ _ once) later))
       ];
     }
 

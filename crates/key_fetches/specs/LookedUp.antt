@@ -2,7 +2,7 @@
 use Rattle.std.specs.Prelude.{◌≡◌, ℕ, ◌+◌, ◌*◌, ◌%◌, ◌<◌, ◌≤◌, ◌⊎◌, ◌++◌, List, [], ◌∷◌, length, map, take, fold, IfSome, Result, Ok, Err}
 use Rattle.port_rules.specs.World.{Cell, World}
 use Rattle.port_rules.specs.Number.{COINS}
-use Rattle.port_rules.specs.Moves.{Rose, took, counted}
+use Rattle.port_rules.specs.Moves.{RoseOnce, took, counted}
 use Rattle.block_decoder.specs.declared.verdict.Verdict.{Verdict}
 use Rattle.query_rounds.specs.declared.plan.FetchPlan.{FetchPlan}
 use Rattle.query_rounds.specs.declared.plan.FetchFault.{FetchFault}
@@ -48,7 +48,7 @@ pub record FailsNext (each : ℕ) (coins : List ℕ) (old new : Cell) : Type 0 w
   pub fewer : n < each
   pub cell : new ≡ counted new.faults (took (length coins + n) old)
   pub told : IfSome old.holds (λ held. (coins ≡ take (length coins) held) × (length coins + n ≤ length held))
-  pub rose : Rose old.faults new.faults
+  pub rose : RoseOnce old.faults new.faults
 
 -- so many coins were taken, and then the port ended after n of one more fetch
 pub record EndsNext (each n : ℕ) (coins : List ℕ) (old new : Cell) : Type 0 where

@@ -4,7 +4,7 @@ use Rattle.std.specs.List.{concat}
 use Rattle.std.specs.Option.{option_map}
 use Rattle.port_rules.specs.World.{Cell, World}
 use Rattle.port_rules.specs.Number.{link}
-use Rattle.port_rules.specs.Moves.{Rose}
+use Rattle.port_rules.specs.Moves.{Rose, RoseAtMost}
 use Rattle.port_rules.specs.Each.{Each}
 use Rattle.query_rounds.specs.declared.plan.FetchPlan.{FetchPlan}
 use Rattle.key_fetches.specs.Rounds.{Round, frame_in}
@@ -20,10 +20,12 @@ AreFronts [] (frame ∷ frames) = ⊥
 AreFronts (front ∷ fronts) [] = ⊥
 AreFronts (front ∷ fronts) (frame ∷ frames) = (front ≡ take (length front) frame) × AreFronts fronts frames
 
--- a link took of the frame of each fetch in turn a front; and where its count stayed, exactly these frames
+-- a link took of the frame of each fetch in turn a front, and its count rose by no more than there were fetches; and where it
+-- stayed, the link took exactly these frames
 pub record TakesFrames (frames : List (List ℕ)) (old new : Cell) : Type 0 where
   pub fronts : List (List ℕ)
   pub are : AreFronts fronts frames
+  pub most : RoseAtMost (length frames) old.faults new.faults
   pub took : new.accepted ≡ option_map (λ taken. taken ++ concat fronts) old.accepted
   pub whole : (Rose old.faults new.faults → ⊥)
       → new.accepted ≡ option_map (λ taken. taken ++ concat frames) old.accepted

@@ -30,7 +30,7 @@ module _ {T E : Type 0} (r : Result T E) (p : ℕ) (old new : List ℕ) where
 
   -- a call that failed is counted
   pub fails : OnErr r (slice_index new p ≡ min (slice_index old p + 1) (2 ^ 64 - 1)) → OnErr r (Fails p (counts_alone old) (counts_alone new))
-  fails = on_err_weaker r (λ rose. record { cell = refl; rose = omega (arith, rose); stops = omega (arith, rose) })
+  fails = on_err_weaker r (λ rose. record { cell = refl; rose = rose })
 
 module _ {T E : Type 0} (r : Result T E) (old new : List ℕ) (same : OnOk r (new ≡ old)) where
   pub opens : (p : ℕ) (name : List ℕ) → OnOk r ((counts_alone new).at p ≡ named name ((counts_alone old).at p))

@@ -1,8 +1,8 @@
 -- What a call did to one port, carried over what others did before or after it and left that port as it was.
-use Rattle.std.proofs.Common.{◌≡◌, ℕ, List, ◌≤◌, take, length, ap, sym, subst, ◌∙◌, ◌^◌, ◌-◌}
+use Rattle.std.proofs.Common.{◌≡◌, ℕ, List, ◌≤◌, take, length, ap, sym, subst, ◌∙◌}
 use Rattle.std.specs.Prelude.{IfSome}
 use Rattle.port_rules.specs.World.{Cell, World}
-use Rattle.port_rules.specs.Moves.{Rose, took, gave, counted, Came, Hands, Fails}
+use Rattle.port_rules.specs.Moves.{RoseOnce, took, gave, counted, Came, Hands, Fails}
 use Rattle.port_rules.specs.Whole.{Ends, FailsAfter, FailsWithin, IsFront, Reads}
 
 -- the others came after
@@ -19,8 +19,7 @@ module _ (p : ℕ) (w v u : World) (still : u.at p ≡ v.at p) where
   pub fails_after : Fails p w v → Fails p w u
   fails_after h = record {
     cell = still ∙ h.cell ∙ ap (λ (c : Cell). counted c.faults (w.at p)) (sym still);
-    rose = subst (λ (c : Cell). Rose (w.at p).faults c.faults) (sym still) h.rose;
-    stops = subst (λ (c : Cell). c.faults ≤ 2 ^ 64 - 1) (sym still) h.stops;
+    rose = subst (λ (c : Cell). RoseOnce (w.at p).faults c.faults) (sym still) h.rose;
   }
 
   pub fails_reading_after : FailsAfter p w v → FailsAfter p w u
@@ -28,7 +27,7 @@ module _ (p : ℕ) (w v u : World) (still : u.at p ≡ v.at p) where
     n = h.n;
     cell = still ∙ h.cell ∙ ap (λ (c : Cell). counted c.faults (took h.n (w.at p))) (sym still);
     held = h.held;
-    rose = subst (λ (c : Cell). Rose (w.at p).faults c.faults) (sym still) h.rose;
+    rose = subst (λ (c : Cell). RoseOnce (w.at p).faults c.faults) (sym still) h.rose;
   }
 
   pub fails_writing_after : (piece : List ℕ) → FailsWithin p piece w v → FailsWithin p piece w u
@@ -36,7 +35,7 @@ module _ (p : ℕ) (w v u : World) (still : u.at p ≡ v.at p) where
     n = h.n;
     proper = h.proper;
     cell = still ∙ h.cell ∙ ap (λ (c : Cell). counted c.faults (gave (take h.n piece) (w.at p))) (sym still);
-    rose = subst (λ (c : Cell). Rose (w.at p).faults c.faults) (sym still) h.rose;
+    rose = subst (λ (c : Cell). RoseOnce (w.at p).faults c.faults) (sym still) h.rose;
   }
 
 -- the others came before
@@ -64,8 +63,7 @@ module _ (p : ℕ) (w v u : World) (still : v.at p ≡ w.at p) where
   pub fails_before : Fails p v u → Fails p w u
   fails_before h = record {
     cell = h.cell ∙ ap (counted (u.at p).faults) still;
-    rose = subst (λ (c : Cell). Rose c.faults (u.at p).faults) still h.rose;
-    stops = h.stops;
+    rose = subst (λ (c : Cell). RoseOnce c.faults (u.at p).faults) still h.rose;
   }
 
   pub fails_reading_before : FailsAfter p v u → FailsAfter p w u
@@ -73,7 +71,7 @@ module _ (p : ℕ) (w v u : World) (still : v.at p ≡ w.at p) where
     n = h.n;
     cell = h.cell ∙ ap (λ (c : Cell). counted (u.at p).faults (took h.n c)) still;
     held = subst (λ (c : Cell). IfSome c.holds (λ l. h.n ≤ length l)) still h.held;
-    rose = subst (λ (c : Cell). Rose c.faults (u.at p).faults) still h.rose;
+    rose = subst (λ (c : Cell). RoseOnce c.faults (u.at p).faults) still h.rose;
   }
 
   pub fails_writing_before : (piece : List ℕ) → FailsWithin p piece v u → FailsWithin p piece w u
@@ -81,5 +79,5 @@ module _ (p : ℕ) (w v u : World) (still : v.at p ≡ w.at p) where
     n = h.n;
     proper = h.proper;
     cell = h.cell ∙ ap (λ (c : Cell). counted (u.at p).faults (gave (take h.n piece) c)) still;
-    rose = subst (λ (c : Cell). Rose c.faults (u.at p).faults) still h.rose;
+    rose = subst (λ (c : Cell). RoseOnce c.faults (u.at p).faults) still h.rose;
   }

@@ -6,7 +6,7 @@ use Rattle.std.proofs.lemmas.List.{append-nil, drop-drop, drop_all, take_all, ta
 use Rattle.std.proofs.Math.Seq.{take-add, take-append-add}
 use borrow.Rule.Slice.PartMut.{put_mid}
 use Rattle.port_rules.specs.World.{Cell, World}
-use Rattle.port_rules.specs.Moves.{Rose, took, gave, counted, Touches, Came, Hands, Fails}
+use Rattle.port_rules.specs.Moves.{RoseOnce, took, gave, counted, Touches, Came, Hands, Fails}
 use Rattle.port_rules.specs.Whole.{Ends, FailsShort, IsFront, Reads, FailsWithin}
 
 -- two calls on one port touch that port alone
@@ -164,7 +164,7 @@ fails_next p a b w v u is f = record {
   proper = omega (arith, f.proper, length-append a b);
   cell = f.cell ∙ ap (λ (c : Cell). counted (u.at p).faults (gave (take f.n b) c)) is ∙ ap (counted (u.at p).faults) (gave-gave a (take f.n b) (w.at p))
       ∙ ap (λ (l : List ℕ). counted (u.at p).faults (gave l (w.at p))) (sym (take-append-add a b f.n));
-  rose = subst (λ (k : ℕ). Rose k (u.at p).faults) (ap (λ (c : Cell). c.faults) is) f.rose;
+  rose = subst (λ (k : ℕ). RoseOnce k (u.at p).faults) (ap (λ (c : Cell). c.faults) is) f.rose;
 }
 
 -- what holds in any case holds at an `Err`
@@ -179,7 +179,7 @@ fails_short p n most before after w v u a f fewer = record {
     n = n;
     cell = f.cell ∙ ap (counted (u.at p).faults) a.cell;
     held = there (w.at p).holds a.told;
-    rose = subst (λ (k : ℕ). Rose k (u.at p).faults) (ap (λ (c : Cell). c.faults) a.cell) f.rose;
+    rose = subst (λ (k : ℕ). RoseOnce k (u.at p).faults) (ap (λ (c : Cell). c.faults) a.cell) f.rose;
   };
   fewer = fewer;
 }

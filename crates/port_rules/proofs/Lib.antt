@@ -4,3 +4,4 @@ pub mod Served
 pub mod Ranges
 pub mod Carried
 pub mod Links
+pub mod Rises

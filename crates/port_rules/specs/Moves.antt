@@ -8,6 +8,14 @@ use Rattle.port_rules.specs.declared.port.TheConstants.{PORT_COUNT}
 abbrev pub Rose : ℕ → ℕ → Type 0
 Rose before now = min (before + 1) (2 ^ 64 - 1) ≤ now
 
+-- a count rose by one, or stands at its limit
+abbrev pub RoseOnce : ℕ → ℕ → Type 0
+RoseOnce before now = now ≡ min (before + 1) (2 ^ 64 - 1)
+
+-- a count rose by no more than so many
+abbrev pub RoseAtMost : ℕ → ℕ → ℕ → Type 0
+RoseAtMost most before now = now ≤ before + most
+
 -- the cell after n bytes are handed out
 abbrev pub took : ℕ → Cell → Cell
 took n c = record c { holds = option_map (drop n) c.holds }
@@ -42,8 +50,7 @@ pub record Hands (p n : ℕ) (before after : List ℕ) (old new : World) : Type 
   pub cell : new.at p ≡ took n (old.at p)
   pub told : IfSome (old.at p).holds (Came n before after)
 
--- a call on the port failed: its count rose, which stops at its limit, and nothing else of it changed
+-- a call on the port failed: its count rose by one, or stands at its limit, and nothing else of it changed
 pub record Fails (p : ℕ) (old new : World) : Type 0 where
   pub cell : new.at p ≡ counted (new.at p).faults (old.at p)
-  pub rose : Rose (old.at p).faults (new.at p).faults
-  pub stops : (new.at p).faults ≤ 2 ^ 64 - 1
+  pub rose : RoseOnce (old.at p).faults (new.at p).faults

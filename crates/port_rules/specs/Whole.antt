@@ -1,7 +1,7 @@
 -- What whole reads and whole writes do.
 use Rattle.std.specs.Prelude.{ℕ, ◌<◌, ◌≤◌, ◌≡◌, List, length, take, IfSome}
 use Rattle.port_rules.specs.World.{World}
-use Rattle.port_rules.specs.Moves.{Hands, Rose, took, gave, counted}
+use Rattle.port_rules.specs.Moves.{Hands, RoseOnce, took, gave, counted}
 use Rattle.port_rules.specs.declared.moves.Filled.{Filled}
 use Rattle.port_rules.specs.declared.moves.Filled.TheVariants.{Full, Ended, Failed}
 
@@ -16,7 +16,7 @@ pub record FailsAfter (p : ℕ) (old new : World) : Type 0 where
   pub n : ℕ
   pub cell : new.at p ≡ counted (new.at p).faults (took n (old.at p))
   pub held : IfSome (old.at p).holds (λ h. n ≤ length h)
-  pub rose : Rose (old.at p).faults (new.at p).faults
+  pub rose : RoseOnce (old.at p).faults (new.at p).faults
 
 -- the same, and those bytes are fewer than this
 pub record FailsShort (p most : ℕ) (old new : World) : Type 0 where
@@ -34,7 +34,7 @@ pub record FailsWithin (p : ℕ) (piece : List ℕ) (old new : World) : Type 0 w
   pub n : ℕ
   pub proper : n < length piece
   pub cell : new.at p ≡ counted (new.at p).faults (gave (take n piece) (old.at p))
-  pub rose : Rose (old.at p).faults (new.at p).faults
+  pub rose : RoseOnce (old.at p).faults (new.at p).faults
 
 -- the front of what was held
 pub record IsFront (read held : List ℕ) : Type 0 where

@@ -20,7 +20,7 @@ pub enum Filled {
 /// Fills `into` with the next bytes of the port, or its front with as many as there are.
 ///
 /// At `Full` and `Ended` the port handed out exactly the bytes that came, and the rest of `into`
-/// stays. At `Failed` the port's count of failed calls rose; bytes may have been handed out before.
+/// stays. At `Failed` one call on the port failed, and its count rose by one; bytes may have been handed out before.
 ///
 /// ```
 /// // Input has still b"abc" to hand out.
@@ -52,8 +52,8 @@ pub fn read_exactly<P: Ports>(ports: &mut P, p: Port, into: &mut [u8]) -> Filled
 ///
 /// # Errors
 ///
-/// `Failed` if a call on the port failed: its count of failed calls rose, and it took a proper
-/// prefix of the piece, which may be empty.
+/// `Failed` if a call on the port failed, after which none came: its count of failed calls rose by one, and it took a
+/// proper prefix of the piece, which may be empty.
 pub fn write_all<P: Ports>(ports: &mut P, p: Port, piece: &[u8]) -> Result<(), Failed>
     requires { 0 < length piece.now }
     ensures ok { OnOk result ((P.world ports.new).at (number p)

@@ -72,9 +72,10 @@ pub struct Failed;
 /// children, which are started.
 ///
 /// Each call but `next_guest` names one port and leaves every other port as it was. A call that fails raises that
-/// port's count of failed calls, unless the count stands at `2^64 - 1`, and changes nothing else of
+/// port's count of failed calls by one, unless the count stands at `2^64 - 1`, and changes nothing else of
 /// the port. A call that succeeds leaves the count: so no count ever falls, and none goes over
-/// `2^64 - 1`. No call but `start_child` starts a child.
+/// `2^64 - 1`; and where a count rose by one alone, no second call on the port failed. No call but `start_child`
+/// starts a child.
 ///
 /// ```
 /// fn copy_byte<P: Ports>(ports: &mut P) -> Result<(), Failed> {

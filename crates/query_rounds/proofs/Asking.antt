@@ -5,7 +5,7 @@ use Rattle.std.proofs.lemmas.List.{get_or-append-add, get_or-set_other, get_or-s
 use Rattle.port_rules.specs.World.{Cell, World}
 use Rattle.port_rules.specs.declared.port.TheConstants.{PORT_COUNT}
 use Rattle.port_rules.specs.Number.{COINS, link}
-use Rattle.port_rules.specs.Moves.{Rose, Touches, took, counted}
+use Rattle.port_rules.specs.Moves.{RoseOnce, Touches, took, counted}
 use Rattle.port_rules.specs.Whole.{FailsShort}
 use Rattle.port_rules.specs.Each.{TouchesRange}
 use Rattle.port_rules.proofs.Ranges.{each_as, each_before, each_more, range_still}
@@ -55,7 +55,7 @@ asked_in_rounds address frame most true None old mid new sent taken = record {
     held = subst (λ (c : Cell). IfSome c.holds (λ held. taken.m ≤ length held)) sent taken.held;
     cell = taken.cell ∙ ap (λ (c : Cell). counted new.faults (took taken.m c)) sent;
   });
-  rose = subst (λ (c : Cell). Rose c.faults new.faults) sent taken.rose;
+  rose = subst (λ (c : Cell). RoseOnce c.faults new.faults) sent taken.rose;
 }
 asked_in_rounds address frame most false answer old mid new sent taken =
     subst (λ (o : Option (List ℕ)). LinkAsked address frame most o old new) (sym taken.0)

@@ -1,7 +1,7 @@
 -- What happens on one link.
 use Rattle.std.specs.Prelude.{ℕ, ◌≡◌, ◌<◌, ◌≤◌, ◌⊎◌, List, length, take, Bool, true, false, Option, Some, None, IfSome}
 use Rattle.port_rules.specs.World.{Cell}
-use Rattle.port_rules.specs.Moves.{Rose, took, gave, named, counted}
+use Rattle.port_rules.specs.Moves.{RoseOnce, took, gave, named, counted}
 
 -- the link was opened by its address, took the whole frame, and handed out these bytes: the first that it held, up to
 -- so many
@@ -30,7 +30,7 @@ pub record FailsToAnswer (address frame : List ℕ) (most : ℕ) (old new : Cell
 -- a call on the link failed, and none came after it
 pub record LinkBreaks (address frame : List ℕ) (most : ℕ) (old new : Cell) : Type 0 where
   pub how : FailsToOpen old new ⊎ FailsToTake address frame old new ⊎ FailsToAnswer address frame most old new
-  pub rose : Rose old.faults new.faults
+  pub rose : RoseOnce old.faults new.faults
 
 -- a link was asked, and this is its record: the bytes that it answered, or none where a call on it failed
 abbrev pub LinkAsked : List ℕ → List ℕ → ℕ → Option (List ℕ) → Cell → Cell → Type 0
@@ -44,7 +44,7 @@ TakesFrame address frame old new = new ≡ gave frame (named address old)
 -- a call failed that was to open the link, or to give it the frame, and none came after it
 pub record FailsToBeAsked (address frame : List ℕ) (old new : Cell) : Type 0 where
   pub how : FailsToOpen old new ⊎ FailsToTake address frame old new
-  pub rose : Rose old.faults new.faults
+  pub rose : RoseOnce old.faults new.faults
 
 -- what a link did when its server was sent the frame, by whether it was reached: whether the link took the whole of it
 abbrev pub LinkSent : List ℕ → List ℕ → Bool → Cell → Cell → Type 0
@@ -63,7 +63,7 @@ pub record FailsToHand (most : ℕ) (old new : Cell) : Type 0 where
   pub fewer : m < most
   pub held : IfSome old.holds (λ held. m ≤ length held)
   pub cell : new ≡ counted new.faults (took m old)
-  pub rose : Rose old.faults new.faults
+  pub rose : RoseOnce old.faults new.faults
 
 -- what a link did when the answer was taken of a server that was reached, by the record: the bytes, or none where a call failed
 abbrev pub ReachedTaken : ℕ → Option (List ℕ) → Cell → Cell → Type 0

@@ -7,7 +7,7 @@ use Rattle.std.proofs.lemmas.List.{length-take-le, take-append-le, take_all}
 use Rattle.std.proofs.lemmas.List.Elements.{All-nil, All-push}
 use Rattle.port_rules.specs.World.{Cell, World}
 use Rattle.port_rules.specs.Number.{INPUT}
-use Rattle.port_rules.specs.Moves.{Rose, Touches, Hands, Fails, counted}
+use Rattle.port_rules.specs.Moves.{RoseOnce, Touches, Hands, Fails, counted}
 use Rattle.port_rules.specs.Whole.{Reads, IsFront}
 use Rattle.port_rules.proofs.Cells.{at_told, took_none, reads_more, reads_end, touches_more}
 use Rattle.wire_frames.specs.declared.scheme.TheConstants.{SHAMIR, XOR}
@@ -163,7 +163,7 @@ seen_fails old v u reader h fails = record {
   begins = h.begins;
   cell = fails.cell ∙ ap (counted (u.at INPUT).faults) h.reads.cell;
   front = h.reads.told;
-  rose = subst (λ (k : ℕ). Rose k (u.at INPUT).faults) (ap (λ (c : Cell). c.faults) h.reads.cell) fails.rose;
+  rose = subst (λ (k : ℕ). RoseOnce k (u.at INPUT).faults) (ap (λ (c : Cell). c.faults) h.reads.cell) fails.rose;
 }
 
 -- where bytes begin a session, the place of what has them in front is not before their end

@@ -2,7 +2,7 @@
 use Rattle.std.specs.Prelude.{◌≤◌, ◌+◌, ◌⊎◌, length, Some, ◌≡◌, ℕ, List, Option, IfSome, Result, Ok, Err}
 use Rattle.port_rules.specs.World.{Cell, World}
 use Rattle.port_rules.specs.Number.{INPUT}
-use Rattle.port_rules.specs.Moves.{Rose, took, counted}
+use Rattle.port_rules.specs.Moves.{RoseOnce, took, counted}
 use Rattle.port_rules.specs.Whole.{IsFront}
 use Rattle.wire_frames.specs.declared.scheme.TheConstants.{SHAMIR, XOR}
 use Rattle.wire_frames.specs.declared.sizes.TheConstants.{SESSION_HEADER_LEN}
@@ -65,7 +65,7 @@ pub record BreaksOff (old new : Cell) : Type 0 where
   pub begins : Begins read
   pub cell : new ≡ counted new.faults (took (length read) old)
   pub front : IfSome old.holds (IsFront read)
-  pub rose : Rose old.faults new.faults
+  pub rose : RoseOnce old.faults new.faults
 
 -- the port was read no further than a session's header and one piece
 pub record ReadsLittle (old new : Cell) : Type 0 where

@@ -3,7 +3,7 @@ use Rattle.std.proofs.Common.{◌≡◌, inl, inr, ℕ, ◌≤◌, List, length,
 use Rattle.std.specs.Prelude.{Option, Some, None, IfSome}
 use Rattle.port_rules.specs.World.{World}
 use Rattle.port_rules.specs.Number.{GUEST}
-use Rattle.port_rules.specs.Moves.{Rose, gave, counted}
+use Rattle.port_rules.specs.Moves.{RoseOnce, gave, counted}
 use Rattle.port_rules.specs.Whole.{FailsWithin}
 use Rattle.wire_frames.specs.declared.header.QueryHeader.{QueryHeader}
 use Rattle.wire_frames.specs.Header.{blocks_in, query_header}
@@ -99,7 +99,7 @@ module _ (service : Service) (query : QueryHeader) (slice : List ℕ) (w v : Wor
     n = n;
     given = take f.n frame;
     cell = f.cell ∙ ap (λ c. counted (u.at GUEST).faults (gave (take f.n frame) c)) takes.cell;
-    rose = subst (λ k. Rose k (u.at GUEST).faults) (ap (λ c. c.faults) takes.cell) f.rose;
+    rose = subst (λ k. RoseOnce k (u.at GUEST).faults) (ap (λ c. c.faults) takes.cell) f.rose;
     told = told_as (IsReply service Served n frame) (IsBroken service n (take f.n frame)) (w.at GUEST).holds
         (λ h is. inr (record { met = Served; frame = frame; size = f.n; reply = is; proper = f.proper; front_is = refl })) told;
   }

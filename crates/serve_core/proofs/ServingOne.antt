@@ -4,6 +4,7 @@ use Rattle.std.specs.Prelude.{◌⊎◌, Option, IfSome}
 use Rattle.std.specs.Option.{option_map}
 use Rattle.port_rules.specs.World.{Cell, World}
 use Rattle.port_rules.specs.Number.{GUEST}
+use Rattle.port_rules.specs.Moves.{RoseOnce}
 use Rattle.port_rules.specs.Serving.{ServesOne}
 use Rattle.wire_frames.specs.declared.sizes.TheConstants.{FRAME_HEADER_LEN}
 use Rattle.serve_core.specs.Service.{Service, terms_of}
@@ -78,6 +79,13 @@ serves_one service Served w v a = serves_whole service Served w v a
 serves_one service (Refused status) w v a = serves_whole service (Refused status) w v a
 serves_one service Gone w v a = serves_whole service Gone w v a
 serves_one service GuestFault w v a = serves_broken service w v a
+
+-- the count of Guest is as it was, or rose by one
+pub attended_once : (service : Service) (met : Met) (w v : World) → Attends service met w v → ((v.at GUEST).faults ≡ (w.at GUEST).faults) ⊎ RoseOnce (w.at GUEST).faults (v.at GUEST).faults
+attended_once service Served w v a = inl (ap (λ (c : Cell). c.faults) a.cell)
+attended_once service (Refused status) w v a = inl (ap (λ (c : Cell). c.faults) a.cell)
+attended_once service Gone w v a = inl (ap (λ (c : Cell). c.faults) a.cell)
+attended_once service GuestFault w v a = inr a.rose
 
 -- where no call failed, it was given its whole reply
 pub replies_one : (service : Service) (met : Met) (w v : World) → Replied service met w v → ServesOne (λ guest out before after. HasReply service guest out) (w.at GUEST) (v.at GUEST)

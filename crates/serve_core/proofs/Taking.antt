@@ -5,7 +5,7 @@ use Rattle.std.specs.Option.{option_map}
 use Rattle.std.proofs.lemmas.List.{take_all, length-drop}
 use Rattle.port_rules.specs.World.{World}
 use Rattle.port_rules.specs.Number.{GUEST}
-use Rattle.port_rules.specs.Moves.{Rose, Came, Hands, took, gave, counted}
+use Rattle.port_rules.specs.Moves.{RoseOnce, Came, Hands, took, gave, counted}
 use Rattle.port_rules.specs.Whole.{Ends, FailsShort, FailsWithin}
 use Rattle.port_rules.proofs.Cells.{took-took}
 use Rattle.port_rules.proofs.Pieces.{gave_none}
@@ -49,7 +49,7 @@ module _ (terms : Terms) (status n : ℕ) (frame : List ℕ) (w x u : World) (ta
     n = n;
     given = take f.n frame;
     cell = f.cell ∙ ap (λ c. counted (u.at GUEST).faults (gave (take f.n frame) c)) taken;
-    rose = subst (λ k. Rose k (u.at GUEST).faults) (ap (λ c. c.faults) taken) f.rose;
+    rose = subst (λ k. RoseOnce k (u.at GUEST).faults) (ap (λ c. c.faults) taken) f.rose;
     told = told_by (IsBrokenTaking terms n (take f.n frame)) (w.at GUEST).holds
         (λ h e. inr (record { status = status; frame = frame; size = f.n; refusal = is h e; proper = f.proper; front_is = refl }));
   }
@@ -230,7 +230,7 @@ module _ (terms : Terms) (before header : List ℕ) (w v : World) (size : length
       cell = f.after.cell ∙ ap (λ c. counted (u.at GUEST).faults (took f.after.n c)) hands.cell
           ∙ ap (counted (u.at GUEST).faults) (took-took f.after.n FRAME_HEADER_LEN (w.at GUEST)
           ∙ sym (gave_none (took (FRAME_HEADER_LEN + f.after.n) (w.at GUEST))));
-      rose = subst (λ k. Rose k (u.at GUEST).faults) (ap (λ c. c.faults) hands.cell) f.after.rose;
+      rose = subst (λ k. RoseOnce k (u.at GUEST).faults) (ap (λ c. c.faults) hands.cell) f.after.rose;
       told = told_by (IsBrokenTaking terms (FRAME_HEADER_LEN + f.after.n) []) (w.at GUEST).holds
           (λ h e.
           let held : f.after.n ≤ length (drop FRAME_HEADER_LEN h)

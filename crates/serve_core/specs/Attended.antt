@@ -3,7 +3,7 @@ use Rattle.std.specs.Prelude.{◌≡◌, ◌⊎◌, ℕ, ◌<◌, ◌≤◌, Lis
 use Rattle.port_rules.specs.World.{World}
 use Rattle.port_rules.specs.Number.{GUEST}
 use Rattle.port_rules.specs.Guests.{Meets}
-use Rattle.port_rules.specs.Moves.{Rose, Touches, took, gave, counted}
+use Rattle.port_rules.specs.Moves.{RoseOnce, Touches, took, gave, counted}
 use Rattle.serve_core.specs.Service.{Service, terms_of}
 use Rattle.serve_core.specs.Case.{ReplyTakes}
 use Rattle.serve_core.specs.Reply.{Replies}
@@ -52,7 +52,7 @@ pub record Broke (service : Service) (old new : World) : Type 0 where
   pub n : ℕ
   pub given : List ℕ
   pub cell : new.at GUEST ≡ counted (new.at GUEST).faults (gave given (took n (old.at GUEST)))
-  pub rose : Rose (old.at GUEST).faults (new.at GUEST).faults
+  pub rose : RoseOnce (old.at GUEST).faults (new.at GUEST).faults
   pub told : IfSome (old.at GUEST).holds (IsBroken service n given)
 
 -- what was done with the guest, by what it was met with
@@ -76,4 +76,4 @@ pub record HasReply (service : Service) (guest out : List ℕ) : Type 0 where
 -- no call on it failed, else nothing, or a front of the reply
 abbrev pub IsServed : Service → List ℕ → List ℕ → ℕ → ℕ → Type 0
 IsServed service guest out before after = ((after ≡ before) × HasReply service guest out)
-    ⊎ (Rose before after × ((out ≡ []) ⊎ IsFrontOfReply service out guest))
+    ⊎ (RoseOnce before after × ((out ≡ []) ⊎ IsFrontOfReply service out guest))

@@ -2,7 +2,7 @@
 use Rattle.std.specs.Prelude.{◌≡◌, ◌⊎◌, ℕ, ◌<◌, ◌≤◌, false, List, [], length, take, IfSome}
 use Rattle.port_rules.specs.World.{World}
 use Rattle.port_rules.specs.Number.{GUEST}
-use Rattle.port_rules.specs.Moves.{Rose, took, gave, counted}
+use Rattle.port_rules.specs.Moves.{RoseOnce, took, gave, counted}
 use Rattle.wire_frames.specs.declared.sizes.TheConstants.{FRAME_HEADER_LEN}
 use Rattle.wire_frames.specs.declared.header.QueryHeader.{QueryHeader}
 use Rattle.wire_frames.specs.Header.{query_header}
@@ -86,7 +86,7 @@ pub record BreaksTaking (terms : Terms) (old new : World) : Type 0 where
   pub n : ℕ
   pub given : List ℕ
   pub cell : new.at GUEST ≡ counted (new.at GUEST).faults (gave given (took n (old.at GUEST)))
-  pub rose : Rose (old.at GUEST).faults (new.at GUEST).faults
+  pub rose : RoseOnce (old.at GUEST).faults (new.at GUEST).faults
   pub told : IfSome (old.at GUEST).holds (IsBrokenTaking terms n given)
 
 -- what was taken of the guest that is in, by what is answered: the cases of a reply, with the query in place

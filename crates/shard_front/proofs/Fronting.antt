@@ -3,7 +3,7 @@ use Rattle.std.proofs.Common.{◌≡◌, ◌∙◌, inl, inr, ℕ, ◌+◌, ◌*
 use Rattle.port_rules.specs.declared.port.TheConstants.{PORT_COUNT}
 use Rattle.port_rules.specs.World.{Cell, World}
 use Rattle.port_rules.specs.Number.{GUEST, link}
-use Rattle.port_rules.specs.Moves.{Rose, Touches, took, gave, counted}
+use Rattle.port_rules.specs.Moves.{RoseOnce, Touches, took, gave, counted}
 use Rattle.port_rules.specs.Whole.{FailsWithin}
 use Rattle.port_rules.specs.Each.{TouchesRange}
 use Rattle.port_rules.proofs.Ranges.{each_after, each_before}
@@ -120,7 +120,7 @@ module _ (spread : Spread) (is : IsSpread spread) (query : QueryHeader) (slice :
     relays = relays;
     proper = f.proper;
     cell = f.cell ∙ ap (λ (c : Cell). counted (u.at GUEST).faults (gave (take f.n r.frame) c)) guest_is;
-    rose = subst (λ (k : ℕ). Rose k (u.at GUEST).faults) (ap (λ (c : Cell). c.faults) guest_is) f.rose;
+    rose = subst (λ (k : ℕ). RoseOnce k (u.at GUEST).faults) (ap (λ (c : Cell). c.faults) guest_is) f.rose;
   }
 
   -- only a query that was asked of shards is met so

@@ -4,6 +4,7 @@ use Rattle.std.specs.Prelude.{Bool, true, false, Option, Some, None}
 use Rattle.gf256.specs.Product.{IsMatrix, product}
 use Rattle.port_rules.specs.World.{World}
 use Rattle.port_rules.specs.Number.{GUEST, link}
+use Rattle.port_rules.proofs.Rises.{once_rose}
 use Rattle.wire_frames.specs.declared.header.QueryHeader.{QueryHeader}
 use Rattle.wire_frames.specs.declared.scheme.TheConstants.{SHAMIR}
 use Rattle.wire_frames.specs.Header.{answer_header}
@@ -112,6 +113,6 @@ honest_told spread met w u is told matrix guest held before is_matrix holds acce
       frame = t.out;
       accepted = t.accepted;
       honest = λ honest. relay_is_reply spread is matrix is_matrix guest of
-          (λ i there. not_failed (t.failed i) (w.at (link 1 + i)).faults (u.at (link 1 + i)).faults (none.links i there) (t.links.failed i there))
-          honest met t.out (gave_whole spread guest of met t.out (w.at GUEST).faults (u.at GUEST).faults none.guest t.gives);
+          (λ i there. not_failed (t.failed i) (w.at (link 1 + i)).faults (u.at (link 1 + i)).faults (λ once. none.links i there (once_rose _ _ once)) (t.links.failed i there))
+          honest met t.out (gave_whole spread guest of met t.out (w.at GUEST).faults (u.at GUEST).faults (λ once. none.guest (once_rose _ _ once)) t.gives);
     }

@@ -7,6 +7,7 @@ mod Sharding
 mod Summing
 mod Fronting
 mod Telling
+pub mod Counting
 mod ShardProducts
 mod HonestParts
 mod HonestShards

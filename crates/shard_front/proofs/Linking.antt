@@ -4,7 +4,7 @@ use Rattle.std.specs.Prelude.{Option, Some, None, IfSome}
 use Rattle.std.proofs.lemmas.List.{length-take-le, take_all}
 use Rattle.std.proofs.lemmas.Option.{IfSome_then}
 use Rattle.port_rules.specs.World.{Cell, World}
-use Rattle.port_rules.specs.Moves.{Came, Hands, Rose, took, gave, named, counted}
+use Rattle.port_rules.specs.Moves.{Came, Hands, RoseOnce, took, gave, named, counted}
 use Rattle.port_rules.specs.Whole.{Ends, FailsShort, FailsWithin}
 use Rattle.shard_front.specs.Link.{LinkAnswers, LinkBreaks}
 
@@ -21,7 +21,7 @@ breaks_reading address frame most p old mid v u is_open given failed =
         held = subst (λ (c : Cell). IfSome c.holds (λ held. m ≤ length held)) before failed.after.held;
         cell = failed.after.cell ∙ ap (λ (c : Cell). counted (u.at p).faults (took m c)) before;
       });
-      rose = subst (λ (c : Cell). Rose c.faults (u.at p).faults) before failed.after.rose;
+      rose = subst (λ (c : Cell). RoseOnce c.faults (u.at p).faults) before failed.after.rose;
     }
 
 -- the link was opened, and then a call failed before it took the whole frame
@@ -32,7 +32,7 @@ breaks_giving address frame most p old v u is_open failed = record {
     proper = failed.proper;
     cell = failed.cell ∙ ap (λ (c : Cell). counted (u.at p).faults (gave (take failed.n frame) c)) is_open;
   });
-  rose = subst (λ (c : Cell). Rose c.faults (u.at p).faults) is_open failed.rose;
+  rose = subst (λ (c : Cell). RoseOnce c.faults (u.at p).faults) is_open failed.rose;
 }
 
 -- the link was opened and took the whole frame, and then so many bytes came

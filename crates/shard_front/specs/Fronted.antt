@@ -2,7 +2,7 @@
 use Rattle.std.specs.Prelude.{◌≡◌, ◌⊎◌, ℕ, ◌<◌, List, [], ◌∷◌, length, take, IfSome}
 use Rattle.port_rules.specs.World.{World}
 use Rattle.port_rules.specs.Number.{GUEST, link}
-use Rattle.port_rules.specs.Moves.{Rose, Touches, took, gave, counted}
+use Rattle.port_rules.specs.Moves.{RoseOnce, Touches, took, gave, counted}
 use Rattle.port_rules.specs.Touched.{One, From, TouchesOnly}
 use Rattle.wire_frames.specs.declared.header.QueryHeader.{QueryHeader}
 use Rattle.serve_core.specs.Terms.{query_len_for}
@@ -46,7 +46,7 @@ pub record BreaksRelay (spread : Spread) (addresses : List (List ℕ)) (old new 
   pub relays : Relays spread addresses met n frame old new
   pub proper : given < length frame
   pub cell : new.at GUEST ≡ counted (new.at GUEST).faults (gave (take given frame) (took n (old.at GUEST)))
-  pub rose : Rose (old.at GUEST).faults (new.at GUEST).faults
+  pub rose : RoseOnce (old.at GUEST).faults (new.at GUEST).faults
 
 -- what was done with the guest, by what it was met with. No link was touched where its query wasn't taken whole, or was
 -- refused

@@ -1,7 +1,7 @@
 -- What happens on the link to one shard.
 use Rattle.std.specs.Prelude.{ℕ, ◌≡◌, ◌<◌, ◌≤◌, ◌⊎◌, List, length, take, Option, Some, None, IfSome}
 use Rattle.port_rules.specs.World.{Cell}
-use Rattle.port_rules.specs.Moves.{Rose, took, gave, named, counted}
+use Rattle.port_rules.specs.Moves.{RoseOnce, took, gave, named, counted}
 
 -- the link was opened by its address, took the whole frame, and handed out these bytes: the first that it held, up to
 -- so many
@@ -30,7 +30,7 @@ pub record FailsToAnswer (address frame : List ℕ) (most : ℕ) (old new : Cell
 -- a call on the link failed, and none came after it
 pub record LinkBreaks (address frame : List ℕ) (most : ℕ) (old new : Cell) : Type 0 where
   pub how : FailsToOpen old new ⊎ FailsToTake address frame old new ⊎ FailsToAnswer address frame most old new
-  pub rose : Rose old.faults new.faults
+  pub rose : RoseOnce old.faults new.faults
 
 -- a link was asked, and these are the bytes that it answered, or none where a call on it failed
 abbrev pub LinkAsked : List ℕ → List ℕ → ℕ → Option (List ℕ) → Cell → Cell → Type 0

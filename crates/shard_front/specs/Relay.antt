@@ -2,7 +2,7 @@
 use Rattle.std.specs.Prelude.{ℕ, ◌≡◌, ◌⊎◌, ◌+◌, ◌*◌, ◌<◌, List, [], ◌++◌, length, take, Bool, true, false, Option, Some, None, slice_index_or}
 use Rattle.port_rules.specs.World.{World}
 use Rattle.port_rules.specs.Number.{GUEST, link}
-use Rattle.port_rules.specs.Moves.{Rose}
+use Rattle.port_rules.specs.Moves.{RoseOnce}
 use Rattle.chor_xor.specs.Chosen.{combined}
 use Rattle.wire_frames.specs.declared.header.QueryHeader.{QueryHeader}
 use Rattle.wire_frames.specs.Answer.{usable}
@@ -71,12 +71,12 @@ IsRelay spread guest links (Refused status) frame = Refuses (terms_of spread) gu
 IsRelay spread guest links Gone frame = IsCut (terms_of spread) guest × (frame ≡ [])
 IsRelay spread guest links GuestFault frame = ⊥
 
--- a count rose, or is as before
+-- a count rose by one, or is as before
 abbrev pub Counts : Bool → ℕ → ℕ → Type 0
-Counts true before after = Rose before after
+Counts true before after = RoseOnce before after
 Counts false before after = after ≡ before
 
--- the links hold this, and those failed whose counts rose
+-- the links hold this, and those failed whose counts rose, each by one
 pub record AreLinks (spread : Spread) (links : Links) (old new : World) : Type 0 where
   pub held : (i : ℕ) → i < shards spread → (old.at (link 1 + i)).holds ≡ Some (links.held i)
   pub failed : (i : ℕ) → i < shards spread
@@ -100,7 +100,7 @@ pub record IsFrontOfRelay (spread : Spread) (guest : List ℕ) (links : Links) (
 -- proper front of a frame, and it rose
 abbrev pub GivesRelay : Spread → List ℕ → Links → Relayed → List ℕ → ℕ → ℕ → Type 0
 GivesRelay spread guest links GuestFault out before after =
-    Rose before after × ((out ≡ []) ⊎ IsFrontOfRelay spread guest links out)
+    RoseOnce before after × ((out ≡ []) ⊎ IsFrontOfRelay spread guest links out)
 GivesRelay spread guest links met out before after =
     (after ≡ before) × IsRelay spread guest links met out
 

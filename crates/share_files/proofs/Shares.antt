@@ -3,7 +3,7 @@ use Rattle.std.proofs.Common.{◌≡◌, ◌∙◌, inl, inr, ℕ, ◌+◌, ◌*
 use Rattle.std.proofs.lemmas.List.FromFn.{length-map-range_with_len}
 use Rattle.port_rules.specs.World.{Cell, World}
 use Rattle.port_rules.specs.Number.{COINS, share_file}
-use Rattle.port_rules.specs.Moves.{Rose, Touches, gave, named, counted}
+use Rattle.port_rules.specs.Moves.{RoseOnce, Touches, gave, named, counted}
 use Rattle.port_rules.specs.Each.{TouchesRange}
 use Rattle.port_rules.specs.Files.{Unwritten}
 use Rattle.port_rules.specs.Tossed.{Tossed}
@@ -21,7 +21,7 @@ unwritten_before p name bytes w v u still cut = record {
     | inl a ↦ inl (a ∙ ap (counted (u.at p).faults) still)
     | inr b ↦ inr (b ∙ ap (λ (c : Cell). counted (u.at p).faults (gave (take cut.n bytes) (named name c))) still)
   ];
-  rose = subst (λ (c : Cell). Rose c.faults (u.at p).faults) still cut.rose;
+  rose = subst (λ (c : Cell). RoseOnce c.faults (u.at p).faults) still cut.rose;
 }
 
 -- the shares of some servers are written, and that of the next can't be

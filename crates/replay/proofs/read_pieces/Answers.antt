@@ -2,7 +2,7 @@ use Rattle.std.proofs.Common.{◌∙◌, sym, ap, subst, arith}
 use Rattle.std.proofs.lemmas.Result.{IfOk-from_err, err_from_is_err_and}
 use Rattle.port_rules.specs.World.{Cell}
 use Rattle.port_rules.specs.Number.{INPUT}
-use Rattle.port_rules.specs.Moves.{Rose, counted}
+use Rattle.port_rules.specs.Moves.{RoseOnce, counted}
 use Rattle.port_rules.proofs.Cells.{touches_more}
 use Rattle.wire_frames.specs.Reading.{Reading}
 use Rattle.replay.specs.Replayed.{Spells}
@@ -43,7 +43,7 @@ returns-in-Err-clause-read g c =
       begins = held.begins;
       cell = failed.cell ∙ ap (λ (x : Cell). counted (end.at INPUT).faults x) held.reads.cell;
       front = held.reads.told;
-      rose = subst (λ (x : Cell). Rose x.faults (end.at INPUT).faults) held.reads.cell failed.rose;
+      rose = subst (λ (x : Cell). RoseOnce x.faults (end.at INPUT).faults) held.reads.cell failed.rose;
     }
 
 pub returns-in-Err-clause-others : goal.returns-in-Err-clause-others

@@ -29,7 +29,7 @@ guests-preserved g c =
     let touches = fronted_touch c.args.front.now _ addresses c.front_one.result met after i.front c.front_one.ensures.fronts in
     record {
       front = c.front_one.ensures.kept ∙ i.front;
-      turns = fronted_more c.args.front.now addresses c.guests.counter c.front_one.result start before after i.turns next;
+      turns = fronted_more c.args.front.now addresses c.guests.counter c.front_one.result start before after c.requires.spread.few i.turns next;
       guests = fronted_guests c.args.front.now _ addresses c.front_one.result c.guests.counter start before met after c.requires.spread.few i.front i.guests meets c.front_one.ensures.fronts c.front_one.ensures.told;
       unnamed = fronted_unnamed _ addresses c.front_one.result met after c.front_one.ensures.fronts ∙ meets.opened ∙ i.unnamed;
       door = relaying_door (shards c.args.front.now) start before met after i.door meets touches;

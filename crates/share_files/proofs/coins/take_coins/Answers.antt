@@ -4,7 +4,7 @@ use Rattle.std.proofs.lemmas.List.{get_or_default, take_all}
 use Rattle.std.proofs.lemmas.Option.{IfSome_then}
 use Rattle.port_rules.specs.World.{Cell, World}
 use Rattle.port_rules.specs.Number.{COINS}
-use Rattle.port_rules.specs.Moves.{Came, Hands, Rose, named, took, counted}
+use Rattle.port_rules.specs.Moves.{Came, Hands, RoseOnce, named, took, counted}
 use Rattle.port_rules.specs.Whole.{Ends, FailsShort}
 use Rattle.port_rules.specs.Files.{Unread}
 use Rattle.port_rules.specs.Tossed.{Tossed, RunsOut}
@@ -41,7 +41,7 @@ module _ (name before after : List ℕ) (w v u : World) (opened : v.at COINS ≡
     n = cut.after.n;
     fewer = cut.fewer;
     cell = inr (cut.after.cell ∙ ap (λ (c : Cell). counted (u.at COINS).faults (took cut.after.n c)) opened);
-    rose = subst (λ (c : Cell). Rose c.faults (u.at COINS).faults) opened cut.after.rose;
+    rose = subst (λ (c : Cell). RoseOnce c.faults (u.at COINS).faults) opened cut.after.rose;
   }
 
 pub returns-in_default-clause-taken : goal.returns-in_default-clause-taken
