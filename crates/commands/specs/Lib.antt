@@ -22,5 +22,6 @@ pub mod FrontOutcome
 pub mod HonestReply
 pub mod HeldRow
 pub mod Outcome
+pub mod Ending
 pub mod SelfrunOrder
 pub mod SelfrunOutcome

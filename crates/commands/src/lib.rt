@@ -5,6 +5,7 @@
 #![tactic(auto)]
 
 mod demo_command;
+mod ending;
 mod faults;
 mod fetch_command;
 mod front_command;
@@ -19,5 +20,6 @@ mod split_command;
 mod status;
 mod top;
 
+pub use ending::ending_of_run;
 pub use status::{Bad, Ending, Status, code, ending_of, line};
 pub use top::run;

@@ -1,0 +1,24 @@
+//! The run to its end: what the program does, and what it then ends with.
+
+ghost use Rattle.std.specs.Prelude.{map, string_bytes};
+ghost use Rattle.commands.specs.Ending.{EndsAsRun};
+
+use crate::status::{Ending, ending_of};
+use crate::top::run;
+use port_rules::Ports;
+use std::alloc::Global;
+use std::thread::Threads;
+
+/// Does what [`run`] does, and says what the program then ends with: the exit code and the line of the status that the
+/// run came to.
+pub fn ending_of_run<R: Threads + Sync, P: Ports>(
+    rt: &R,
+    alloc: Global,
+    words: &[String],
+    ports: &mut P,
+) -> Ending
+    ensures { EndsAsRun (map string_bytes words.now) result (P.world ports.old) (P.world ports.new) }
+{
+    let status = run(rt, alloc, words, ports);
+    ending_of(&status)
+}
