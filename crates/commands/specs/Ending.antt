@@ -44,9 +44,8 @@ pub record IsRun (words : List (List ℕ)) (status : Status) (old new : World) :
   pub split : (order : SplitOrder) → AskFor words (asked_to_split order) → SplitPromise order status old new
   pub front : (order : FrontOrder) → AskFor words (asked_to_front order) → FrontPromise order status old new
 
--- a run of the words came to some status, and the exit code and the line are that status's
-pub record EndsAsRun (words : List (List ℕ)) (ending : Ending) (old new : World) : Type 0 where
-  pub status : Status
+-- a run of the words came to this status, and the exit code and the line are the status's
+pub record EndsAsRun (words : List (List ℕ)) (status : Status) (ending : Ending) (old new : World) : Type 0 where
   pub ran : IsRun words status old new
   pub code : exit_status ending.code ≡ code_of status
   pub line : ending.line.now ≡ line_of status

@@ -3,22 +3,22 @@
 ghost use Rattle.std.specs.Prelude.{map, string_bytes};
 ghost use Rattle.commands.specs.Ending.{EndsAsRun};
 
-use crate::status::{Ending, ending_of};
+use crate::status::{Ending, Status, ending_of};
 use crate::top::run;
 use port_rules::Ports;
 use std::alloc::Global;
 use std::thread::Threads;
 
-/// Does what [`run`] does, and says what the program then ends with: the exit code and the line of the status that the
-/// run came to.
+/// Does what [`run`] does, and says what the run came to, and what the program then ends with: the exit code and the line of
+/// that status.
 pub fn ending_of_run<R: Threads + Sync, P: Ports>(
     rt: &R,
     alloc: Global,
     words: &[String],
     ports: &mut P,
-) -> Ending
-    ensures { EndsAsRun (map string_bytes words.now) result (P.world ports.old) (P.world ports.new) }
+) -> (Status, Ending)
+    ensures { EndsAsRun (map string_bytes words.now) result.0 result.1 (P.world ports.old) (P.world ports.new) }
 {
     let status = run(rt, alloc, words, ports);
-    ending_of(&status)
+    (status, ending_of(&status))
 }

@@ -1,12 +1,13 @@
-//! The program `pir`. It makes the ports of the system and reads the words; `commands::run` does the rest. Where the variable
-//! `PIR_EXPLAIN` is `1`, it says behind the line of the status what else is known of why.
+//! The program `pir`. It makes the ports of the system and reads the words; `commands::ending_of_run` does the rest, and says
+//! how the program ends. Where the variable `PIR_EXPLAIN` is `1`, what else is known of why is said behind the line of the
+//! status.
 #![tactic(auto)]
 
 mod exchange;
 mod explanation;
 mod noted;
 
-use commands::{Ending, Status, ending_of, run};
+use commands::{Ending, Status, ending_of, ending_of_run};
 use explanation::explanation;
 use noted::{NotedPorts, Notes};
 use os_ports::{OsPorts, System};
@@ -36,28 +37,33 @@ fn is_asked<R: Env>(rt: &R) -> bool {
     matches!(rt.var("PIR_EXPLAIN", &mut value), Ok(1)) && value == *b"1"
 }
 
-/// How a run ended, and the lines that explain it, which are none where that isn't asked for.
+/// What the program ends with, and the lines that explain it, which are none where that isn't asked for.
 #[derive(Drop)]
 struct Ended {
-    status: Status,
+    ending: Ending,
     why: String,
 }
 
-/// How a run of these words ended, by its status and what is noted of its calls. Where there is no memory for an
-/// explanation, it is left out.
-fn explained<R: AllocGlobal>(
+/// The lines that explain the status of a run of these words, by what is noted of its calls. Where there is no memory for
+/// them, they are left out.
+fn lines_for<R: AllocGlobal>(
     rt: &R,
     words: Option<&[String]>,
-    status: Status,
+    status: &Status,
     notes: &Option<Notes>,
-) -> Ended {
+) -> String {
     let why = match notes {
-        Some(notes) => explanation(rt.alloc(), words, &status, notes),
+        Some(notes) => explanation(rt.alloc(), words, status, notes),
         None => Ok(String::new(rt.alloc())),
     };
+    why.unwrap_or(String::new(rt.alloc()))
+}
+
+/// How the program ends with this status where no command was run.
+fn ended_before<R: AllocGlobal>(rt: &R, status: &Status, notes: &Option<Notes>) -> Ended {
     Ended {
-        status,
-        why: why.unwrap_or(String::new(rt.alloc())),
+        ending: ending_of(status),
+        why: lines_for(rt, None, status, notes),
     }
 }
 
@@ -69,10 +75,11 @@ where
 {
     match words_of(rt) {
         Ok(words) => {
-            let status = run(rt, rt.alloc(), &words, ports);
-            explained(rt, Some(&words), status, &ports.notes)
+            let (status, ending) = ending_of_run(rt, rt.alloc(), &words, ports);
+            let why = lines_for(rt, Some(&words), &status, &ports.notes);
+            Ended { ending, why }
         }
-        Err(status) => explained(rt, None, status, &ports.notes),
+        Err(status) => ended_before(rt, &status, &ports.notes),
     }
 }
 
@@ -108,13 +115,14 @@ fn main(rt: HostRuntime) -> ExitCode {
     // The ports come first: nothing else is to be given the number of a standard stream.
     let ended = match OsPorts::new(&rt) {
         Ok(ports) => run_over(&rt, ports),
-        Err(error) => explained(&rt, None, status_without_ports(&error), &None),
+        Err(error) => ended_before(&rt, &status_without_ports(&error), &None),
     };
-    let Ending { code, line } = ending_of(&ended.status);
+    let Ended { ending, why } = ended;
+    let Ending { code, line } = ending;
     if !line.is_empty() {
         let _ = eprintln!(rt; "{line}");
     }
-    let why = ended.why.as_str();
+    let why = why.as_str();
     if !why.is_empty() {
         let _ = eprint!(rt; "{why}");
     }

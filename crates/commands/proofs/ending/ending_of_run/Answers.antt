@@ -2,7 +2,6 @@ use Rattle.commands.proofs.ending.ending_of_run.Goals as goal
 
 pub returns : goal.returns
 returns g c = record {
-  status = c.run-status.result;
   ran = record {
     refuses = c.run-status.ensures.words;
     outcome = c.run-status.ensures.outcome;
