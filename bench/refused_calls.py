@@ -6,16 +6,19 @@
 PROGRAM is crates/pir/out/pir where none is named.
 
 A small world is run again and again: a replay of a file and of standard input, a fetch over loopback by either scheme, with
-and without a record, a workload, a server of three guests, and a demonstration, with refusals in the parent or in each
-child. In run N the Nth growth is refused, then the Nth call of each other kind, until a run meets no refusal; with
---from all from the Nth on. bench/refuse_call.c does it, which `cc` builds; where there is no compiler a line
-says so, and nothing is run. With --names the first server of a fetch has a name, which the C library looks up: glibc 2.36
-itself ends a process by a signal where the first or the third growth of that is refused, a program of ten lines too.
+and without a record, a look-up of two turns, a database that is split in three, a workload, a server of three guests, a front
+over two shards that meets as many, and a demonstration, with refusals in the parent or in each child. In run N the Nth growth
+is refused, then the Nth call of each other kind, until a run meets no refusal; with --from all from the Nth on.
+bench/refuse_call.c does it, which `cc` builds; where there is no compiler a line says so, and nothing is run. With --names the
+first server of a fetch has a name, which the C library looks up: glibc 2.36 itself ends a process by a signal where the first
+or the third growth of that is refused, a program of ten lines too.
 
 Each run has to end with the whole text and record and its status; or with 12 (no memory), when nothing was written; or
 with 8, 9, 10, 11 or 13, where the calls refused are of that cause, and then Output and the record have a front of what
-they would have. Standard error has the line of the status, or nothing where that was refused. Each guest of the server
-gets a front of its reply, and all of it where the run says that all is well. No child may be left.
+they would have. Of the shares of a split those before one are whole then, that one is a front of what it would be, and those
+behind it aren't there; after any other fault there is none. Standard error has the line of the status, or nothing where that
+was refused. Each guest gets a front of its reply, at a front also of a frame that names a lost shard, and where the run says
+that all is well each but one gets all of its reply. No child may be left.
 
 For each world it prints how many runs there were, and for each kind of call how many ended with each status; then what went
 otherwise, and it ends with status 1 where anything did. It needs Linux with glibc, and Python 3.8."""
@@ -49,7 +52,13 @@ XOR_ANSWERS = [b"PIRA\x01\x02" + bytes([i, 0]) + SHAPE + bytes.fromhex(p) for i,
 XOR_HEAD = b"PIRS\x01\x02\x01\x02\x02\0\0\0" + SHAPE
 BLOCK = b"blocks 1\n4344\n"
 TOO_FEW = [b"too few 0 2\n", b"too few 1 2\n"]
-GUESTS = [(QUERY, ANSWERS[0]), (b"PIRQ\x01", b""), (QUERY, ANSWERS[0])]
+LOST = [b"PIRA\x01\x01\x01\x04" + SHAPE + bytes([shard]) for shard in (1, 2)]
+GUESTS = [QUERY, b"PIRQ\x01", QUERY]
+
+# The coins of a look-up of two turns, those of a split, and what each server then has.
+LOOKUP_COINS = COINS + bytes.fromhex("0000000000000008 05 07")
+SPLIT_COINS = bytes.fromhex("01020304")
+SHARES = [bytes.fromhex(share) for share in ("40404040", "4346454c", "42444648")]
 
 
 def records(head, answers, silent=()):
@@ -161,16 +170,64 @@ def fetch(folder, program, xor, keep, options):
 servers = []
 
 
-def serve(world, xor):
+def serve(world, xor=False, database="database"):
     """Starts a server in which nothing is refused, and gives its address."""
     address = f"127.0.0.1:{free_port()}"
-    process = subprocess.Popen([world.program, "serve", "--database", f"{world.folder}/database", "--width", "2", "--conns",
+    process = subprocess.Popen([world.program, "serve", "--database", f"{world.folder}/{database}", "--width", "2", "--conns",
                                 "65535", "--listen", address, *(["--scheme", "xor"] if xor else [])],
                                stdout=subprocess.PIPE)
     servers.append(process)
     if process.stdout.readline() != b"ready\n":
         sys.exit("a server isn't ready")
     return address
+
+
+def lookup(folder, program, options):
+    world = World("lookup of the second of two rows", folder, program)
+    addresses = [serve(world) for _ in range(3)]
+    world.words = ["lookup", "--rows", "2", "--width", "2", "--key", "43", "--degree", "1", "--agree", "2", "--coins",
+                   f"{folder}/lookup-coins", *addresses]
+    world.endings = {0: [b"found 4344\n"], **({5: TOO_FEW} if options.all_after else {})}
+    return world
+
+
+class Shared(World):
+    """A database that is split in three."""
+    text = b"split 3 2 2\n"
+
+    def files(self):
+        return [f"{self.folder}/share.{index}" for index in range(1, len(SHARES) + 1)]
+
+    def run(self, environment):
+        for file in filter(os.path.exists, self.files()):
+            os.unlink(file)
+        process = subprocess.run([self.program, *self.words], capture_output=True, env=environment, timeout=SECONDS)
+        ran = Ran(process.returncode, process.stdout, process.stderr.decode())
+        ran.shares = [open(file, "rb").read() if os.path.exists(file) else None for file in self.files()]
+        return ran
+
+    def wrong(self, ran):
+        left = f"status {ran.status} with {ran.shares}, {ran.text!r} and {ran.line!r}"
+        whole = 0
+        while whole < len(SHARES) and ran.shares[whole] == SHARES[whole]:
+            whole += 1
+        if ran.status == 0:
+            return None if whole == len(SHARES) and ran.text == self.text and not ran.line else left
+        if ran.status not in (8, 9, 12) or not self.text.startswith(ran.text):
+            return left
+        if ran.status != 9 and (ran.text or any(share is not None for share in ran.shares)):
+            return left
+        if whole < len(SHARES) and (ran.text or not SHARES[whole].startswith(ran.shares[whole] or b"")
+                                    or any(share is not None for share in ran.shares[whole + 1:])):
+            return left
+        return self.wrong_line(ran)
+
+
+def split(folder, program):
+    world = Shared("split in three", folder, program)
+    world.words = ["split", "--database", f"{folder}/database", "--width", "2", "--servers", "3", "--tau", "1", "--into",
+                   f"{folder}/share", "--coins", f"{folder}/split-coins"]
+    return world
 
 
 def selfrun(folder, program):
@@ -184,14 +241,16 @@ def selfrun(folder, program):
 class Served(World):
     """A server of three guests, of whom the second goes away early."""
     faults = {8, 9, 11}
-    most = 1  # how many guests may get less than their reply where the status is 0
+    most = 1  # how many guests may get something else than their reply where the status is 0
+    replies = [ANSWERS[0], b"", ANSWERS[0]]
+    others = []  # what a guest may be given in place of its reply
 
     def run(self, environment):
         port = free_port()
         words = [*self.words, "--listen", f"127.0.0.1:{port}"]
         process = subprocess.Popen([self.program, *words], stdout=subprocess.PIPE, stderr=subprocess.PIPE, env=environment)
         text = process.stdout.readline()
-        given = [self.visit(port, said) for said, _ in GUESTS] if text == b"ready\n" else None
+        given = [self.visit(port, said) for said in GUESTS] if text == b"ready\n" else None
         rest, line = process.communicate(timeout=SECONDS)
         return Ran(process.returncode, text + rest, line.decode(), given=given)
 
@@ -213,11 +272,11 @@ class Served(World):
         return got
 
     def wrong(self, ran):
-        for got, (_, reply) in zip(ran.given or [], GUESTS):
-            if got and not reply.startswith(got):
+        for got, reply in zip(ran.given or [], self.replies):
+            if got and not any(frame.startswith(got) for frame in [reply, *self.others]):
                 return f"a guest was given {got!r}"
         if ran.status == 0:
-            short = sum(got != reply for got, (_, reply) in zip(ran.given or [], GUESTS))
+            short = sum(got != reply for got, reply in zip(ran.given or [], self.replies))
             if ran.text != b"ready\n" or ran.line or short > self.most:
                 return f"status 0 with {ran.text!r}, {ran.line!r}, {ran.given}"
             return None
@@ -232,6 +291,14 @@ def serving(folder, program, options):
     world = Served("serve with three guests", folder, program)
     world.most = 3 if options.all_after else 1
     world.words = ["serve", "--database", f"{folder}/database", "--width", "2", "--conns", "3", "--workers", "2"]
+    return world
+
+
+def fronting(folder, program, options):
+    world = Served("front over two shards with three guests", folder, program)
+    shards = [serve(world, database=f"shard{place}") for place in range(2)]
+    world.faults, world.others, world.most = {9, 11}, LOST, 3 if options.all_after else 1
+    world.words = ["front", "--rows", "2", "--width", "2", "--shard", "1", "--conns", "3", *shards]
     return world
 
 
@@ -351,13 +418,15 @@ def main():
         library = f"{folder}/refuse_call.so"
         subprocess.run(["cc", "-O1", "-shared", "-fPIC", "-o", library, f"{TOP}/bench/refuse_call.c", "-ldl"], check=True)
         for name, content in (("database", b"ABCD"), ("coins", COINS), ("xor-coins", XOR_COINS),
-                              ("session", records(HEAD, ANSWERS))):
+                              ("lookup-coins", LOOKUP_COINS), ("split-coins", SPLIT_COINS), ("shard0", b"AB"),
+                              ("shard1", b"CD"), ("session", records(HEAD, ANSWERS))):
             with open(f"{folder}/{name}", "wb") as file:
                 file.write(content)
         try:
             worlds = [replay(folder, program, False), replay(folder, program, True)]
             worlds += [fetch(folder, program, xor, keep, options) for xor in (False, True) for keep in (False, True)]
-            worlds += [selfrun(folder, program), serving(folder, program, options)]
+            worlds += [lookup(folder, program, options), split(folder, program), selfrun(folder, program)]
+            worlds += [serving(folder, program, options), fronting(folder, program, options)]
             worlds += [demo(folder, program, where, options) for where in ("demo", "serve")]
             for world in worlds:
                 if options.world in world.name:

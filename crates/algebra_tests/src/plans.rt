@@ -30,13 +30,17 @@ fn plans_have_their_numbers(rt: HostRuntime) {
     assert!(rt; has_plan(23, 1, 5, 10, 49, 1265));
 }
 
-// The least cost over the limit and the greatest within it; the dearest of close agreements; and the greatest of all.
+// The least cost over the limit and the greatest within it; the dearest of close agreements; the greatest of all; the weakest
+// agreement of 47 and of 255 servers; and a cost that is over the limit though the agreement is strong.
 #[test]
 fn plans_of_many_points_have_their_numbers(rt: HostRuntime) {
     assert!(rt; has_plan(241, 1, 16, 16, 255, 32776));
     assert!(rt; has_plan(156, 38, 78, 20, 1559, 32760));
     assert!(rt; has_plan(255, 224, 240, 8, 1919, 9180));
     assert!(rt; has_plan(255, 112, 169, 9633, 1627976, 11832551055));
+    assert!(rt; has_plan(47, 1, 7, 21, 146, 10857));
+    assert!(rt; has_plan(255, 1, 17, 8, 135, 9180));
+    assert!(rt; has_plan(33, 3, 10, 70, 699, 82005));
 }
 
 /// How many monomials `x^i * y^j` have `i + t*j <= d`, by the definition that contracts cite.

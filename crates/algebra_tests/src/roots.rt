@@ -1,5 +1,5 @@
 // The y-roots of polynomials in two variables.
-ghost use Rattle.std.specs.Prelude.{◌≡◌, ◌<◌, ◌≤◌};
+ghost use Rattle.std.specs.Prelude.{◌≡◌, ◌<◌, ◌≤◌, ◌+◌, length};
 ghost use Rattle.bi_poly.specs.Rows.{IsZero};
 
 use crate::rows::{are, from_slices, is_nonzero};
@@ -174,5 +174,48 @@ fn lists_the_worked_roots(rt: HostRuntime) -> Result<(), AllocError> {
     for worked in &WORKED {
         assert!(rt; is_solved(rt.alloc(), worked)?);
     }
+    Ok(())
+}
+
+/// The lines that are y-roots of a polynomial of degree at most 2 in y: at most 4 coefficients are fixed.
+fn lines_of_two<N: Ledger>(
+    alloc: Global,
+    q: &BiPoly,
+    nodes: &mut Steps<N>,
+) -> Result<Vec<Vec<u8>>, AllocError>
+    requires nonzero { ¬ IsZero q.now }
+    requires rows { length q.now ≤ 3 }
+    ensures four { nodes.new ≤ nodes.old + 4 }
+{
+    y_roots(alloc, q, 1, nodes)
+}
+
+/// The same, where the nodes are counted by the blank's ledger.
+fn lines_in_steps<N: Ledger>(
+    nodes: Blank,
+    alloc: Global,
+    q: &BiPoly,
+) -> Result<Vec<Vec<u8>>, AllocError>
+    requires nodes { (nodes.name ≡ N.name) × (nodes.parts ≡ N.parts) × (0 < nodes.parts) }
+    requires nonzero { ¬ IsZero q.now }
+    requires rows { length q.now ≤ 3 }
+{
+    let mut nodes: Steps<N> = Steps::new(nodes);
+    lines_of_two(alloc, q, &mut nodes)
+}
+
+/// Whether the two y-roots of `(y - x) * (y - 1)` are found so.
+fn is_found_in_four(alloc: Global, worked: &Worked<'_>) -> Result<bool, AllocError> {
+    let q = from_slices(alloc, worked.rows)?;
+    if q.rows().len() > 3 || !is_nonzero(&q) {
+        return Ok(false);
+    }
+    let roots = lines_in_steps::<Brand>(Blank::new(1), alloc, &q)?;
+    Ok(are(&roots, worked.roots))
+}
+
+#[test]
+fn two_roots_take_four_nodes(rt: HostRuntime) -> Result<(), AllocError> {
+    assert!(rt; is_found_in_four(rt.alloc(), &WORKED[0])?);
     Ok(())
 }

@@ -13,6 +13,14 @@ use std::alloc::{AllocError, Global};
 /// More calls than it takes to read what is left on a port.
 const MANY: usize = 1000;
 
+/// Whether these are the words of a client, which asks all servers before it takes an answer; a front asks its shards one by one.
+fn are_a_clients(words: &[String]) -> bool {
+    match words.first() {
+        Some(word) => matches!(word.as_str(), "fetch" | "lookup" | "demo"),
+        None => false,
+    }
+}
+
 /// Compares a run that comes so far with what the case expects.
 pub fn compare(
     alloc: Global,
@@ -25,6 +33,9 @@ pub fn compare(
     let status = read_status(expected.status.as_str(), found.trial.front())?;
     found.status(alloc, What::Status, ran.status, status)?;
     found.calls(alloc, ran.ports.log.count(), expected.calls)?;
+    if are_a_clients(&case.setup.words) {
+        found.order(alloc, ran.ports.log.asks_before_it_takes())?;
+    }
     let ports = &mut ran.ports.ports;
     compare_output(alloc, expected, reach, ports, found)?;
     for took in &expected.took {

@@ -11,6 +11,7 @@ use std::{fmt, str};
 pub enum What {
     Status,
     Calls,
+    OrderOfRounds,
     Took(Port),
     OpenedWith(Port),
     StillHolds(Port),
@@ -149,6 +150,16 @@ impl Findings {
         let seen = format!(in alloc; "{bad:?}")?;
         let wanted = String::from_str(alloc, "no refusal")?;
         self.note(What::Status, seen, wanted)
+    }
+
+    /// Notes that an answer was taken before all servers were asked, where one was.
+    pub fn order(&mut self, alloc: Global, asks_before_it_takes: bool) -> Result<(), AllocError> {
+        if asks_before_it_takes {
+            return Ok(());
+        }
+        let seen = String::from_str(alloc, "an answer between the queries")?;
+        let wanted = String::from_str(alloc, "all queries and then the answers")?;
+        self.note(What::OrderOfRounds, seen, wanted)
     }
 
     /// Compares the number of calls, where one is expected.

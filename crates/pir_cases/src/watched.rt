@@ -50,6 +50,22 @@ impl Log {
         self.count
     }
 
+    /// Whether no answer is taken before all servers of its round were asked. An opening of link 1 begins a round; behind it,
+    /// no link is opened or given to once one was read.
+    pub fn asks_before_it_takes(&self) -> bool {
+        let mut reads = false;
+        for call in &self.calls {
+            let begins = call.deed == Deed::Open && call.port == Port::Link(1);
+            let on_a_link = matches!(call.port, Port::Link(_));
+            let takes = on_a_link && call.deed == Deed::Take;
+            if on_a_link && reads && !begins && !takes {
+                return false;
+            }
+            reads = takes || (reads && !begins);
+        }
+        true
+    }
+
     /// The number over all calls that the call on the port with this number has; both count from 1.
     pub fn number_of(&self, port: Port, nth: u64) -> Option<u64> {
         let mut seen = 0u64;

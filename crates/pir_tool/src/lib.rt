@@ -1,10 +1,10 @@
 //! The program `pir`: all that it does, over ports that tell what goes in and out, and the laws of what its clients and
 //! servers send.
 //!
-//! What [`run`] and the statuses promise comes from `commands`, on which the program stands. The laws of privacy ([`laws`])
+//! What [`run`], [`ending_of_run`] and the statuses promise comes from `commands`, on which the program stands. The laws of privacy ([`laws`])
 //! are stated and proved here: the program needs no word of them.
 #![tactic(auto)]
 
 pub mod laws;
 
-pub use commands::{Bad, Ending, Status, code, ending_of, line, run};
+pub use commands::{Bad, Ending, Status, code, ending_of, ending_of_run, line, run};

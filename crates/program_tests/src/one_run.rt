@@ -1,8 +1,9 @@
 //! The words of a replay, read and run, and what a status is to the system.
 
 use pir_ports::{MemPorts, Port};
-use pir_tool::{Status, code, line, run};
+use pir_tool::{Status, code, ending_of_run, line, run};
 use pir_words::{Asked, WordsFault, read_words};
+use share_files::SplitFault;
 use std::alloc::{AllocError, Global};
 use std::test::Fail;
 
@@ -31,6 +32,14 @@ fn a_session_is_replayed(rt: HostRuntime) -> Result<(), Fail> {
 }
 
 #[test]
+fn a_run_ends_with_the_line_of_its_status(rt: HostRuntime) -> Result<(), Fail> {
+    let mut ports = MemPorts::new(rt.alloc(), 1000, &[], 1, 1)?;
+    let (status, ending) = ending_of_run(&rt, rt.alloc(), &[], &mut ports);
+    assert!(rt; status == Status::Usage && ending.line == "pir: usage");
+    Ok(())
+}
+
+#[test]
 fn words_ask_for_a_replay(rt: HostRuntime) -> Result<(), Fail> {
     let words = replay_words(rt.alloc())?;
     let asked = read_words(rt.alloc(), &words);
@@ -51,6 +60,25 @@ fn faults_of_words_have_texts(rt: HostRuntime) -> Result<(), Fail> {
     for (fault, text) in [
         (WordsFault::Usage, "the words have no form"),
         (WordsFault::Memory, "no memory"),
+    ] {
+        assert!(rt; format!(in rt.alloc(); "{fault}")?.as_str() == text);
+    }
+    Ok(())
+}
+
+#[test]
+fn faults_of_a_split_have_texts(rt: HostRuntime) -> Result<(), Fail> {
+    for (fault, text) in [
+        (SplitFault::CoinsFault, "a call on the coins failed"),
+        (
+            SplitFault::CoinsEnded { taken: 9 },
+            "the coins ended after 9 bytes",
+        ),
+        (
+            SplitFault::ShareFault,
+            "a call on the file of a share failed",
+        ),
+        (SplitFault::Memory, "no memory"),
     ] {
         assert!(rt; format!(in rt.alloc(); "{fault}")?.as_str() == text);
     }

@@ -5,6 +5,8 @@
 #[cfg(test)]
 mod bitmaps;
 #[cfg(test)]
+mod gates;
+#[cfg(test)]
 mod matrices;
 #[cfg(test)]
 mod partners;

@@ -3,12 +3,11 @@ use crate::matrices::{matrix_of, scattered};
 use block_matrix::Matrix;
 use server_product::{Gate, OpenGate, mul_add_row, plain_into, product_into};
 use std::alloc::Global;
-use std::sync::atomic::{AtomicBool, Ordering};
 use std::test::Fail;
 use std::thread::Threads;
 
-/// The product by so many workers.
-fn product<R: Threads + Sync, G: Gate + Sync>(
+/// The product by so many workers, who pass this gate.
+pub(crate) fn product<R: Threads + Sync, G: Gate + Sync>(
     rt: &R,
     alloc: Global,
     matrix: &Matrix,
@@ -156,52 +155,4 @@ fn one_row_of_the_standard(rt: HostRuntime) {
     let mut acc = [0; 33];
     mul_add_row(&mut acc, &[0x57; 33], 0x83);
     assert!(rt; acc == [0xc1; 33]);
-}
-
-/// Each worker raises its own flag, and looks for the other's.
-#[derive(Drop)]
-struct Both {
-    here: [AtomicBool; 2],
-    saw: [AtomicBool; 2],
-}
-
-impl Gate for Both {
-    fn pass(&self, worker: u8) {
-        let mine = usize::from(worker) % 2;
-        let other = 1 - mine;
-        self.here[mine].store(true, Ordering::SeqCst);
-        for _ in 0..1u64 << 30 {
-            if self.here[other].load(Ordering::SeqCst) {
-                self.saw[mine].store(true, Ordering::SeqCst);
-                return;
-            }
-        }
-    }
-}
-
-/// A gate that nobody passed yet.
-fn new_gate() -> Both {
-    Both {
-        here: [AtomicBool::new(false), AtomicBool::new(false)],
-        saw: [AtomicBool::new(false), AtomicBool::new(false)],
-    }
-}
-
-/// Whether two workers saw each other at this gate, and what they gave.
-fn meet<R: Threads + Sync>(rt: &R, alloc: Global, gate: &Both) -> Result<bool, Fail> {
-    let matrix = matrix_of(alloc, b"ABCD", 2)?;
-    let out = product(rt, alloc, &matrix, &[1, 1], 2, gate)?;
-    Ok(
-        gate.saw[0].load(Ordering::SeqCst)
-            && gate.saw[1].load(Ordering::SeqCst)
-            && out.as_slice() == [b'A' ^ b'C', b'B' ^ b'D'].as_slice(),
-    )
-}
-
-// A body on one thread ends without it.
-#[test]
-fn gate_both(rt: HostRuntime) -> Result<(), Fail> {
-    let gate = new_gate();
-    assert!(rt; meet(&rt, rt.alloc(), &gate)?);
-    Ok(())
 }

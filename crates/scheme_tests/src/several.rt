@@ -3,7 +3,7 @@ use crate::matrices::{matrix_of, scattered};
 use block_matrix::Matrix;
 use chor_xor::answer_into;
 use server_answer::answers_into;
-use server_product::{OpenGate, plain_into, products_into};
+use server_product::{Gate, OpenGate, plain_into, products_into};
 use std::alloc::Global;
 use std::test::Fail;
 use std::thread::Threads;
@@ -37,14 +37,15 @@ fn products<R: Threads + Sync>(
     Ok(out)
 }
 
-/// The answers to so many bitmaps by so many workers.
-fn answers<R: Threads + Sync>(
+/// The answers to so many bitmaps by so many workers, who pass this gate.
+pub(crate) fn answers<R: Threads + Sync, G: Gate + Sync>(
     rt: &R,
     alloc: Global,
     matrix: &Matrix,
     bitmaps: &[u8],
     count: u8,
     workers: u8,
+    gate: &G,
 ) -> Result<Vec<u8>, Fail> {
     if count > 16 || bitmaps.len() != count as usize * matrix.rows().div_ceil(8) as usize {
         return Err(Fail::new("another shape"));
@@ -60,7 +61,7 @@ fn answers<R: Threads + Sync>(
         count,
         workers,
         &mut scratch,
-        &OpenGate,
+        gate,
         &mut out,
     );
     Ok(out)
@@ -113,7 +114,7 @@ fn each_is_alone<R: Threads + Sync>(
         want_answers.extend_from_slice(&answer(alloc, &matrix, bitmap)?)?;
     }
     let products = products(rt, alloc, &matrix, &queries, count, workers)?;
-    let answers = answers(rt, alloc, &matrix, &bitmaps, count, workers)?;
+    let answers = answers(rt, alloc, &matrix, &bitmaps, count, workers, &OpenGate)?;
     Ok(
         products.as_slice() == want_products.as_slice()
             && answers.as_slice() == want_answers.as_slice(),
@@ -151,7 +152,7 @@ fn two_at_once(rt: HostRuntime) -> Result<(), Fail> {
     let given = products(&rt, alloc, &fields, &[0x01, 0x02, 0x01, 0x00], 2, 1)?;
     assert!(rt; given.as_slice() == [0x05, 0x06, 0x05, 0x00].as_slice());
     let letters = matrix_of(alloc, b"ABCD", 2)?;
-    let given = answers(&rt, alloc, &letters, &[0xc0, 0x40], 2, 1)?;
+    let given = answers(&rt, alloc, &letters, &[0xc0, 0x40], 2, 1, &OpenGate)?;
     assert!(rt; given.as_slice() == [0x02, 0x06, 0x43, 0x44].as_slice());
     Ok(())
 }
