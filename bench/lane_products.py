@@ -77,7 +77,9 @@ def count(k, t, h):
                 if not any(values):
                     continue
                 p = min((g for g in range(n) if values[g]), key=lambda g: (weights[g], g))
-                reach = weights[p] + 2
+                if weights[p] > d:
+                    continue
+                reach = min(weights[p] + 1, d) + 1
                 for j in range(n):
                     products += lanes * sum(c != 0 for c in family[p][j][: max(reach - t * j, 0)])
                 step(family, windows, values, p, a)
