@@ -1,7 +1,7 @@
 //! Why a run ended as it did, in lines for whoever asks.
 
-use crate::noted::Notes;
 use commands::{Bad, Status};
+use link_notes::{Notes, say_links, say_next_look};
 use pir_words::reason_for;
 use std::alloc::{AllocError, Global};
 use std::fmt::Write;
@@ -31,29 +31,6 @@ fn explain_input(bad: Bad, text: &mut String) -> Result<(), AllocError> {
     }
 }
 
-/// Adds a line for each link that gave no usable answer, and one for an address without a port that couldn't be opened.
-fn explain_links(notes: &Notes, text: &mut String) -> Result<(), AllocError> {
-    if let Some(address) = notes.portless() {
-        write!(text, "pir: words: {address} has no port\n")?;
-    }
-    for exchange in notes.exchanges() {
-        if let Some(fault) = exchange.fault() {
-            let link = exchange.link();
-            write!(text, "pir: link {link}: {fault}\n")?;
-        }
-    }
-    Ok(())
-}
-
-/// Adds a line on what to look at next where too few answers are usable.
-fn explain_too_few(notes: &Notes, text: &mut String) -> Result<(), AllocError> {
-    match notes.session_file() {
-        Some("-") => text.push_str("pir: too few: see pir_show on the session\n"),
-        Some(file) => write!(text, "pir: too few: see pir_show {file}\n"),
-        None => text.push_str("pir: too few: see pir_show on a record, by fetch --record\n"),
-    }
-}
-
 /// Why a run of these words ended so, a line each; empty where nothing is to be said. Want of memory is the only error.
 pub fn explanation(
     alloc: Global,
@@ -62,11 +39,11 @@ pub fn explanation(
     notes: &Notes,
 ) -> Result<String, AllocError> {
     let mut text = String::new(alloc);
-    explain_links(notes, &mut text)?;
+    say_links(notes, &mut text)?;
     match status {
         Status::Usage => explain_words(alloc, words, &mut text)?,
         Status::BadInput(bad) => explain_input(*bad, &mut text)?,
-        Status::TooFew { .. } => explain_too_few(notes, &mut text)?,
+        Status::TooFew { .. } => say_next_look(notes, &mut text)?,
         _ => {}
     }
     Ok(text)

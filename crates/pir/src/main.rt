@@ -3,13 +3,11 @@
 //! status.
 #![tactic(auto)]
 
-mod exchange;
 mod explanation;
-mod noted;
 
 use commands::{Ending, Status, ending_of, ending_of_run};
 use explanation::explanation;
-use noted::{NotedPorts, Notes};
+use link_notes::{NotedPorts, Notes};
 use os_ports::{OsPorts, System};
 use std::env;
 use std::io::{self, ErrorKind};

@@ -34,17 +34,17 @@ impl Notes {
     }
 
     /// What went over each link that was opened.
-    pub fn exchanges(&self) -> &[Exchange] {
+    pub(crate) fn exchanges(&self) -> &[Exchange] {
         &self.exchanges
     }
 
     /// The first address without a port that couldn't be opened.
-    pub fn portless(&self) -> Option<&str> {
+    pub(crate) fn portless(&self) -> Option<&str> {
         Some(self.portless.as_ref()?.as_str())
     }
 
     /// The file of the session that is read or recorded.
-    pub fn session_file(&self) -> Option<&str> {
+    pub(crate) fn session_file(&self) -> Option<&str> {
         Some(self.session_file.as_ref()?.as_str())
     }
 
@@ -116,7 +116,9 @@ impl Notes {
 /// Ports that hand each call on to others. Where that is asked for, they note what each link gave.
 #[derive(Drop)]
 pub struct NotedPorts<P: Drop> {
+    /// The ports that each call is handed on to.
     pub ports: P,
+    /// What is noted, where that is asked for.
     pub notes: Option<Notes>,
 }
 
