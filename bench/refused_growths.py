@@ -95,7 +95,7 @@ def refuse(program, library, folder, file, name, wrongs):
             return ended
         if well:
             ended["as expected"] += 1
-        elif lines[-1:] != ["1 cases, 1 failed"] or lines[0].endswith("memory"):
+        elif lines[-1:] != ["1 cases, 1 failed"] or lines[0].endswith(("memory", "(no memory)")):
             ended["outside of the run"] += 1
         else:
             fault = fault_of(lines[:-1], asked)
