@@ -15,11 +15,11 @@ use Rattle.block_decoder.specs.declared.verdict.Verdict.{Verdict}
 use Rattle.block_decoder.specs.declared.verdict.Verdict.TheVariants.{Listed as IsListed, TooFew as IsTooFew, TooWeak as IsTooWeak, TooCostly as IsTooCostly}
 use Rattle.block_decoder.specs.Report.{Agreement}
 use Rattle.query_rounds.specs.Plan.{AreBlocks, IsPlan, need}
+use Rattle.query_rounds.specs.Request.{Request}
 use Rattle.query_rounds.specs.Sent.{sent}
 use Rattle.query_rounds.specs.Link.{LinkAsked}
 use Rattle.query_rounds.specs.Gathered.{AsksWith, FetchesTo, TouchesLinks}
 use Rattle.fetch_client.specs.Fetched.{Fetches, FetchesWhole}
-use Rattle.query_rounds.specs.declared.plan.FetchPlan.{FetchPlan}
 use Rattle.query_rounds.specs.declared.plan.FetchFault.{FetchFault}
 use Rattle.query_rounds.specs.declared.plan.FetchFault.TheVariants.{CoinsFault, CoinsEnded, Memory as NoMemory}
 use Rattle.wire_frames.specs.declared.session.SessionParams.{SessionParams}
@@ -29,7 +29,7 @@ use Rattle.commands.specs.Faults.{of_fetch}
 use Rattle.commands.specs.Table.{status_of}
 use Rattle.commands.specs.FetchOrder.{FetchOrder}
 use Rattle.commands.specs.Outcome.{Outcome, order_of}
-use Rattle.commands.specs.FetchOutcome.{ConcludesBeside, InSession, Settled, Recorded, Unrecorded, FetchReported, FetchEnds, FetchesBeside, Reports, TouchesFiles, with_none}
+use Rattle.commands.specs.FetchOutcome.{ConcludesBeside, InSession, Settled, Recorded, Unrecorded, FetchReported, FetchEnds, FetchesBeside, Reports, TouchesFiles, request_by, with_none}
 use Rattle.commands.specs.Said.{IsReportOf, whole_text}
 use Rattle.commands.proofs.HeldRow.{held_row}
 use Rattle.commands.proofs.Saying.{report_of}
@@ -58,7 +58,7 @@ order_is o is = ap (λ (n : ℕ). record {
 
 -- every server was asked after Coins was opened, and before other ports were touched
 pub asked_within : (o : FetchOrder) (coins : List ℕ) (session : Transcript) (w v u z : World) → (link 1) + o.plan.n ≤ PORT_COUNT → v.at COINS ≡ named o.coins (w.at COINS) → Touches COINS w v
-    → AsksWith o.plan o.blocks o.addresses coins session v u → TouchesFiles u z → InSession o coins session w z
+    → AsksWith (request_by o) coins session v u → TouchesFiles u z → InSession o coins session w z
 asked_within o coins session w v u z fits is_open touch asks files =
     let p = o.plan in
     let t = asks.tossed in
@@ -107,37 +107,37 @@ ends_as o (IsTooWeak k t h) w z said = said
 ends_as o (IsTooCostly equations) w z said = said
 
 -- every server was asked, so the report is that of the session
-pub report_of_fetch : (wanted : Bool) (p : FetchPlan) (blocks : List ℕ) (addresses : List (List ℕ)) (session : Transcript) (verdict : Verdict) (report : Option (List Agreement)) (old new : World) → IsPlan p
-    → ConcludesBeside wanted p blocks addresses (session, verdict, report) old new → IsReportOf session report
-report_of_fetch wanted p blocks addresses session verdict report old new plan found =
+pub report_of_fetch : (wanted : Bool) (r : Request) (session : Transcript) (verdict : Verdict) (report : Option (List Agreement))
+    (old new : World) → IsPlan r.plan → ConcludesBeside wanted r (session, verdict, report) old new → IsReportOf session report
+report_of_fetch wanted r session verdict report old new plan found =
     let same = ap (λ (q : SessionParams). q.scheme) found.concludes.asked.asked.params in
     report_of session verdict (subst (λ (n : ℕ). (n ≡ SHAMIR) ⊎ (n ≡ XOR)) (sym same) plan.numbers.scheme) wanted report found.beside
 
 -- every server was asked, so the session has a record for each
-pub whole_of_fetch : (wanted : Bool) (p : FetchPlan) (blocks : List ℕ) (addresses : List (List ℕ)) (session : Transcript) (verdict : Verdict) (report : Option (List Agreement)) (old new : World)
-    → ConcludesBeside wanted p blocks addresses (session, verdict, report) old new → length session.records ≡ session.params.n
-whole_of_fetch wanted p blocks addresses session verdict report old new found =
+pub whole_of_fetch : (wanted : Bool) (r : Request) (session : Transcript) (verdict : Verdict) (report : Option (List Agreement))
+    (old new : World) → ConcludesBeside wanted r (session, verdict, report) old new → length session.records ≡ session.params.n
+whole_of_fetch wanted r session verdict report old new found =
     found.concludes.asked.asked.whole ∙ sym (ap (λ (q : SessionParams). q.n) found.concludes.asked.asked.params)
 
 -- a fetch with no report
-pub fetches_plain : (p : FetchPlan) (blocks : List ℕ) (addresses : List (List ℕ)) (result : Result (Transcript × Verdict) FetchFault) (old new : World)
-    → Fetches p blocks addresses result old new → FetchesTo (ConcludesBeside false p blocks addresses) p blocks addresses (with_none result) old new
-fetches_plain p blocks addresses (Ok both) old new fetched = record { concludes = fetched; beside = refl; liars = λ agreements same. absurd cc }
-fetches_plain p blocks addresses (Err CoinsFault) old new fetched = fetched
-fetches_plain p blocks addresses (Err (CoinsEnded taken)) old new fetched = fetched
-fetches_plain p blocks addresses (Err NoMemory) old new fetched = fetched
+pub fetches_plain : (r : Request) (result : Result (Transcript × Verdict) FetchFault) (old new : World)
+    → Fetches r result old new → FetchesTo (ConcludesBeside false r) r (with_none result) old new
+fetches_plain r (Ok both) old new fetched = record { concludes = fetched; beside = refl; liars = λ agreements same. absurd cc }
+fetches_plain r (Err CoinsFault) old new fetched = fetched
+fetches_plain r (Err (CoinsEnded taken)) old new fetched = fetched
+fetches_plain r (Err NoMemory) old new fetched = fetched
 
 -- and one with a report
-pub fetches_whole : (p : FetchPlan) (blocks : List ℕ) (addresses : List (List ℕ)) (result : Result (Transcript × Verdict × Option (List Agreement)) FetchFault) (old new : World)
-    → FetchesWhole p blocks addresses result old new → FetchesTo (ConcludesBeside true p blocks addresses) p blocks addresses result old new
-fetches_whole p blocks addresses (Ok found) old new fetched = record { concludes = fetched.concludes; beside = fetched.report; liars = fetched.liars }
-fetches_whole p blocks addresses (Err CoinsFault) old new fetched = fetched
-fetches_whole p blocks addresses (Err (CoinsEnded taken)) old new fetched = fetched
-fetches_whole p blocks addresses (Err NoMemory) old new fetched = fetched
+pub fetches_whole : (r : Request) (result : Result (Transcript × Verdict × Option (List Agreement)) FetchFault) (old new : World)
+    → FetchesWhole r result old new → FetchesTo (ConcludesBeside true r) r result old new
+fetches_whole r (Ok found) old new fetched = record { concludes = fetched.concludes; beside = fetched.report; liars = fetched.liars }
+fetches_whole r (Err CoinsFault) old new fetched = fetched
+fetches_whole r (Err (CoinsEnded taken)) old new fetched = fetched
+fetches_whole r (Err NoMemory) old new fetched = fetched
 
 -- Coins was opened, every server was asked, and the session was reported
 pub ends_with_report : (o : FetchOrder) (session : Transcript) (verdict : Verdict) (report : Option (List Agreement)) (status : Status) (w v u z : World) → IsPlan o.plan → AreBlocks o.plan o.blocks → v.at COINS ≡ named o.coins (w.at COINS) → Touches COINS w v
-    → ConcludesBeside o.report o.plan o.blocks o.addresses (session, verdict, report) v u → TouchesLinks o.plan.n v u → Reports o.keep session verdict report status u z → TouchesFiles u z → FetchEnds o status w z
+    → ConcludesBeside o.report (request_by o) (session, verdict, report) v u → TouchesLinks o.plan.n v u → Reports o.keep session verdict report status u z → TouchesFiles u z → FetchEnds o status w z
 ends_with_report o session verdict report status w v u z plan are is_open touch beside links reports files = elim reports [
   | inl told ↦ elim told.1 [
     | inl whole ↦

@@ -13,7 +13,7 @@ use Rattle.block_decoder.specs.declared.verdict.Verdict.{Verdict}
 use Rattle.block_decoder.specs.declared.verdict.Verdict.TheVariants.{Listed}
 use Rattle.query_rounds.specs.declared.plan.FetchPlan.{FetchPlan}
 use Rattle.query_rounds.specs.Plan.{AreBlocks, IsPlan, need, params_of, with_degree}
-use Rattle.fetch_client.specs.Held.{held_by}
+use Rattle.fetch_client.specs.Held.{held_as, held_by}
 use Rattle.query_rounds.specs.Sent.{queries_from, session_number}
 use Rattle.fetch_client.specs.Honest.{FindsHonestBlock, HonestRecords, blocks_of, honest_frame, is_frame}
 use Rattle.fetch_client.proofs.HeldRows.{held_is_matrix}
@@ -68,7 +68,7 @@ module _ (p : FetchPlan) (blocks coins : List ℕ) (session : Transcript) (plan 
         ∙ is_honest (get_or a.places k d) below (a.each k d l)) in
         omega (arith, few, a.enough)
 
-    honest : HonestRecords session p.t p.tau matrix share_coins (queries_from coins) blocks
+    honest : HonestRecords session p.t (held_as p.tau matrix share_coins) (queries_from coins) blocks
     honest =
         let s = ap (λ (q : SessionParams). q.s) params in
         record {

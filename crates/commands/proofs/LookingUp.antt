@@ -30,7 +30,7 @@ use Rattle.key_fetches.specs.LookedUp.{LookedUp, LooksUp, TooFewHeld}
 use Rattle.key_fetches.proofs.Within.{looks_within}
 use Rattle.commands.specs.HeldRow.{EnoughReply}
 use Rattle.commands.specs.LookUpOrder.{LookUpOrder}
-use Rattle.commands.specs.LookUpOutcome.{EndTold, EnoughReplyInEach, LookUpEnds, LookUpPromise, LookUpReported, LookUpSettled, coins_needed, opened_coins, read_and_written}
+use Rattle.commands.specs.LookUpOutcome.{EndTold, EnoughReplyInEach, LookUpEnds, LookUpPromise, LookUpReported, LookUpSettled, coins_needed, key_request_by, opened_coins, read_and_written}
 use Rattle.commands.specs.Faults.{of_fetch}
 use Rattle.commands.specs.Outcome.{look_up_by}
 use Rattle.commands.specs.Table.{status_by_end}
@@ -85,7 +85,7 @@ rows_held p matrix s (round ∷ rounds) (verdict ∷ verdicts) plan whole judged
 )
 
 settled_by : (o : LookUpOrder) (ended : Ended) (old new : World) → IsPlan o.plan
-    → LookedUp o.plan o.key o.addresses ended (opened_coins o old) old new → LookUpSettled o ended old new
+    → LookedUp (key_request_by o) ended (opened_coins o old) old new → LookUpSettled o ended old new
 settled_by o ended old new plan looked = record {
   looked = looked;
   held = λ matrix whole sorted enough. looked.row matrix whole.rows sorted
@@ -113,10 +113,10 @@ module _ (o : LookUpOrder) (w v u : World) (plan : IsPlan o.plan) (is_open : v.a
 
   -- the look-up, over the opening of Coins before it and what is written after it
   whole : (z : World) (r : Result Ended FetchFault) → ((q : ℕ) → q < PORT_COUNT → q ≢ OUTPUT → z.at q ≡ u.at q)
-      → LooksUp o.plan o.key o.addresses r (v.at COINS) v u → LooksUp o.plan o.key o.addresses r (opened_coins o w) w z
+      → LooksUp (key_request_by o) r (v.at COINS) v u → LooksUp (key_request_by o) r (opened_coins o w) w z
   whole z r still looks =
-      subst (λ (c : Cell). LooksUp o.plan o.key o.addresses r c w z) is_open
-      (looks_within o.plan o.key o.addresses (v.at COINS) w v u z
+      subst (λ (c : Cell). LooksUp (key_request_by o) r c w z) is_open
+      (looks_within (key_request_by o) (v.at COINS) w v u z
       (λ i l. touch.others (link 1 + i) (omega (arith, fits, l)) (λ e. omega (arith, e)))
       (λ i l. still (link 1 + i) (omega (arith, fits, l)) (λ e. omega (arith, e)))
       (still COINS (lit< tt) (λ e. omega (arith, e))) r looks)
@@ -125,7 +125,7 @@ module _ (o : LookUpOrder) (w v u : World) (plan : IsPlan o.plan) (is_open : v.a
   output = links.others OUTPUT (lit< tt) (λ e. omega (arith, e)) (λ lo hi. omega (arith, lo)) ∙ touch.others OUTPUT (lit< tt) (λ e. omega (arith, e))
 
   -- a fetch failed, or the memory for the search
-  pub ends_with_fault : (fault : FetchFault) → LooksUp o.plan o.key o.addresses (Err fault) (v.at COINS) v u
+  pub ends_with_fault : (fault : FetchFault) → LooksUp (key_request_by o) (Err fault) (v.at COINS) v u
       → LookUpEnds o (of_fetch fault) w u
   ends_with_fault CoinsFault looks =
       record { part = inr (whole u (Err CoinsFault) (λ q l ne. refl) looks); output = output }
@@ -136,7 +136,7 @@ module _ (o : LookUpOrder) (w v u : World) (plan : IsPlan o.plan) (is_open : v.a
 
   -- all turns were taken, and what they came to was written, or not
   pub ends_with_end : (ended : Ended) (status : Status) (z : World)
-      → LooksUp o.plan o.key o.addresses (Ok ended) (v.at COINS) v u → EndTold ended status u z → Touches OUTPUT u z
+      → LooksUp (key_request_by o) (Ok ended) (v.at COINS) v u → EndTold ended status u z → Touches OUTPUT u z
       → LookUpEnds o status w z
   ends_with_end ended status z looks told touched =
       let settled = settled_by o ended w z plan (whole z (Ok ended) touched.others looks) in

@@ -6,7 +6,7 @@ ghost use Rattle.port_rules.specs.Moves.{Touches};
 ghost use Rattle.query_rounds.specs.Gathered.{TouchesLinks};
 ghost use Rattle.drawn_workload.specs.Counters.{IsOwn};
 ghost use Rattle.key_fetches.specs.LookedUp.{LooksUp};
-ghost use Rattle.commands.specs.LookUpOutcome.{EndTold, LookUpEnds, TouchesLookUp};
+ghost use Rattle.commands.specs.LookUpOutcome.{EndTold, LookUpEnds, TouchesLookUp, key_request_by};
 ghost use Rattle.commands.specs.Table.{status_of_end};
 
 use crate::orders::LookingUp;
@@ -14,7 +14,7 @@ use crate::report::status_by;
 use crate::status::Status;
 use fetch_client::FetchFault;
 use gs_interpolate::Koetter;
-use key_fetches::{Ending, LookUp, look_up, write_end};
+use key_fetches::{Ending, KeyRequest, LookUp, look_up, write_end};
 use port_rules::{Failed, Port, Ports};
 use std::alloc::Global;
 use std::marker::Brand;
@@ -31,17 +31,14 @@ fn look_up_once<C: Ledger, N: Ledger, P: Ports>(
 ) -> Result<LookUp, FetchFault>
     requires cols { IsOwn cols C.name C.parts }
     requires nodes { IsOwn nodes N.name N.parts }
-    ensures looked { LooksUp order.now.plan order.now.key order.now.addresses result ((P.world ports.old).at COINS)
+    ensures looked { LooksUp (key_request_by order.now) result ((P.world ports.old).at COINS)
         (P.world ports.old) (P.world ports.new) }
     ensures others { TouchesLinks order.now.plan.n (P.world ports.old) (P.world ports.new) }
 {
-    let key = order.key.copied(alloc)?;
     let mut cols: Steps<C> = Steps::new(cols);
     let mut nodes: Steps<N> = Steps::new(nodes);
-    let (plan, addresses) = (&order.plan, order.addresses);
-    look_up(
-        alloc, &Koetter, plan, key, addresses, ports, &mut cols, &mut nodes,
-    )
+    let request = KeyRequest::new(&order.plan, order.key, order.addresses);
+    look_up(alloc, &Koetter, &request, ports, &mut cols, &mut nodes)
 }
 
 /// The status that a look-up ends with: that of the first verdict that did not list exactly one block, or else whether a

@@ -1,13 +1,13 @@
 //! One fetch.
 
-ghost use Rattle.std.specs.Prelude.{◌≡◌, ◌≤◌, ◌+◌, ◌*◌, length, map, string_bytes, IfOk};
-ghost use Rattle.wire_frames.specs.declared.scheme.TheConstants.{SHAMIR, XOR};
+ghost use Rattle.std.specs.Prelude.{◌≡◌, ◌≤◌, length, map, string_bytes};
+ghost use Rattle.wire_frames.specs.declared.scheme.TheConstants.{XOR};
 ghost use Rattle.query_rounds.specs.Plan.{AreBlocks, IsPlan};
 ghost use Rattle.block_decoder.specs.Numbers.{most_columns, most_nodes};
-ghost use Rattle.block_decoder.specs.Verdict.{least_columns};
 ghost use Rattle.query_rounds.specs.Gathered.{TouchesLinks};
-ghost use Rattle.fetch_client.specs.Fetched.{FetchCounts, Fetches, FetchCountsWhole, FetchesWhole};
-ghost use Rattle.fetch_client.specs.Fetched.{FetchesWith};
+ghost use Rattle.query_rounds.specs.Request.{request};
+ghost use Rattle.fetch_client.specs.Fetched.{CountsListed, CountsSteps, FetchCounts, FetchCountsWhole};
+ghost use Rattle.fetch_client.specs.Fetched.{Fetches, FetchesWhole, FetchesWith, steps};
 
 use block_decoder::{Report, Verdict, judge_with};
 use interpolation::Interpolate;
@@ -17,6 +17,18 @@ use std::alloc::Global;
 use std::sync::ledger::Ledger;
 use uni_poly::steps::Steps;
 use wire_frames::Session;
+
+/// What is fetched, from which servers, and whether a report is wanted beside the verdict.
+#[derive(Clone, Copy)]
+struct Fetch<'a> {
+    plan: &'a FetchPlan,
+    blocks: &'a [u32],
+    addresses: &'a [String],
+    report: bool,
+    ghost is_plan: { IsPlan plan.now },
+    ghost may_be_asked: { AreBlocks plan.now blocks.now },
+    ghost has_addresses: { length addresses.now ≡ plan.now.n },
+}
 
 /// Fetches blocks, from 1 to [`MOST_BLOCKS`](wire_frames::MOST_BLOCKS) in one query: takes the coins, asks every
 /// server, and judges what they answered. Coins is open already; there is one address for each server, in the order
@@ -50,20 +62,23 @@ pub fn fetch<I: Interpolate, C: Ledger, N: Ledger, P: Ports>(
     requires plan { IsPlan plan.now }
     requires blocks { AreBlocks plan.now blocks.now }
     requires addresses { length addresses.now ≡ plan.now.n }
-    ensures fetched { Fetches plan.now blocks.now (map string_bytes addresses.now) result
+    ensures fetched { Fetches (request plan.now blocks.now (map string_bytes addresses.now)) result
         (P.world ports.old) (P.world ports.new) }
     ensures others { TouchesLinks plan.now.n (P.world ports.old) (P.world ports.new) }
     ensures cols { FetchCounts most_columns plan.now blocks.now result cols.old cols.new }
     ensures nodes { FetchCounts most_nodes plan.now blocks.now result nodes.old nodes.new }
     ensures least { cols.old ≤ cols.new }
     ensures least_nodes { nodes.old ≤ nodes.new }
-    ensures listed { plan.now.scheme ≡ SHAMIR
-        → IfOk result (λ both. cols.old + least_columns (length blocks.now * plan.now.s) both.1 ≤ cols.new) }
+    ensures listed { CountsListed (λ both. both.1) plan.now blocks.now result cols.old cols.new }
     ensures xor { plan.now.scheme ≡ XOR → (cols.new ≡ cols.old) × (nodes.new ≡ nodes.old) }
 {
-    let (session, verdict, _report) = fetch_with(
-        alloc, way, plan, blocks, addresses, false, ports, cols, nodes,
-    )?;
+    let fetch = Fetch {
+        plan,
+        blocks,
+        addresses,
+        report: false,
+    };
+    let (session, verdict, _report) = fetch_with(alloc, way, fetch, ports, cols, nodes)?;
     Ok((session, verdict))
 }
 
@@ -87,20 +102,23 @@ pub fn fetch_report<I: Interpolate, C: Ledger, N: Ledger, P: Ports>(
     requires plan { IsPlan plan.now }
     requires blocks { AreBlocks plan.now blocks.now }
     requires addresses { length addresses.now ≡ plan.now.n }
-    ensures fetched { FetchesWhole plan.now blocks.now (map string_bytes addresses.now) result
+    ensures fetched { FetchesWhole (request plan.now blocks.now (map string_bytes addresses.now)) result
         (P.world ports.old) (P.world ports.new) }
     ensures others { TouchesLinks plan.now.n (P.world ports.old) (P.world ports.new) }
     ensures cols { FetchCountsWhole most_columns plan.now blocks.now result cols.old cols.new }
     ensures nodes { FetchCountsWhole most_nodes plan.now blocks.now result nodes.old nodes.new }
     ensures least { cols.old ≤ cols.new }
     ensures least_nodes { nodes.old ≤ nodes.new }
-    ensures listed { plan.now.scheme ≡ SHAMIR
-        → IfOk result (λ found. cols.old + least_columns (length blocks.now * plan.now.s) found.1 ≤ cols.new) }
+    ensures listed { CountsListed (λ found. found.1) plan.now blocks.now result cols.old cols.new }
     ensures xor { plan.now.scheme ≡ XOR → (cols.new ≡ cols.old) × (nodes.new ≡ nodes.old) }
 {
-    fetch_with(
-        alloc, way, plan, blocks, addresses, true, ports, cols, nodes,
-    )
+    let fetch = Fetch {
+        plan,
+        blocks,
+        addresses,
+        report: true,
+    };
+    fetch_with(alloc, way, fetch, ports, cols, nodes)
 }
 
 /// Fetches blocks, and judges what was answered, with the report beside the verdict where that is wanted.
@@ -111,24 +129,20 @@ pub fn fetch_report<I: Interpolate, C: Ledger, N: Ledger, P: Ports>(
 fn fetch_with<I: Interpolate, C: Ledger, N: Ledger, P: Ports>(
     alloc: Global,
     way: &I,
-    plan: &FetchPlan,
-    blocks: &[u32],
-    addresses: &[String],
-    wanted: bool,
+    fetch: Fetch,
     ports: &mut P,
     cols: &mut Steps<C>,
     nodes: &mut Steps<N>,
 ) -> Result<(Session, Verdict, Option<Report>), FetchFault>
-    requires plan { IsPlan plan.now }
-    requires blocks { AreBlocks plan.now blocks.now }
-    requires addresses { length addresses.now ≡ plan.now.n }
-    ensures { FetchesWith wanted plan.now blocks.now (map string_bytes addresses.now) result
-        (P.world ports.old) (P.world ports.new) cols.old cols.new nodes.old nodes.new }
+    ensures fetched { FetchesWith fetch.report
+        (request fetch.plan.now fetch.blocks.now (map string_bytes fetch.addresses.now)) result
+        (P.world ports.old) (P.world ports.new) }
+    ensures counted { CountsSteps fetch.plan.now fetch.blocks.now result (steps cols.old nodes.old) (steps cols.new nodes.new) }
 {
-    let all = gather(alloc, plan, blocks, addresses, ports)?;
+    let all = gather(alloc, fetch.plan, fetch.blocks, fetch.addresses, ports)?;
     // What holds of every session is told by its calls alone.
     all.session.params();
     all.session.record_count();
-    let (verdict, report) = judge_with(alloc, way, &all.session, wanted, cols, nodes)?;
+    let (verdict, report) = judge_with(alloc, way, &all.session, fetch.report, cols, nodes)?;
     Ok((all.session, verdict, report))
 }
