@@ -25,7 +25,6 @@ use wire_frames::{
 
 /// What the servers are asked: a plan, the blocks, the address of each server, and the coins for them, which are zeros
 /// until they are taken.
-#[derive(Drop)]
 pub struct Queries<'a> {
     plan: FetchPlan,
     blocks: &'a [u32],
@@ -52,6 +51,19 @@ impl<'a> Model for Queries<'a> {
       addresses = map string_bytes q.addresses.now;
       coins = q.coins.items;
     }) };
+}
+
+impl<'a> Drop for Queries<'a> {
+    /// Clears the coins, so that they aren't left in memory.
+    fn drop(self) {
+        let Queries {
+            plan: _,
+            blocks: _,
+            addresses: _,
+            mut coins,
+        } = self;
+        coins.fill(0);
+    }
 }
 
 impl<'a> Queries<'a> {
