@@ -8,6 +8,7 @@ use Rattle.wire_frames.specs.Answer.{answers, block_len}
 use Rattle.wire_frames.specs.Limits.{IsInRange}
 use Rattle.wire_frames.specs.Session.{Fits, Transcript}
 use Rattle.wire_frames.specs.Sizes.{answer_len}
+use Rattle.block_decoder.specs.Decoding.{counters}
 use Rattle.block_decoder.specs.Numbers.{most_columns, most_nodes}
 use Rattle.block_decoder.specs.Judging.{JudgesWith}
 use Rattle.block_decoder.specs.Report.{Agreement}
@@ -93,7 +94,7 @@ module _ (wanted : Bool) (p : FetchPlan) (blocks : List ℕ) (addresses : List (
     -- memory ran out when every server was asked
     pub not_judged : {E : Type 0} (judged : Result (Verdict × Option (List Agreement)) E) (result : Result (Transcript × Verdict × Option (List Agreement)) FetchFault)
         (fault : FetchFault) → result ≡ Err fault → fault ≡ Memory
-        → JudgesWith wanted session judged cols cols_now nodes nodes_now → FetchesWith wanted p blocks addresses result old new cols cols_now nodes nodes_now
+        → JudgesWith wanted session judged (counters cols nodes) (counters cols_now nodes_now) → FetchesWith wanted p blocks addresses result old new cols cols_now nodes nodes_now
     not_judged judged result fault is same judges =
         subst (λ (r : Result (Transcript × Verdict × Option (List Agreement)) FetchFault). FetchesWith wanted p blocks addresses r old new cols cols_now nodes nodes_now) (sym (is ∙ ap Err same)) record {
           fetched = inr record { coins = coins; session = session; asked = asked };
@@ -109,7 +110,7 @@ module _ (wanted : Bool) (p : FetchPlan) (blocks : List ℕ) (addresses : List (
     -- the session of every server was judged
     pub is_judged : {E : Type 0} (verdict : Verdict) (report : Option (List Agreement)) → IsPlan p → AreBlocks p blocks
         → IsInRange session.params → All (Fits (answer_len session.params.count session.params.s)) session.records
-        → JudgesWith wanted session {E = E} (Ok (verdict, report)) cols cols_now nodes nodes_now
+        → JudgesWith wanted session {E = E} (Ok (verdict, report)) (counters cols nodes) (counters cols_now nodes_now)
         → FetchesWith wanted p blocks addresses (Ok (session, verdict, report)) old new cols cols_now nodes nodes_now
     is_judged verdict report plan are range fits judges = record {
       fetched = record {
