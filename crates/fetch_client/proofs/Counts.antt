@@ -8,6 +8,7 @@ use Rattle.wire_frames.specs.Answer.{answers, block_len}
 use Rattle.wire_frames.specs.Limits.{IsInRange}
 use Rattle.wire_frames.specs.Session.{Fits, Transcript}
 use Rattle.wire_frames.specs.Sizes.{answer_len}
+use Rattle.block_decoder.specs.Decoding.{counters}
 use Rattle.block_decoder.specs.Numbers.{most_columns, most_nodes}
 use Rattle.block_decoder.specs.Judging.{JudgesWith}
 use Rattle.block_decoder.specs.Report.{Agreement}
@@ -22,7 +23,7 @@ use Rattle.query_rounds.specs.Gathered.{AsksWith, FetchesTo, GathersTo, Gathers,
 use Rattle.query_rounds.specs.Plan.{AreBlocks, IsPlan, params_of}
 use Rattle.query_rounds.specs.Request.{Request}
 use Rattle.query_rounds.specs.Sent.{session_number}
-use Rattle.fetch_client.specs.Fetched.{ConcludesWhole, ConcludesWith, CountsForSome, CountsSteps, FetchCountsOf, FetchesWhole, FetchesWith, steps, steps_for}
+use Rattle.fetch_client.specs.Fetched.{ConcludesWhole, ConcludesWith, CountsForSome, CountsSteps, FetchCountsOf, FetchesWhole, FetchesWith, steps_for}
 use Rattle.fetch_client.proofs.Judged.{concludes, concludes_whole}
 
 -- what a fetch with a report answers
@@ -63,9 +64,9 @@ module _ {T U : Type 0} (session_of : T → Transcript) (session_in : U → Tran
 
 -- where nothing was gathered no step is counted
 pub none_counted : (p : FetchPlan) (blocks : List ℕ) (result : Answered) (fault : FetchFault) (cols nodes : ℕ) → result ≡ Err fault
-    → CountsSteps p blocks result (steps cols nodes) (steps cols nodes)
+    → CountsSteps p blocks result (counters cols nodes) (counters cols nodes)
 none_counted p blocks result fault cols nodes is =
-    subst (λ (a : Answered). CountsSteps p blocks a (steps cols nodes) (steps cols nodes)) (sym is) record {
+    subst (λ (a : Answered). CountsSteps p blocks a (counters cols nodes) (counters cols nodes)) (sym is) record {
       cols = counts_none (λ (found : Transcript × Verdict × Option (List Agreement)). found.0) (steps_for most_columns p blocks) p.n fault cols;
       nodes = counts_none (λ (found : Transcript × Verdict × Option (List Agreement)). found.0) (steps_for most_nodes p blocks) p.n fault nodes;
       least = le_refl cols;
@@ -106,7 +107,7 @@ module _ (wanted : Bool) (r : Request) (old new : World) where
     pub is_judged : {E : Type 0} (verdict : Verdict) (report : Option (List Agreement)) (cols cols_now nodes nodes_now : ℕ)
         → IsPlan p → AreBlocks p blocks → IsInRange session.params
         → All (Fits (answer_len session.params.count session.params.s)) session.records → TouchesLinks p.n old new
-        → JudgesWith wanted session {E = E} (Ok (verdict, report)) cols cols_now nodes nodes_now
+        → JudgesWith wanted session {E = E} (Ok (verdict, report)) (counters cols nodes) (counters cols_now nodes_now)
         → FetchesWith wanted r (Ok (session, verdict, report)) old new
     is_judged verdict report cols cols_now nodes nodes_now plan are range fits others judges = record {
       fetched = record {
@@ -138,10 +139,10 @@ module _ (wanted : Bool) (r : Request) (old new : World) where
 
       pub counts_unjudged : {E : Type 0} (judged : Result (Verdict × Option (List Agreement)) E) (result : Answered)
           (fault : FetchFault) → result ≡ Err fault → fault ≡ Memory
-          → JudgesWith wanted session judged cols cols_now nodes nodes_now
-          → CountsSteps p blocks result (steps cols nodes) (steps cols_now nodes_now)
+          → JudgesWith wanted session judged (counters cols nodes) (counters cols_now nodes_now)
+          → CountsSteps p blocks result (counters cols nodes) (counters cols_now nodes_now)
       counts_unjudged judged result fault is same judges =
-          subst (λ (a : Answered). CountsSteps p blocks a (steps cols nodes) (steps cols_now nodes_now)) (sym (is ∙ ap Err same)) record {
+          subst (λ (a : Answered). CountsSteps p blocks a (counters cols nodes) (counters cols_now nodes_now)) (sym (is ∙ ap Err same)) record {
             cols = for_some most_columns cols cols_now judges.cols;
             nodes = for_some most_nodes nodes nodes_now judges.nodes;
             least = judges.least;
@@ -151,8 +152,8 @@ module _ (wanted : Bool) (r : Request) (old new : World) where
           }
 
       pub counts_judged : {E : Type 0} (verdict : Verdict) (report : Option (List Agreement))
-          → JudgesWith wanted session {E = E} (Ok (verdict, report)) cols cols_now nodes nodes_now
-          → CountsSteps p blocks (Ok (session, verdict, report)) (steps cols nodes) (steps cols_now nodes_now)
+          → JudgesWith wanted session {E = E} (Ok (verdict, report)) (counters cols nodes) (counters cols_now nodes_now)
+          → CountsSteps p blocks (Ok (session, verdict, report)) (counters cols nodes) (counters cols_now nodes_now)
       counts_judged verdict report judges = record {
         cols = bound most_columns cols cols_now judges.cols;
         nodes = bound most_nodes nodes nodes_now judges.nodes;

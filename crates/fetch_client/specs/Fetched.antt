@@ -4,6 +4,7 @@ use Rattle.port_rules.specs.World.{World}
 use Rattle.wire_frames.specs.declared.scheme.TheConstants.{SHAMIR, XOR}
 use Rattle.wire_frames.specs.Answer.{answers}
 use Rattle.wire_frames.specs.Session.{Transcript}
+use Rattle.block_decoder.specs.Decoding.{Counters}
 use Rattle.block_decoder.specs.Numbers.{most_columns, most_nodes}
 use Rattle.block_decoder.specs.Report.{Agreement}
 use Rattle.block_decoder.specs.Reported.{IsReportOn}
@@ -78,15 +79,6 @@ abbrev pub FetchCountsWhole : (ℕ → ℕ → ℕ → ℕ → ℕ) → FetchPla
     → Result (Transcript × Verdict × Option (List Agreement)) FetchFault → ℕ → ℕ → Type 0
 FetchCountsWhole most p blocks = FetchCountsOf (λ found. found.0) (steps_for most p blocks) p.n
 
--- how many columns were decoded, and how many coefficients fixed in looking for roots
-pub record StepCounts : Type 0 where
-  pub columns : ℕ
-  pub nodes : ℕ
-
--- so many of each
-abbrev pub steps : ℕ → ℕ → StepCounts
-steps columns nodes = record { columns = columns; nodes = nodes }
-
 -- at least as many columns are decoded as the verdict of Shamir's scheme takes
 abbrev pub CountsListed : {T : Type 0} → (T → Verdict) → FetchPlan → List ℕ → Result T FetchFault → ℕ → ℕ → Type 0
 CountsListed verdict_of p blocks result before now = p.scheme ≡ SHAMIR
@@ -94,10 +86,10 @@ CountsListed verdict_of p blocks result before now = p.scheme ≡ SHAMIR
 
 -- how many steps a fetch takes
 pub record CountsSteps (p : FetchPlan) (blocks : List ℕ) (result : Result (Transcript × Verdict × Option (List Agreement)) FetchFault)
-    (before now : StepCounts) : Type 0 where
-  pub cols : FetchCountsWhole most_columns p blocks result before.columns now.columns
+    (before now : Counters) : Type 0 where
+  pub cols : FetchCountsWhole most_columns p blocks result before.cols now.cols
   pub nodes : FetchCountsWhole most_nodes p blocks result before.nodes now.nodes
-  pub least : before.columns ≤ now.columns
+  pub least : before.cols ≤ now.cols
   pub least_nodes : before.nodes ≤ now.nodes
-  pub listed : CountsListed (λ found. found.1) p blocks result before.columns now.columns
-  pub xor : p.scheme ≡ XOR → (now.columns ≡ before.columns) × (now.nodes ≡ before.nodes)
+  pub listed : CountsListed (λ found. found.1) p blocks result before.cols now.cols
+  pub xor : p.scheme ≡ XOR → (now.cols ≡ before.cols) × (now.nodes ≡ before.nodes)

@@ -7,7 +7,8 @@ ghost use Rattle.block_decoder.specs.Numbers.{most_columns, most_nodes};
 ghost use Rattle.query_rounds.specs.Gathered.{TouchesLinks};
 ghost use Rattle.query_rounds.specs.Request.{request};
 ghost use Rattle.fetch_client.specs.Fetched.{CountsListed, CountsSteps, FetchCounts, FetchCountsWhole};
-ghost use Rattle.fetch_client.specs.Fetched.{Fetches, FetchesWhole, FetchesWith, steps};
+ghost use Rattle.fetch_client.specs.Fetched.{Fetches, FetchesWhole, FetchesWith};
+ghost use Rattle.block_decoder.specs.Decoding.{counters};
 
 use block_decoder::{Report, Verdict, judge_with};
 use interpolation::Interpolate;
@@ -137,7 +138,7 @@ fn fetch_with<I: Interpolate, C: Ledger, N: Ledger, P: Ports>(
     ensures fetched { FetchesWith fetch.report
         (request fetch.plan.now fetch.blocks.now (map string_bytes fetch.addresses.now)) result
         (P.world ports.old) (P.world ports.new) }
-    ensures counted { CountsSteps fetch.plan.now fetch.blocks.now result (steps cols.old nodes.old) (steps cols.new nodes.new) }
+    ensures counted { CountsSteps fetch.plan.now fetch.blocks.now result (counters cols.old nodes.old) (counters cols.new nodes.new) }
 {
     let all = gather(alloc, fetch.plan, fetch.blocks, fetch.addresses, ports)?;
     // What holds of every session is told by its calls alone.

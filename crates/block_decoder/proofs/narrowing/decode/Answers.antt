@@ -19,6 +19,7 @@ replaced column block out l =
     let rest : post_of column (length block - column) block ≡ [] = drop_all (length block - column) (drop column block) (omega (arith, size)) in
     ap (λ (rest : List ℕ). take column block ++ (out ++ rest)) rest ∙ ap (λ (part : List ℕ). take column block ++ part) (append-nil out)
 
+-- it is as long as it was
 replaced-size : (column : ℕ) (block out : List ℕ) → column ≤ length block → length out ≡ length (take (length block - column) (drop column block)) → length (take column block ++ out) ≡ length block
 replaced-size column block out l size =
     let both = length-append (take column block) out in
