@@ -3,7 +3,7 @@ use Rattle.std.proofs.lemmas.List.{length-map, get_or-map}
 use Rattle.gf256.specs.Polynomial.{val}
 use Rattle.block_decoder.specs.Numbered.{numbered, all_numbered}
 use Rattle.block_decoder.proofs.Weight.{holds_first-true, holds_first-false}
-use Rattle.plain_blocks.proofs.Search.holds.Goals as goal
+use Rattle.program_tests.proofs.plain_blocks.Search.holds.Goals as goal
 
 -- the value of the polynomial with the number at a place
 value-all_numbered : (t : ℕ) (numbers : List ℕ) (at k : ℕ) → k < length numbers → val (get_or (all_numbered t numbers) k []) at ≡ val (numbered t (get_or numbers k 0)) at

@@ -8,7 +8,7 @@ use Rattle.block_decoder.specs.Gains.{Gains}
 use Rattle.block_decoder.specs.Numbered.{all_numbered, Continues, ContinuesBelow}
 use Rattle.block_decoder.proofs.Continued.{continues-light}
 use Rattle.block_decoder.proofs.Continues.{Gains-none, Gains-same, Gains-both, Continues-whole, Continues-next, ContinuesBelow-more}
-use Rattle.plain_blocks.proofs.Search.+extend.Goals as goal
+use Rattle.program_tests.proofs.plain_blocks.Search.+extend.Goals as goal
 
 -- what is left after the last is taken away
 without_last : (xs : List ℕ) (n m : ℕ) → m ≡ length (xs ++ n ∷ []) → take (m - 1) (xs ++ n ∷ []) ≡ xs

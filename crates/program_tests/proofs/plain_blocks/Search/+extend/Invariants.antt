@@ -4,7 +4,7 @@ use Rattle.std.specs.List.Sorted.{IsStrictlySortedBy}
 use Rattle.std.specs.Ordering.{nat_cmp}
 use Rattle.block_decoder.specs.Gains.{Gains}
 use Rattle.block_decoder.specs.Numbered.{ContinuesBelow}
-use Rattle.plain_blocks.proofs.Search.+extend.Given as goal
+use Rattle.program_tests.proofs.plain_blocks.Search.+extend.Given as goal
 
 abbrev pub decreases-extend : goal.decreases-extend
 decreases-extend l = l.self.now.width - vec_len l.numbers.now

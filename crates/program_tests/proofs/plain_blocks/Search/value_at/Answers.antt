@@ -2,7 +2,7 @@ use Rattle.std.proofs.Common.{◌+◌, take, ap, ◌∙◌, arith}
 use Rattle.gf256.specs.Polynomial.{val}
 use Rattle.block_decoder.specs.Numbered.{numbered}
 use Rattle.block_decoder.proofs.Numbered.{take-bytes_low_first}
-use Rattle.plain_blocks.proofs.Search.value_at.Goals as goal
+use Rattle.program_tests.proofs.plain_blocks.Search.value_at.Goals as goal
 
 pub returns : goal.returns
 unfolding numbered

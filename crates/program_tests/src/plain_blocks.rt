@@ -5,7 +5,6 @@
 //! ascending. Want of memory is the only error.
 //!
 //! Not promised: anything of time.
-#![tactic(auto)]
 
 ghost use Rattle.std.specs.Prelude.{◌≡◌, ◌*◌, ◌+◌, ◌%◌, ◌^◌, ◌<◌, ◌≤◌, ◌↔◌, ◌⊎◌, ℕ, List, length, map, take, Contains, IfOk, OnOk, vec_len};
 ghost use Rattle.std.specs.Cmp.Lexicographic.{slice_cmp};
@@ -13,7 +12,7 @@ ghost use Rattle.std.specs.List.Sorted.{IsStrictlySortedBy};
 ghost use Rattle.std.specs.Ordering.{nat_cmp};
 ghost use Rattle.gf256.specs.Polynomial.{val};
 ghost use Rattle.block_decoder.specs.Agreed.{answers_of, constants_of, holds_first, weight, Filled, Lists};
-ghost use Rattle.plain_blocks.specs.declared.TheConstants.{MOST_PLAIN_DEGREE};
+ghost use Rattle.program_tests.specs.declared.plain_blocks.TheConstants.{MOST_PLAIN_DEGREE};
 ghost use Rattle.block_decoder.specs.Gains.{Gains};
 ghost use Rattle.block_decoder.specs.Numbered.{numbered, all_numbered, Continues};
 

@@ -6,7 +6,7 @@ use Rattle.block_decoder.specs.Numbered.{Continues}
 use Rattle.block_decoder.proofs.Agreed.{filled-answers_of}
 use Rattle.block_decoder.proofs.Continued.{continues-Heavy}
 use Rattle.block_decoder.proofs.Continues.{Gains-same, Lists-Gains}
-use Rattle.plain_blocks.proofs.plain_listing.Goals as goal
+use Rattle.program_tests.proofs.plain_blocks.plain_listing.Goals as goal
 
 pub invariant_of-search : goal.invariant_of-search
 invariant_of-search c = record {

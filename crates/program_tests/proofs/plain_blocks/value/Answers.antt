@@ -2,7 +2,7 @@ use Rattle.std.proofs.Common.{◌≡◌, length, refl, ap, ap₂, sym, ◌∙◌
 use Rattle.gf256.specs.Field.{◌⊕◌, ◌⊗◌, power}
 use Rattle.gf256.specs.Sums.{sum_to}
 use Rattle.gf256.specs.Polynomial.{coef, val}
-use Rattle.plain_blocks.proofs.value.Goals as goal
+use Rattle.program_tests.proofs.plain_blocks.value.Goals as goal
 
 pub loop-power-init : goal.loop-power-init
 unfolding sum_to
