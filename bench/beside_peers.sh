@@ -13,11 +13,11 @@ work=$(mktemp -d)
 trap 'rm -rf "$work"' EXIT
 
 # Ours, as the gate builds it and for a processor with AVX2.
-cd "$top/crates/bench_product"
+cd "$top/crates/bench"
 rt run --cpu=x86-64-v3 >/dev/null 2>&1
-cp out/bench_product "$work/ours-avx2"
+cp out/bench "$work/ours-avx2"
 rt run >/dev/null 2>&1
-cp out/bench_product "$work/ours"
+cp out/bench "$work/ours"
 
 flags=()
 # peer PACKAGE HEADER FLAG..: these flags, if the header is there.

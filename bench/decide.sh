@@ -7,7 +7,7 @@ top=$(cd "$(dirname "$0")/.." && pwd)
 rounds=${1:-200}
 peers=${2:-$top/../shared/peers}
 width=65536
-(cd "$top/crates/bench_decide" && rt run >/dev/null 2>&1)
+(cd "$top/crates/bench" && rt run >/dev/null 2>&1)
 work=$(mktemp -d)
 trap 'rm -rf "$work"' EXIT
 if [ ! -e "$peers/rows.cc" ]; then
@@ -25,7 +25,7 @@ import sys
 from make_session import answers
 servers, degree, width, liars, first = map(int, sys.argv[1:6])
 sys.stdout.buffer.writelines(answers(degree, servers, width, liars, first, 1))' "$1" "$2" $width "$4" "$5") >"$work/bytes"
-  "$top/crates/bench_decide/out/bench_decide" "$2" "$3" $width "$rounds" "$work/bytes" | awk '{ print $1 / 1e6, $2 }'
+  "$top/crates/bench/out/bench" decide "$2" "$3" $width "$rounds" "$work/bytes" | awk '{ print $1 / 1e6, $2 }'
 }
 
 # The first line of each case and width in the C++ program's table is that of 65536 columns.

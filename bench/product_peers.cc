@@ -157,7 +157,7 @@ static void measure(const Case &c, const char *name, Kernel kernel, size_t worke
   free(out);
 }
 
-// Bytes that look random, eight from each number, as crates/bench_product makes them.
+// Bytes that look random, eight from each number, as crates/bench makes them.
 static void fill(uint64_t &state, Byte *bytes, size_t count) {
   for (size_t i = 0; i < count; i += 8) {
     state ^= state << 13;

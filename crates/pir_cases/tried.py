@@ -9,6 +9,7 @@ is tested. Nothing runs it but a person who wants more of them:
 
     python3 tried.py >data/tried.cases
 """
+import collections
 import itertools
 import random
 
@@ -16,6 +17,9 @@ from bounds import INVERSE, all_but_one, at, four_lines, plane_of_seven, times, 
 
 # How many sessions there are of each kind of verdict.
 WANTED = {"too few": 8, "too weak": 12, "none": 40, "one": 80, "two": 60, "more": 30}
+
+# What is said behind the name of a case by how many there are of that name so far.
+AGAIN = {1: "", 2: ", once more", 3: ", a third time", 4: ", a fourth time"}
 
 
 def value(polynomial, x):
@@ -70,32 +74,44 @@ def answered(degree, width, servers, chance):
     return payloads
 
 
-def agreed(payloads, degree, agreement, width):
-    """How many answers are usable, and the blocks on which so many of them agree, by trying every choice."""
+def groups_of(payloads, degree, width):
+    """The servers whose answers are usable, and for each block the most of them that agree on it, by trying every choice."""
     usable = {x: p for x, p in enumerate(payloads, 1) if p is not None and len(p) == width}
-    found = set()
+    found = {}
     for chosen in itertools.combinations(sorted(usable), degree + 1):
 
         def values(x):
             return [at([(i, usable[i][c]) for i in chosen], x) for c in range(width)]
 
-        if sum(values(x) == payload for x, payload in usable.items()) >= agreement:
-            found.add(bytes(values(0)))
-    return len(usable), sorted(found)
+        agreeing = [x for x, payload in usable.items() if values(x) == payload]
+        block = bytes(values(0))
+        found[block] = max(found.get(block, []), agreeing, key=len)
+    return list(usable), found
 
 
 def verdict(payloads, degree, agreement, width):
-    """The kind of the verdict, its status and its text."""
-    k, blocks = agreed(payloads, degree, agreement, width)
+    """The kind of the verdict, its status and its text, how many blocks there may be, and what is tried."""
+    usable, found = groups_of(payloads, degree, width)
+    k, groups = len(usable), {block: found[block] for block in sorted(found) if len(found[block]) >= agreement}
+    shape = f"degree {degree}, {width} byte{'s' * (width > 1)}"
     if k < agreement:
-        return "too few", f"too-few {k} {agreement}", f"too few {k} {agreement}\\n", 0
+        tried = f"{named([usable])} of {len(payloads)} answer{'s' * (k == 1)}, where {agreement} have to agree, {shape}"
+        return "too few", f"too-few {k} {agreement}", f"too few {k} {agreement}\\n", 0, tried
     if agreement * agreement <= k * degree:
-        return "too weak", f"too-weak {k} {degree} {agreement}", f"too weak {k} {degree} {agreement}\\n", 0
+        tried = f"an agreement of {agreement} among {named([usable])} of {len(payloads)}, {shape}"
+        return "too weak", f"too-weak {k} {degree} {agreement}", f"too weak {k} {degree} {agreement}\\n", 0, tried
     most = k * (agreement - degree) // (agreement * agreement - k * degree)
-    assert len(blocks) <= most
-    text = f"blocks {len(blocks)}\\n" + "".join(f"{block.hex()}\\n" for block in blocks)
-    kind = ["none", "one", "two", "more"][min(len(blocks), 3)]
-    return kind, {"none": "no-block", "one": "one"}.get(kind, "several"), text, most
+    assert len(groups) <= most
+    text = f"blocks {len(groups)}\\n" + "".join(f"{block.hex()}\\n" for block in groups)
+    kind = ["none", "one", "two", "more"][min(len(groups), 3)]
+    tried = f"{named(groups.values() or [max(found.values(), key=len)])} of {len(payloads)} agree, where {agreement} have to, {shape}"
+    return kind, {"none": "no-block", "one": "one"}.get(kind, "several"), text, most, tried
+
+
+def named(groups):
+    """Groups of servers, as the name of a case tells them."""
+    several = any(len(group) > 1 for group in groups)
+    return f"server{'s' * several} {' and '.join(' '.join(map(str, group)) for group in groups)}"
 
 
 def spelled(payload):
@@ -103,9 +119,11 @@ def spelled(payload):
     return "-" if payload is None else bytes(payload).hex()
 
 
-def tell(number, payloads, degree, agreement, width, told):
-    kind, status, text, _ = told
-    print(f"\ncase {number}: {kind}")
+def tell(payloads, degree, agreement, width, told, before):
+    """Prints the case; `before` counts those whose names say the same."""
+    _, status, text, _, tried = told
+    before[tried] += 1
+    print(f"\ncase {tried}{AGAIN[before[tried]]}")
     print("words replay -")
     print(f"port input (session {degree} {agreement} {width} {' '.join(map(spelled, payloads))})")
     print(f"status {status}")
@@ -135,15 +153,13 @@ def turned(points, width, chance):
 def main():
     chance = random.Random(2)
     print("# Small sessions, and the verdict on each by trying every choice of answers. They come from tried.py.")
-    left = dict(WANTED)
-    number = 0
+    left, before = dict(WANTED), collections.Counter()
     while any(left.values()):
         session = drawn(chance)
         told = verdict(*session)
         if left[told[0]]:
             left[told[0]] -= 1
-            number += 1
-            tell(number, *session, told)
+            tell(*session, told, before)
     print("\n# As many blocks as Johnson's count allows, in two columns and in three.")
     for degree, agreement, make in [
         (1, 2, lambda c: all_but_one(1, c)),
@@ -159,8 +175,7 @@ def main():
                 told = verdict(payloads, degree, agreement, width)
                 if told[2].startswith(f"blocks {told[3]}\\"):
                     break
-            number += 1
-            tell(number, payloads, degree, agreement, width, told)
+            tell(payloads, degree, agreement, width, told, before)
 
 
 main()

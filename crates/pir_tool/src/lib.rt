@@ -1,8 +1,8 @@
 //! The program `pir`: all that it does, over ports that tell what goes in and out, and the laws of what its clients and
 //! servers send.
 //!
-//! What [`run`], [`ending_of_run`] and the statuses promise comes from `commands`, on which the program stands. The laws of privacy ([`laws`])
-//! are stated and proved here: the program needs no word of them.
+//! What [`run`], [`ending_of_run`] and the statuses promise comes from `commands`, on which the program stands.
+//! The laws of privacy ([`laws`]) stand above it, here: so the program is built without their proofs.
 #![tactic(auto)]
 
 pub mod laws;

@@ -5,6 +5,8 @@
 //! coalition is sent for the one block from the coins is what it is sent for the other from their
 //! image. So as many coins lead to what the coalition sees for one block as for another.
 //!
+//! The laws stand above what the program stands on: so it is built without their proofs.
+//!
 //! Promised, for all coins: [`partner`] is that bijection for the polynomials of Shamir's scheme,
 //! of any degree and with at most as many members, and [`partner_xor`] for the bitmaps of the XOR
 //! scheme, with all servers but one; [`partner_list`] and [`partner_xor_list`] are so for several

@@ -7,10 +7,10 @@ ghost use Rattle.quantity_limits.specs.declared.TheConstants.{MOST_SERVERS};
 ghost use Rattle.block_decoder.specs.Numbers.{column_nodes};
 ghost use Rattle.block_decoder.specs.Verdict.{ListsNoMoreThan};
 
+use crate::plain_blocks::plain_listing;
 use block_decoder::{Verdict, bound, decide, judge, write_verdict};
 use gs_interpolate::Koetter;
 use pir_ports::{MemPorts, Port};
-use plain_blocks::plain_listing;
 use std::alloc::{AllocError, Global};
 use std::marker::Brand;
 use std::sync::ledger::{Blank, Ledger};

@@ -1,0 +1,23 @@
+use Rattle.std.proofs.Common.{◌≡◌, ◌-◌, vec_len}
+use Rattle.std.specs.Cmp.Lexicographic.{slice_cmp}
+use Rattle.std.specs.List.Sorted.{IsStrictlySortedBy}
+use Rattle.std.specs.Ordering.{nat_cmp}
+use Rattle.block_decoder.specs.Gains.{Gains}
+use Rattle.block_decoder.specs.Numbered.{ContinuesBelow}
+<<<<<<< HEAD:crates/plain_blocks/proofs/Search/+extend/Invariants.antt
+use Rattle.plain_blocks.specs.Search.{sought}
+use Rattle.plain_blocks.proofs.Search.+extend.Given as goal
+=======
+use Rattle.program_tests.proofs.plain_blocks.Search.+extend.Given as goal
+>>>>>>> a9172e41d7119e6685cb84eecefad8da7d71924e:crates/program_tests/proofs/plain_blocks/Search/+extend/Invariants.antt
+
+abbrev pub decreases-extend : goal.decreases-extend
+decreases-extend l = l.self.now.width - vec_len l.numbers.now
+
+abbrev pub invariant-loop-number : goal.invariant-loop-number
+invariant-loop-number l = record {
+  kept : l.numbers.items ≡ l.initial.numbers.items;
+  length_kept : vec_len l.numbers ≡ vec_len l.initial.numbers;
+  ascending : IsStrictlySortedBy (slice_cmp nat_cmp) l.listing;
+  gains : Gains (ContinuesBelow l.number (sought l.self) l.initial.numbers.items) l.initial.listing l.listing;
+}
