@@ -73,7 +73,7 @@ pub fn plain_listing(
 }
 
 impl<'a> Search<'a> {
-    ghost use Rattle.plain_blocks.specs.Search.{sought};
+    ghost use Rattle.program_tests.specs.Search.{sought};
 
     /// Lists the block of each vector of polynomials that begins with those of these numbers.
     fn extend(

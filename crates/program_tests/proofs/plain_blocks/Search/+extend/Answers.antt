@@ -6,7 +6,7 @@ use Rattle.std.proofs.lemmas.Result.{on_ok_weaker}
 use Rattle.block_decoder.specs.Agreed.{constants_of, weight}
 use Rattle.block_decoder.specs.Gains.{Gains}
 use Rattle.block_decoder.specs.Numbered.{all_numbered, Continues, ContinuesBelow}
-use Rattle.plain_blocks.specs.Search.{sought}
+use Rattle.program_tests.specs.Search.{sought}
 use Rattle.block_decoder.proofs.Continued.{continues-light}
 use Rattle.block_decoder.proofs.Continues.{Gains-none, Gains-same, Gains-both, Continues-whole, Continues-next, ContinuesBelow-more}
 use Rattle.program_tests.proofs.plain_blocks.Search.+extend.Goals as goal

@@ -4,12 +4,8 @@ use Rattle.std.specs.List.Sorted.{IsStrictlySortedBy}
 use Rattle.std.specs.Ordering.{nat_cmp}
 use Rattle.block_decoder.specs.Gains.{Gains}
 use Rattle.block_decoder.specs.Numbered.{ContinuesBelow}
-<<<<<<< HEAD:crates/plain_blocks/proofs/Search/+extend/Invariants.antt
-use Rattle.plain_blocks.specs.Search.{sought}
-use Rattle.plain_blocks.proofs.Search.+extend.Given as goal
-=======
+use Rattle.program_tests.specs.Search.{sought}
 use Rattle.program_tests.proofs.plain_blocks.Search.+extend.Given as goal
->>>>>>> a9172e41d7119e6685cb84eecefad8da7d71924e:crates/program_tests/proofs/plain_blocks/Search/+extend/Invariants.antt
 
 abbrev pub decreases-extend : goal.decreases-extend
 decreases-extend l = l.self.now.width - vec_len l.numbers.now

@@ -1,6 +1,6 @@
 -- What is searched for.
 use Rattle.block_decoder.specs.declared.decoding.Decoding.{Decoding}
-use Rattle.plain_blocks.specs.declared.Search.{Search}
+use Rattle.program_tests.specs.declared.plain_blocks.Search.{Search}
 
 -- the blocks of this decoding
 abbrev pub sought : Search → Decoding
