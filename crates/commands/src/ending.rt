@@ -3,7 +3,7 @@
 ghost use Rattle.std.specs.Prelude.{map, string_bytes};
 ghost use Rattle.commands.specs.Ending.{EndsAsRun};
 
-use crate::run::run;
+use crate::running::run;
 use crate::status::{Ending, Status, ending_of};
 use port_rules::Ports;
 use std::alloc::Global;

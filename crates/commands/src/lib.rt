@@ -14,12 +14,12 @@ mod lookup_command;
 mod orders;
 mod replay_command;
 mod report;
-mod run;
+mod running;
 mod selfrun_command;
 mod serve_command;
 mod split_command;
 mod status;
 
 pub use ending::ending_of_run;
-pub use run::run;
+pub use running::run;
 pub use status::{Bad, Ending, Status, code, ending_of, line};

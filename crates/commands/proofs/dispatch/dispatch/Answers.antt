@@ -1,4 +1,6 @@
-use Rattle.std.proofs.Common.{sym, subst, arith}
+use Rattle.std.proofs.Common.{sym, ap, subst, arith}
+use Rattle.commands.specs.DemoOrder.{DemoOrder}
+use Rattle.commands.specs.SplitOrder.{SplitOrder}
 use Rattle.commands.specs.Outcome.{Outcome, Promise}
 use Rattle.commands.proofs.Demonstrating.{demo_promised}
 use Rattle.commands.proofs.Fronting.{front_promised}
@@ -68,7 +70,7 @@ returns-in-Split-clause-outcome g c =
 pub returns-in-Split-clause-promise : goal.returns-in-Split-clause-promise
 returns-in-Split-clause-promise g c =
     subst (λ (o : Order). Promise o c.split_file.result (g.P.Ports.world c.args.ports.now) (g.P.Ports.world c.split_file.new.ports)) (sym c.in-Split.is)
-    (split_promised _ _ _ _ ? c.split_file.ensures.ends)
+    (split_promised _ _ _ _ (omega (arith, c.order.invariant.0, ap (λ (s : SplitOrder). s.width) c.order.view_is)) c.split_file.ensures.ends)
 
 pub returns-in-Front-clause-outcome : goal.returns-in-Front-clause-outcome
 returns-in-Front-clause-outcome g c =
@@ -88,4 +90,4 @@ returns-in-Demo-clause-outcome g c =
 pub returns-in-Demo-clause-promise : goal.returns-in-Demo-clause-promise
 returns-in-Demo-clause-promise g c =
     subst (λ (o : Order). Promise o c.demonstrate.result (g.P.Ports.world c.args.ports.now) (g.P.Ports.world c.demonstrate.new.ports)) (sym c.in-Demo.is)
-    (demo_promised _ _ _ _ ? c.demonstrate.ensures)
+    (demo_promised _ _ _ _ (omega (arith, c.order.invariant.1.numbers.few_servers, ap (λ (d : DemoOrder). d.plan.n) c.order.view_is)) c.demonstrate.ensures)

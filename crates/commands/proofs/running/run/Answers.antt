@@ -5,7 +5,7 @@ use Rattle.commands.proofs.Headline.{answered}
 use Rattle.commands.proofs.Ordered.{one_order}
 use Rattle.commands.specs.declared.orders.Order.{Order}
 use Rattle.commands.specs.declared.status.Status.{Status}
-use Rattle.commands.proofs.run.run.Goals as goal
+use Rattle.commands.proofs.running.run.Goals as goal
 
 pub returns-in-Err-clause-words : goal.returns-in-Err-clause-words
 returns-in-Err-clause-words g c = refused _ c.in-Err.fault _ _ c.in-Err.ensures.form c.into.ensures
