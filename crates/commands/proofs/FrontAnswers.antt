@@ -57,18 +57,23 @@ fronts_by_links spread met v m u guest out few meets told holds empty accepted h
       gives = subst (λ (o : List ℕ). GivesRelay spread guest (record { held = held; failed = bytes.failed }) met o (m.at GUEST).faults (u.at GUEST).faults) same bytes.gives;
     }
   where
+    -- the port of the link to shard i, by either sum
     number_is : (i : ℕ) → link (1 + i) ≡ link 1 + i
     number_is i = omega arith
 
+    -- what is told of a link as the guest came in is what the port says
     then_is : (i : ℕ) → i < shards spread → of_link (links_now v) (1 + i) ≡ link_now (m.at (link 1 + i))
     then_is i l = of_link_now v (1 + i) (omega (arith, few, l)) ∙ ap link_now (ap v.at (number_is i) ∙ sym (meets.others (link 1 + i) (omega (arith, few, l)) (omega arith)))
 
+    -- and so is what is told at its end
     end_is : (i : ℕ) → i < shards spread → of_link (links_now u) (1 + i) ≡ link_now (u.at (link 1 + i))
     end_is i l = of_link_now u (1 + i) (omega (arith, few, l)) ∙ ap link_now (ap u.at (number_is i))
 
+    -- the link holds what is told
     link_holds : (i : ℕ) → i < shards spread → (m.at (link 1 + i)).holds ≡ Some (held i)
     link_holds i l = sym (ap (λ (t : LinkThen). t.holds) (then_is i l)) ∙ are i l
 
+    -- what was given to the guest is what is told
     same_out : (given : List ℕ) → Some ([] ++ given) ≡ Some out → given ≡ out
     same_out given e = cc
 
@@ -120,7 +125,8 @@ module _ (spread : Spread) where
 
   -- one more guest is met
   fronting_more : (gs others : List (List ℕ)) (earlier : List ℕ) (found : List (List LinkThen)) (addresses : List (List ℕ)) (met : Relayed) (j : ℕ) (w v u : World) → shards spread ≤ MOST_SHARDS
-      → Fronting spread gs others earlier found j w → Meets w v → TouchesFirst (shards spread) v u → Fronts spread addresses met v u → FrontsTold spread met v u → Fronting spread gs others earlier found (j + 1) u
+      → Fronting spread gs others earlier found j w → Meets w v → TouchesFirst (shards spread) v u
+      → Fronts spread addresses met v u → FrontsTold spread met v u → Fronting spread gs others earlier found (j + 1) u
   fronting_more gs others earlier found addresses met j w v u few s meets touch fronts told =
       let first = subst (λ (o : Option (List (List ℕ))). IfSome o (λ l. (0 < length l) × ((v.at GUEST).holds ≡ Some (get_or l 0 [])))) s.guests meets.first in
       let guest : List ℕ = get_or gs j [] in
@@ -174,6 +180,7 @@ module _ (spread : Spread) where
         ];
       }
     where
+      -- what is said of a guest is said of the same values
       moved : {g h a b : List ℕ} {c d e f : ℕ} {k l m n : List LinkThen} → g ≡ h → a ≡ b → c ≡ d → e ≡ f → k ≡ l → m ≡ n → IsFronted spread g a c e k m → IsFronted spread h b d f l n
       moved {g} {h} {a} {b} {c} {d} {e} {f} {k} {l} {m} {n} gh ab cd ef kl mn is =
           subst (λ (x : List ℕ). IsFronted spread x b d f l n) gh

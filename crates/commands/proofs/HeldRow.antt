@@ -49,6 +49,7 @@ module _ (p : FetchPlan) (blocks coins : List ℕ) (session : Transcript) (plan 
     abbrev test : ℕ → Bool
     test i = is_frame (frame (held i) i) (slice_index_or session.records (i - 1) None)
 
+    -- a record that is such a reply is that frame
     is_honest : (j : ℕ) → j < length session.records → IsReplyAt p blocks coins (held (1 + j)) session j → test (1 + j) ≡ true
     is_honest j below r =
         let here : 1 + j - 1 ≡ j = omega arith in
@@ -68,6 +69,7 @@ module _ (p : FetchPlan) (blocks coins : List ℕ) (session : Transcript) (plan 
         ∙ is_honest (get_or a.places k d) below (a.each k d l)) in
         omega (arith, few, a.enough)
 
+    -- so the records are honest
     honest : HonestRecords session p.t (held_as p.tau matrix share_coins) (queries_from coins) blocks
     honest =
         let s = ap (λ (q : SessionParams). q.s) params in
@@ -90,7 +92,9 @@ module _ (p : FetchPlan) (blocks coins : List ℕ) (session : Transcript) (plan 
         alone matrix share_coins a (omega (arith, few, whole, agree, answer));
   }
     where
-      alone : (matrix : List (List ℕ)) (share_coins : List ℕ) → EnoughReply p blocks coins matrix share_coins session → length (answers session) + p.t + p.tau < 2 * p.h → verdict ≡ Listed (blocks_of matrix blocks ∷ [])
+      -- where the agreement is close, the row is listed alone
+      alone : (matrix : List (List ℕ)) (share_coins : List ℕ) → EnoughReply p blocks coins matrix share_coins session
+          → length (answers session) + p.t + p.tau < 2 * p.h → verdict ≡ Listed (blocks_of matrix blocks ∷ [])
       alone matrix share_coins a close =
           let t = ap (λ (q : SessionParams). q.t) params in
           let h = ap (λ (q : SessionParams). q.h) params in

@@ -32,7 +32,6 @@ use Rattle.commands.specs.HeldRow.{EnoughReply}
 use Rattle.commands.specs.LookUpOrder.{LookUpOrder}
 use Rattle.commands.specs.LookUpOutcome.{EndTold, EnoughReplyInEach, LookUpEnds, LookUpPromise, LookUpReported, LookUpSettled, coins_needed, key_request_by, opened_coins, read_and_written}
 use Rattle.commands.specs.Faults.{of_fetch}
-use Rattle.commands.specs.Outcome.{look_up_by}
 use Rattle.commands.specs.Table.{status_by_end}
 use Rattle.commands.specs.Told.{NoneRose}
 use Rattle.commands.proofs.HeldRow.{held_row}
@@ -40,22 +39,6 @@ use Rattle.commands.specs.declared.status.Status.{Status}
 use Rattle.commands.specs.declared.status.Status.TheVariants.{One, Usage, NoBlock, Several, Absent, TooFew, TooWeak, TooCostly, ReadFault, WriteFault, BadInput, DoorFault, ChildFault, Memory}
 use Rattle.commands.specs.declared.status.Bad.TheVariants.{Session, EmptyFile, TooBig, CoinsEnded}
 use Rattle.block_decoder.specs.declared.verdict.Verdict.TheVariants.{Listed as IsListed, TooFew as IsTooFew, TooWeak as IsTooWeak, TooCostly as IsTooCostly}
-
--- an order in Shamir's scheme, for as many servers as it has addresses, each with the whole database, is the one that its
--- command gives
-pub look_up_is : (o : LookUpOrder) → o.plan.scheme ≡ SHAMIR → o.plan.tau ≡ 0 → o.plan.n ≡ length o.addresses
-    → look_up_by o.plan.r o.plan.s o.key o.plan.t o.plan.h o.coins o.addresses ≡ o
-look_up_is o scheme whole servers =
-    ap₂ (λ (s n : ℕ). with_plan s 0 n) (sym scheme) (sym servers)
-    ∙ ap (λ (tau : ℕ). with_plan o.plan.scheme tau o.plan.n) (sym whole)
-  where
-    with_plan : ℕ → ℕ → ℕ → LookUpOrder
-    with_plan s tau n = record {
-      plan = record { scheme = s; t = o.plan.t; tau = tau; h = o.plan.h; n = n; r = o.plan.r; s = o.plan.s };
-      key = o.key;
-      addresses = o.addresses;
-      coins = o.coins;
-    }
 
 -- ---- the row that enough servers hold
 
@@ -84,6 +67,7 @@ rows_held p matrix s (round ∷ rounds) (verdict ∷ verdicts) plan whole judged
   rows_held p matrix (standing_after s (only_block verdict)) rounds verdicts plan whole judged.1 enough.2,
 )
 
+-- so what a look-up came to is what the matrix has
 settled_by : (o : LookUpOrder) (ended : Ended) (old new : World) → IsPlan o.plan
     → LookedUp (key_request_by o) ended (opened_coins o old) old new → LookUpSettled o ended old new
 settled_by o ended old new plan looked = record {
@@ -121,6 +105,7 @@ module _ (o : LookUpOrder) (w v u : World) (plan : IsPlan o.plan) (is_open : v.a
       (λ i l. still (link 1 + i) (omega (arith, fits, l)) (λ e. omega (arith, e)))
       (still COINS (lit< tt) (λ e. omega (arith, e))) r looks)
 
+  -- Output isn't touched
   output : u.at OUTPUT ≡ w.at OUTPUT
   output = links.others OUTPUT (lit< tt) (λ e. omega (arith, e)) (λ lo hi. omega (arith, lo)) ∙ touch.others OUTPUT (lit< tt) (λ e. omega (arith, e))
 
@@ -190,6 +175,7 @@ no_end o status old new held told few said =
     let coins = at_told (λ (h : List ℕ). coins_of looked.rounds ≡ take (coins_needed o) h) (old.at COINS).holds held told looked.coins.told in
     omega (arith, looked.coins.size, ap length coins, length-take (coins_needed o) held, few)
 
+-- where there are too few coins, that is said
 too_few : (o : LookUpOrder) (status : Status) (old new : World) (held : List ℕ) → (old.at COINS).holds ≡ Some held → length held < coins_needed o
     → NoneRose read_and_written old new → LookUpEnds o status old new
     → (status ≡ BadInput (CoinsEnded (length held % need o.plan 1))) ⊎ (status ≡ Memory)

@@ -142,10 +142,10 @@ TouchesFiles old new = TouchesOnly (One OUTPUT ∷ One RECORD ∷ []) old new
 
 -- the session is recorded, and its verdict written with the report behind it, where there is one; or one of them was cut
 -- short, and nothing was written after it
-abbrev pub Reports : Option (List ℕ) → Transcript → Verdict → Option (List Agreement) → Status → World → World → Type 0
-Reports keep session verdict report status old new =
-    (Recorded keep session old new × ToldAs (whole_text session verdict report) verdict status old new)
-    ⊎ (Unrecorded keep session old new × (status ≡ WriteFault) × (new.at OUTPUT ≡ old.at OUTPUT))
+abbrev pub Reports : Option (List ℕ) → Transcript × Verdict × Option (List Agreement) → Status → World → World → Type 0
+Reports keep found status old new =
+    (Recorded keep found.0 old new × ToldAs (whole_text found.0 found.1 found.2) found.1 status old new)
+    ⊎ (Unrecorded keep found.0 old new × (status ≡ WriteFault) × (new.at OUTPUT ≡ old.at OUTPUT))
 
 -- every server was asked, with some coins, in this session; this is its verdict, and this the report beside it, where one is
 -- wanted, which names those who lied

@@ -1,5 +1,5 @@
 -- What `lookup` does to the outside, by the status that it ends with.
-use Rattle.std.specs.Prelude.{◌≡◌, ◌⊎◌, ℕ, ◌+◌, ◌*◌, ◌%◌, ◌<◌, ◌≤◌, List, [], ◌∷◌, length, ⊤, Some}
+use Rattle.std.specs.Prelude.{◌≡◌, ◌⊎◌, ℕ, ◌+◌, ◌*◌, ◌%◌, ◌<◌, ◌≤◌, List, [], ◌∷◌, length, ⊤, Some, Result}
 use Rattle.gf256.specs.Product.{IsMatrix}
 use Rattle.port_rules.specs.World.{Cell, World}
 use Rattle.port_rules.specs.Number.{OUTPUT, COINS, link}
@@ -8,6 +8,7 @@ use Rattle.port_rules.specs.Whole.{FailsWithin}
 use Rattle.port_rules.specs.Touched.{One, From, TouchesOnly}
 use Rattle.wire_frames.specs.Answer.{answers}
 use Rattle.query_rounds.specs.declared.plan.FetchPlan.{FetchPlan}
+use Rattle.query_rounds.specs.declared.plan.FetchFault.{FetchFault}
 use Rattle.query_rounds.specs.Plan.{need}
 use Rattle.key_search.specs.Standing.{turns_of}
 use Rattle.key_search.specs.Answers.{AreSortedByKey}
@@ -15,7 +16,7 @@ use Rattle.key_fetches.specs.KeyRequest.{KeyRequest, key_request}
 use Rattle.key_fetches.specs.Listed.{Ended, end_among}
 use Rattle.key_fetches.specs.Text.{end_text}
 use Rattle.key_fetches.specs.Rounds.{Round}
-use Rattle.key_fetches.specs.LookedUp.{LookUpShort, LookUpUnfinished, LookUpUnread, LookedUp}
+use Rattle.key_fetches.specs.LookedUp.{LookUpShort, LookUpUnfinished, LookUpUnread, LookedUp, LooksUp}
 use Rattle.commands.specs.HeldRow.{EnoughReply}
 use Rattle.commands.specs.LookUpOrder.{LookUpOrder}
 use Rattle.commands.specs.Table.{status_of_end}
@@ -46,6 +47,10 @@ pub record LookUpSettled (o : LookUpOrder) (ended : Ended) (old new : World) : T
   pub looked : LookedUp (key_request_by o) ended (opened_coins o old) old new
   pub held : (matrix : List (List ℕ)) → IsMatrix matrix o.plan.r o.plan.s → AreSortedByKey o.key matrix
       → EnoughReplyInEach o.plan matrix looked.rounds → ended ≡ end_among o.key matrix
+
+-- what a look-up answers, and what it did then, once Coins was opened
+abbrev pub LooksUpBy : LookUpOrder → Result Ended FetchFault → World → World → Type 0
+LooksUpBy o result old new = LooksUp (key_request_by o) result (old.at COINS) old new
 
 -- what the look-up came to is written whole
 pub record LookUpReported (o : LookUpOrder) (status : Status) (old new : World) : Type 0 where

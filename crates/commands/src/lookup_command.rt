@@ -1,15 +1,14 @@
 //! The command `lookup`.
 
 ghost use Rattle.std.specs.Prelude.{◌≡◌};
-ghost use Rattle.port_rules.specs.Number.{COINS, OUTPUT};
+ghost use Rattle.port_rules.specs.Number.{OUTPUT};
 ghost use Rattle.port_rules.specs.Moves.{Touches};
 ghost use Rattle.query_rounds.specs.Gathered.{TouchesLinks};
 ghost use Rattle.drawn_workload.specs.Counters.{IsOwn};
-ghost use Rattle.key_fetches.specs.LookedUp.{LooksUp};
-ghost use Rattle.commands.specs.LookUpOutcome.{EndTold, LookUpEnds, TouchesLookUp, key_request_by};
+ghost use Rattle.commands.specs.LookUpOutcome.{EndTold, LookUpEnds, LooksUpBy, TouchesLookUp};
 ghost use Rattle.commands.specs.Table.{status_of_end};
 
-use crate::orders::LookingUp;
+use crate::orders::LookUpOrder;
 use crate::report::status_by;
 use crate::status::Status;
 use fetch_client::FetchFault;
@@ -26,13 +25,12 @@ fn look_up_once<C: Ledger, N: Ledger, P: Ports>(
     alloc: Global,
     cols: Blank,
     nodes: Blank,
-    order: &LookingUp,
+    order: &LookUpOrder,
     ports: &mut P,
 ) -> Result<LookUp, FetchFault>
     requires cols { IsOwn cols C.name C.parts }
     requires nodes { IsOwn nodes N.name N.parts }
-    ensures looked { LooksUp (key_request_by order.now) result ((P.world ports.old).at COINS)
-        (P.world ports.old) (P.world ports.new) }
+    ensures looked { LooksUpBy order.now result (P.world ports.old) (P.world ports.new) }
     ensures others { TouchesLinks order.now.plan.n (P.world ports.old) (P.world ports.new) }
 {
     let mut cols: Steps<C> = Steps::new(cols);
@@ -66,7 +64,7 @@ fn report_end<P: Ports>(ports: &mut P, look_up: &LookUp) -> Status
 
 /// Looks up a row by its key: reads the coins from their file, makes a fetch in each turn, and then writes what they
 /// came to.
-pub(crate) fn look_up_row<P: Ports>(alloc: Global, order: &LookingUp, ports: &mut P) -> Status
+pub(crate) fn look_up_row<P: Ports>(alloc: Global, order: &LookUpOrder, ports: &mut P) -> Status
     ensures ends { LookUpEnds order.now result (P.world ports.old) (P.world ports.new) }
     ensures others { TouchesLookUp order.now.plan.n (P.world ports.old) (P.world ports.new) }
 {
