@@ -1,5 +1,5 @@
--- What meeting a condition keeps, and what it gains.
-use Rattle.std.proofs.Common.{◌≡◌, ◌≢◌, ℕ, zero, suc, ◌+◌, ◌<◌, ◌≤◌, List, length, get_or, sum, refl, sym, ap, ap₂, ◌∙◌, subst, arith, inl, inr, length-set, get_or-set_same, get_or-set_other}
+-- What imposing a condition keeps, and what it gains.
+use Rattle.std.proofs.Common.{◌≡◌, ◌≢◌, ℕ, zero, suc, ◌+◌, ◌*◌, ◌<◌, ◌≤◌, List, length, get_or, sum, refl, sym, ap, ap₂, ◌∙◌, subst, arith, inl, inr, length-set, get_or-set_same, get_or-set_other}
 use Rattle.std.proofs.lemmas.Bool.{cases_eq}
 use Rattle.std.proofs.lemmas.List.Sums.{sum_by-set}
 use Rattle.gf256.specs.Field.{◌⊕◌, ◌⊗◌, inverse}
@@ -9,7 +9,8 @@ use Rattle.gf256.proofs.Powers.{mul_inverse}
 use Rattle.bi_poly.specs.Hasse.{hasse}
 use Rattle.bi_poly.proofs.Combination.{hasse_lt}
 use Rattle.gs_interpolate.specs.Family.{member}
-use Rattle.gs_interpolate.specs.Basis.{factor, IsBefore, IsLed, IsLight, IsBasis, IsPivot, IsStep, AreValues, IsMeeting}
+use Rattle.gs_interpolate.specs.Basis.{Polynomials, with_rows, polynomial, weight, factor, raised_at, LeadsBefore, IsLed, IsLight, IsBasis, IsPivot, IsStep, IsStepOrNone, AreValues, IsImposed}
+use Rattle.gs_interpolate.specs.declared.condition.Condition.{Condition}
 use Rattle.gs_interpolate.proofs.Combinations.{hasse-multiple, hasse-raised_first, hasse-raised_later}
 use Rattle.gs_interpolate.proofs.Leading.{led-added, led-same, led-raised, nothing}
 
@@ -18,163 +19,215 @@ value-factor : (x y : ℕ) → x < 256 → y < 256 → y ≢ 0 → x ≡ (x ⊗ 
 value-factor x y hx hy n =
     sym (mul_one x hx) ∙ ap (◌⊗◌ x) (sym (mul_inverse y hy n)) ∙ ap (◌⊗◌ x) (mul_comm y (inverse y)) ∙ sym (mul_assoc x (inverse y) y)
 
+-- the derivative of order (i, w) at (x, y) is 0 for each light polynomial
+abbrev pub Vanish : Polynomials → ℕ → ℕ → ℕ → ℕ → Type 0
+Vanish s i w x y = (j : ℕ) → j < length s.rows → IsLight s j → hasse (polynomial s j) i w x y ≡ 0
+
+-- so is the one before it in x, if there is one
+abbrev pub VanishBefore : Polynomials → ℕ → ℕ → ℕ → ℕ → Type 0
+VanishBefore s i w x y = (o : ℕ) → i ≡ suc o → Vanish s o w x y
+
 -- one step
-module _ (t d n : ℕ) (rows : List (List ℕ)) (es : List ℕ) (made : List (List ℕ)) (raised values : List ℕ) (u v a b p : ℕ)
-    (basis : IsBasis t d n rows es) (are : AreValues t d n rows es values u v a b) (pivot : IsPivot t d es values p)
-    (step : IsStep t d n rows es made raised values a p) where
+module _ (s : Polynomials) (made : List (List ℕ)) (raised : List ℕ) (c : Condition) (values : List ℕ) (p : ℕ) (basis : IsBasis s)
+    (are : AreValues s c values) (pivot : IsPivot s values p) (step : IsStep s (with_rows s made raised) values c.a p) where
+  -- the derivative that the condition asks to be 0
   abbrev value : ℕ → ℕ
-  value j = hasse (member n rows j) u v a b
+  value j = hasse (polynomial s j) c.u c.v c.a c.b
 
   -- the pivot is one of the polynomials
-  pub pivot-inside : p < length rows
-  pivot-inside = let size = basis.size in let l = pivot.inside in omega arith
+  pub pivot-inside : p < length s.rows
+  pivot-inside = let first = pivot.first in first.inside
 
-  -- and is led by its leading monomial
-  pivot-led : IsLed t (member n rows p) (get_or es p 0) p
+  -- and has an exponent
+  pivot-exponent : p < length s.exponents
+  pivot-exponent = let size = basis.size in let l = pivot-inside in omega (arith, size, l)
+
+  -- it is led by its leading monomial
+  pivot-led : IsLed s.t (polynomial s p) (get_or s.exponents p 0) p
   pivot-led = basis.each p pivot-inside pivot.light
 
   -- its value is not 0
-  fails : hasse (member n rows p) u v a b ≢ 0
+  fails : hasse (polynomial s p) c.u c.v c.a c.b ≢ 0
   fails z = let first = pivot.first in first.fails (are p pivot-inside pivot.light ∙ z)
 
   -- another that is given a multiple of the pivot has a value, so the pivot stands before it
-  before : (j : ℕ) → j ≢ p → factor values p j ≢ 0 → IsBefore t (get_or es p 0) p (get_or es j 0) j
-  before j other nonzero = let first = pivot.first in first.first j (λ z. nonzero (ap (λ x. x ⊗ inverse (get_or values p 0)) z ∙ zero_mul _)) other
+  before : (j : ℕ) → j < length s.rows → j ≢ p → factor values p j ≢ 0 → LeadsBefore s p j
+  before j l other nonzero =
+      let first = pivot.first in first.first j l (λ z. nonzero (ap (λ x. x ⊗ inverse (get_or values p 0)) z ∙ zero_mul _)) other
 
   -- another is as heavy as before
-  same-exponent : (j : ℕ) → j ≢ p → get_or raised j 0 ≡ get_or es j 0
-  same-exponent j other = ap (λ xs. get_or xs j 0) step.exponents ∙ get_or-set_other es p j (get_or es p 0 + 1) 0 other
+  same-exponent : (j : ℕ) → j ≢ p → get_or raised j 0 ≡ get_or s.exponents j 0
+  same-exponent j other =
+      ap (λ xs. get_or xs j 0) step.exponents ∙ get_or-set_other s.exponents p j (get_or s.exponents p 0 + 1) 0 other
 
   -- so it was light, if it is
-  was_light : (j : ℕ) → j ≢ p → IsLight t d raised j → IsLight t d es j
+  was_light : (j : ℕ) → j ≢ p → IsLight (with_rows s made raised) j → IsLight s j
   was_light j other light = let same = same-exponent j other in omega (arith, same, light)
 
+  -- the pivot is led by its leading monomial times x
+  led-pivot : IsLight (with_rows s made raised) p → IsLed s.t (member s.lanes made p) (get_or raised p 0) p
+  led-pivot light =
+      subst (λ e. IsLed s.t (member s.lanes made p) e p)
+      (sym (ap (λ xs. get_or xs p 0) step.exponents ∙ get_or-set_same s.exponents p (get_or s.exponents p 0 + 1) 0 pivot-exponent))
+      (led-raised s.t c.a (get_or s.exponents p 0) p (member s.lanes made p) (polynomial s p) pivot-led (step.pivot light))
+
+  -- another by what it was led by
+  led-other : (j : ℕ) → j < length s.rows → j ≢ p → IsLight s j → IsLed s.t (member s.lanes made j) (get_or s.exponents j 0) j
+  led-other j l other light =
+      elim (cases_eq (factor values p j) 0) [
+        | inl z ↦
+            led-same s.t (get_or s.exponents j 0) j (member s.lanes made j) (polynomial s j) (polynomial s p) (factor values p j)
+            (basis.each j l light) z (step.others j l other light)
+        | inr nonzero ↦
+            led-added s.t (factor values p j) (get_or s.exponents j 0) j (get_or s.exponents p 0) p
+            (member s.lanes made j) (polynomial s j) (polynomial s p)
+            (basis.each j l light) pivot-led (before j l other nonzero) (step.others j l other light)
+      ]
+
   -- the leading monomials
-  led : (j : ℕ) → j < length rows → IsLight t d raised j → IsLed t (member n made j) (get_or raised j 0) j
+  led : (j : ℕ) → j < length s.rows → IsLight (with_rows s made raised) j → IsLed s.t (member s.lanes made j) (get_or raised j 0) j
   led j l light =
       elim (cases_eq j p) [
         | inl same ↦
-            subst (λ k. IsLed t (member n made k) (get_or raised k 0) k) (sym same)
-            (subst (λ e. IsLed t (member n made p) e p)
-            (sym (ap (λ xs. get_or xs p 0) step.exponents ∙ get_or-set_same es p (get_or es p 0 + 1) 0 pivot.inside))
-            (led-raised t a (get_or es p 0) p (member n made p) (member n rows p) pivot-led (step.pivot (subst (IsLight t d raised) same light))))
+            subst (λ k. IsLed s.t (member s.lanes made k) (get_or raised k 0) k) (sym same)
+            (led-pivot (subst (IsLight (with_rows s made raised)) same light))
         | inr other ↦
-            let before-light = was_light j other light in
-            subst (λ e. IsLed t (member n made j) e j)
-            (sym (same-exponent j other))
-            (elim (cases_eq (factor values p j) 0) [
-              | inl z ↦
-                  led-same t (get_or es j 0) j (member n made j) (member n rows j) (member n rows p) (factor values p j)
-                  (basis.each j l before-light) z (step.others j l other before-light)
-              | inr nonzero ↦
-                  led-added t (factor values p j) (get_or es j 0) j (get_or es p 0) p (member n made j) (member n rows j) (member n rows p)
-                  (basis.each j l before-light) pivot-led (before j other nonzero) (step.others j l other before-light)
-            ])
+            subst (λ e. IsLed s.t (member s.lanes made j) e j) (sym (same-exponent j other))
+            (led-other j l other (was_light j other light))
       ]
 
-  pub step-basis : IsBasis t d n made raised
+  -- they are a basis again
+  pub step-basis : IsBasis (with_rows s made raised)
   step-basis = record {
-    size = let size = basis.size in let now = step.size in let e = ap length step.exponents ∙ length-set es p (get_or es p 0 + 1) in omega arith;
-    wide = let wide = basis.wide in let now = step.size in omega arith;
-    whole = λ j l. step.whole j (let now = step.size in omega arith);
-    each = λ j l light. led j (let now = step.size in omega arith) light;
+    size =
+        let size = basis.size in
+        let now = step.size in
+        let e = ap length step.exponents ∙ length-set s.exponents p (get_or s.exponents p 0 + 1) in
+        omega (arith, size, now, e);
+    wide = let wide = basis.wide in let now = step.size in omega (arith, wide, now);
+    whole = step.whole;
+    each = λ j l light. led j (let now = step.size in omega (arith, now, l)) light;
   }
 
+  -- the pivot's derivative stays 0, where the one before it in x is 0 too
+  kept-pivot : IsLight (with_rows s made raised) p → (i w x y : ℕ) → hasse (polynomial s p) i w x y ≡ 0
+      → ((o : ℕ) → i ≡ suc o → hasse (polynomial s p) o w x y ≡ 0) → hasse (member s.lanes made p) i w x y ≡ 0
+  kept-pivot light zero w x y h g =
+      let led = pivot-led in
+      hasse-raised_first (member s.lanes made p) (polynomial s p) c.a w x y (step.pivot light) led.bytes
+      ∙ ap (◌⊗◌ (x ⊕ c.a)) h ∙ mul_zero _
+  kept-pivot light (suc o) w x y h g =
+      let led = pivot-led in
+      hasse-raised_later (member s.lanes made p) (polynomial s p) c.a o w x y (step.pivot light) led.bytes
+      ∙ nothing _ _ _ (g o refl) h
+
   -- a derivative that is 0 stays so, where the one before it in x is 0 too
-  pub step-kept : (i w x y : ℕ) → ((k : ℕ) → k < length rows → IsLight t d es k → hasse (member n rows k) i w x y ≡ 0)
-      → ((o k : ℕ) → k < length rows → IsLight t d es k → i ≡ suc o → hasse (member n rows k) o w x y ≡ 0)
-      → (j : ℕ) → j < length rows → IsLight t d raised j → hasse (member n made j) i w x y ≡ 0
+  pub step-kept : (i w x y : ℕ) → Vanish s i w x y → VanishBefore s i w x y → (j : ℕ) → j < length s.rows
+      → IsLight (with_rows s made raised) j → hasse (member s.lanes made j) i w x y ≡ 0
   step-kept i w x y h g j l light =
       elim (cases_eq j p) [
         | inl same ↦
-            ap (λ k. hasse (member n made k) i w x y) same
-            ∙ of_pivot (subst (IsLight t d raised) same light) i (h p pivot-inside pivot.light) (λ o. g o p pivot-inside pivot.light)
+            ap (λ k. hasse (member s.lanes made k) i w x y) same
+            ∙ kept-pivot (subst (IsLight (with_rows s made raised)) same light) i w x y (h p pivot-inside pivot.light)
+            (λ o e. g o e p pivot-inside pivot.light)
         | inr other ↦
             let before-light = was_light j other light in
-            hasse-multiple (member n made j) (member n rows j) (member n rows p) (factor values p j) i w x y (step.others j l other before-light)
+            hasse-multiple (member s.lanes made j) (polynomial s j) (polynomial s p) (factor values p j) i w x y
+            (step.others j l other before-light)
             ∙ nothing _ _ _ (h j l before-light) (h p pivot-inside pivot.light)
       ]
-    where
-      of_pivot : IsLight t d raised p → (i : ℕ) → hasse (member n rows p) i w x y ≡ 0
-          → ((o : ℕ) → i ≡ suc o → hasse (member n rows p) o w x y ≡ 0) → hasse (member n made p) i w x y ≡ 0
-      of_pivot light zero h g =
-          let bytes = pivot-led in
-          hasse-raised_first (member n made p) (member n rows p) a w x y (step.pivot light) bytes.bytes ∙ ap (◌⊗◌ (x ⊕ a)) h ∙ mul_zero _
-      of_pivot light (suc o) h g =
-          let bytes = pivot-led in
-          hasse-raised_later (member n made p) (member n rows p) a o w x y (step.pivot light) bytes.bytes ∙ nothing _ _ _ (g o refl) h
+
+  -- the pivot's derivative that the condition speaks of is 0, if the one before it in x is
+  gained-pivot : IsLight (with_rows s made raised) p → (i : ℕ)
+      → ((o : ℕ) → i ≡ suc o → hasse (polynomial s p) o c.v c.a c.b ≡ 0) → hasse (member s.lanes made p) i c.v c.a c.b ≡ 0
+  gained-pivot light zero g =
+      let led = pivot-led in
+      hasse-raised_first (member s.lanes made p) (polynomial s p) c.a c.v c.a c.b (step.pivot light) led.bytes
+      ∙ ap (λ x. x ⊗ hasse (polynomial s p) 0 c.v c.a c.b) (add_self c.a) ∙ zero_mul _
+  gained-pivot light (suc o) g =
+      let led = pivot-led in
+      hasse-raised_later (member s.lanes made p) (polynomial s p) c.a o c.v c.a c.b (step.pivot light) led.bytes
+      ∙ ap₂ (λ x y. x ⊕ y ⊗ hasse (polynomial s p) (suc o) c.v c.a c.b) (g o refl) (add_self c.a)
+      ∙ ap (◌⊕◌ 0) (zero_mul _) ∙ add_zero 0
 
   -- the derivative of the condition is 0
-  pub step-gained : ((o k : ℕ) → k < length rows → IsLight t d es k → u ≡ suc o → hasse (member n rows k) o v a b ≡ 0)
-      → (j : ℕ) → j < length rows → IsLight t d raised j → hasse (member n made j) u v a b ≡ 0
+  pub step-gained : VanishBefore s c.u c.v c.a c.b → (j : ℕ) → j < length s.rows → IsLight (with_rows s made raised) j
+      → hasse (member s.lanes made j) c.u c.v c.a c.b ≡ 0
   step-gained g j l light =
       elim (cases_eq j p) [
         | inl same ↦
-            ap (λ k. hasse (member n made k) u v a b) same ∙ of_pivot (subst (IsLight t d raised) same light) u (λ o. g o p pivot-inside pivot.light)
+            ap (λ k. hasse (member s.lanes made k) c.u c.v c.a c.b) same
+            ∙ gained-pivot (subst (IsLight (with_rows s made raised)) same light) c.u (λ o e. g o e p pivot-inside pivot.light)
         | inr other ↦
             let before-light = was_light j other light in
-            let c = factor values p j in
-            let whole = value-factor (value j) (value p) (hasse_lt (member n rows j) u v a b) (hasse_lt (member n rows p) u v a b) fails in
+            let f = factor values p j in
+            let whole = value-factor (value j) (value p) (hasse_lt (polynomial s j) c.u c.v c.a c.b)
+            (hasse_lt (polynomial s p) c.u c.v c.a c.b) fails in
             let is =
             whole
             ∙ ap (λ x. x ⊗ value p) (ap₂ (λ x y. x ⊗ inverse y) (sym (are j l before-light)) (sym (are p pivot-inside pivot.light))) in
-            hasse-multiple (member n made j) (member n rows j) (member n rows p) c u v a b (step.others j l other before-light)
+            hasse-multiple (member s.lanes made j) (polynomial s j) (polynomial s p) f c.u c.v c.a c.b
+            (step.others j l other before-light)
             ∙ ap (◌⊕◌ (value j)) (sym is) ∙ add_self (value j)
       ]
-    where
-      of_pivot : IsLight t d raised p → (i : ℕ) → ((o : ℕ) → i ≡ suc o → hasse (member n rows p) o v a b ≡ 0) → hasse (member n made p) i v a b ≡ 0
-      of_pivot light zero g =
-          let bytes = pivot-led in
-          hasse-raised_first (member n made p) (member n rows p) a v a b (step.pivot light) bytes.bytes
-          ∙ ap (λ x. x ⊗ hasse (member n rows p) 0 v a b) (add_self a) ∙ zero_mul _
-      of_pivot light (suc o) g =
-          let bytes = pivot-led in
-          hasse-raised_later (member n made p) (member n rows p) a o v a b (step.pivot light) bytes.bytes
-          ∙ ap₂ (λ x y. x ⊕ y ⊗ hasse (member n rows p) (suc o) v a b) (g o refl) (add_self a) ∙ ap (◌⊕◌ 0) (zero_mul _) ∙ add_zero 0
 
   -- one exponent rises by one
-  pub step-rise : sum raised ≤ sum es + 1
+  pub step-rise : sum raised ≤ sum s.exponents + 1
   step-rise =
-      let i = pivot.inside in
       let e = ap sum step.exponents in
-      let one = sum_by-set (λ (x : ℕ). x) es p (get_or es p 0 + 1) 0 i in
-      omega arith
+      let one = sum_by-set (λ (x : ℕ). x) s.exponents p (get_or s.exponents p 0 + 1) 0 pivot-exponent in
+      omega (arith, e, one)
 
 -- nothing is done, or a step
-module _ (t d n : ℕ) (rows : List (List ℕ)) (es : List ℕ) (made : List (List ℕ)) (raised : List ℕ) (u v a b : ℕ)
-    (basis : IsBasis t d n rows es) (met : IsMeeting t d n rows es made raised u v a b) where
-  pub met-size : length made ≡ length rows
-  met-size = elim met.2 [ inl none ↦ ap length none.1 | inr some ↦ let step = some.2 in step.size ]
+module _ {s new : Polynomials} {c : Condition} (basis : IsBasis s) (is : IsImposed s new c) where
+  -- which of these it is, with the new polynomials written out
+  which : IsStepOrNone s (with_rows s new.rows new.exponents) is.values c.a
+  which = subst (λ g. IsStepOrNone s g is.values c.a) is.alike is.step
 
-  pub met-basis : IsBasis t d n made raised
-  met-basis =
-      elim met.2 [
-        | inl none ↦ subst (λ g. IsBasis t d n g raised) (sym none.1) (subst (IsBasis t d n rows) (sym none.2) basis)
-        | inr some ↦ step-basis t d n rows es made raised met.0 u v a b some.0 basis met.1 some.1 some.2
+  -- there are as many polynomials
+  pub imposed-size : length new.rows ≡ length s.rows
+  imposed-size = elim is.step [ inl none ↦ ap (λ g. length g.rows) none.1 | inr some ↦ let step = some.2 in step.size ]
+
+  -- they are a basis again
+  pub imposed-basis : IsBasis new
+  imposed-basis =
+      elim which [
+        | inl none ↦ subst IsBasis (sym (is.alike ∙ none.1)) basis
+        | inr some ↦
+            subst IsBasis (sym is.alike) (step-basis s new.rows new.exponents c is.values some.0 basis is.are some.1 some.2)
       ]
 
-  pub met-kept : (i w x y : ℕ) → ((k : ℕ) → k < length rows → IsLight t d es k → hasse (member n rows k) i w x y ≡ 0)
-      → ((o k : ℕ) → k < length rows → IsLight t d es k → i ≡ suc o → hasse (member n rows k) o w x y ≡ 0)
-      → (j : ℕ) → j < length rows → IsLight t d raised j → hasse (member n made j) i w x y ≡ 0
-  met-kept i w x y h g j l light =
-      elim met.2 [
-        | inl none ↦ ap (λ q. hasse (member n q j) i w x y) none.1 ∙ h j l (subst (λ xs. IsLight t d xs j) none.2 light)
-        | inr some ↦ step-kept t d n rows es made raised met.0 u v a b some.0 basis met.1 some.1 some.2 i w x y h g j l light
-      ]
-
-  pub met-gained : ((o k : ℕ) → k < length rows → IsLight t d es k → u ≡ suc o → hasse (member n rows k) o v a b ≡ 0)
-      → (j : ℕ) → j < length rows → IsLight t d raised j → hasse (member n made j) u v a b ≡ 0
-  met-gained g j l light =
-      elim met.2 [
+  -- a derivative that is 0 stays so, where the one before it in x is 0 too
+  pub imposed-kept : (i w x y : ℕ) → Vanish s i w x y → VanishBefore s i w x y → Vanish new i w x y
+  imposed-kept i w x y h g j inside light =
+      let l : j < length s.rows = let size = imposed-size in omega (arith, size, inside) in
+      elim which [
         | inl none ↦
-            let before-light = subst (λ xs. IsLight t d xs j) none.2 light in
-            ap (λ q. hasse (member n q j) u v a b) none.1 ∙ sym (met.1 j l before-light) ∙ none.0 j before-light
-        | inr some ↦ step-gained t d n rows es made raised met.0 u v a b some.0 basis met.1 some.1 some.2 g j l light
+            let same = is.alike ∙ none.1 in
+            ap (λ g. hasse (polynomial g j) i w x y) same ∙ h j l (subst (λ g. IsLight g j) same light)
+        | inr some ↦
+            subst (λ g. IsLight g j → hasse (polynomial g j) i w x y ≡ 0) (sym is.alike)
+            (step-kept s new.rows new.exponents c is.values some.0 basis is.are some.1 some.2 i w x y h g j l) light
       ]
 
-  pub met-rise : sum raised ≤ sum es + 1
-  met-rise =
-      elim met.2 [
-        | inl none ↦ let e = ap sum none.2 in omega arith
-        | inr some ↦ step-rise t d n rows es made raised met.0 u v a b some.0 basis met.1 some.1 some.2
+  -- the derivative of the condition is 0
+  pub imposed-gained : VanishBefore s c.u c.v c.a c.b → Vanish new c.u c.v c.a c.b
+  imposed-gained g j inside light =
+      let l : j < length s.rows = let size = imposed-size in omega (arith, size, inside) in
+      elim which [
+        | inl none ↦
+            let same = is.alike ∙ none.1 in
+            let before-light = subst (λ g. IsLight g j) same light in
+            ap (λ g. hasse (polynomial g j) c.u c.v c.a c.b) same ∙ sym (is.are j l before-light) ∙ none.0 j l before-light
+        | inr some ↦
+            subst (λ g. IsLight g j → hasse (polynomial g j) c.u c.v c.a c.b ≡ 0) (sym is.alike)
+            (step-gained s new.rows new.exponents c is.values some.0 basis is.are some.1 some.2 g j l) light
+      ]
+
+  -- the exponents rise by at most one together
+  pub imposed-rise : sum new.exponents ≤ sum s.exponents + 1
+  imposed-rise =
+      elim which [
+        | inl none ↦ let e = ap (λ g. sum g.exponents) none.1 in omega (arith, e)
+        | inr some ↦ step-rise s new.rows new.exponents c is.values some.0 basis is.are some.1 some.2
       ]
