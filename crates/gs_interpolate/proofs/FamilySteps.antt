@@ -1,5 +1,5 @@
 -- A step in the rows of the polynomials, with the pivot p, is a step of the iteration, and a window follows it.
-use Rattle.std.proofs.Common.{◌≡◌, ◌≢◌, ℕ, zero, suc, ◌+◌, ◌-◌, ◌*◌, ◌%◌, ◌<◌, ◌≤◌, List, [], min, length, get_or, set, refl, sym, ap, ap₂, ◌∙◌, subst, arith, inl, inr, get_or-set_same, get_or-set_other}
+use Rattle.std.proofs.Common.{◌≡◌, ◌≢◌, ℕ, zero, suc, ◌+◌, ◌-◌, ◌*◌, ◌%◌, ◌<◌, ◌≤◌, List, [], length, get_or, refl, sym, ap, ap₂, ◌∙◌, subst, arith, inl, inr, get_or-set_same, get_or-set_other}
 use Rattle.std.proofs.Math.Nat.{mul-le-mul_right}
 use Rattle.std.proofs.lemmas.Bool.{cases_lt, cases_eq}
 use Rattle.std.proofs.lemmas.List.{get_or_past}
@@ -11,7 +11,6 @@ use Rattle.bi_poly.specs.Hasse.{hasse}
 use Rattle.gs_interpolate.specs.Family.{member, multiplier, preceding, IsFamilyStep, IsRowStep}
 use Rattle.gs_interpolate.specs.Window.{Derivatives, condition_at, derivative, with_cells, window_row, IsWindow, IsWindowStep}
 use Rattle.gs_interpolate.specs.Basis.{Polynomials, with_rows, polynomial, weight, factor, raised_at, reach, AreValues, IsBasis, IsLight, IsLightWindow, IsRaised, IsStep, IsWithMultiple}
-use Rattle.gs_interpolate.specs.declared.condition.Condition.{Condition}
 use Rattle.gs_interpolate.proofs.Combinations.{hasse-multiple, hasse-raised_first, hasse-raised_later}
 use Rattle.gs_interpolate.proofs.Places.{cell-member}
 use Rattle.gs_interpolate.proofs.Steps.{row-pivot, row-others, row-rest}

@@ -1,5 +1,5 @@
 -- What imposing a condition keeps, and what it gains.
-use Rattle.std.proofs.Common.{◌≡◌, ◌≢◌, ℕ, zero, suc, ◌+◌, ◌*◌, ◌<◌, ◌≤◌, List, length, get_or, sum, refl, sym, ap, ap₂, ◌∙◌, subst, arith, inl, inr, length-set, get_or-set_same, get_or-set_other}
+use Rattle.std.proofs.Common.{◌≡◌, ◌≢◌, ℕ, zero, suc, ◌+◌, ◌<◌, ◌≤◌, List, length, get_or, sum, refl, sym, ap, ap₂, ◌∙◌, subst, arith, inl, inr, length-set, get_or-set_same, get_or-set_other}
 use Rattle.std.proofs.lemmas.Bool.{cases_eq}
 use Rattle.std.proofs.lemmas.List.Sums.{sum_by-set}
 use Rattle.gf256.specs.Field.{◌⊕◌, ◌⊗◌, inverse}
@@ -9,7 +9,7 @@ use Rattle.gf256.proofs.Powers.{mul_inverse}
 use Rattle.bi_poly.specs.Hasse.{hasse}
 use Rattle.bi_poly.proofs.Combination.{hasse_lt}
 use Rattle.gs_interpolate.specs.Family.{member}
-use Rattle.gs_interpolate.specs.Basis.{Polynomials, with_rows, polynomial, weight, factor, raised_at, LeadsBefore, IsLed, IsLight, IsBasis, IsPivot, IsStep, IsStepOrNone, AreValues, IsImposed}
+use Rattle.gs_interpolate.specs.Basis.{Polynomials, with_rows, polynomial, factor, LeadsBefore, IsLed, IsLight, IsBasis, IsPivot, IsStep, IsStepOrNone, AreValues, IsImposed}
 use Rattle.gs_interpolate.specs.declared.condition.Condition.{Condition}
 use Rattle.gs_interpolate.proofs.Combinations.{hasse-multiple, hasse-raised_first, hasse-raised_later}
 use Rattle.gs_interpolate.proofs.Leading.{led-added, led-same, led-raised, nothing}

@@ -5,11 +5,10 @@ use Rattle.std.proofs.lemmas.List.Sums.{sum_by-cons}
 use Rattle.std.proofs.lemmas.List.{get_or_past}
 use Rattle.gf256.specs.Polynomial.{coef}
 use Rattle.bi_poly.specs.Rows.{row, cell}
-use Rattle.bi_poly.specs.Hasse.{HasZero}
 use Rattle.interpolation.specs.Monomials.{conditions}
 use Rattle.interpolation.specs.Interpolant.{IsInterpolant}
 use Rattle.gs_interpolate.specs.Layout.{IsLayout}
-use Rattle.gs_interpolate.specs.Family.{member, AreCoefficients}
+use Rattle.gs_interpolate.specs.Family.{AreCoefficients}
 use Rattle.gs_interpolate.specs.Basis.{Polynomials, polynomial, weight, HaveZero, IsBasis, IsLeast, IsLight, IsLightest}
 use Rattle.gs_interpolate.proofs.Combinations.{hasse-same}
 use Rattle.gs_interpolate.proofs.Places.{cell-member}

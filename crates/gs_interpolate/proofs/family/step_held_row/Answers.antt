@@ -1,4 +1,4 @@
-use Rattle.std.proofs.Common.{◌≡◌, ◌≢◌, ◌<◌, ℕ, ◌+◌, ◌-◌, ◌*◌, ◌≤◌, length, get_or, take, drop, refl, sym, ap, subst, ◌∙◌, arith}
+use Rattle.std.proofs.Common.{◌≡◌, ◌<◌, ◌+◌, ◌-◌, ◌*◌, ◌≤◌, length, get_or, take, drop, refl, sym, ap, subst, ◌∙◌, arith}
 use borrow.Rule.Slice.PartMut.{put_mid}
 use borrow.Author.Count.{falls}
 use Rattle.gs_interpolate.specs.Family.{IsCellStep, IsRowStep}
@@ -85,7 +85,9 @@ add_held_multiple-requires-clause-high g c = c.last_lanes-high.ensures
 
 pub add_carry-requires : goal.add_carry-requires
 add_carry-requires g c =
-    subst (λ n. c.args.p < n) (sym (c.add_held_multiple.auto.cell ∙ length-power c.loop-i.row (length c.args.factors.now) c.loop-i.i c.args.count _ c.loop-i-test.true c.requires.room c.loop-i.auto.row)) c.requires.inside
+    let power =
+    length-power c.loop-i.row (length c.args.factors.now) c.loop-i.i c.args.count _ c.loop-i-test.true c.requires.room c.loop-i.auto.row in
+    subst (λ n. c.args.p < n) (sym (c.add_held_multiple.auto.cell ∙ power)) c.requires.inside
 
 pub bounds-cell-p : goal.bounds-cell-p
 bounds-cell-p g c =

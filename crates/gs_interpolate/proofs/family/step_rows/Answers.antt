@@ -29,7 +29,8 @@ loop-j-preserved c =
     record {
       each = λ k l.
           elim (cases_lt k j) [
-            | inl below ↦ subst (λ r. IsRowStep c.args.factors.now c.args.p r (row old k) (c.args.reach - c.args.t * k)) (sym (other k (λ same. omega (arith, same, below)))) (c.loop-j.invariant.each k below)
+            | inl below ↦ subst (λ r. IsRowStep c.args.factors.now c.args.p r (row old k) (c.args.reach - c.args.t * k))
+                (sym (other k (λ same. omega (arith, same, below)))) (c.loop-j.invariant.each k below)
             | inr past ↦
                 let same : j ≡ k = omega arith in
                 subst (λ k. IsRowStep c.args.factors.now c.args.p (row now k) (row old k) (c.args.reach - c.args.t * k)) same

@@ -1,4 +1,4 @@
-use Rattle.std.proofs.Common.{◌≡◌, ℕ, ◌-◌, ◌*◌, ◌%◌, ◌<◌, ◌≤◌, length, map}
+use Rattle.std.proofs.Common.{◌≡◌, ℕ, ◌-◌, ◌*◌, ◌<◌, ◌≤◌, length}
 use Rattle.bi_poly.specs.Rows.{row}
 use Rattle.gs_interpolate.specs.Family.{bytes_of, IsRowStep, StaysWhole}
 use Rattle.gs_interpolate.proofs.family.step_rows.Given as goal

@@ -1,9 +1,8 @@
-use Rattle.std.proofs.Common.{◌≡◌, ◌≢◌, ℕ, ◌+◌, ◌*◌, ◌<◌, ◌≤◌, List, length, set, get_or, refl, sym, ap, subst, ◌∙◌, arith, inl, inr, length-set, get_or-set_same, get_or-set_other}
+use Rattle.std.proofs.Common.{◌≡◌, ℕ, ◌<◌, List, length, set, refl, sym, ap, subst, ◌∙◌, arith, inl, inr, length-set, get_or-set_same, get_or-set_other}
 use Rattle.gf256.specs.Field.{◌⊕◌}
 use Rattle.gf256.proofs.Xor.{add_assoc, add_self, add_zero}
 use Rattle.gs_interpolate.specs.Family.{multiplier}
-use Rattle.gs_interpolate.specs.Window.{condition_at, with_cells}
-use Rattle.gs_interpolate.specs.Basis.{with_rows, AreValues, IsLightWindow, IsStep}
+use Rattle.gs_interpolate.specs.Basis.{with_rows, IsLightWindow, IsStep}
 use Rattle.gs_interpolate.proofs.FamilySteps.{IsPivotStep, is_step, window-follows, values-of_window}
 use Rattle.gs_interpolate.proofs.basis.Basis.impose.Goals as goal
 use Rattle.gs_interpolate.proofs.basis.Basis.impose.Goals.{In-Some}

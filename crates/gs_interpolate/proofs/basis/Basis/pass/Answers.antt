@@ -1,12 +1,11 @@
-use Rattle.std.proofs.Common.{ℕ, List, length, map, refl, ap, subst, ◌∙◌, arith, take_at, Vec, Global, ◌≡◌, ◌+◌, ◌*◌, ◌-◌, ◌%◌, ◌≤◌, ◌<◌, sym, mul-le-mul}
+use Rattle.std.proofs.Common.{ℕ, List, length, refl, ap, subst, ◌∙◌, arith, take_at, Vec, Global, ◌+◌, ◌*◌, ◌-◌, ◌≤◌, sym, mul-le-mul}
 use Rattle.std.proofs.lemmas.List.{length-map, length-replicate}
 use Rattle.std.proofs.lemmas.Result.{IfOk-from_err}
 use borrow.Author.Count.{falls}
-use Rattle.bi_poly.specs.Rows.{row}
 use Rattle.interpolation.specs.declared.TheConstants.{MOST_MULTIPLICITY}
 use Rattle.gs_interpolate.specs.Family.{bytes_of, AreWhole}
 use Rattle.gs_interpolate.specs.Window.{condition_at, IsWindow}
-use Rattle.gs_interpolate.specs.Basis.{IsLightWindow, IsPassing}
+use Rattle.gs_interpolate.specs.Basis.{IsPassing}
 use Rattle.gs_interpolate.specs.declared.basis.TheConstants.{MOST_LANES}
 use Rattle.gs_interpolate.proofs.FamilySteps.{light_window}
 use Rattle.gs_interpolate.proofs.Passing.{IsUnder, under-none, under-room, under-imposed, under-row, under-all}

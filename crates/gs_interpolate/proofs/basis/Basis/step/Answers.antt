@@ -1,4 +1,4 @@
-use Rattle.std.proofs.Common.{◌≡◌, ◌≤◌, ◌*◌, ◌^◌, ◌+◌, ◌<◌, ℕ, List, Vec, Global, min, length, map, set, get_or, sum, refl, sym, ap, subst, ◌∙◌, arith, mul-le-mul, take_at}
+use Rattle.std.proofs.Common.{◌≡◌, ◌≤◌, ◌*◌, ◌^◌, ◌+◌, ◌<◌, ℕ, List, Vec, Global, min, length, set, sum, refl, sym, ap, subst, ◌∙◌, arith, mul-le-mul, take_at}
 use Rattle.std.proofs.lemmas.Result.{IfOk-from_err}
 use Rattle.std.proofs.lemmas.List.{get_or_default, length-map, length-set}
 use Rattle.std.proofs.lemmas.List.Sums.{get_or-le-sum_by}

@@ -1,4 +1,4 @@
-use Rattle.std.proofs.Common.{◌≡◌, ◌+◌, ◌*◌, ◌<◌, ◌≤◌, length, get_or, ap, ap₂, ◌∙◌, arith, mul-le-mul}
+use Rattle.std.proofs.Common.{◌+◌, ◌*◌, ◌<◌, ◌≤◌, length, get_or, ap, ◌∙◌, arith, mul-le-mul}
 use Rattle.std.proofs.lemmas.List.{get_or_default}
 use Rattle.gs_interpolate.specs.declared.basis.TheConstants.{MOST_PLACES}
 use Rattle.gs_interpolate.proofs.basis.Basis.weight.Goals as goal

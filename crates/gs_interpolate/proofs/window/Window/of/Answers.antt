@@ -1,4 +1,4 @@
-use Rattle.std.proofs.Common.{◌≡◌, ◌+◌, ◌-◌, ◌*◌, ◌/◌, ◌%◌, ◌<◌, ◌++◌, List, ℕ, [], length, map, get_or, drop, refl, sym, ap, subst, ◌∙◌, arith, take_at, Vec, Global}
+use Rattle.std.proofs.Common.{◌≡◌, ◌+◌, ◌-◌, ◌*◌, ◌/◌, ◌%◌, ◌<◌, ◌++◌, List, ℕ, [], length, map, get_or, drop, sym, ap, subst, ◌∙◌, arith, take_at, Vec, Global}
 use Rattle.std.proofs.lemmas.List.{length-replicate, get_or-replicate, length-map, get_or-map}
 use Rattle.std.proofs.lemmas.Result.{IfOk-from_err}
 use Rattle.gf256.specs.Field.{◌⊕◌, ◌⊗◌}
@@ -63,7 +63,8 @@ loop-j-preserved c =
     subst (λ (ys : List ℕ). (k : ℕ) → k < length made → get_or next k 0 ≡ get_or (ys ++ made) k 0 ⊕ b ⊗ get_or made k 0) c.deref-in-loop-j-2.ensures.value
     (subst (λ (xs : List ℕ). (k : ℕ) → k < length xs → get_or next k 0 ≡ get_or (c.deref-in-loop-j-2.result.now ++ xs) k 0 ⊕ b ⊗ get_or xs k 0) c.deref-in-loop-j.ensures.value c.horner.ensures) in
     let all = values-next s m n a b next rows j inside
-    (expanded-next s m b made next first (λ k. taylor (lane n (k % n) (row rows j)) a (k / n)) (λ k. row_values n a k (drop (j + 1) rows)) c.loop-j.invariant.size small is (λ k. taylor_lt (lane n (k % n) (row rows j)) a (k / n)) done sums) in
+    (expanded-next s m b made next first (λ k. taylor (lane n (k % n) (row rows j)) a (k / n)) (λ k. row_values n a k (drop (j + 1) rows))
+    c.loop-j.invariant.size small is (λ k. taylor_lt (lane n (k % n) (row rows j)) a (k / n)) done sums) in
     let long : length next ≡ length c.loop-j.next.items = c.horner.auto.next ∙ ap length c.deref_mut.ensures.value in
     let items : c.swap.new.x.items ≡ next =
     ap (λ v. v.items) c.swap.ensures.x_after ∙ take_at next _ c.loop-j.next.len (c.horner.auto.next ∙ c.deref_mut.ensures.len) in

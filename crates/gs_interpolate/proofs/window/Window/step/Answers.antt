@@ -1,4 +1,4 @@
-use Rattle.std.proofs.Common.{◌≡◌, ◌*◌, ◌<◌, length, refl, sym, ap, subst, ◌∙◌, arith, take_at}
+use Rattle.std.proofs.Common.{◌≡◌, ◌*◌, length, refl, sym, ap, subst, ◌∙◌, arith, take_at}
 use Rattle.gs_interpolate.specs.Window.{Derivatives, with_cells, IsWindowStep}
 use Rattle.gs_interpolate.proofs.window.Window.step.Goals as goal
 
