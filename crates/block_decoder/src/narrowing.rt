@@ -84,7 +84,7 @@ impl<'a, I: Interpolate> Narrowing<'a, I> {
             (progress block.old report.old cols.old) (progress block.new report.new cols.new)) }
     {
         let kept = candidate.kept;
-        let run = decode(
+        let decoded = decode(
             self.alloc,
             kept,
             self.decoding.degree,
@@ -92,7 +92,7 @@ impl<'a, I: Interpolate> Narrowing<'a, I> {
             block,
             cols,
         )?;
-        let next = candidate.column + run;
+        let next = candidate.column + decoded;
         if next == self.decoding.width {
             return report.add(self.alloc, block, kept);
         }
