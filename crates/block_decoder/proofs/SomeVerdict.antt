@@ -83,7 +83,7 @@ module _ (d : Decoding) where
       let all = gained d.width [] (omega arith) [] (sorted_nil nat_list_cmp_total) in (
         all.new,
         Lists-Gains d.answers d.width d.degree d.agreement all.new filled all.ascending
-            (Gains-same (Continues d []) (Heavy d.answers d.width d.degree d.agreement) [] all.new (continues-Heavy d.answers d.width d.degree d.agreement) all.gains),
+            (Gains-same (Continues d []) (Heavy d.answers d.width d.degree d.agreement) [] all.new (continues-Heavy d) all.gains),
       )
 
 -- ---- the verdict

@@ -7,6 +7,7 @@ use Rattle.column_lists.specs.Numbers.{cost}
 use Rattle.column_lists.specs.Agreement.{ListsAgreeing}
 use Rattle.column_runs.specs.Close.{least_misses, EachMisses}
 use Rattle.column_runs.specs.OnOne.{LieOnOne}
+use Rattle.column_runs.specs.Rows.{lists_of}
 use Rattle.column_runs.specs.Run.{IsRun}
 use Rattle.wire_frames.specs.Answer.{Answer}
 use Rattle.quantity_limits.specs.declared.TheConstants.{MOST_SERVERS}
@@ -179,7 +180,7 @@ pub record CountsBy (nexts : List (List ℕ)) (decoding : Decoding) (most : ℕ)
 
 -- the polynomials of the column in which answers part
 abbrev pub nexts_of : Parting → List (List ℕ)
-nexts_of parting = map (λ p. p.items) parting.polynomials.items
+nexts_of parting = lists_of parting.polynomials.items
 
 -- what was counted below a column's first polynomials
 pub record TurnsCounted (nexts : List (List ℕ)) (decoding : Decoding) (parting : Parting) (block : List ℕ)

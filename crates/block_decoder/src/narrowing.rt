@@ -1,8 +1,9 @@
 //! Narrows the answers to those that agree, column by column.
 
-ghost use Rattle.std.specs.Prelude.{◌≡◌, ◌≢◌, ◌+◌, ◌*◌, ◌<◌, ◌≤◌, ◌⊎◌, [], ◌∷◌, ◌++◌, length, map, take, drop, slice_index, All, AllPairs, IfOk, OnOk, MatchResult};
+ghost use Rattle.std.specs.Prelude.{◌≡◌, ◌≢◌, ◌+◌, ◌*◌, ◌<◌, ◌≤◌, ◌⊎◌, [], ◌∷◌, ◌++◌, length, take, drop, slice_index, All, AllPairs, IfOk, OnOk, MatchResult};
 ghost use Rattle.std.specs.List.{filter};
 ghost use Rattle.std.specs.List.Sorted.{IsStrictlySortedBy};
+ghost use Rattle.column_runs.specs.Rows.{lists_of};
 ghost use Rattle.quantity_limits.specs.declared.TheConstants.{MOST_SERVERS};
 ghost use Rattle.block_decoder.specs.Agreed.{HasColumns};
 ghost use Rattle.block_decoder.specs.Decoding.{counters, most_columns_of, most_nodes_of, IsReportOf};
@@ -84,7 +85,7 @@ impl<'a, I: Interpolate> Narrowing<'a, I> {
             (progress block.old report.old cols.old) (progress block.new report.new cols.new)) }
     {
         let kept = candidate.kept;
-        let run = decode(
+        let decoded = decode(
             self.alloc,
             kept,
             self.decoding.degree,
@@ -92,7 +93,7 @@ impl<'a, I: Interpolate> Narrowing<'a, I> {
             block,
             cols,
         )?;
-        let next = candidate.column + run;
+        let next = candidate.column + decoded;
         if next == self.decoding.width {
             return report.add(self.alloc, block, kept);
         }
@@ -150,7 +151,7 @@ impl<'a, I: Interpolate> Narrowing<'a, I> {
         requires column { All (λ a. column < length a.payload) kept.now }
         requires enough { self.now.decoding.agreement ≤ length kept.now }
         requires listed { CanBeListed kept.now self.now.decoding.degree self.now.decoding.agreement }
-        ensures exact { IfOk result (λ list. ListsIn self.now.decoding (points_in kept.now column) (map (λ r. r.items) list.items)) }
+        ensures exact { IfOk result (λ list. ListsIn self.now.decoding (points_in kept.now column) (lists_of list.items)) }
         ensures cols { cols.new ≤ cols.old + 1 }
         ensures some { OnOk result (cols.old < cols.new) }
         ensures nodes { nodes.new ≤ nodes.old + nodes_at self.now.decoding (length kept.now) }
@@ -177,7 +178,7 @@ impl<'a, I: Interpolate> Narrowing<'a, I> {
         requires cheap { IsCheap self.now.decoding (length points.now) }
         requires distinct { AllPairs (λ p q. p.0 ≢ q.0) points.now }
         requires nonzero { All (λ p. p.0 ≢ 0) points.now }
-        ensures exact { IfOk result (λ list. ListsIn self.now.decoding points.now (map (λ r. r.items) list.items)) }
+        ensures exact { IfOk result (λ list. ListsIn self.now.decoding points.now (lists_of list.items)) }
         ensures cols { cols.new ≤ cols.old + 1 }
         ensures some { OnOk result (cols.old < cols.new) }
         ensures nodes { nodes.new ≤ nodes.old + nodes_at self.now.decoding (length points.now) }

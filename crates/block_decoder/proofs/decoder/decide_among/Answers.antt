@@ -10,10 +10,10 @@ use Rattle.block_decoder.proofs.Judged.{listed_with, refused_with, untold_with}
 use Rattle.block_decoder.proofs.decoder.decide_among.Goals as goal
 
 pub overflow_cast-k : goal.overflow_cast-k
-overflow_cast-k g c = omega (arith, c.len.ensures, c.requires.few)
+overflow_cast-k g c = omega (arith, c.len-k.ensures, c.requires.few)
 
 pub refusal-requires-clause-few : goal.refusal-requires-clause-few
-refusal-requires-clause-few g c = subst (λ (n : ℕ). n ≤ MOST_SERVERS) (sym c.len.ensures) c.requires.few
+refusal-requires-clause-few g c = subst (λ (n : ℕ). n ≤ MOST_SERVERS) (sym c.len-k.ensures) c.requires.few
 
 pub refusal-requires-clause-agreement : goal.refusal-requires-clause-agreement
 refusal-requires-clause-agreement g c = c.requires.agreement
@@ -22,12 +22,12 @@ pub returns-in-Some : goal.returns-in-Some
 returns-in-Some g c =
     let d = c.args.decoding in
     refused_with c.args.wanted d c.in-Some.verdict (counters c.args.cols.now c.args.nodes.now)
-    (subst (λ (k : ℕ). IsRefusal k d.degree d.agreement c.in-Some.verdict) c.len.ensures c.in-Some.ensures.refused)
+    (subst (λ (k : ℕ). IsRefusal k d.degree d.agreement c.in-Some.verdict) c.len-k.ensures c.in-Some.ensures.refused)
 
 pub invariant_of-narrowing : goal.invariant_of-narrowing
 invariant_of-narrowing g c =
     let d = c.args.decoding in
-    let can_be = subst (λ (k : ℕ). (d.agreement ≤ k) × (k * d.degree < d.agreement * d.agreement) × (cost k d.degree d.agreement ≤ MOST_COST)) c.len.ensures c.in_default.ensures.listed in
+    let can_be = subst (λ (k : ℕ). (d.agreement ≤ k) × (k * d.degree < d.agreement * d.agreement) × (cost k d.degree d.agreement ≤ MOST_COST)) c.len-k.ensures c.in_default.ensures.listed in
     let width = c.requires.width in
     record {
       columns = c.requires.columns;
@@ -50,7 +50,7 @@ returns-in_err-report g c =
     let tried = c.in_err-report.ensures in
     untold_with c.args.wanted d c.from_residual.result (counters c.args.cols.now c.args.nodes.now) (counters c.find_agreements.new.cols c.find_agreements.new.nodes)
     (λ P. IfOk-from_err c.from_residual.result P c.from_residual.ensures.0) tried.cols tried.nodes tried.least
-    (subst (λ (k : ℕ). ¬ IsUnlisted k d.degree d.agreement) c.len.ensures (not_unlisted c.len.result d.degree d.agreement c.in_default.ensures.listed))
+    (subst (λ (k : ℕ). ¬ IsUnlisted k d.degree d.agreement) c.len-k.ensures (not_unlisted c.len-k.result d.degree d.agreement c.in_default.ensures.listed))
 
 pub returns : goal.returns
 returns g c =
@@ -58,6 +58,6 @@ returns g c =
     let found = c.in_ok-report.ensures in
     listed_with c.args.wanted d c.listed.result (counters c.args.cols.now c.args.nodes.now) (counters c.find_agreements.new.cols c.find_agreements.new.nodes)
     c.in_ok-report.report c.requires.columns c.requires.agreement.1
-    (subst (λ (k : ℕ). (d.agreement ≤ k) × (k * d.degree < d.agreement * d.agreement) × (cost k d.degree d.agreement ≤ MOST_COST)) c.len.ensures c.in_default.ensures.listed)
+    (subst (λ (k : ℕ). (d.agreement ≤ k) × (k * d.degree < d.agreement * d.agreement) × (cost k d.degree d.agreement ≤ MOST_COST)) c.len-k.ensures c.in_default.ensures.listed)
     found.report c.listed.ensures found.tried found.found found.cols found.nodes found.least
-    (subst (λ (k : ℕ). ¬ IsUnlisted k d.degree d.agreement) c.len.ensures (not_unlisted c.len.result d.degree d.agreement c.in_default.ensures.listed))
+    (subst (λ (k : ℕ). ¬ IsUnlisted k d.degree d.agreement) c.len-k.ensures (not_unlisted c.len-k.result d.degree d.agreement c.in_default.ensures.listed))

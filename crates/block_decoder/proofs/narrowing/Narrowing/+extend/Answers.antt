@@ -1,4 +1,4 @@
-use Rattle.std.proofs.Common.{◌≡◌, ◌≢◌, ◌+◌, ◌-◌, ◌<◌, ◌≤◌, ℕ, List, [], length, get_or, map, take, Vec, Global, refl, sym, subst, ◌∙◌, arith, le_of_lt}
+use Rattle.std.proofs.Common.{◌≡◌, ◌≢◌, ◌+◌, ◌-◌, ◌<◌, ◌≤◌, ℕ, List, [], length, get_or, map, take, Vec, Global, refl, sym, ap, subst, ◌∙◌, arith, le_of_lt}
 use Rattle.std.proofs.lemmas.List.{length-map, take_all}
 use Rattle.std.proofs.lemmas.Result.{IfOk-from_err, on_ok_weaker}
 use Rattle.block_decoder.specs.Decoding.{counters}
@@ -57,33 +57,33 @@ extend-decode-requires g t c =
       distinct = kept-different d candidate.kept.now candidate.column block c.requires.candidate c.args.self.now.columns.different;
     }
 
-pub extend-returns-in_err-run-clause-size : goal.extend-returns-in_err-run-clause-size
-extend-returns-in_err-run-clause-size g t c = c.in_err-run.ensures.size
+pub extend-returns-in_err-decoded-clause-size : goal.extend-returns-in_err-decoded-clause-size
+extend-returns-in_err-decoded-clause-size g t c = c.in_err-decoded.ensures.size
 
-pub extend-returns-in_err-run-clause-ascending : goal.extend-returns-in_err-run-clause-ascending
-extend-returns-in_err-run-clause-ascending g t c = c.requires.ascending
+pub extend-returns-in_err-decoded-clause-ascending : goal.extend-returns-in_err-decoded-clause-ascending
+extend-returns-in_err-decoded-clause-ascending g t c = c.requires.ascending
 
-pub extend-returns-in_err-run-clause-counted : goal.extend-returns-in_err-run-clause-counted
-extend-returns-in_err-run-clause-counted g t c =
+pub extend-returns-in_err-decoded-clause-counted : goal.extend-returns-in_err-decoded-clause-counted
+extend-returns-in_err-decoded-clause-counted g t c =
     counted-nothing c.args.self.now.decoding c.args.candidate.now c.args.block.now (counters c.args.cols.now c.args.nodes.now)
-    (counters c.decode.new.cols c.args.nodes.now) c.in_err-run.ensures.cols refl
+    (counters c.decode.new.cols c.args.nodes.now) c.in_err-decoded.ensures.cols refl
 
-pub extend-returns-in_err-run-clause-extended : goal.extend-returns-in_err-run-clause-extended
-extend-returns-in_err-run-clause-extended g t c = IfOk-from_err c.from_residual.result _ c.from_residual.ensures.0
+pub extend-returns-in_err-decoded-clause-extended : goal.extend-returns-in_err-decoded-clause-extended
+extend-returns-in_err-decoded-clause-extended g t c = IfOk-from_err c.from_residual.result _ c.from_residual.ensures.0
 
 pub extend-overflow_add-next : goal.extend-overflow_add-next
 extend-overflow_add-next g t c =
     let d = c.args.self.now.decoding in
     let candidate = c.args.candidate.now in
     let kept = candidate.kept.now in
-    let n = c.in_ok-run.run in
+    let n = c.in_ok-decoded.decoded in
     let have : HaveDecoded d candidate n c.args.block.now c.decode.new.block = record {
       columns = c.args.self.now.columns;
       more_than = c.args.self.now.listed.redundant;
       fits = c.requires.column;
-      size = c.in_ok-run.ensures.size ∙ c.requires.width;
-      same = c.in_ok-run.ensures.kept;
-      run = c.in_ok-run.ensures.run;
+      size = c.in_ok-decoded.ensures.size ∙ c.requires.width;
+      same = c.in_ok-decoded.ensures.kept;
+      run = c.in_ok-decoded.ensures.run;
     } in
     let fits = decoded-fits d candidate n c.args.block.now c.decode.new.block have in
     omega (arith, fits)
@@ -92,7 +92,7 @@ pub extend-add-requires : goal.extend-add-requires
 extend-add-requires g t c = c.requires.ascending
 
 pub extend-returns-then-next-self-clause-size : goal.extend-returns-then-next-self-clause-size
-extend-returns-then-next-self-clause-size g t c = c.in_ok-run.ensures.size
+extend-returns-then-next-self-clause-size g t c = c.in_ok-decoded.ensures.size
 
 pub extend-returns-then-next-self-clause-ascending : goal.extend-returns-then-next-self-clause-ascending
 extend-returns-then-next-self-clause-ascending g t c = c.add.ensures.ascending
@@ -102,36 +102,36 @@ extend-returns-then-next-self-clause-counted g t c =
     let d = c.args.self.now.decoding in
     let candidate = c.args.candidate.now in
     let kept = candidate.kept.now in
-    let n = c.in_ok-run.run in
+    let n = c.in_ok-decoded.decoded in
     let have : HaveDecoded d candidate n c.args.block.now c.decode.new.block = record {
       columns = c.args.self.now.columns;
       more_than = c.args.self.now.listed.redundant;
       fits = c.requires.column;
-      size = c.in_ok-run.ensures.size ∙ c.requires.width;
-      same = c.in_ok-run.ensures.kept;
-      run = c.in_ok-run.ensures.run;
+      size = c.in_ok-decoded.ensures.size ∙ c.requires.width;
+      same = c.in_ok-decoded.ensures.kept;
+      run = c.in_ok-decoded.ensures.run;
     } in
     counted-end d candidate n c.args.block.now c.decode.new.block have (counters c.args.cols.now c.args.nodes.now)
-    (counters c.decode.new.cols c.args.nodes.now) c.in_ok-run.ensures.cols refl
+    (counters c.decode.new.cols c.args.nodes.now) c.in_ok-decoded.ensures.cols refl
 
 pub extend-returns-then-next-self-clause-extended : goal.extend-returns-then-next-self-clause-extended
 extend-returns-then-next-self-clause-extended g t c =
     let d = c.args.self.now.decoding in
     let candidate = c.args.candidate.now in
     let kept = candidate.kept.now in
-    let n = c.in_ok-run.run in
+    let n = c.in_ok-decoded.decoded in
     let have : HaveDecoded d candidate n c.args.block.now c.decode.new.block = record {
       columns = c.args.self.now.columns;
       more_than = c.args.self.now.listed.redundant;
       fits = c.requires.column;
-      size = c.in_ok-run.ensures.size ∙ c.requires.width;
-      same = c.in_ok-run.ensures.kept;
-      run = c.in_ok-run.ensures.run;
+      size = c.in_ok-decoded.ensures.size ∙ c.requires.width;
+      same = c.in_ok-decoded.ensures.kept;
+      run = c.in_ok-decoded.ensures.run;
     } in
     on_ok_weaker {Q = IsExtended d candidate (progress c.args.block.now c.args.report.now c.args.cols.now) (progress c.decode.new.block c.add.new.self c.decode.new.cols)} c.add.result
     (λ (gains : Gains (λ (a : Agreement). a ≡ record { block = c.decode.new.block; indices = indices_of kept }) c.args.report.now c.add.new.self).
     extended-end d candidate n c.args.block.now c.decode.new.block have c.if-next-self.true c.args.report.now c.add.new.self
-    c.args.cols.now c.decode.new.cols c.in_ok-run.ensures.cols gains)
+    c.args.cols.now c.decode.new.cols c.in_ok-decoded.ensures.cols gains)
     c.add.ensures.ok
 
 pub extend-list-requires : goal.extend-list-requires
@@ -139,14 +139,14 @@ extend-list-requires g t c =
     let d = c.args.self.now.decoding in
     let candidate = c.args.candidate.now in
     let kept = candidate.kept.now in
-    let n = c.in_ok-run.run in
+    let n = c.in_ok-decoded.decoded in
     let have : HaveDecoded d candidate n c.args.block.now c.decode.new.block = record {
       columns = c.args.self.now.columns;
       more_than = c.args.self.now.listed.redundant;
       fits = c.requires.column;
-      size = c.in_ok-run.ensures.size ∙ c.requires.width;
-      same = c.in_ok-run.ensures.kept;
-      run = c.in_ok-run.ensures.run;
+      size = c.in_ok-decoded.ensures.size ∙ c.requires.width;
+      same = c.in_ok-decoded.ensures.kept;
+      run = c.in_ok-decoded.ensures.run;
     } in
     let fits = decoded-fits d candidate n c.args.block.now c.decode.new.block have in
     let short : candidate.column + n < d.width = below-width (candidate.column + n) d.width fits c.if-next-self.false in
@@ -157,7 +157,7 @@ extend-list-requires g t c =
     }
 
 pub extend-returns-in_err-polynomials-clause-size : goal.extend-returns-in_err-polynomials-clause-size
-extend-returns-in_err-polynomials-clause-size g t c = c.in_ok-run.ensures.size
+extend-returns-in_err-polynomials-clause-size g t c = c.in_ok-decoded.ensures.size
 
 pub extend-returns-in_err-polynomials-clause-ascending : goal.extend-returns-in_err-polynomials-clause-ascending
 extend-returns-in_err-polynomials-clause-ascending g t c = c.requires.ascending
@@ -167,23 +167,23 @@ extend-returns-in_err-polynomials-clause-counted g t c =
     let d = c.args.self.now.decoding in
     let candidate = c.args.candidate.now in
     let kept = candidate.kept.now in
-    let n = c.in_ok-run.run in
+    let n = c.in_ok-decoded.decoded in
     let have : HaveDecoded d candidate n c.args.block.now c.decode.new.block = record {
       columns = c.args.self.now.columns;
       more_than = c.args.self.now.listed.redundant;
       fits = c.requires.column;
-      size = c.in_ok-run.ensures.size ∙ c.requires.width;
-      same = c.in_ok-run.ensures.kept;
-      run = c.in_ok-run.ensures.run;
+      size = c.in_ok-decoded.ensures.size ∙ c.requires.width;
+      same = c.in_ok-decoded.ensures.kept;
+      run = c.in_ok-decoded.ensures.run;
     } in
     let fits = decoded-fits d candidate n c.args.block.now c.decode.new.block have in
     let short : candidate.column + n < d.width = below-width (candidate.column + n) d.width fits c.if-next-self.false in
     let tried = c.in_err-polynomials.ensures in
     let part = kept-part d kept candidate.column c.args.block.now c.requires.candidate in
     counted-tried d candidate n c.args.block.now c.decode.new.block have short (counters c.args.cols.now c.args.nodes.now)
-    (counters c.list.new.cols c.list.new.nodes) (one-more c.args.cols.now c.decode.new.cols c.list.new.cols n c.in_ok-run.ensures.cols tried.cols)
+    (counters c.list.new.cols c.list.new.nodes) (one-more c.args.cols.now c.decode.new.cols c.list.new.cols n c.in_ok-decoded.ensures.cols tried.cols)
     (part-nodes d.answers kept d.degree d.agreement part c.args.self.now.listed c.args.nodes.now c.list.new.nodes tried.nodes)
-    (no-fewer c.args.cols.now c.decode.new.cols c.list.new.cols n c.in_ok-run.ensures.cols tried.rises.0, tried.rises.1) tried.far
+    (no-fewer c.args.cols.now c.decode.new.cols c.list.new.cols n c.in_ok-decoded.ensures.cols tried.rises.0, tried.rises.1) tried.far
 
 pub extend-returns-in_err-polynomials-clause-extended : goal.extend-returns-in_err-polynomials-clause-extended
 extend-returns-in_err-polynomials-clause-extended g t c = IfOk-from_err c.from_residual-in_err-polynomials.result _ c.from_residual-in_err-polynomials.ensures.0
@@ -200,14 +200,14 @@ extend-extend_by_each-requires g t c κs within =
     let d = c.args.self.now.decoding in
     let candidate = c.args.candidate.now in
     let kept = candidate.kept.now in
-    let n = c.in_ok-run.run in
+    let n = c.in_ok-decoded.decoded in
     let have : HaveDecoded d candidate n c.args.block.now c.decode.new.block = record {
       columns = c.args.self.now.columns;
       more_than = c.args.self.now.listed.redundant;
       fits = c.requires.column;
-      size = c.in_ok-run.ensures.size ∙ c.requires.width;
-      same = c.in_ok-run.ensures.kept;
-      run = c.in_ok-run.ensures.run;
+      size = c.in_ok-decoded.ensures.size ∙ c.requires.width;
+      same = c.in_ok-decoded.ensures.kept;
+      run = c.in_ok-decoded.ensures.run;
     } in
     let fits = decoded-fits d candidate n c.args.block.now c.decode.new.block have in
     let short : candidate.column + n < d.width = below-width (candidate.column + n) d.width fits c.if-next-self.false in
@@ -220,7 +220,7 @@ extend-extend_by_each-requires g t c κs within =
           (
             within.1.1,
             (
-              c.in_ok-run.ensures.size ∙ c.requires.width,
+              c.in_ok-decoded.ensures.size ∙ c.requires.width,
               (
                 parted d candidate n c.args.block.now c.decode.new.block have parting refl refl short c.in_ok-polynomials.ensures.exact,
                 (decoded-candidate d candidate n c.args.block.now c.decode.new.block have c.requires.candidate, c.requires.ascending),
@@ -232,7 +232,7 @@ extend-extend_by_each-requires g t c κs within =
     )
 
 pub extend-returns-clause-size : goal.extend-returns-clause-size
-extend-returns-clause-size g t c = c.extend_by_each.ensures.size ∙ c.in_ok-run.ensures.size
+extend-returns-clause-size g t c = c.extend_by_each.ensures.size ∙ c.in_ok-decoded.ensures.size
 
 pub extend-returns-clause-ascending : goal.extend-returns-clause-ascending
 extend-returns-clause-ascending g t c = c.extend_by_each.ensures.ascending
@@ -242,14 +242,14 @@ extend-returns-clause-counted g t c =
     let d = c.args.self.now.decoding in
     let candidate = c.args.candidate.now in
     let kept = candidate.kept.now in
-    let n = c.in_ok-run.run in
+    let n = c.in_ok-decoded.decoded in
     let have : HaveDecoded d candidate n c.args.block.now c.decode.new.block = record {
       columns = c.args.self.now.columns;
       more_than = c.args.self.now.listed.redundant;
       fits = c.requires.column;
-      size = c.in_ok-run.ensures.size ∙ c.requires.width;
-      same = c.in_ok-run.ensures.kept;
-      run = c.in_ok-run.ensures.run;
+      size = c.in_ok-decoded.ensures.size ∙ c.requires.width;
+      same = c.in_ok-decoded.ensures.kept;
+      run = c.in_ok-decoded.ensures.run;
     } in
     let fits = decoded-fits d candidate n c.args.block.now c.decode.new.block have in
     let short : candidate.column + n < d.width = below-width (candidate.column + n) d.width fits c.if-next-self.false in
@@ -260,9 +260,9 @@ extend-returns-clause-counted g t c =
     counted-below d candidate n c.args.block.now c.decode.new.block have parting refl refl short (take below.count (nexts_of parting))
     (counters c.args.cols.now c.args.nodes.now) (counters c.list.new.cols c.list.new.nodes)
     (counters c.extend_by_each.new.cols c.extend_by_each.new.nodes)
-    (one-more c.args.cols.now c.decode.new.cols c.list.new.cols n c.in_ok-run.ensures.cols tried.cols)
+    (one-more c.args.cols.now c.decode.new.cols c.list.new.cols n c.in_ok-decoded.ensures.cols tried.cols)
     (part-nodes d.answers kept d.degree d.agreement part c.args.self.now.listed c.args.nodes.now c.list.new.nodes tried.nodes)
-    (no-fewer c.args.cols.now c.decode.new.cols c.list.new.cols n c.in_ok-run.ensures.cols tried.rises.0, tried.rises.1) tried.far
+    (no-fewer c.args.cols.now c.decode.new.cols c.list.new.cols n c.in_ok-decoded.ensures.cols tried.rises.0, tried.rises.1) tried.far
     below.counted
 
 pub extend-returns-clause-extended : goal.extend-returns-clause-extended
@@ -270,14 +270,14 @@ extend-returns-clause-extended g t c =
     let d = c.args.self.now.decoding in
     let candidate = c.args.candidate.now in
     let kept = candidate.kept.now in
-    let n = c.in_ok-run.run in
+    let n = c.in_ok-decoded.decoded in
     let have : HaveDecoded d candidate n c.args.block.now c.decode.new.block = record {
       columns = c.args.self.now.columns;
       more_than = c.args.self.now.listed.redundant;
       fits = c.requires.column;
-      size = c.in_ok-run.ensures.size ∙ c.requires.width;
-      same = c.in_ok-run.ensures.kept;
-      run = c.in_ok-run.ensures.run;
+      size = c.in_ok-decoded.ensures.size ∙ c.requires.width;
+      same = c.in_ok-decoded.ensures.kept;
+      run = c.in_ok-decoded.ensures.run;
     } in
     let fits = decoded-fits d candidate n c.args.block.now c.decode.new.block have in
     let short : candidate.column + n < d.width = below-width (candidate.column + n) d.width fits c.if-next-self.false in
@@ -288,7 +288,7 @@ extend-returns-clause-extended g t c =
     on_ok_weaker {Q = IsExtended d candidate (progress c.args.block.now c.args.report.now c.args.cols.now) (progress new.block new.report new.cols)} c.extend_by_each.result
     (λ (below : HaveExtended d parting (progress c.decode.new.block c.args.report.now c.list.new.cols) (progress new.block new.report new.cols)).
     extended-below d candidate n c.args.block.now c.decode.new.block have parting refl refl at new.block c.args.report.now new.report
-    c.args.cols.now c.list.new.cols new.cols (more-than c.args.cols.now c.decode.new.cols c.list.new.cols n c.in_ok-run.ensures.cols c.in_ok-polynomials.ensures.some)
+    c.args.cols.now c.list.new.cols new.cols (more-than c.args.cols.now c.decode.new.cols c.list.new.cols n c.in_ok-decoded.ensures.cols c.in_ok-polynomials.ensures.some)
     c.extend_by_each.ensures.counted.counted.cols below.block below.gained)
     c.extend_by_each.ensures.extended
 
