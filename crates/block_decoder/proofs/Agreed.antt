@@ -83,7 +83,8 @@ answer_at-answers_of width [] bytes place h = absurd (omega arith)
 answer_at-answers_of width (index ∷ indices) bytes zero h = let e : 0 * width ≡ 0 = omega arith in rw e refl
 answer_at-answers_of width (index ∷ indices) bytes (suc place) h =
     answer_at-answers_of width indices (drop width bytes) place (omega arith)
-    ∙ ap (λ (rest : List ℕ). record { index = get_or indices place 0; payload = take width rest }) (drop-drop (place * width) width bytes ∙ (let e : width + place * width ≡ suc place * width = omega arith in ap (λ n. drop n bytes) e))
+    ∙ ap (λ (rest : List ℕ). record { index = get_or indices place 0; payload = take width rest })
+    (drop-drop (place * width) width bytes ∙ (let e : width + place * width ≡ suc place * width = omega arith in ap (λ n. drop n bytes) e))
 
 -- ascending indices differ
 pub different-answers_of : (width : ℕ) (indices bytes : List ℕ) → IsStrictlyIncreasing indices → AllPairs (λ (a b : Answer). a.index ≢ b.index) (answers_of width indices bytes)

@@ -23,4 +23,6 @@ pub encode_lower-pieces : (at size : ℕ) (bytes : List ℕ)
     → encode_lower bytes ≡ encode_lower (take at bytes) ++ (encode_lower (take size (drop at bytes)) ++ encode_lower (drop size (drop at bytes)))
 encode_lower-pieces at size bytes =
     ap encode_lower (sym (take-append-drop at bytes)) ∙ encode_with-append lower_digits (take at bytes) (drop at bytes)
-    ∙ ap (λ l. encode_lower (take at bytes) ++ l) (ap encode_lower (sym (take-append-drop size (drop at bytes))) ∙ encode_with-append lower_digits (take size (drop at bytes)) (drop size (drop at bytes)))
+    ∙ ap (λ l. encode_lower (take at bytes) ++ l)
+    (ap encode_lower (sym (take-append-drop size (drop at bytes))) ∙ encode_with-append lower_digits (take size (drop at bytes))
+    (drop size (drop at bytes)))

@@ -76,7 +76,8 @@ pub made_all : {Y Z : Type 0} (f : Y → Z) (i : ℕ) (items all : List Y) (made
 made_all f i items all made same end before = before ∙ ap (map f) (take_all i items end ∙ same)
 
 -- what passes of one more item
-module _ {X : Type 0} (test : X → Bool) (i : ℕ) (items : List X) (a : X) (made new : List X) (inside : i < length items) (item : a ≡ get_or items i a) (before : made ≡ filter test (take i items)) where
+module _ {X : Type 0} (test : X → Bool) (i : ℕ) (items : List X) (a : X) (made new : List X) (inside : i < length items)
+    (item : a ≡ get_or items i a) (before : made ≡ filter test (take i items)) where
   -- whether the next item passes
   one_more : (b : Bool) → test a ≡ b → filter test (take (i + 1) items) ≡ filter test (take i items) ++ cond b (a ∷ []) []
   one_more b e =

@@ -34,7 +34,8 @@ one_made made answers width t h one other columns close p q =
     let m = p.enough in
     let n = q.enough in
     let both = count_by_both (holds_first p.more) (holds_first q.more) answers in
-    let same = same_vectors answers columns.indices columns.different width t p.more q.more (let c = p.one_a_column in omega (arith, c)) (let c = q.one_a_column in omega (arith, c)) p.degree q.degree (omega (arith, m, n, both, close)) in
+    let same = same_vectors answers columns.indices columns.different width t p.more q.more (let c = p.one_a_column in omega (arith, c))
+    (let c = q.one_a_column in omega (arith, c)) p.degree q.degree (omega (arith, m, n, both, close)) in
     p.is ∙ ap made same ∙ sym q.is
 
 -- so two agreed blocks are one

@@ -112,7 +112,8 @@ module _ (all : List Answer) (width : ℕ) where
       ]
 
 -- usable answers have a byte for each column
-filled_with : (width i : ℕ) (payload : Option (List ℕ)) (rest : List Answer) → ((bytes : List ℕ) → payload ≡ Some bytes → length bytes ≡ width) → Filled width rest → Filled width (with_answer i payload rest)
+filled_with : (width i : ℕ) (payload : Option (List ℕ)) (rest : List Answer) → ((bytes : List ℕ) → payload ≡ Some bytes
+    → length bytes ≡ width) → Filled width rest → Filled width (with_answer i payload rest)
 filled_with width i None rest size filled = filled
 filled_with width i (Some payload) rest size filled = All-cons (λ (a : Answer). length a.payload ≡ width) (record { index = i; payload = payload }) rest (size payload refl) filled
 
@@ -120,7 +121,8 @@ filled_with width i (Some payload) rest size filled = All-cons (λ (a : Answer).
 filled_from : (i : ℕ) (p : SessionParams) (records : List (Option (List ℕ))) → Filled (block_len p) (answers_from i p records)
 filled_from i p [] = All-nil (λ (a : Answer). length a.payload ≡ block_len p)
 filled_from i p (None ∷ records) = filled_from (i + 1) p records
-filled_from i p (Some bytes ∷ records) = filled_with (block_len p) i (usable bytes (asked p i)) (answers_from (i + 1) p records) (λ payload e. usable_size bytes payload (asked p i) e) (filled_from (i + 1) p records)
+filled_from i p (Some bytes ∷ records) = filled_with (block_len p) i (usable bytes (asked p i)) (answers_from (i + 1) p records)
+    (λ payload e. usable_size bytes payload (asked p i) e) (filled_from (i + 1) p records)
 
 -- there is a verdict on each session
 pub some_verdict : (session : Transcript) → HasVerdict session

@@ -117,4 +117,6 @@ pub returns-clause-tried : goal.returns-clause-tried
 returns-clause-tried g c = c.in_ok-extend.ensures.extended.some c.args.self.now.some
 
 pub returns-clause-found : goal.returns-clause-found
-returns-clause-found g c = λ some. found_all c.args.self.now.decoding.width c.args.cols.now c.extend.new.cols c.extend.new.report c.new-report.result c.new-report.ensures c.in_ok-extend.ensures.extended.found some
+returns-clause-found g c =
+    λ some. found_all c.args.self.now.decoding.width c.args.cols.now c.extend.new.cols c.extend.new.report c.new-report.result c.new-report.ensures
+    c.in_ok-extend.ensures.extended.found some
