@@ -1,15 +1,14 @@
 //! Serves the guest that is in, by asking the shards.
-ghost use Rattle.std.specs.Prelude.{◌≡◌, ◌*◌, ◌<◌, ◌≤◌, length, map, string_bytes};
+ghost use Rattle.std.specs.Prelude.{◌≡◌, ◌<◌, length, map, string_bytes};
 ghost use Rattle.port_rules.specs.Number.{GUEST};
 ghost use Rattle.port_rules.specs.Moves.{Touches};
 ghost use Rattle.wire_frames.specs.Header.{answer_header};
 ghost use Rattle.wire_frames.specs.Limits.{IsQuery};
-ghost use Rattle.wire_frames.specs.Sizes.{answer_len, query_len};
-ghost use Rattle.wire_frames.specs.declared.scheme.Scheme.TheVariants.{Shamir};
-ghost use Rattle.serve_core.specs.Taking.{IsGood, front_payload};
-ghost use Rattle.serve_core.specs.Terms.{most_blocks_for, payload_len_for};
+ghost use Rattle.wire_frames.specs.Sizes.{answer_len};
+ghost use Rattle.serve_core.specs.Taking.{IsGood};
 ghost use Rattle.shard_front.specs.Spread.{IsSpread, shards, terms_of};
-ghost use Rattle.shard_front.specs.Room.{Fits};
+ghost use Rattle.shard_front.specs.Room.{Fits, FitsShard};
+ghost use Rattle.shard_front.specs.RelayedQuery.{taken_from};
 ghost use Rattle.shard_front.specs.Asked.{lost_frame};
 ghost use Rattle.shard_front.specs.Stages.{Gives, RelaysQuery};
 ghost use Rattle.shard_front.specs.declared.relayed.Relayed.TheVariants.{ShardLost};
@@ -19,9 +18,10 @@ ghost use Rattle.shard_front.specs.Honest.{HonestTold};
 
 use crate::LOST;
 use crate::front::Front;
+use crate::query::RelayedQuery;
 use crate::relay::ask_shards;
 use crate::relayed::Relayed;
-use crate::room::Room;
+use crate::room::{Room, ShardRoom};
 use crate::spread::Spread;
 use port_rules::{Failed, Port, Ports, write_all};
 use serve_core::{Taken, take_query};
@@ -65,99 +65,59 @@ fn give_lost<P: Ports>(ports: &mut P, asked: &QueryHeader, number: u8) -> Relaye
     give(ports, &frame, Relayed::ShardLost(number))
 }
 
-/// Asks the shards for a query that was taken, and gives the guest their sum, or the frame that names a
-/// lost shard. The room is as long as the query takes.
+/// Asks the shards for a query, and gives the guest their sum, or the frame that names a lost shard. The
+/// frame is as long as the answer.
 fn relay_in<P: Ports>(
-    spread: Spread,
-    asked: &QueryHeader,
-    vectors: &[u8],
-    addresses: &[String],
-    part: &mut [u8],
-    answer: &mut [u8],
+    relay: &RelayedQuery,
+    room: &mut ShardRoom,
     frame: &mut [u8],
     ports: &mut P,
 ) -> Relayed
-    requires spread { IsSpread spread }
-    requires good { IsGood (terms_of spread) asked.now }
-    requires vectors { length vectors.now ≡ asked.now.count * spread.rows }
-    requires addresses { length addresses.now ≡ shards spread }
-    requires part { query_len Shamir asked.now.count spread.shard ≤ length part.old }
-    requires answer { length answer.old ≡ answer_len asked.now.count spread.width }
-    requires frame { length frame.old ≡ answer_len asked.now.count spread.width }
-    ensures relays { RelaysQuery spread asked.now vectors.now (map string_bytes addresses.now) result
-        (P.world ports.old) (P.world ports.new) }
+    requires fits { FitsShard relay.now.spread room.old }
+    requires frame { length frame.old ≡ answer_len relay.now.header.count relay.now.spread.width }
+    ensures fits { FitsShard relay.now.spread room.new }
+    ensures relays { RelaysQuery relay.now result (P.world ports.old) (P.world ports.new) }
 {
     let Some((header, sum)) = frame.split_first_chunk_mut() else {
         unreachable!()
     };
-    write_header(asked, 0, header);
-    match ask_shards(spread, asked, vectors, addresses, part, answer, sum, ports) {
+    write_header(relay.header(), 0, header);
+    match ask_shards(relay, room, sum, ports) {
         None => give(ports, frame, Relayed::Served),
-        Some(number) => give_lost(ports, asked, number),
+        Some(number) => give_lost(ports, relay.header(), number),
     }
 }
 
-/// The same in the front of room for the most blocks that a query asks for.
+/// Relays a query that was taken, whose payload stands at the start of the room for one.
 fn relay_query<P: Ports>(
     spread: Spread,
-    asked: &QueryHeader,
-    query: &[u8],
     addresses: &[String],
-    part: &mut [u8],
-    answer: &mut [u8],
-    frame: &mut [u8],
+    asked: &QueryHeader,
+    room: &mut Room,
     ports: &mut P,
 ) -> Relayed
     requires spread { IsSpread spread }
-    requires good { IsGood (terms_of spread) asked.now }
-    requires query { payload_len_for (terms_of spread) asked.now.count ≤ length query.now }
     requires addresses { length addresses.now ≡ shards spread }
-    requires part { length part.old ≡ query_len Shamir (most_blocks_for (terms_of spread)) spread.shard }
-    requires answer { length answer.old ≡ answer_len (most_blocks_for (terms_of spread)) spread.width }
-    requires frame { length frame.old ≡ answer_len (most_blocks_for (terms_of spread)) spread.width }
-    ensures relays { RelaysQuery spread asked.now (front_payload (terms_of spread) asked.now query.now)
-        (map string_bytes addresses.now) result (P.world ports.old) (P.world ports.new) }
+    requires good { IsGood (terms_of spread) asked.now }
+    requires fits { Fits spread room.old }
+    ensures fits { Fits spread room.new }
+    ensures relays { RelaysQuery (taken_from spread (map string_bytes addresses.now) asked.now room.old.query.items)
+        result (P.world ports.old) (P.world ports.new) }
 {
-    let size = answer_len(asked.count, spread.width);
-    let vectors = &query[..usize::from(asked.count) * spread.rows as usize];
-    let answer = &mut answer[..size];
-    let frame = &mut frame[..size];
-    relay_in(
-        spread, asked, vectors, addresses, part, answer, frame, ports,
-    )
+    let query = room.query.as_slice();
+    let frame = room.frame.as_mut_slice();
+    let relay = RelayedQuery {
+        spread,
+        addresses,
+        header: *asked,
+        vectors: &query[..usize::from(asked.count) * spread.rows as usize],
+    };
+    let frame = &mut frame[..answer_len(asked.count, spread.width)];
+    relay_in(&relay, &mut room.shard, frame, ports)
 }
 
 /// Takes the query of the guest that is in, and asks the shards for it, or refuses it.
-fn front_in<P: Ports>(
-    spread: Spread,
-    query: &mut [u8],
-    part: &mut [u8],
-    answer: &mut [u8],
-    frame: &mut [u8],
-    addresses: &[String],
-    ports: &mut P,
-) -> Relayed
-    requires spread { IsSpread spread }
-    requires query { length query.old ≡ payload_len_for (terms_of spread) (most_blocks_for (terms_of spread)) }
-    requires part { length part.old ≡ query_len Shamir (most_blocks_for (terms_of spread)) spread.shard }
-    requires answer { length answer.old ≡ answer_len (most_blocks_for (terms_of spread)) spread.width }
-    requires frame { length frame.old ≡ answer_len (most_blocks_for (terms_of spread)) spread.width }
-    requires addresses { length addresses.now ≡ shards spread }
-    ensures fronts { Fronts spread (map string_bytes addresses.now) result
-        (P.world ports.old) (P.world ports.new) }
-{
-    match take_query(SHAMIR, spread.rows, spread.width, query, ports) {
-        Taken::Query(asked) => relay_query(
-            spread, &asked, query, addresses, part, answer, frame, ports,
-        ),
-        Taken::Refused(status) => Relayed::Refused(status),
-        Taken::Gone => Relayed::Gone,
-        Taken::GuestFault => Relayed::GuestFault,
-    }
-}
-
-/// The same with the room of a front.
-pub(crate) fn front_within<P: Ports>(
+pub(crate) fn serve_within<P: Ports>(
     spread: Spread,
     room: &mut Room,
     addresses: &[String],
@@ -169,14 +129,14 @@ pub(crate) fn front_within<P: Ports>(
     ensures fits { Fits spread room.new }
     ensures fronts { Fronts spread (map string_bytes addresses.now) result
         (P.world ports.old) (P.world ports.new) }
-    ensures told { FrontsTold spread result (P.world ports.old) (P.world ports.new) }
-    ensures honest { HonestTold spread result (P.world ports.old) (P.world ports.new) }
 {
     let query = room.query.as_mut_slice();
-    let part = room.part.as_mut_slice();
-    let answer = room.answer.as_mut_slice();
-    let frame = room.frame.as_mut_slice();
-    front_in(spread, query, part, answer, frame, addresses, ports)
+    match take_query(SHAMIR, spread.rows, spread.width, query, ports) {
+        Taken::Query(asked) => relay_query(spread, addresses, &asked, room, ports),
+        Taken::Refused(status) => Relayed::Refused(status),
+        Taken::Gone => Relayed::Gone,
+        Taken::GuestFault => Relayed::GuestFault,
+    }
 }
 
 /// Serves the guest that is in, by asking the shards, of which there is one address each, in their order,
@@ -191,7 +151,7 @@ pub(crate) fn front_within<P: Ports>(
 /// touched, and the guest is given the frame of status 4, with that number behind the header. Where none is,
 /// it is given the frame of status 0 with the sum of the answers. Where each link gives what an honest server
 /// of its shard's rows replies, and no call fails, that is the reply of one server of all rows. Where a call on
-/// the guest fails, it was given nothing unless all that the reply takes was taken, and then a proper front of
+/// the guest fails, it was given nothing unless all that the reply takes was taken, and then a proper prefix of
 /// its frame. The front is the same after every guest. No memory is taken.
 pub fn front_one<P: Ports>(front: &mut Front, addresses: &[String], ports: &mut P) -> Relayed
     requires { length addresses.now ≡ shards front.old }
@@ -201,5 +161,5 @@ pub fn front_one<P: Ports>(front: &mut Front, addresses: &[String], ports: &mut 
     ensures honest { HonestTold front.old result (P.world ports.old) (P.world ports.new) }
     ensures kept { front.new ≡ front.old }
 {
-    front.meet(addresses, ports)
+    front.serve(addresses, ports)
 }
