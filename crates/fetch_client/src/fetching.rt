@@ -19,16 +19,13 @@ use std::sync::ledger::Ledger;
 use uni_poly::steps::Steps;
 use wire_frames::Session;
 
-/// What is fetched, from which servers, and whether a report is wanted beside the verdict.
-#[derive(Clone, Copy)]
-struct Fetch<'a> {
+/// What a fetch is given: what is fetched, from which servers, and whether a report is wanted beside the verdict.
+#[derive(Drop)]
+struct Inputs<'a> {
     plan: &'a FetchPlan,
     blocks: &'a [u32],
     addresses: &'a [String],
     report: bool,
-    ghost is_plan: { IsPlan plan.now },
-    ghost may_be_asked: { AreBlocks plan.now blocks.now },
-    ghost has_addresses: { length addresses.now ≡ plan.now.n },
 }
 
 /// Fetches blocks, from 1 to [`MOST_BLOCKS`](wire_frames::MOST_BLOCKS) in one query: takes the coins, asks every
@@ -73,13 +70,13 @@ pub fn fetch<I: Interpolate, C: Ledger, N: Ledger, P: Ports>(
     ensures listed { CountsListed (λ both. both.1) plan.now blocks.now result cols.old cols.new }
     ensures xor { plan.now.scheme ≡ XOR → (cols.new ≡ cols.old) × (nodes.new ≡ nodes.old) }
 {
-    let fetch = Fetch {
+    let inputs = Inputs {
         plan,
         blocks,
         addresses,
         report: false,
     };
-    let (session, verdict, _report) = fetch_with(alloc, way, fetch, ports, cols, nodes)?;
+    let (session, verdict, _report) = fetch_with(alloc, way, &inputs, ports, cols, nodes)?;
     Ok((session, verdict))
 }
 
@@ -113,13 +110,13 @@ pub fn fetch_report<I: Interpolate, C: Ledger, N: Ledger, P: Ports>(
     ensures listed { CountsListed (λ found. found.1) plan.now blocks.now result cols.old cols.new }
     ensures xor { plan.now.scheme ≡ XOR → (cols.new ≡ cols.old) × (nodes.new ≡ nodes.old) }
 {
-    let fetch = Fetch {
+    let inputs = Inputs {
         plan,
         blocks,
         addresses,
         report: true,
     };
-    fetch_with(alloc, way, fetch, ports, cols, nodes)
+    fetch_with(alloc, way, &inputs, ports, cols, nodes)
 }
 
 /// Fetches blocks, and judges what was answered, with the report beside the verdict where that is wanted.
@@ -130,20 +127,24 @@ pub fn fetch_report<I: Interpolate, C: Ledger, N: Ledger, P: Ports>(
 fn fetch_with<I: Interpolate, C: Ledger, N: Ledger, P: Ports>(
     alloc: Global,
     way: &I,
-    fetch: Fetch,
+    inputs: &Inputs,
     ports: &mut P,
     cols: &mut Steps<C>,
     nodes: &mut Steps<N>,
 ) -> Result<(Session, Verdict, Option<Report>), FetchFault>
-    ensures fetched { FetchesWith fetch.report
-        (request fetch.plan.now fetch.blocks.now (map string_bytes fetch.addresses.now)) result
+    requires plan { IsPlan inputs.now.plan.now }
+    requires blocks { AreBlocks inputs.now.plan.now inputs.now.blocks.now }
+    requires addresses { length inputs.now.addresses.now ≡ inputs.now.plan.now.n }
+    ensures fetched { FetchesWith inputs.now.report
+        (request inputs.now.plan.now inputs.now.blocks.now (map string_bytes inputs.now.addresses.now)) result
         (P.world ports.old) (P.world ports.new) }
-    ensures counted { CountsSteps fetch.plan.now fetch.blocks.now result (counters cols.old nodes.old) (counters cols.new nodes.new) }
+    ensures counted { CountsSteps inputs.now.plan.now inputs.now.blocks.now result
+        (counters cols.old nodes.old) (counters cols.new nodes.new) }
 {
-    let all = gather(alloc, fetch.plan, fetch.blocks, fetch.addresses, ports)?;
+    let all = gather(alloc, inputs.plan, inputs.blocks, inputs.addresses, ports)?;
     // What holds of every session is told by its calls alone.
     all.session.params();
     all.session.record_count();
-    let (verdict, report) = judge_with(alloc, way, &all.session, fetch.report, cols, nodes)?;
+    let (verdict, report) = judge_with(alloc, way, &all.session, inputs.report, cols, nodes)?;
     Ok((all.session, verdict, report))
 }

@@ -8,6 +8,9 @@ use Rattle.fetch_client.specs.Fetched.{Concludes, ConcludesWith}
 use Rattle.fetch_client.proofs.Counts.{counted_alike, failed_alike}
 use Rattle.fetch_client.proofs.fetching.fetch.Goals as goal
 
+pub fetch_with-requires : goal.fetch_with-requires
+fetch_with-requires g c = c.requires
+
 pub returns-in_err-session-clause-fetched : goal.returns-in_err-session-clause-fetched
 returns-in_err-session-clause-fetched g c =
     let fault = err_from_is_err_and c.from_residual.result c.from_residual.ensures.1 in

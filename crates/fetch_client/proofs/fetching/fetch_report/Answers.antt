@@ -1,6 +1,9 @@
 use Rattle.fetch_client.proofs.Counts.{with_report}
 use Rattle.fetch_client.proofs.fetching.fetch_report.Goals as goal
 
+pub fetch_with-requires : goal.fetch_with-requires
+fetch_with-requires g c = c.requires
+
 pub returns-clause-fetched : goal.returns-clause-fetched
 returns-clause-fetched g c = with_report _ _ _ c.fetch_with.result c.fetch_with.ensures.fetched.fetched
 

@@ -6,9 +6,7 @@ use Rattle.fetch_client.proofs.Counts.{counts_judged, counts_unjudged, is_judged
 use Rattle.fetch_client.proofs.fetching.fetch_with.Goals as goal
 
 pub gather-requires : goal.gather-requires
-gather-requires g c =
-    let f = c.args.fetch in
-    record { plan = f.is_plan; blocks = f.may_be_asked; addresses = f.has_addresses }
+gather-requires g c = c.requires
 
 pub judge_with-requires : goal.judge_with-requires
 judge_with-requires g c =
@@ -18,7 +16,7 @@ judge_with-requires g c =
 pub returns-in_err-all : goal.returns-in_err-all
 returns-in_err-all g c =
     let fault = err_from_is_err_and c.from_residual.result c.from_residual.ensures.1 in
-    let f = c.args.fetch in
+    let f = c.args.inputs.now in
     let r = request f.plan.now f.blocks.now (map string_bytes f.addresses.now) in
     record {
       fetched = not_gathered f.report r _ _ c.from_residual.result fault.0 _ fault.1 fault.2 c.in_err-all.ensures.gathered c.in_err-all.ensures.others;
@@ -30,7 +28,7 @@ returns-in_err-verdict g c =
     let failed = c.from_residual-in_err-verdict in
     let fault = err_from_is_err_and failed.result failed.ensures.1 in
     let all = c.in_ok-all.ensures in
-    let f = c.args.fetch in
+    let f = c.args.inputs.now in
     let r = request f.plan.now f.blocks.now (map string_bytes f.addresses.now) in
     let gathered = c.in_ok-all.all in
     record {
@@ -42,13 +40,13 @@ returns-in_err-verdict g c =
 pub returns : goal.returns
 returns g c =
     let all = c.in_ok-all.ensures in
-    let f = c.args.fetch in
+    let f = c.args.inputs.now in
     let r = request f.plan.now f.blocks.now (map string_bytes f.addresses.now) in
     let gathered = c.in_ok-all.all in
     let judged = c.in_ok-verdict in
     record {
       fetched = is_judged f.report r _ _ gathered.queries.coins gathered.session all.gathered.asked judged.verdict judged.report _ _ _ _
-          f.is_plan f.may_be_asked c.params.ensures.range c.record_count.ensures.fits all.others judged.ensures;
+          c.requires.plan c.requires.blocks c.params.ensures.range c.record_count.ensures.fits all.others judged.ensures;
       counted = counts_judged f.report r _ _ gathered.queries.coins gathered.session all.gathered.asked _ _ _ _
           judged.verdict judged.report judged.ensures;
     }
