@@ -1,8 +1,8 @@
 //! A search by key among rows that ascend, with a fixed number of turns.
 
-ghost use Rattle.std.specs.Prelude.{◌≡◌, ℕ, ◌-◌, ◌^◌, ◌<◌, ◌≤◌, List, [], ◌∷◌, ◌++◌, Option, length, IfOk, IfSome, option_copied, slice_get};
+ghost use Rattle.std.specs.Prelude.{◌≡◌, ◌-◌, ◌^◌, ◌<◌, ◌≤◌, [], length, IfOk, IfSome, option_copied};
 ghost use Rattle.key_search.specs.Standing.{IsNextTurn, asked_row, key_order, left_above, left_below, middle_row, standing_after, standing_at_start, standing_by, turns_of, with_found};
-ghost use Rattle.key_search.specs.Answers.{AreSortedByKey, EndsAs, EndsBy, Finds, IsLookUp, WasTold};
+ghost use Rattle.key_search.specs.Answers.{BeginsLookUp, EndsAs, EndsByAnswers, FindsAmongRows, IsToldMore, LooksUpMore, WasTold};
 
 use crate::key::Key;
 use std::alloc::{AllocError, Global};
