@@ -1,4 +1,4 @@
-use Rattle.std.proofs.Common.{◌≡◌, [], ◌∷◌, map, string_bytes, refl, subst, sym, arith}
+use Rattle.std.proofs.Common.{◌≡◌, map, string_bytes, refl, subst, sym, arith}
 use Rattle.query_rounds.proofs.Ranges.{one_block}
 use Rattle.commands.specs.DemoOrder.{DemoOrder, addresses_of_children, words_of_children}
 use Rattle.commands.specs.DemoOutcome.{DemoOutcome, StartsSome}

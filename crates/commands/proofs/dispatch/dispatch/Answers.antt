@@ -70,7 +70,7 @@ returns-in-Split-clause-outcome g c =
 pub returns-in-Split-clause-promise : goal.returns-in-Split-clause-promise
 returns-in-Split-clause-promise g c =
     subst (λ (o : Order). Promise o c.split_file.result (g.P.Ports.world c.args.ports.now) (g.P.Ports.world c.split_file.new.ports)) (sym c.in-Split.is)
-    (split_promised _ _ _ _ (omega (arith, c.order.invariant.0, ap (λ (s : SplitOrder). s.width) c.order.view_is)) c.split_file.ensures.ends)
+    (split_promised _ _ _ _ (omega (arith, c.order-in-Split.invariant.0, ap (λ (s : SplitOrder). s.width) c.order-in-Split.view_is)) c.split_file.ensures.ends)
 
 pub returns-in-Front-clause-outcome : goal.returns-in-Front-clause-outcome
 returns-in-Front-clause-outcome g c =
