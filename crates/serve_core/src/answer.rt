@@ -1,5 +1,5 @@
 //! The answer to a query that was taken.
-ghost use Rattle.std.specs.Prelude.{◌≡◌, ◌*◌, ◌≤◌, ◌++◌, length, drop};
+ghost use Rattle.std.specs.Prelude.{◌≡◌, ◌*◌, ◌≤◌, ◌++◌, length, drop, take};
 ghost use Rattle.port_rules.specs.Number.{GUEST};
 ghost use Rattle.port_rules.specs.Moves.{Touches};
 ghost use Rattle.wire_frames.specs.declared.sizes.TheConstants.{FRAME_HEADER_LEN};
@@ -7,7 +7,13 @@ ghost use Rattle.quantity_limits.specs.declared.TheConstants.{MOST_BLOCKS};
 ghost use Rattle.wire_frames.specs.Header.{answer_to, query_header};
 ghost use Rattle.wire_frames.specs.Limits.{IsQuery};
 ghost use Rattle.serve_core.specs.Terms.{payload_len_for};
-ghost use Rattle.serve_core.specs.Service.{frame_len_for, sums_len_for, terms_of};
+ghost use Rattle.serve_core.specs.Service.{
+  frame_len_for,
+  most_frame_for,
+  most_sums_for,
+  sums_len_for,
+  terms_of,
+};
 ghost use Rattle.serve_core.specs.Reply.{answer_frame, answers};
 ghost use Rattle.serve_core.specs.Room.{Fits};
 ghost use Rattle.serve_core.specs.Taking.{IsGood};
@@ -21,9 +27,7 @@ use port_rules::Ports;
 use server_answer::answers_into;
 use server_product::{Gate, products_into};
 use std::thread::Threads;
-use wire_frames::{
-    FRAME_HEADER_LEN, QueryHeader, Scheme, answer_len, write_answer_header, write_query_header,
-};
+use wire_frames::{FRAME_HEADER_LEN, QueryHeader, Scheme, write_answer_header, write_query_header};
 
 /// A query that was taken: its header, and its vectors, one behind another.
 #[derive(Drop)]
@@ -94,6 +98,31 @@ fn write_frame<R: Threads + Sync, G: Gate + Sync>(
     write_rows(rt, service, query, scratch, gate, rows);
 }
 
+/// Writes the frame of the answer to a query at the start of the room for one.
+fn write_within<R: Threads + Sync, G: Gate + Sync>(
+    rt: &R,
+    service: &Service,
+    query: &Query,
+    scratch: &mut [u8],
+    gate: &G,
+    frame: &mut [u8],
+)
+    requires good { IsGood (terms_of service.now) query.now.asked }
+    requires query { length query.now.vectors.now
+        ≡ payload_len_for (terms_of service.now) query.now.asked.count }
+    requires scratch { length scratch.old ≡ most_sums_for service.now }
+    requires room { length frame.old ≡ most_frame_for service.now }
+    ensures frame { take (frame_len_for service.now query.now.asked.count) frame.new
+        ≡ answer_frame service.now (query_header query.now.asked) query.now.vectors.now }
+    ensures size { frame_len_for service.now query.now.asked.count ≤ length frame.new }
+    ensures scratch { length scratch.new ≡ length scratch.old }
+{
+    let count = query.asked.count;
+    let scratch = &mut scratch[..service.sums_len(count)];
+    let frame = &mut frame[..service.frame_len(count)];
+    write_frame(rt, service, query, scratch, gate, frame);
+}
+
 /// Gives the guest the answer to its query, whose payload stands at the start of the room for one.
 pub(crate) fn answer_query<R: Threads + Sync, G: Gate + Sync, P: Ports>(
     rt: &R,
@@ -110,16 +139,18 @@ pub(crate) fn answer_query<R: Threads + Sync, G: Gate + Sync, P: Ports>(
         (P.world ports.old) (P.world ports.new) }
     ensures others { Touches GUEST (P.world ports.old) (P.world ports.new) }
 {
-    let count = asked.count;
     let payload = room.query.as_slice();
     let scratch = room.scratch.as_mut_slice();
     let frame = room.frame.as_mut_slice();
     let query = Query {
         asked: *asked,
-        vectors: &payload[..service.payload_len(count)],
+        vectors: &payload[..service.payload_len(asked.count)],
     };
-    let scratch = &mut scratch[..service.sums_len(count)];
-    let frame = &mut frame[..answer_len(count, service.matrix().width())];
-    write_frame(rt, service, &query, scratch, gate, frame);
-    give(ports, frame, Met::Served)
+    write_within(rt, service, &query, scratch, gate, frame);
+    let written = room.frame.as_slice();
+    give(
+        ports,
+        &written[..service.frame_len(asked.count)],
+        Met::Served,
+    )
 }

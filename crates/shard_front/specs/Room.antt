@@ -1,5 +1,5 @@
 -- The room that a front takes.
-use Rattle.std.specs.Prelude.{◌≡◌, vec_len}
+use Rattle.std.specs.Prelude.{◌≡◌, ℕ, vec_len}
 use Rattle.wire_frames.specs.Sizes.{answer_len, query_len}
 use Rattle.wire_frames.specs.declared.scheme.Scheme.TheVariants.{Shamir}
 use Rattle.serve_core.specs.Terms.{most_blocks_for, most_payload_for}

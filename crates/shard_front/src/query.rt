@@ -49,6 +49,8 @@ impl<'a> RelayedQuery<'a> {
     /// Its header.
     pub(crate) fn header(&self) -> &QueryHeader
         ensures is { result.now ≡ self.now.header }
+        ensures width { result.now.s ≡ self.now.spread.width }
+        ensures few { result.now.count ≤ most_blocks_for (terms_of self.now.spread) }
         ensures range { IsQuery result.now }
     {
         &self.header

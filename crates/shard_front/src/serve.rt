@@ -4,10 +4,9 @@ ghost use Rattle.port_rules.specs.Number.{GUEST};
 ghost use Rattle.port_rules.specs.Moves.{Touches};
 ghost use Rattle.wire_frames.specs.Header.{answer_header};
 ghost use Rattle.wire_frames.specs.Limits.{IsQuery};
-ghost use Rattle.wire_frames.specs.Sizes.{answer_len};
 ghost use Rattle.serve_core.specs.Taking.{IsGood};
 ghost use Rattle.shard_front.specs.Spread.{IsSpread, shards, terms_of};
-ghost use Rattle.shard_front.specs.Room.{Fits, FitsShard};
+ghost use Rattle.shard_front.specs.Room.{Fits, FitsShard, most_answer_for};
 ghost use Rattle.shard_front.specs.RelayedQuery.{taken_from};
 ghost use Rattle.shard_front.specs.Asked.{lost_frame};
 ghost use Rattle.shard_front.specs.Stages.{Gives, RelaysQuery};
@@ -65,8 +64,8 @@ fn give_lost<P: Ports>(ports: &mut P, asked: &QueryHeader, number: u8) -> Relaye
     give(ports, &frame, Relayed::ShardLost(number))
 }
 
-/// Asks the shards for a query, and gives the guest their sum, or the frame that names a lost shard. The
-/// frame is as long as the answer.
+/// Asks the shards for a query, and gives the guest their sum, or the frame that names a lost shard. There is
+/// room for the frame.
 fn relay_in<P: Ports>(
     relay: &RelayedQuery,
     room: &mut ShardRoom,
@@ -74,17 +73,19 @@ fn relay_in<P: Ports>(
     ports: &mut P,
 ) -> Relayed
     requires fits { FitsShard relay.now.spread room.old }
-    requires frame { length frame.old ≡ answer_len relay.now.header.count relay.now.spread.width }
+    requires frame { length frame.old ≡ most_answer_for relay.now.spread }
     ensures fits { FitsShard relay.now.spread room.new }
     ensures relays { RelaysQuery relay.now result (P.world ports.old) (P.world ports.new) }
 {
+    let asked = relay.header();
+    let frame = &mut frame[..answer_len(asked.count, asked.s)];
     let Some((header, sum)) = frame.split_first_chunk_mut() else {
         unreachable!()
     };
-    write_header(relay.header(), 0, header);
+    write_header(asked, 0, header);
     match ask_shards(relay, room, sum, ports) {
         None => give(ports, frame, Relayed::Served),
-        Some(number) => give_lost(ports, relay.header(), number),
+        Some(number) => give_lost(ports, asked, number),
     }
 }
 
@@ -112,7 +113,6 @@ fn relay_query<P: Ports>(
         header: *asked,
         vectors: &query[..usize::from(asked.count) * spread.rows as usize],
     };
-    let frame = &mut frame[..answer_len(asked.count, spread.width)];
     relay_in(&relay, &mut room.shard, frame, ports)
 }
 

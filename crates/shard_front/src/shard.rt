@@ -4,7 +4,7 @@ ghost use Rattle.port_rules.specs.Number.{link};
 ghost use Rattle.port_rules.specs.Moves.{Touches};
 ghost use Rattle.shard_front.specs.Spread.{shards};
 ghost use Rattle.shard_front.specs.Parts.{part_at};
-ghost use Rattle.shard_front.specs.Room.{FitsShard};
+ghost use Rattle.shard_front.specs.Room.{FitsShard, most_answer_for, most_part_for};
 ghost use Rattle.shard_front.specs.Shard.{AddsUsable, AsksShard};
 
 use crate::links::ask;
@@ -30,7 +30,35 @@ fn add_payload(bytes: &[u8], header: &QueryHeader, sum: &mut [u8]) -> bool
 }
 
 /// Asks the shard at a place, counted from 0, for its part of a query, and adds the payload of its answer to
-/// the sum. It says whether it answered.
+/// the sum. It says whether it answered. There is room for the part and for the answer.
+fn ask_part<P: Ports>(
+    relay: &RelayedQuery,
+    place: u8,
+    part: &mut [u8],
+    answer: &mut [u8],
+    sum: &mut [u8],
+    ports: &mut P,
+) -> bool
+    requires there { place < shards relay.now.spread }
+    requires part { length part.old ≡ most_part_for relay.now.spread }
+    requires answer { length answer.old ≡ most_answer_for relay.now.spread }
+    requires sum { length sum.old ≡ relay.now.header.count * relay.now.spread.width }
+    ensures asks { AsksShard (part_at relay.now place) result sum.old sum.new
+        ((P.world ports.old).at (link 1 + place)) ((P.world ports.new).at (link 1 + place)) }
+    ensures others { Touches (link 1 + place) (P.world ports.old) (P.world ports.new) }
+{
+    let header = relay.header_to(place);
+    let part = &mut part[..query_len(Scheme::Shamir, header.count, header.r)];
+    relay.write_part(place, part);
+    let answer = &mut answer[..answer_len(header.count, header.s)];
+    let address = relay.address(place);
+    match ask(ports, place + 1, address, part, answer) {
+        Some(came) => add_payload(&answer[..came], &header, sum),
+        None => false,
+    }
+}
+
+/// The same with the room for one shard.
 pub(crate) fn add_shard<P: Ports>(
     relay: &RelayedQuery,
     place: u8,
@@ -46,15 +74,7 @@ pub(crate) fn add_shard<P: Ports>(
         ((P.world ports.old).at (link 1 + place)) ((P.world ports.new).at (link 1 + place)) }
     ensures others { Touches (link 1 + place) (P.world ports.old) (P.world ports.new) }
 {
-    let header = relay.header_to(place);
     let part = room.part.as_mut_slice();
-    let part = &mut part[..query_len(Scheme::Shamir, header.count, header.r)];
-    relay.write_part(place, part);
     let answer = room.answer.as_mut_slice();
-    let answer = &mut answer[..answer_len(header.count, header.s)];
-    let address = relay.address(place);
-    match ask(ports, place + 1, address, part, answer) {
-        Some(came) => add_payload(&answer[..came], &header, sum),
-        None => false,
-    }
+    ask_part(relay, place, part, answer, sum, ports)
 }
