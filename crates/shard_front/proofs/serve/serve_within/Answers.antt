@@ -8,8 +8,10 @@ use Rattle.shard_front.proofs.Fronting.{fronts_query}
 use Rattle.shard_front.proofs.serve.serve_within.Goals as goal
 
 pub take_query-requires : goal.take_query-requires
-take_query-requires g c =
-    subst (λ (n : ℕ). most_payload_for (terms_of c.args.spread) ≤ n) (sym (c.as_mut_slice-query.ensures.len ∙ c.requires.fits.query)) (omega arith)
+take_query-requires g c = record {
+  room = subst (λ (n : ℕ). most_payload_for (terms_of c.args.spread) ≤ n)
+      (sym (c.as_mut_slice-query.ensures.len ∙ c.requires.fits.query)) (omega arith);
+}
 
 pub returns-in-Query-clause-fronts : goal.returns-in-Query-clause-fronts
 returns-in-Query-clause-fronts g c =
