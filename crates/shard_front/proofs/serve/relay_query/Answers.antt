@@ -2,7 +2,7 @@ use Rattle.std.proofs.Common.{◌≡◌, ◌∙◌, ◌*◌, ◌≤◌, ℕ, Lis
 use Rattle.std.proofs.lemmas.List.{length-take-le}
 use Rattle.wire_frames.specs.declared.header.QueryHeader.{QueryHeader}
 use Rattle.serve_core.specs.Taking.{IsGood}
-use Rattle.serve_core.specs.Terms.{most_payload_for, payload_len_for}
+use Rattle.serve_core.specs.Terms.{most_payload_for}
 use Rattle.serve_core.proofs.RoomFor.{payload_fits}
 use Rattle.shard_front.specs.declared.spread.Spread.{Spread}
 use Rattle.shard_front.specs.Spread.{terms_of}
