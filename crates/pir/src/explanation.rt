@@ -2,9 +2,9 @@
 
 use commands::{Bad, Status};
 use link_notes::{Notes, say_links, say_next_look};
-use pir_words::reason_for;
 use std::alloc::{AllocError, Global};
 use std::fmt::Write;
+use word_reasons::reason_for;
 
 /// Adds a line on words that have no form. No words are those that are no UTF-8.
 fn explain_words(

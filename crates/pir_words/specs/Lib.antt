@@ -12,4 +12,3 @@ pub mod SplitForm
 pub mod FrontForm
 pub mod Form
 pub mod Table
-pub mod Reason

@@ -28,7 +28,8 @@ pub enum Kind {
 #[derive(Clone, Copy)]
 pub struct Form<'a> {
     name: &'a str,
-    pub(crate) arguments: &'a [(&'a str, Kind)],
+    /// Its arguments, in the order in which they are told of.
+    pub arguments: &'a [(&'a str, Kind)],
 }
 
 /// The commands of `pir`.
@@ -131,14 +132,14 @@ const COMMANDS: &[Form<'static>] = &[
 
 impl Kind {
     /// Whether the argument's name is written.
-    pub(crate) fn is_long(self) -> bool
+    pub fn is_long(self) -> bool
         ensures { result ≡ is_long self }
     {
         matches!(self, Kind::Required | Kind::Optional | Kind::Flag)
     }
 
     /// Whether it has to be given.
-    pub(crate) fn is_required(self) -> bool
+    pub fn is_required(self) -> bool
         ensures { result ≡ is_required self }
     {
         matches!(self, Kind::Required | Kind::Operand | Kind::Operands)

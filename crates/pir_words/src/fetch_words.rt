@@ -18,7 +18,7 @@ use wire_frames::{LEAST_SERVERS, MOST_SERVERS, Scheme};
 
 /// The addresses, of no more servers than there may be.
 #[tactic(auto, unfolding(crate::specs::FetchForm::addresses_in))]
-pub(crate) fn addresses_at<'a, 'b>(matches: &'b ArgMatches<'a>) -> Option<&'b [&'a str]>
+pub fn addresses_at<'a, 'b>(matches: &'b ArgMatches<'a>) -> Option<&'b [&'a str]>
     ensures value { option_map (λ s. map (λ v. v.now) s.now) result ≡ addresses_in (given matches.now) }
     ensures few { IfSome result (λ s. length s.now ≤ MOST_SERVERS) }
 {
@@ -45,7 +45,7 @@ fn xor_sharing_at(matches: &ArgMatches, servers: u8) -> Option<Sharing>
 
 /// The degree and the agreement of `servers` servers in a scheme.
 #[tactic(auto, unfolding(crate::specs::FetchForm::fetch_sharing_in))]
-pub(crate) fn fetch_sharing_at(matches: &ArgMatches, scheme: Scheme, servers: u8) -> Option<Sharing>
+pub fn fetch_sharing_at(matches: &ArgMatches, scheme: Scheme, servers: u8) -> Option<Sharing>
     ensures { result ≡ fetch_sharing_in scheme servers (given matches.now) }
 {
     match scheme {
@@ -57,7 +57,7 @@ pub(crate) fn fetch_sharing_at(matches: &ArgMatches, scheme: Scheme, servers: u8
 /// The degree in which the database is shared, 0 where it isn't given: with that of the queries it is less than the
 /// agreement. In the XOR scheme it is not given.
 #[tactic(auto, unfolding(crate::specs::FetchForm::tau_in))]
-pub(crate) fn tau_at(matches: &ArgMatches, scheme: Scheme, sharing: Sharing) -> Option<u8>
+pub fn tau_at(matches: &ArgMatches, scheme: Scheme, sharing: Sharing) -> Option<u8>
     ensures { result ≡ tau_in scheme sharing (given matches.now) }
 {
     let given = text_at(matches, "tau");

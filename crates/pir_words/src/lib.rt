@@ -8,16 +8,17 @@
 //! Not promised: that a file or an address is one. Any text is a name, the empty one too. `help`,
 //! `--help` and `--version` are a faulty command line.
 //!
+//! What reads a single value is public for `word_reasons`, which says why words have no form.
+//!
 //! A command that is to come takes a variant of [`Asked`], an app in `specs/Command.antt` and a row
 //! in the table of `command`, a form in `specs/` and a module that reads it, and an arm of
 //! `read_command`.
 #![tactic(auto)]
 
-ghost use Rattle.std.specs.Prelude.{◌≡◌, true, false, IfErr, IfOk, IfSome, is_none, is_some, map, string_bytes};
+ghost use Rattle.std.specs.Prelude.{◌≡◌, true, false, IfErr, IfOk, map, string_bytes};
 ghost use Rattle.clap.specs.Words.{subcommand_of, subcommand_rows_of};
 ghost use Rattle.pir_words.specs.Numbers.{given};
 ghost use Rattle.pir_words.specs.Command.{pir};
-ghost use Rattle.pir_words.specs.Reason.{Hides};
 ghost use Rattle.pir_words.specs.Form.{IsReadAs, InRange, are_taken, asked_by, asked_in, asked_of};
 
 mod asked;
@@ -28,36 +29,32 @@ mod fetch_words;
 mod front_words;
 mod lookup_words;
 mod ranges;
-mod reason;
 mod replay_words;
 mod selfrun_words;
 mod serve_words;
 mod split_words;
 mod text;
-mod value_faults;
 mod values;
-mod word_faults;
 
 pub use asked::{Asked, WordsFault};
 pub use blocks::Blocks;
 use clap::ArgMatches;
-use clap::error::ErrorKind;
-use command::pir_command;
+pub use command::{Form, Kind, form_named, pir_command};
 use demo_words::read_demo;
 use fetch_words::read_fetch;
+pub use fetch_words::{addresses_at, fetch_sharing_at, tau_at};
 use front_words::read_front;
 use lookup_words::read_lookup;
 pub use quantity_limits::MOST_SHARDS;
-pub use reason::{Amount, Named, OptionFault, Reason, Relation, Wanted};
+pub use ranges::{Sharing, Sizes, block_at, scheme_at, servers_at, sharing_at, sizes_at};
 use replay_words::read_replay;
 use selfrun_words::read_selfrun;
 use serve_words::read_serve;
 use split_words::read_split;
-use std::alloc::{AllocError, Global};
+use std::alloc::Global;
 pub use text::{Text, Texts};
-use value_faults::value_reason;
+pub use values::{limited_at, number_at, number_of, text_at, texts_at};
 use wire_frames::MOST_DEGREE;
-use word_faults::word_fault;
 
 /// The least port of a demonstration, whose servers listen at those that follow it.
 pub const LEAST_PORT: u16 = 1024;
@@ -167,44 +164,4 @@ pub fn read_words(alloc: Global, words: &[String]) -> Result<Asked, WordsFault>
 {
     let matches = parse(alloc, words)?;
     read_matches(alloc, &matches)
-}
-
-/// Why words that have no form have none.
-fn refusal<'a>(alloc: Global, words: &'a [String]) -> Result<Reason<'a>, AllocError>
-    ensures { IfOk result Hides }
-{
-    match pir_command(alloc)?.try_get_matches_from(words) {
-        Ok(matches) => Ok(value_reason(&matches)),
-        Err(error) => match error.kind() {
-            ErrorKind::OutOfMemory => Err(AllocError),
-            kind => match word_fault(words) {
-                Some(reason) => Ok(reason),
-                None => Ok(Reason::Refused(kind)),
-            },
-        },
-    }
-}
-
-/// Why the words have no form, where they have none: a fault of their options first, and then the first value that isn't in its
-/// range. No value of `--key`, `--block` or `--more` stands in it.
-///
-/// # Errors
-///
-/// `AllocError` if memory is short.
-///
-/// ```
-/// // The words are `serve --database rows --width 82000 --conns 1 --listen localhost:7001`.
-/// if let Some(reason) = reason_for(alloc, &words)? {
-///     eprintln!(rt; "words: {reason}")?; // words: --width 82000 is above 65536
-/// }
-/// ```
-pub fn reason_for<'a>(alloc: Global, words: &'a [String]) -> Result<Option<Reason<'a>>, AllocError>
-    ensures given { IfOk result (λ reason. is_none reason ≡ is_some (asked_of (map string_bytes words.now))) }
-    ensures hides { IfOk result (λ reason. IfSome reason Hides) }
-{
-    match read_words(alloc, words) {
-        Ok(_) => Ok(None),
-        Err(WordsFault::Memory) => Err(AllocError),
-        Err(WordsFault::Usage) => Ok(Some(refusal(alloc, words)?)),
-    }
 }

@@ -111,8 +111,13 @@ pub fn gather<'a, P: Ports>(
     let mut queries = Queries::with_room(alloc, plan, blocks)?;
     let mut room = room_for(alloc, &queries)?;
     ask_servers(&mut queries, addresses, ports, &mut room)?;
-    Ok(Gathered {
-        queries,
-        session: room.session,
-    })
+    let Room {
+        mut frame,
+        answer: _,
+        reached: _,
+        session,
+    } = room;
+    // The query of the last server isn't left in memory.
+    frame.fill(0);
+    Ok(Gathered { queries, session })
 }

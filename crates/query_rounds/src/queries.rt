@@ -24,7 +24,6 @@ use wire_frames::{
 };
 
 /// What the servers are asked: a plan, the blocks, and the coins for them, which are zeros until they are taken.
-#[derive(Drop)]
 pub struct Queries<'a> {
     plan: FetchPlan,
     blocks: &'a [u32],
@@ -40,6 +39,18 @@ impl<'a> Model for Queries<'a> {
 
     ghost invariant = { λ q.
         AreQueries (record { plan = q.plan; blocks = q.blocks.now; coins = q.coins.items }) };
+}
+
+impl<'a> Drop for Queries<'a> {
+    /// Clears the coins, so that they aren't left in memory.
+    fn drop(self) {
+        let Queries {
+            plan: _,
+            blocks: _,
+            mut coins,
+        } = self;
+        coins.fill(0);
+    }
 }
 
 impl<'a> Queries<'a> {

@@ -180,5 +180,9 @@ pub fn split<P: Ports>(
     let bytes = matrix.bytes();
     let mut coins = vec![in alloc; 0; bytes.len() * usize::from(plan.tau)]?;
     let mut room = vec![in alloc; 0; bytes.len().min(PIECE)]?;
-    split_bytes(bytes, plan, &names, ports, &mut coins, &mut room)
+    let split = split_bytes(bytes, plan, &names, ports, &mut coins, &mut room);
+    // Coins and shares aren't left in memory.
+    coins.fill(0);
+    room.fill(0);
+    split
 }

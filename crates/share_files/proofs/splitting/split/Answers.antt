@@ -17,10 +17,10 @@ none_split plan bytes result fault w is out = subst (λ (r : Result (Unit {0}) S
 
 pub returns-clause-splits : goal.returns-clause-splits
 returns-clause-splits g c =
-    subst (λ (bytes : List ℕ). Splits c.args.plan.now bytes c.split_bytes.result (g.P.Ports.world c.args.ports.now) (g.P.Ports.world c.split_bytes.new.ports)) c.bytes-bytes.ensures.is c.split_bytes.ensures.splits
+    subst (λ (bytes : List ℕ). Splits c.args.plan.now bytes c.split_bytes-split.result (g.P.Ports.world c.args.ports.now) (g.P.Ports.world c.split_bytes-split.new.ports)) c.bytes-bytes.ensures.is c.split_bytes-split.ensures.splits
 
 pub returns-clause-others : goal.returns-clause-others
-returns-clause-others g c = c.split_bytes.ensures.others
+returns-clause-others g c = c.split_bytes-split.ensures.others
 
 pub returns-in_err-names-clause-others : goal.returns-in_err-names-clause-others
 returns-in_err-names-clause-others g c = none_touched c.args.plan.now.servers (g.P.Ports.world c.args.ports.now)
@@ -46,23 +46,23 @@ returns-in_err-room-clause-splits g c =
     let p = err_from_is_err_and c.from_residual-in_err-room.result c.from_residual-in_err-room.ensures.1 in
     none_split c.args.plan.now _ c.from_residual-in_err-room.result p.0 (g.P.Ports.world c.args.ports.now) p.1 p.2
 
-pub split_bytes-requires-clause-names : goal.split_bytes-requires-clause-names
-split_bytes-requires-clause-names g c =
+pub split_bytes-split-requires-clause-names : goal.split_bytes-split-requires-clause-names
+split_bytes-split-requires-clause-names g c =
     ap (map string_bytes) c.deref.ensures.value ∙ c.in_ok-names.ensures.names
     ∙ ap (λ (p : SplitPlan). share_names p.into p.servers) c.plan.view_is
 
-pub split_bytes-requires-clause-count : goal.split_bytes-requires-clause-count
-split_bytes-requires-clause-count g c =
+pub split_bytes-split-requires-clause-count : goal.split_bytes-split-requires-clause-count
+split_bytes-split-requires-clause-count g c =
     c.deref.ensures.len ∙ c.in_ok-names.ensures.count ∙ ap (λ (p : SplitPlan). p.servers) c.plan.view_is
 
-pub split_bytes-requires-clause-some : goal.split_bytes-requires-clause-some
-split_bytes-requires-clause-some g c = c.bytes-bytes.ensures.some
+pub split_bytes-split-requires-clause-some : goal.split_bytes-split-requires-clause-some
+split_bytes-split-requires-clause-some g c = c.bytes-bytes.ensures.some
 
-pub split_bytes-requires-clause-coins : goal.split_bytes-requires-clause-coins
-split_bytes-requires-clause-coins g c =
+pub split_bytes-split-requires-clause-coins : goal.split_bytes-split-requires-clause-coins
+split_bytes-split-requires-clause-coins g c =
     c.deref_mut.ensures.len ∙ c.in_ok-coins.ensures.len
     ∙ ap (λ n. length c.bytes-bytes.result.now * n) (c.from.ensures ∙ ap (λ (p : SplitPlan). p.tau) c.plan.view_is)
 
-pub split_bytes-requires-clause-room : goal.split_bytes-requires-clause-room
-split_bytes-requires-clause-room g c =
+pub split_bytes-split-requires-clause-room : goal.split_bytes-split-requires-clause-room
+split_bytes-split-requires-clause-room g c =
     omega (arith, c.deref_mut-2.ensures.len, c.in_ok-room.ensures.len, c.min.ensures, c.bytes-bytes.ensures.some)

@@ -1,10 +1,10 @@
 //! What is wrong with words that `clap` refuses.
 
 ghost use Rattle.std.specs.Prelude.{◌<◌, length, IfSome};
-ghost use Rattle.pir_words.specs.Reason.{Hides};
+ghost use Rattle.word_reasons.specs.Reason.{Hides};
 
-use crate::command::{Form, Kind, form_named};
 use crate::reason::{OptionFault, Reason};
+use pir_words::{Form, Kind, form_named};
 
 /// Whether a word is an option where it stands: it begins with `-`, and goes on.
 fn is_option(word: &str) -> bool {

@@ -1,7 +1,7 @@
 //! Why words have no form, in words.
 
 ghost use Rattle.std.specs.Prelude.{◌≡◌};
-ghost use Rattle.pir_words.specs.Reason.{HidesNumber, is_secret};
+ghost use Rattle.word_reasons.specs.Reason.{HidesNumber, is_secret};
 
 use clap::error::ErrorKind;
 use std::fmt::{self, Display, Formatter, Write};

@@ -2,11 +2,11 @@
 use Rattle.std.specs.Prelude.{◌≡◌, ◌||◌, Bool, true, codes, None}
 use Rattle.std.specs.Str.{bytes_eq}
 use Rattle.clap.specs.Words.{Text}
-use Rattle.pir_words.specs.declared.reason.Amount.{Amount}
-use Rattle.pir_words.specs.declared.reason.Amount.TheVariants.{Limit, Of, Times, Plus}
-use Rattle.pir_words.specs.declared.reason.Named.{Named}
-use Rattle.pir_words.specs.declared.reason.Reason.{Reason}
-use Rattle.pir_words.specs.declared.reason.Reason.TheVariants.{Unread, Compared}
+use Rattle.word_reasons.specs.declared.reason.Amount.{Amount}
+use Rattle.word_reasons.specs.declared.reason.Amount.TheVariants.{Limit, Of, Times, Plus}
+use Rattle.word_reasons.specs.declared.reason.Named.{Named}
+use Rattle.word_reasons.specs.declared.reason.Reason.{Reason}
+use Rattle.word_reasons.specs.declared.reason.Reason.TheVariants.{Unread, Compared}
 
 -- an option whose value says what is looked for
 unfoldable pub is_secret : Text → Bool

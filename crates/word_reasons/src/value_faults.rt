@@ -2,14 +2,15 @@
 //! order in which the values are read.
 
 ghost use Rattle.std.specs.Prelude.{IfSome};
-ghost use Rattle.pir_words.specs.Reason.{Hides, HidesNumber};
+ghost use Rattle.word_reasons.specs.Reason.{Hides, HidesNumber};
 
-use crate::fetch_words::{addresses_at, fetch_sharing_at, tau_at};
-use crate::ranges::{block_at, scheme_at, servers_at, sharing_at, sizes_at};
 use crate::reason::{Amount, Named, OptionFault, Reason, Relation, Wanted, is_secret};
-use crate::values::{limited_at, number_at, number_of, text_at, texts_at};
-use crate::{LEAST_PORT, MOST_PORT, MOST_SHARDS, MOST_TAU};
 use clap::ArgMatches;
+use pir_words::{
+    LEAST_PORT, MOST_PORT, MOST_SHARDS, MOST_TAU, addresses_at, block_at, fetch_sharing_at,
+    limited_at, number_at, number_of, scheme_at, servers_at, sharing_at, sizes_at, tau_at, text_at,
+    texts_at,
+};
 use wire_frames::{
     LEAST_SERVERS, MOST_BLOCKS, MOST_CELLS, MOST_DEGREE, MOST_GUESTS, MOST_ROWS, MOST_SERVERS,
     MOST_WIDTH, MOST_WORKERS, Scheme,
