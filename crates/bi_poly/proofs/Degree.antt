@@ -10,6 +10,7 @@ use Rattle.std.proofs.lemmas.Bool.{cases_lt}
 use Rattle.gf256.specs.Polynomial.{coef}
 use Rattle.uni_poly.specs.Coefficients as one
 use Rattle.bi_poly.specs.Rows.{row, cell, column, IsZero}
+use Rattle.quantity_limits.specs.declared.TheConstants.{MOST_DEGREE}
 use Rattle.bi_poly.specs.Degree.{IsDegree, IsOrder, IsWeightedDegree, IsOrderInX}
 
 -- the greater of two numbers, as the code finds it
@@ -209,8 +210,8 @@ order-all q n (Some w) l h = record {
 }
 
 -- a weight within the limits
-pub weight-fits : (t j i : ℕ) → t ≤ 254 → j < 65537 → i < 2147483648 → i + t * j ≤ 2164130046
+pub weight-fits : (t j i : ℕ) → t ≤ MOST_DEGREE → j < 65537 → i < 2147483648 → i + t * j ≤ 2164130046
 weight-fits t j i a b c =
     let most = mul-le-mul_right j a in
-    let more : 254 * j ≤ 254 * 65537 = omega arith in
+    let more : MOST_DEGREE * j ≤ MOST_DEGREE * 65537 = omega arith in
     omega arith

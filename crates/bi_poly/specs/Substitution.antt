@@ -1,6 +1,7 @@
 -- Substitutions for y (Roth and Ruckenstein 2000).
-use Rattle.std.specs.Prelude.{◌≡◌, ℕ, zero, suc, ◌+◌, ◌<◌, ◌≤◌, List, ◌++◌, length, map, replicate}
+use Rattle.std.specs.Prelude.{◌≡◌, ℕ, zero, suc, ◌+◌, ◌<◌, ◌≤◌, List, ◌++◌, length, map, replicate, slice_index}
 use Rattle.std.specs.List.{range_with_len}
+use Rattle.gf256.specs.Field.{◌⊕◌}
 use Rattle.gf256.specs.Sums.{sum_to}
 use Rattle.gf256.specs.Polynomial.{coef}
 use Rattle.uni_poly.specs.Product.{product}
@@ -33,3 +34,7 @@ pub record IsShiftedRoot (q : List (List ℕ)) (gamma : ℕ) (s : List (List ℕ
 -- Hasse derivatives of order j of the columns
 abbrev pub shifted_row : List (List ℕ) → ℕ → ℕ → ℕ → List ℕ
 shifted_row q width gamma j = replicate j 0 ++ map (λ i. taylor (column q i) gamma j) (range_with_len 0 width)
+
+-- to each of the sums the Hasse derivative of order j at gamma of the column at its place was added
+abbrev pub AreDerivativesAdded : List (List ℕ) → ℕ → ℕ → List ℕ → List ℕ → Type 0
+AreDerivativesAdded q gamma j now before = (i : ℕ) → slice_index now i ≡ slice_index before i ⊕ taylor (column q i) gamma j

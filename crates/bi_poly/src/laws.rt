@@ -5,9 +5,9 @@ ghost use Rattle.std.specs.Prelude.{ℕ, ◌≡◌, ◌≤◌, ◌∷◌, length
 ghost use Rattle.gf256.specs.Polynomial.{val};
 ghost use Rattle.uni_poly.specs.Coefficients.{IsBytes};
 ghost use Rattle.uni_poly.specs.Product.{HasFactor};
-ghost use Rattle.bi_poly.specs.Rows.{row, cell, AreBytes, IsZero};
+ghost use Rattle.bi_poly.specs.Rows.{row, AreBytes, IsZero};
 ghost use Rattle.bi_poly.specs.Hasse.{HasZero};
-ghost use Rattle.bi_poly.specs.Expansion.{expansion_coef};
+ghost use Rattle.bi_poly.specs.Expansion.{IsExpansion};
 ghost use Rattle.bi_poly.specs.Substitution.{IsAtPoly, IsShiftedRoot, at_poly_coef};
 
 use crate::BiPoly;
@@ -39,8 +39,7 @@ pub fn zero_gives_a_factor(q: &BiPoly, phi: &[u8], composed: &[u8], a: u8, m: u3
 /// `(x - a)^u * (y - b)^v`, over each `u` below a number `n` that no row is longer than, and each
 /// row `v` (Hasse 1936).
 pub fn polynomial_is_its_expansion(q: &BiPoly, a: u8, b: u8)
-    ensures { (n : ℕ) → ((j : ℕ) → length (row q.now j) ≤ n)
-        → (j i : ℕ) → expansion_coef q.now a b n j i ≡ cell q.now j i }
+    ensures { (n : ℕ) → ((j : ℕ) → length (row q.now j) ≤ n) → IsExpansion q.now a b n }
 {
     coefficients_are_bytes(q);
 }

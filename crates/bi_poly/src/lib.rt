@@ -23,12 +23,13 @@ ghost use Rattle.uni_poly.specs.Taylor.{taylor};
 ghost use Rattle.bi_poly.specs.Rows.{row as row_of, column, IsZero, IsWithinLimits, IsWidth};
 ghost use Rattle.bi_poly.specs.Degree.{IsWeightedDegree, IsOrderInX, without_first};
 ghost use Rattle.bi_poly.specs.Hasse.{hasse};
-ghost use Rattle.bi_poly.specs.Substitution.{IsAtPoly, IsShiftedRoot, shifted_row};
+ghost use Rattle.bi_poly.specs.Substitution.{AreDerivativesAdded, IsAtPoly, IsShiftedRoot, shifted_row};
 
 use crate::product::multiply_and_add;
 pub use crate::row::is_odd_binomial;
 use crate::row::{coefficient, degree, derivative, drop_first, order};
 use gf256::rows::clear;
+use quantity_limits::MOST_DEGREE;
 use std::alloc::{AllocError, Global};
 use std::marker::Model;
 
@@ -100,13 +101,13 @@ impl BiPoly {
         sum
     }
 
-    /// The weighted degree, x having the weight 1 and y the weight `t`, at most 254: the greatest
-    /// `i + t*j` of a coefficient, at `x^i * y^j`, that is not 0 (Guruswami and Sudan 1999). `None`
+    /// The weighted degree, x having the weight 1 and y the weight `t`, at most [`MOST_DEGREE`]: the
+    /// greatest `i + t*j` of a coefficient, at `x^i * y^j`, that is not 0 (Guruswami and Sudan 1999). `None`
     /// exactly where all are 0. There may be at most 2^16 + 1 rows, of at most 2^31 coefficients
     /// each. That of `y^2 + (1 + x)*y + x` for `t` 1 is 2.
     pub fn weighted_degree(&self, t: u32) -> Option<u64>
         requires limits { IsWithinLimits self.now }
-        requires weight { t ≤ 254 }
+        requires weight { t ≤ MOST_DEGREE }
         ensures { MatchOption result (IsZero self.now) (IsWeightedDegree self.now t) }
     {
         let mut greatest = None;
@@ -206,8 +207,7 @@ impl BiPoly {
     /// place: row `k` goes into all of them at once, times `gamma^(k - j)`, where `C(k, j)` is odd.
     fn add_derivatives(&self, sums: &mut [u8], j: usize, gamma: u8)
         requires { (k : ℕ) → length (row_of self.now k) ≤ length sums.old }
-        ensures { (i : ℕ) → slice_index sums.new i
-            ≡ slice_index sums.old i ⊕ taylor (column self.now i) gamma j }
+        ensures { AreDerivativesAdded self.now gamma j sums.new sums.old }
     {
         let mut power = 1;
         for k in j..self.len() {

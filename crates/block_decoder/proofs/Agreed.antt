@@ -17,9 +17,11 @@ holds_first-Decides polynomials a e =
     let whole : take (length polynomials) a.payload ≡ a.payload = take_all (length polynomials) a.payload (omega arith) in
     (λ t. sym whole ∙ d.0 t, λ h. d.1 (whole ∙ h))
 
+-- the answer at a place has as many bytes as each
 pub filled-at : (width : ℕ) (answers : List Answer) (p : ℕ) → Filled width answers → p < length answers → length (answer_at answers p).payload ≡ width
 filled-at width answers p f l = f p (record { index = 0; payload = [] }) l
 
+-- what is agreed on is heavy
 pub heavy_from_agreed : (answers : List Answer) (width t h : ℕ) (block : List ℕ) → Filled width answers → Agreed answers width t h block → Heavy answers width t h block
 heavy_from_agreed answers width t h block filled a =
     let none : Answer = record { index = 0; payload = [] } in
@@ -35,6 +37,7 @@ heavy_from_agreed answers width t h block filled a =
       constants = a.constants;
     }
 
+-- what is heavy is agreed on
 pub agreed_from_heavy : (answers : List Answer) (width t h : ℕ) (block : List ℕ) → Filled width answers → Heavy answers width t h block → Agreed answers width t h block
 agreed_from_heavy answers width t h block filled a =
     let none : Answer = record { index = 0; payload = [] } in
@@ -60,6 +63,7 @@ agreed_is_heavy answers width t h block filled = (heavy_from_agreed answers widt
 
 -- ---- the answers of two slices
 
+-- there is an answer for each index
 pub length-answers_of : (width : ℕ) (indices bytes : List ℕ) → length (answers_of width indices bytes) ≡ length indices
 length-answers_of width [] bytes = refl
 length-answers_of width (index ∷ indices) bytes = let ih = length-answers_of width indices (drop width bytes) in omega (arith, ih)
@@ -79,7 +83,8 @@ answer_at-answers_of width [] bytes place h = absurd (omega arith)
 answer_at-answers_of width (index ∷ indices) bytes zero h = let e : 0 * width ≡ 0 = omega arith in rw e refl
 answer_at-answers_of width (index ∷ indices) bytes (suc place) h =
     answer_at-answers_of width indices (drop width bytes) place (omega arith)
-    ∙ ap (λ (rest : List ℕ). record { index = get_or indices place 0; payload = take width rest }) (drop-drop (place * width) width bytes ∙ (let e : width + place * width ≡ suc place * width = omega arith in ap (λ n. drop n bytes) e))
+    ∙ ap (λ (rest : List ℕ). record { index = get_or indices place 0; payload = take width rest })
+    (drop-drop (place * width) width bytes ∙ (let e : width + place * width ≡ suc place * width = omega arith in ap (λ n. drop n bytes) e))
 
 -- ascending indices differ
 pub different-answers_of : (width : ℕ) (indices bytes : List ℕ) → IsStrictlyIncreasing indices → AllPairs (λ (a b : Answer). a.index ≢ b.index) (answers_of width indices bytes)

@@ -63,7 +63,9 @@ module _ {K : Type 0} {R : K → K → Ordering} (o : IsTotalOrder R) where
       ap is_lt (o.antisymm _ _ ∙ ap ordering_reverse (sym (ap₂ R here next) ∙ rises)))
 
   -- an insert between what is less and what is greater keeps the order
-  pub sorted_insert : (ks : List K) (x : K) (i : ℕ) → IsStrictlySortedBy R ks → i ≤ length ks → AllWithin (λ y. R y x ≡ Less) ks 0 i → AllWithin (λ y. R y x ≡ Greater) ks i (length ks) → IsStrictlySortedBy R (insert ks i x)
+  pub sorted_insert : (ks : List K) (x : K) (i : ℕ) → IsStrictlySortedBy R ks → i ≤ length ks
+      → AllWithin (λ y. R y x ≡ Less) ks 0 i → AllWithin (λ y. R y x ≡ Greater) ks i (length ks)
+      → IsStrictlySortedBy R (insert ks i x)
   sorted_insert ks x i h le less greater =
       let new = insert ks i x in
       let long = length-insert ks i x le in
@@ -93,12 +95,15 @@ module _ {K : Type 0} {R : K → K → Ordering} (o : IsTotalOrder R) where
       ])
 
   -- the same for elements by their keys, where the insert may have failed
-  pub sorted_after : {X : Type 0} (f : X → K) (xs new : List X) (x : X) (i : ℕ) (done : Bool) → new ≡ cond done (insert xs i x) xs → IsStrictlySortedBy R (map f xs) → i ≤ length xs → AllWithin (λ y. R (f y) (f x) ≡ Less) xs 0 i → AllWithin (λ y. R (f y) (f x) ≡ Greater) xs i (length xs) → IsStrictlySortedBy R (map f new)
+  pub sorted_after : {X : Type 0} (f : X → K) (xs new : List X) (x : X) (i : ℕ) (done : Bool) → new ≡ cond done (insert xs i x) xs
+      → IsStrictlySortedBy R (map f xs) → i ≤ length xs → AllWithin (λ y. R (f y) (f x) ≡ Less) xs 0 i
+      → AllWithin (λ y. R (f y) (f x) ≡ Greater) xs i (length xs) → IsStrictlySortedBy R (map f new)
   sorted_after f xs new x i done e h le less greater =
       let long : length (map f xs) ≡ length xs = length-map xs f in
       let after =
       AllWithin-map f (λ y. R y (f x) ≡ Greater) xs i (length xs) (omega arith) greater in
-      let inserted = sorted_insert (map f xs) (f x) i h (omega arith) (AllWithin-map f (λ y. R y (f x) ≡ Less) xs 0 i le less) (subst (AllWithin (λ y. R y (f x) ≡ Greater) (map f xs) i) (sym long) after) in
+      let inserted = sorted_insert (map f xs) (f x) i h (omega arith) (AllWithin-map f (λ y. R y (f x) ≡ Less) xs 0 i le less)
+      (subst (AllWithin (λ y. R y (f x) ≡ Greater) (map f xs) i) (sym long) after) in
       subst (λ l. IsStrictlySortedBy R (map f l)) (sym e)
       (elim done as (λ d. IsStrictlySortedBy R (map f (cond d (insert xs i x) xs))) [
         | true ↦ subst (IsStrictlySortedBy R) (sym (map-insert f xs i x)) inserted

@@ -14,6 +14,7 @@ use Rattle.block_decoder.specs.declared.verdict.Verdict.TheVariants.{Listed, Too
 use Rattle.block_decoder.proofs.FewBlocks.{few_agreements}
 use Rattle.block_decoder.proofs.Reported.{reported-lists}
 
+-- the list where there is one, else none
 list_in : {X : Type 0} → Option (List X) → List X
 list_in None = []
 list_in (Some xs) = xs
@@ -29,6 +30,7 @@ module _ (answers : List Answer) (width t h : ℕ) (columns : HasColumns width a
   decided enough strong cheap (TooWeak k degree agree) lists = absurd lists
   decided enough strong cheap (TooCostly equations) lists = absurd lists
 
+  -- they stand beside a listing of their blocks
   beside_some : (verdict : Verdict) → ListsBlocksOf agreements verdict
       → IsReportBeside answers width t h verdict (Some agreements)
   beside_some (Listed blocks) lists = (report, lists.1)

@@ -13,14 +13,18 @@ use Rattle.std.proofs.lemmas.List.Sums.{length-filter}
 use Rattle.std.proofs.lemmas.Map.Keys.{Less-from_sorted}
 use Rattle.gf256.specs.Polynomial.{coef, val, IsPolynomial}
 use Rattle.wire_frames.specs.Answer.{Answer}
-use Rattle.column_lists.specs.Agreement.{agreements, ListsAgreeing}
+use Rattle.column_lists.specs.Agreement.{agreements}
 use Rattle.column_lists.proofs.Near.{agree-or-miss}
 use Rattle.column_runs.specs.OnOne.{LieOnOne}
-use Rattle.column_runs.specs.Run.{IsConstant, IsRun}
+use Rattle.column_runs.specs.Run.{IsConstant}
 use Rattle.block_decoder.specs.Agreed.{constants_of, holds_first, weight, HasColumns}
+use Rattle.block_decoder.specs.Decoding.{Counters}
 use Rattle.block_decoder.specs.Gains.{Gains}
-use Rattle.block_decoder.specs.Narrowing.{agreement_on, holding, meets, points_of, AreFar, IsCandidate, ContinuesFrom, ContinuesBy, CountsFrom, CountsBy}
+use Rattle.block_decoder.specs.Narrowing.{agreement_on, holding, meets, nexts_of, points_of, AreFarIn, HaveParted, IsCandidate, IsCandidateOf, IsRunOf, ListsIn, ContinuesFrom, ContinuesBy, CountsFrom, CountsBy}
 use Rattle.block_decoder.specs.Report.{Agreement, indices_of}
+use Rattle.block_decoder.specs.declared.candidate.Candidate.{Candidate}
+use Rattle.block_decoder.specs.declared.candidate.Parting.{Parting}
+use Rattle.block_decoder.specs.declared.decoding.Decoding.{Decoding}
 use Rattle.block_decoder.proofs.Continued.{continues-whole, continues-by}
 use Rattle.block_decoder.proofs.Continues.{Gains-same}
 use Rattle.block_decoder.proofs.Counting.{all_pass}
@@ -50,31 +54,33 @@ not_before list i ascending l (k, within, is) =
 pub holding-none : (answers : List Answer) → holding [] answers ≡ answers
 holding-none answers = filter-all (holds_first []) answers (λ i d l. holds_first-true [] (get_or answers i d) (omega arith) (λ k m. absurd (omega (arith, m))))
 
-abbrev pub first-candidate : (answers part : List Answer) (t h : ℕ) (block : List ℕ) → part ≡ answers
-    → h ≤ length answers → IsCandidate answers t h part 0 block
-first-candidate answers part t h block same enough = record {
+-- so they are the first candidate
+abbrev pub first-candidate : (d : Decoding) (block : List ℕ) → d.agreement ≤ length d.answers
+    → IsCandidate d d.answers 0 block
+first-candidate d block enough = record {
   polynomials = [];
   one_a_column = refl;
-  degree = All-nil (IsPolynomial t);
-  held = same ∙ sym (holding-none answers);
-  enough = subst (λ (l : List Answer). h ≤ length l) (sym same) enough;
+  degree = All-nil (IsPolynomial d.degree);
+  held = sym (holding-none d.answers);
+  enough = enough;
   constants = refl;
 }
 
 -- ---- where the answers are close to no polynomial
 
 -- each polynomial of the column misses many of them
-miss-many : (answers : List Answer) (width t h : ℕ) → HasColumns width answers → (kept : List Answer) (column : ℕ) (block : List ℕ)
-    → (c : IsCandidate answers t h kept column block) → column < width → AreFar (points_of kept column) t h → MissMany answers t h c.polynomials
-miss-many answers width t h columns kept column block c short far =
+miss-many : (d : Decoding) → HasColumns d.width d.answers → (kept : List Answer) (column : ℕ) (block : List ℕ)
+    → (c : IsCandidate d kept column block) → column < d.width → AreFarIn d (points_of kept column)
+    → MissMany d c.polynomials
+miss-many d columns kept column block c short far =
     let enough = far.enough in
     let size = length-points kept column in
-    let now : weight c.polynomials answers ≡ length kept =
-    sym (length-filter (holds_first c.polynomials) answers) ∙ ap length (sym c.held) in
+    let now : weight c.polynomials d.answers ≡ length kept =
+    sym (length-filter (holds_first c.polynomials) d.answers) ∙ ap length (sym c.held) in
     record {
       enough = omega (arith, enough, size, now);
       fewer = λ p degree.
-          let then = weight-more answers width column c.polynomials p columns.filled c.one_a_column short
+          let then = weight-more d.answers d.width column c.polynomials p columns.filled c.one_a_column short
           ∙ ap (λ (part : List Answer). agreements p (points_of part column)) (sym c.held) in
           let all = agree-or-miss p (points_of kept column) in
           let off = far.each_misses p degree in
@@ -83,147 +89,191 @@ miss-many answers width t h columns kept column block c short far =
 
 -- ---- after a run
 
-module _ (answers : List Answer) (width t h : ℕ) (columns : HasColumns width answers) (more_than : t < h) (kept : List Answer) (column n : ℕ) (old new : List ℕ)
-    (fits : column ≤ width) (size : length new ≡ width) (same : take column new ≡ take column old)
-    (run : IsRun (map (λ a. a.index) kept) (map (λ a. a.payload) kept) t column (drop column new) n) where
-  pub run-fits : column + n ≤ width
-  run-fits = let l = run.within in let m = length-drop column new in omega (arith, l, m, size, fits)
+-- so many columns of a candidate were decoded in a run, and the block is new
+pub record HaveDecoded (d : Decoding) (candidate : Candidate) (n : ℕ) (old new : List ℕ) : Type 0 where
+  pub columns : HasColumns d.width d.answers
+  pub more_than : d.degree < d.agreement
+  pub fits : candidate.column ≤ d.width
+  pub size : length new ≡ d.width
+  pub same : take candidate.column new ≡ take candidate.column old
+  pub run : IsRunOf candidate.kept.now d.degree candidate.column (drop candidate.column new) n
 
-  pub run_of : (c : IsCandidate answers t h kept column old)
-      → HasRun answers width t h c.polynomials n (drop column new)
+module _ (d : Decoding) (candidate : Candidate) (n : ℕ) (old new : List ℕ) (have : HaveDecoded d candidate n old new) where
+  -- they are no more than were left
+  pub run-fits : candidate.column + n ≤ d.width
+  run-fits =
+      let l = have.run.within in
+      let m = length-drop candidate.column new in
+      let size = have.size in
+      let fits = have.fits in
+      omega (arith, l, m, size, fits)
+
+  -- the candidate has the polynomials of the run
+  pub run_of : (c : IsCandidateOf d candidate old)
+      → HasRun d c.polynomials n (drop candidate.column new)
   run_of c =
+      let kept = candidate.kept.now in
+      let bytes = drop candidate.column new in
       let long = c.one_a_column in
       let held = ap length c.held in
       let enough = c.enough in
       let within = run-fits in
-      has_run answers width t h columns more_than c.polynomials c.degree (omega (arith, held, enough)) n (drop column new) run.within (omega (arith, long, within))
-      (λ k l. subst (λ (ps : List (ℕ × ℕ)). IsConstant ps t (get_or (drop column new) k 0))
-      (points_at-is kept (column + k) ∙ ap₂ (λ (part : List Answer) (m : ℕ). points_of part (m + k)) c.held (sym long)) (run.constants k l))
+      has_run d have.columns have.more_than c.polynomials c.degree (omega (arith, held, enough)) n bytes have.run.within (omega (arith, long, within))
+      (λ k l. subst (λ (ps : List (ℕ × ℕ)). IsConstant ps d.degree (get_or bytes k 0))
+      (points_at-is kept (candidate.column + k) ∙ ap₂ (λ (part : List Answer) (m : ℕ). points_of part (m + k)) c.held (sym long)) (have.run.constants k l))
 
   -- in the column behind the run the points lie on no one polynomial
-  pub apart_after : column + n < width → ¬ LieOnOne (points_of kept (column + n)) t
+  pub apart_after : candidate.column + n < d.width → ¬ LieOnOne (points_of candidate.kept.now (candidate.column + n)) d.degree
   apart_after short =
-      let m = length-drop column new in
-      subst (λ (ps : List (ℕ × ℕ)). ¬ LieOnOne ps t) (points_at-is kept (column + n)) (run.longest (omega (arith, m, size, short)))
+      let m = length-drop candidate.column new in
+      let size = have.size in
+      subst (λ (ps : List (ℕ × ℕ)). ¬ LieOnOne ps d.degree) (points_at-is candidate.kept.now (candidate.column + n))
+      (have.run.longest (omega (arith, m, size, short)))
 
-  abbrev pub after : (c : IsCandidate answers t h kept column old) → IsCandidate answers t h kept (column + n) new
-  after c = run-candidate answers width t h kept column n old new c same (run_of c)
+  -- it goes on behind the run with all its answers
+  abbrev pub after : (part : List Answer) (next : ℕ) → part ≡ candidate.kept.now → next ≡ candidate.column + n
+      → (c : IsCandidateOf d candidate old) → IsCandidate d part next new
+  after part next part_is next_is c =
+      run-candidate d candidate.kept.now candidate.column n old new part next part_is next_is c have.same (run_of c)
 
-  pub heavy_after : (c : IsCandidate answers t h kept column old)
-      → h ≤ weight (c.polynomials ++ (run_of c).more) answers
+  -- with the same answers, in the column behind it
+  abbrev behind : (c : IsCandidateOf d candidate old)
+      → IsCandidate d candidate.kept.now (candidate.column + n) new
+  behind c = after candidate.kept.now (candidate.column + n) refl refl c
+
+  -- its polynomials hold at enough answers
+  pub heavy_after : (c : IsCandidateOf d candidate old)
+      → d.agreement ≤ weight (c.polynomials ++ (run_of c).more) d.answers
   heavy_after c =
-      let a = after c in
+      let a = behind c in
       let e = a.enough in
       let k = ap length a.held in
-      let f = length-filter (holds_first a.polynomials) answers in
+      let f = length-filter (holds_first a.polynomials) d.answers in
       omega (arith, e, k, f)
 
   -- at the last column it is continued to the block with the answers that are kept
-  pub exact-end : column + n ≡ width → (c : IsCandidate answers t h kept column old) → (b : Agreement)
-      → (b ≡ record { block = new; indices = indices_of kept })
-      ↔ ContinuesFrom (agreement_on answers) answers width t h c.polynomials b
+  pub exact-end : candidate.column + n ≡ d.width → (c : IsCandidateOf d candidate old) → (b : Agreement)
+      → (b ≡ record { block = new; indices = indices_of candidate.kept.now })
+      ↔ ContinuesFrom (agreement_on d.answers) d c.polynomials b
   exact-end end c b =
-      let a = after c in
-      let whole = continues-whole (agreement_on answers) answers width t h a.polynomials (a.one_a_column ∙ end) (heavy_after c) b in
-      let block : new ≡ constants_of a.polynomials = sym (take_all (column + n) new (omega (arith, end, size))) ∙ a.constants in
-      let made : ◌≡◌ {A = Agreement} (record { block = new; indices = indices_of kept }) (agreement_on answers a.polynomials) =
+      let a = behind c in
+      let size = have.size in
+      let whole = continues-whole (agreement_on d.answers) d a.polynomials (a.one_a_column ∙ end) (heavy_after c) b in
+      let block : new ≡ constants_of a.polynomials = sym (take_all (candidate.column + n) new (omega (arith, end, size))) ∙ a.constants in
+      let made : ◌≡◌ {A = Agreement} (record { block = new; indices = indices_of candidate.kept.now }) (agreement_on d.answers a.polynomials) =
       ap₂ (λ (b : List ℕ) (part : List Answer). record { block = b; indices = indices_of part }) block a.held in
       let is = (run_of c).same b in
       (λ e. is.0 (whole.0 (e ∙ made)), λ f. whole.1 (is.1 f) ∙ sym made)
 
-  pub counts-end : (c : IsCandidate answers t h kept column old) (most c0 c1 n0 : ℕ) → c1 ≡ c0 + n
-      → CountsFrom answers width t h most c.polynomials c0 c1 n0 n0
-  counts-end c most c0 c1 n0 e = counts-run answers width t h most c.polynomials n (drop column new) c0 c1 n0 (run_of c) (omega (arith, e))
+  -- there, the columns of the run alone were decoded
+  pub counts-end : (c : IsCandidateOf d candidate old) (most : ℕ) (a b : Counters)
+      → b.cols ≡ a.cols + n → b.nodes ≡ a.nodes → CountsFrom d most c.polynomials a b
+  counts-end c most a b cols nodes =
+      counts-run d most c.polynomials n (drop candidate.column new) a b (run_of c) (omega (arith, cols)) (omega (arith, nodes))
 
   -- before it, to those of its next polynomials
-  pub exact-below : column + n < width → (nexts : List (List ℕ))
-      → ListsAgreeing nexts (points_of kept (column + n)) t h → (c : IsCandidate answers t h kept column old)
-      (first last : List Agreement)
-      → Gains (ContinuesBy (agreement_on answers) nexts answers width t h (after c).polynomials) first last
-      → Gains (ContinuesFrom (agreement_on answers) answers width t h c.polynomials) first last
+  pub exact-below : candidate.column + n < d.width → (nexts : List (List ℕ))
+      → ListsIn d (points_of candidate.kept.now (candidate.column + n)) nexts
+      → (c : IsCandidateOf d candidate old) (first last : List Agreement)
+      → Gains (ContinuesBy (agreement_on d.answers) nexts d (c.polynomials ++ (run_of c).more)) first last
+      → Gains (ContinuesFrom (agreement_on d.answers) d c.polynomials) first last
   exact-below short nexts lists c first last gains =
-      let a = after c in
+      let a = behind c in
+      let made = agreement_on d.answers in
       let long = a.one_a_column in
-      let by = continues-by (agreement_on answers) answers width t h a.polynomials columns.filled (omega (arith, long, short)) nexts
-      (subst (λ (ps : List (ℕ × ℕ)). ListsAgreeing nexts ps t h) (ap₂ (λ (part : List Answer) (m : ℕ). points_of part m) a.held (sym long)) lists) in
-      Gains-same (ContinuesBy (agreement_on answers) nexts answers width t h a.polynomials)
-      (ContinuesFrom (agreement_on answers) answers width t h c.polynomials) first last
+      let by = continues-by made d a.polynomials have.columns.filled (omega (arith, long, short)) nexts
+      (subst (λ (ps : List (ℕ × ℕ)). ListsIn d ps nexts) (ap₂ (λ (part : List Answer) (m : ℕ). points_of part m) a.held (sym long)) lists) in
+      Gains-same (ContinuesBy made nexts d a.polynomials) (ContinuesFrom made d c.polynomials) first last
       (λ b. let is = (run_of c).same b in (λ x. is.0 ((by b).0 x), λ y. (by b).1 (is.1 y))) gains
 
-  pub counts-below : column + n < width → (nexts : List (List ℕ)) (c : IsCandidate answers t h kept column old)
-      (most c0 c1 c2 n0 n1 n2 : ℕ) → c1 ≤ c0 + n + 1 → n1 ≤ n0 + most → ((n1 ≡ n0) ⊎ AreFar (points_of kept (column + n)) t h)
-      → CountsBy nexts answers width t h most (after c).polynomials c1 c2 n1 n2
-      → CountsFrom answers width t h most c.polynomials c0 c2 n0 n2
-  counts-below short nexts c most c0 c1 c2 n0 n1 n2 cols nodes far below =
+  -- with what is below these
+  pub counts-below : candidate.column + n < d.width → (nexts : List (List ℕ))
+      (c : IsCandidateOf d candidate old) (most : ℕ) (a b e : Counters) → b.cols ≤ a.cols + n + 1
+      → b.nodes ≤ a.nodes + most → ((b.nodes ≡ a.nodes) ⊎ AreFarIn d (points_of candidate.kept.now (candidate.column + n)))
+      → CountsBy nexts d most (c.polynomials ++ (run_of c).more) b e → CountsFrom d most c.polynomials a e
+  counts-below short nexts c most a b e cols nodes far below =
       let long = c.one_a_column in
-      counts-whole answers width t h most c.polynomials n (drop column new) nexts c0 c1 c2 n0 n1 n2 (run_of c) c.degree (omega (arith, long, short)) (heavy_after c) cols nodes
+      counts-whole d most c.polynomials n (drop candidate.column new) nexts a b e (run_of c) c.degree (omega (arith, long, short)) (heavy_after c) cols nodes
       (elim far [
         | inl same ↦ inl (omega (arith, same))
-        | inr are ↦ inr (miss-many answers width t h columns kept (column + n) new (after c) short are)
+        | inr are ↦ inr (miss-many d have.columns candidate.kept.now (candidate.column + n) new (behind c) short are)
       ])
       below
 
 -- ---- one polynomial more
 
-module _ (answers : List Answer) (width t h : ℕ) (columns : HasColumns width answers) (kept : List Answer) (column : ℕ) (nexts : List (List ℕ)) (p : List ℕ)
-    (short : column < width) (lists : ListsAgreeing nexts (points_of kept column) t h) (listed : Contains nexts p) where
-  pub next_enough : (old : List ℕ) (c : IsCandidate answers t h kept column old)
-      → h ≤ length (filter (meets p column) kept)
+module _ (d : Decoding) (columns : HasColumns d.width d.answers) (parting : Parting) (p : List ℕ)
+    (at : HaveParted d parting) (listed : Contains (nexts_of parting) p) where
+  -- enough of the answers lie on it
+  pub next_enough : (old : List ℕ) (c : IsCandidateOf d parting.candidate old)
+      → d.agreement ≤ length (filter (meets p parting.candidate.column) parting.candidate.kept.now)
   next_enough old c =
-      let agrees = (lists.exact p).0 listed in
+      let kept = parting.candidate.kept.now in
+      let column = parting.candidate.column in
+      let agrees = (at.lists.exact p).0 listed in
       let many = agrees.1 in
-      let heavy = weight-more answers width column c.polynomials p columns.filled c.one_a_column short in
+      let heavy = weight-more d.answers d.width column c.polynomials p columns.filled c.one_a_column at.short in
       let points = ap (λ (part : List Answer). agreements p (points_of part column)) c.held in
-      let size = length-filter (holds_first (c.polynomials ++ p ∷ [])) answers in
-      let held = ap length (ap (filter (meets p column)) c.held ∙ sym (holding-more answers width column c.polynomials p columns.filled c.one_a_column short)) in
+      let size = length-filter (holds_first (c.polynomials ++ p ∷ [])) d.answers in
+      let held = ap length (ap (filter (meets p column)) c.held ∙ sym (holding-more d.answers d.width column c.polynomials p columns.filled c.one_a_column at.short)) in
       omega (arith, many, heavy, points, size, held)
 
-  pub next_constants : (old block stored : List ℕ) (c : IsCandidate answers t h kept column old)
-      → take column block ≡ take column old → take (column + 1) stored ≡ take column block ++ get_or p 0 0 ∷ []
-      → take (column + 1) stored ≡ constants_of (c.polynomials ++ p ∷ [])
+  -- its constant is the next byte
+  pub next_constants : (old block stored : List ℕ) (c : IsCandidateOf d parting.candidate old)
+      → take parting.candidate.column block ≡ take parting.candidate.column old
+      → take (parting.candidate.column + 1) stored ≡ take parting.candidate.column block ++ get_or p 0 0 ∷ []
+      → take (parting.candidate.column + 1) stored ≡ constants_of (c.polynomials ++ p ∷ [])
   unfolding coef
   next_constants old block stored c same put =
       put ∙ ap (λ (bs : List ℕ). bs ++ get_or p 0 0 ∷ []) (same ∙ c.constants) ∙ sym (map-append (λ p. coef p 0) c.polynomials (p ∷ []))
 
-  abbrev pub with_next : (old block stored : List ℕ) (part : List Answer) → part ≡ filter (meets p column) kept
-      → (c : IsCandidate answers t h kept column old) → take column block ≡ take column old
-      → take (column + 1) stored ≡ take column block ++ get_or p 0 0 ∷ [] → IsCandidate answers t h part (column + 1) stored
-  with_next old block stored part part_is c same put = record {
-    polynomials = c.polynomials ++ p ∷ [];
-    one_a_column = length-append c.polynomials (p ∷ []) ∙ ap (λ m. m + 1) c.one_a_column;
-    degree = All-append (IsPolynomial t) c.polynomials (p ∷ []) c.degree (All-cons (IsPolynomial t) p [] ((lists.exact p).0 listed).0 (All-nil (IsPolynomial t)));
-    held = part_is ∙ ap (filter (meets p column)) c.held ∙ sym (holding-more answers width column c.polynomials p columns.filled c.one_a_column short);
-    enough = subst (λ (l : List Answer). h ≤ length l) (sym part_is) (next_enough old c);
-    constants = next_constants old block stored c same put;
-  }
+  -- so those on it are a candidate of the next column
+  abbrev pub with_next : (part : List Answer) (next : ℕ) (old block stored : List ℕ)
+      → part ≡ filter (meets p parting.candidate.column) parting.candidate.kept.now
+      → next ≡ parting.candidate.column + 1 → (c : IsCandidateOf d parting.candidate old)
+      → take parting.candidate.column block ≡ take parting.candidate.column old
+      → take (parting.candidate.column + 1) stored ≡ take parting.candidate.column block ++ get_or p 0 0 ∷ []
+      → IsCandidate d part next stored
+  with_next part next old block stored part_is next_is c same put =
+      let column = parting.candidate.column in
+      record {
+        polynomials = c.polynomials ++ p ∷ [];
+        one_a_column = length-append c.polynomials (p ∷ []) ∙ ap (λ m. m + 1) c.one_a_column ∙ sym next_is;
+        degree = All-append (IsPolynomial d.degree) c.polynomials (p ∷ []) c.degree
+            (All-cons (IsPolynomial d.degree) p [] ((at.lists.exact p).0 listed).0 (All-nil (IsPolynomial d.degree)));
+        held = part_is ∙ ap (filter (meets p column)) c.held
+            ∙ sym (holding-more d.answers d.width column c.polynomials p columns.filled c.one_a_column at.short);
+        enough = subst (λ (l : List Answer). d.agreement ≤ length l) (sym part_is) (next_enough old c);
+        constants = ap (λ (m : ℕ). take m stored) next_is ∙ next_constants old block stored c same put;
+      }
 
-  -- where the points lie on no one polynomial, fewer are kept
-  pub fewer : (part : List Answer) → part ≡ filter (meets p column) kept → ¬ LieOnOne (points_of kept column) t
-      → length part < length kept
-  fewer part part_is apart =
+  -- since the points lie on no one polynomial, fewer are kept
+  pub fewer : (part : List Answer) → part ≡ filter (meets p parting.candidate.column) parting.candidate.kept.now
+      → length part < length parting.candidate.kept.now
+  fewer part part_is =
+      let kept = parting.candidate.kept.now in
+      let column = parting.candidate.column in
       let size = ap length part_is in
       elim (cases_lt (length (filter (meets p column) kept)) (length kept)) [
         | inl less ↦ omega (arith, less, size)
         | inr all ↦
             let count = length-filter (meets p column) kept in
             let full = all_pass (meets p column) kept (omega (arith, all, count)) in
-            absurd (apart (
+            absurd (at.apart (
               p,
-              ((lists.exact p).0 listed).0,
+              ((at.lists.exact p).0 listed).0,
               All-map (λ (q : ℕ × ℕ). val p q.0 ≡ q.1) (λ (a : Answer). (a.index, get_or a.payload column 0)) kept
-                  (λ k d l. eqb-true _ _ (full k d l)),
+                  (λ k z l. eqb-true _ _ (full k z l)),
             ))
       ]
 
   -- what is below it as well
-  pub counts-next : (old : List ℕ) (c : IsCandidate answers t h kept column old)
-      (i most c0 c1 c2 n0 n1 n2 : ℕ) → ¬ Contains (take i nexts) p
-      → CountsBy (take i nexts) answers width t h most c.polynomials c0 c1 n0 n1
-      → CountsFrom answers width t h most (c.polynomials ++ p ∷ []) c1 c2 n1 n2
-      → CountsBy (take i nexts ++ p ∷ []) answers width t h most c.polynomials c0 c2 n0 n2
-  counts-next old c i most c0 c1 c2 n0 n1 n2 new before below =
-      counts-more answers width t h most c.polynomials (take i nexts) p c0 c1 c2 n0 n1 n2 columns c.degree
-      ((lists.exact p).0 listed).0 new before below
+  pub counts-next : (old : List ℕ) (c : IsCandidateOf d parting.candidate old) (i most : ℕ) (a b e : Counters)
+      → ¬ Contains (take i (nexts_of parting)) p → CountsBy (take i (nexts_of parting)) d most c.polynomials a b
+      → CountsFrom d most (c.polynomials ++ p ∷ []) b e
+      → CountsBy (take i (nexts_of parting) ++ p ∷ []) d most c.polynomials a e
+  counts-next old c i most a b e new before below =
+      counts-more d most c.polynomials (take i (nexts_of parting)) p a b e columns c.degree ((at.lists.exact p).0 listed).0 new before below
 
 -- the item of a loop over vectors
 pub item_is : (vectors : List (Vec ℕ Global)) (i : ℕ) (v : Vec ℕ Global) → i < length vectors

@@ -50,6 +50,7 @@ rest_of-none session all =
 abbrev pub HasCollected : Transcript → List Answer → ℕ → Type 0
 HasCollected session made next = made ++ rest_of session next ≡ answers session
 
+-- before the first server there is none
 pub collected_none : (session : Transcript) → HasCollected session [] 1
 unfolding rest_of
 collected_none session = refl

@@ -11,6 +11,7 @@ use Rattle.wire_frames.specs.Answer.{Answer}
 use Rattle.block_decoder.specs.Agreed.{constants_of, weight, Agreed, Filled, Heavy, Lists}
 use Rattle.block_decoder.specs.Gains.{Gains}
 use Rattle.block_decoder.specs.Narrowing.{ContinuesFrom}
+use Rattle.block_decoder.specs.declared.decoding.Decoding.{Decoding}
 use Rattle.block_decoder.specs.Numbered.{numbered, all_numbered, Continues, ContinuesBelow}
 use Rattle.block_decoder.proofs.Agreed.{agreed_is_heavy}
 use Rattle.block_decoder.proofs.Numbered.{IsPolynomial-numbered, number-IsPolynomial, constants-all_numbered}
@@ -46,41 +47,41 @@ Gains-both P Q R first second third p q both b = (
 
 -- ---- continuations
 
-module _ (answers : List Answer) (width t h : ℕ) (numbers : List ℕ) where
+module _ (d : Decoding) (numbers : List ℕ) where
   -- a vector with a polynomial for each column has itself alone
-  pub Continues-whole : length numbers ≡ width → h ≤ weight (all_numbered t numbers) answers → (b : List ℕ)
-      → (b ≡ map (λ n. n % 256) numbers) ↔ Continues answers width t h numbers b
+  pub Continues-whole : length numbers ≡ d.width → d.agreement ≤ weight (all_numbered d.degree numbers) d.answers → (b : List ℕ)
+      → (b ≡ map (λ n. n % 256) numbers) ↔ Continues d numbers b
   Continues-whole whole enough b =
-      let is = continues-whole constants_of answers width t h (all_numbered t numbers) (length-map numbers (numbered t) ∙ whole) enough b in
-      let constants = constants-all_numbered t numbers in
+      let is = continues-whole constants_of d (all_numbered d.degree numbers) (length-map numbers (numbered d.degree) ∙ whole) enough b in
+      let constants = constants-all_numbered d.degree numbers in
       (λ e. is.0 (e ∙ sym constants), λ c. is.1 c ∙ constants)
 
   -- a shorter one has those of the vectors with one polynomial more
-  pub Continues-next : length numbers < width → (b : List ℕ)
-      → ContinuesBelow (256 ^ (t + 1)) answers width t h numbers b ↔ Continues answers width t h numbers b
+  pub Continues-next : length numbers < d.width → (b : List ℕ)
+      → ContinuesBelow (256 ^ (d.degree + 1)) d numbers b ↔ Continues d numbers b
   Continues-next short b =
-      let v = all_numbered t numbers in
-      let size = length-map numbers (numbered t) in (
-        λ c. continues-before constants_of answers width t h v (numbered t c.next) b (IsPolynomial-numbered t c.next)
-            (subst (λ w. ContinuesFrom constants_of answers width t h w b) (map-append (numbered t) numbers (c.next ∷ [])) c.continues),
+      let v = all_numbered d.degree numbers in
+      let size = length-map numbers (numbered d.degree) in (
+        λ c. continues-before constants_of d v (numbered d.degree c.next) b (IsPolynomial-numbered d.degree c.next)
+            (subst (λ w. ContinuesFrom constants_of d w b) (map-append (numbered d.degree) numbers (c.next ∷ [])) c.continues),
         λ c.
-            let (p, is, further) = continues-next constants_of answers width t h v (omega (arith, size, short)) b c in
-            let has = number-IsPolynomial t p is in
+            let (p, is, further) = continues-next constants_of d v (omega (arith, size, short)) b c in
+            let has = number-IsPolynomial d.degree p is in
             record {
               next = has.number;
               below = has.below;
-              continues = subst (λ w. ContinuesFrom constants_of answers width t h w b) (ap (λ q. v ++ q ∷ []) (sym has.is) ∙ sym (map-append (numbered t) numbers (has.number ∷ []))) further;
+              continues = subst (λ w. ContinuesFrom constants_of d w b) (ap (λ q. v ++ q ∷ []) (sym has.is) ∙ sym (map-append (numbered d.degree) numbers (has.number ∷ []))) further;
             },
       )
 
   -- below one more it is by that number or one below it
   pub ContinuesBelow-more : (bound : ℕ) (b : List ℕ)
-      → ContinuesBelow (bound + 1) answers width t h numbers b ↔ (ContinuesBelow bound answers width t h numbers b ⊎ Continues answers width t h (numbers ++ bound ∷ []) b)
+      → ContinuesBelow (bound + 1) d numbers b ↔ (ContinuesBelow bound d numbers b ⊎ Continues d (numbers ++ bound ∷ []) b)
   ContinuesBelow-more bound b = (
     λ c. let l = c.below in
         elim (cases_lt c.next bound) [
           | inl below ↦ inl (record { next = c.next; below = below; continues = c.continues })
-          | inr last ↦ let e : c.next ≡ bound = omega (arith, l, last) in inr (subst (λ n. Continues answers width t h (numbers ++ n ∷ []) b) e c.continues)
+          | inr last ↦ let e : c.next ≡ bound = omega (arith, l, last) in inr (subst (λ n. Continues d (numbers ++ n ∷ []) b) e c.continues)
         ],
     λ either. elim either [
       | inl c ↦ let l = c.below in record { next = c.next; below = omega (arith, l); continues = c.continues }

@@ -10,6 +10,7 @@ use Rattle.std.proofs.lemmas.List.Elements.{All-nil, All-cons, All-head, All-tai
 use Rattle.std.proofs.lemmas.Map.Keys.{Less-from_sorted}
 use Rattle.wire_frames.specs.Answer.{Answer}
 use Rattle.block_decoder.specs.Agreed.{constants_of, Filled, HasColumns, Lists}
+use Rattle.block_decoder.specs.Decoding.{decoding}
 use Rattle.block_decoder.specs.Narrowing.{agreement_on, ContinuesFrom}
 use Rattle.block_decoder.specs.Numbers.{bound_of}
 use Rattle.block_decoder.specs.Report.{Agreement, IsReport}
@@ -30,13 +31,14 @@ record HasVectors {X : Type 0} (made : List (List ℕ) → X) (answers : List An
   heavy : All (IsHeavyVector answers c t h) vectors
   are : map made vectors ≡ xs
 
+-- they can be found
 has_vectors : {X : Type 0} (made : List (List ℕ) → X) (answers : List Answer) (c t h : ℕ) (xs : List X)
-    → All (ContinuesFrom made answers c t h []) xs → HasVectors made answers c t h xs
+    → All (ContinuesFrom made (decoding answers c t h) []) xs → HasVectors made answers c t h xs
 has_vectors made answers c t h [] all =
     record { vectors = []; heavy = All-nil (IsHeavyVector answers c t h); are = refl }
 has_vectors made answers c t h (x ∷ xs) all =
-    let first = All-head (ContinuesFrom made answers c t h []) x xs all in
-    let rest = has_vectors made answers c t h xs (All-tail (ContinuesFrom made answers c t h []) x xs all) in
+    let first = All-head (ContinuesFrom made (decoding answers c t h) []) x xs all in
+    let rest = has_vectors made answers c t h xs (All-tail (ContinuesFrom made (decoding answers c t h) []) x xs all) in
     record {
       vectors = first.more ∷ rest.vectors;
       heavy = All-cons (IsHeavyVector answers c t h) first.more rest.vectors
@@ -55,7 +57,7 @@ module _ (answers : List Answer) (bytes : All (λ a. a.index < 256) answers)
     (different : AllPairs (λ a b. a.index ≢ b.index) answers) where
   -- of what is made of heavy vectors no more can stand in order than Johnson's bound says, where k * t < h * h
   few_made : {X : Type 0} {R : X → X → Ordering} → IsTotalOrder R → (made : List (List ℕ) → X) (width t h : ℕ) (xs : List X)
-      → t < h → length answers * t < h * h → IsStrictlySortedBy R xs → All (ContinuesFrom made answers width t h []) xs
+      → t < h → length answers * t < h * h → IsStrictlySortedBy R xs → All (ContinuesFrom made (decoding answers width t h) []) xs
       → length xs ≤ bound_of (length answers) t h
   few_made {X} {R} o made width t h xs less strong ascending each =
       let has = has_vectors made answers width t h xs each in
@@ -73,7 +75,7 @@ module _ (answers : List Answer) (bytes : All (λ a. a.index < 256) answers)
       → Lists blocks answers width t h → length blocks ≤ bound_of (length answers) t h
   few_blocks width t h blocks filled less strong lists =
       few_made nat_list_cmp_total constants_of width t h blocks less strong lists.ascending (λ i d l.
-      (continues-Heavy answers width t h (get_or blocks i d)).1 (heavy_from_agreed answers width t h (get_or blocks i d) filled
+      (continues-Heavy (decoding answers width t h) (get_or blocks i d)).1 (heavy_from_agreed answers width t h (get_or blocks i d) filled
       ((lists.exact (get_or blocks i d)).0 (Contains-get_or blocks i d l))))
 
   -- and a report no more agreements

@@ -8,10 +8,10 @@ use Rattle.std.proofs.lemmas.List.Filters.{length-filter_both}
 use Rattle.std.proofs.lemmas.List.Kept.{AllPairs-filter}
 use Rattle.std.proofs.lemmas.List.Sums.{count_by-le-length}
 use Rattle.column_runs.specs.Close.{least_misses}
-use Rattle.wire_frames.specs.Answer.{Answer}
 use Rattle.block_decoder.specs.Agreed.{holds_first, weight}
-use Rattle.block_decoder.specs.Lists.{LosesOrParts, NodesFrom}
+use Rattle.block_decoder.specs.Lists.{misses_of, LosesOrParts, NodesFrom}
 use Rattle.block_decoder.specs.Numbers.{bound_of, bounds_from, most_lists}
+use Rattle.block_decoder.specs.declared.decoding.Decoding.{Decoding}
 use Rattle.block_decoder.proofs.Johnson.{few_pass}
 use Rattle.block_decoder.proofs.Products.{products_up}
 
@@ -24,46 +24,46 @@ strong_more k t h a l strong =
     let n = mul-le-mul_left a l in
     omega (arith, m, n, strong)
 
-module _ (answers : List Answer) (t h : ℕ) (less : t < h) (strong : length answers * t < h * h) where
+module _ (d : Decoding) (less : d.degree < d.agreement) (strong : length d.answers * d.degree < d.agreement * d.agreement) where
   -- of vectors that hold at a answers and more, and at fewer than w more than a, none has lost w answers of another, so any
   -- two have parted
-  few_alike : (a : ℕ) (vectors : List (List (List ℕ))) → h ≤ a → All (λ v. a ≤ weight v answers) vectors
-      → All (λ v. weight v answers < a + least_misses t h) vectors → AllPairs (LosesOrParts answers t h) vectors
-      → length vectors ≤ bound_of (length answers) t a
+  few_alike : (a : ℕ) (vectors : List (List (List ℕ))) → d.agreement ≤ a → All (λ v. a ≤ weight v d.answers) vectors
+      → All (λ v. weight v d.answers < a + misses_of d) vectors → AllPairs (LosesOrParts d) vectors
+      → length vectors ≤ bound_of (length d.answers) d.degree a
   few_alike a vectors enough many few apart =
-      few_pass holds_first answers t a vectors (omega (arith, less, enough)) (strong_more (length answers) t h a enough strong)
-      many (λ i j d before within.
-      let low = many j d within in
-      let high = few i d (omega (arith, before, within)) in
-      elim (apart i j d before within) [
+      few_pass holds_first d.answers d.degree a vectors (omega (arith, less, enough)) (strong_more (length d.answers) d.degree d.agreement a enough strong)
+      many (λ i j z before within.
+      let low = many j z within in
+      let high = few i z (omega (arith, before, within)) in
+      elim (apart i j z before within) [
         | inl lost ↦ absurd (omega (arith, low, high, lost))
         | inr shares ↦ shares
       ])
 
   -- and at fewer than numbers times w more than a
-  few_between : (numbers a : ℕ) (vectors : List (List (List ℕ))) → h ≤ a → All (λ v. a ≤ weight v answers) vectors
-      → All (λ v. weight v answers < a + numbers * least_misses t h) vectors → AllPairs (LosesOrParts answers t h) vectors
-      → length vectors ≤ bounds_from (length answers) t (least_misses t h) a numbers
+  few_between : (numbers a : ℕ) (vectors : List (List (List ℕ))) → d.agreement ≤ a → All (λ v. a ≤ weight v d.answers) vectors
+      → All (λ v. weight v d.answers < a + numbers * misses_of d) vectors → AllPairs (LosesOrParts d) vectors
+      → length vectors ≤ bounds_from (length d.answers) d.degree (misses_of d) a numbers
   unfolding bounds_from
   few_between zero a [] enough many few apart = omega arith
   few_between zero a (v ∷ vectors) enough many few apart =
       absurd (let low = many 0 v (omega arith) in let high = few 0 v (omega arith) in omega (arith, low, high))
   few_between (suc numbers) a vectors enough many few apart =
-      let step : ℕ = least_misses t h in
-      let near : List (List ℕ) → Bool = λ v. ltb (weight v answers) (a + step) in
+      let step : ℕ = misses_of d in
+      let near : List (List ℕ) → Bool = λ v. ltb (weight v d.answers) (a + step) in
       let far : List (List ℕ) → Bool = λ v. not (near v) in
-      let first = few_alike a (filter near vectors) enough (All-filter near (λ v. a ≤ weight v answers) vectors many)
-      (λ i d l. ltb-true (weight (get_or (filter near vectors) i d) answers) (a + step) (filter_passes near vectors i d l))
-      (AllPairs-filter (LosesOrParts answers t h) near vectors apart) in
+      let first = few_alike a (filter near vectors) enough (All-filter near (λ v. a ≤ weight v d.answers) vectors many)
+      (λ i z l. ltb-true (weight (get_or (filter near vectors) i z) d.answers) (a + step) (filter_passes near vectors i z l))
+      (AllPairs-filter (LosesOrParts d) near vectors apart) in
       let rest = few_between numbers (a + step) (filter far vectors) (omega (arith, enough))
-      (λ i d l.
-      let v = get_or (filter far vectors) i d in
-      ltb-false (weight v answers) (a + step) (not-true (near v) (filter_passes far vectors i d l)))
-      (λ i d l.
-      let high = All-filter far (λ v. weight v answers < a + suc numbers * step) vectors few i d l in
+      (λ i z l.
+      let v = get_or (filter far vectors) i z in
+      ltb-false (weight v d.answers) (a + step) (not-true (near v) (filter_passes far vectors i z l)))
+      (λ i z l.
+      let high = All-filter far (λ v. weight v d.answers < a + suc numbers * step) vectors few i z l in
       let split : suc numbers * step ≡ numbers * step + step = omega arith in
       omega (arith, high, split))
-      (AllPairs-filter (LosesOrParts answers t h) far vectors apart) in
+      (AllPairs-filter (LosesOrParts d) far vectors apart) in
       let both = length-filter_both near far (λ v. refl) vectors in
       omega (arith, first, rest, both)
 
@@ -76,17 +76,17 @@ reaches k h weight step some l =
     omega (arith, last, l)
 
 -- from the empty vector
-pub few_nodes : (answers : List Answer) (t h most old new : ℕ) → t < h → length answers * t < h * h → 0 < least_misses t h
-    → NodesFrom answers t h most [] old new → new ≤ old + most_lists (length answers) t h * most
+pub few_nodes : (d : Decoding) (most old new : ℕ) → d.degree < d.agreement → length d.answers * d.degree < d.agreement * d.agreement → 0 < misses_of d
+    → NodesFrom d most [] old new → new ≤ old + most_lists (length d.answers) d.degree d.agreement * most
 unfolding most_lists
-few_nodes answers t h most old new less strong some from =
-    let k = length answers in
-    let few = few_between answers t h less strong ((k - h) / least_misses t h) (h + least_misses t h) from.vectors (omega arith)
-    (λ i d l. (from.take.each i d l).enough)
-    (λ i d l. reaches k h (weight (get_or from.vectors i d) answers) (least_misses t h) some
-    (count_by-le-length (holds_first (get_or from.vectors i d)) answers))
+few_nodes d most old new less strong some from =
+    let k = length d.answers in
+    let few = few_between d less strong ((k - d.agreement) / misses_of d) (d.agreement + misses_of d) from.vectors (omega arith)
+    (λ i z l. (from.take.each i z l).enough)
+    (λ i z l. reaches k d.agreement (weight (get_or from.vectors i z) d.answers) (misses_of d) some
+    (count_by-le-length (holds_first (get_or from.vectors i z)) d.answers))
     from.take.apart in
-    products_up (length from.vectors) (most_lists k t h) most old new few from.nodes
+    products_up (length from.vectors) (most_lists k d.degree d.agreement) most old new few from.nodes
 
 -- ---- beside the count for each number of answers
 
@@ -128,11 +128,13 @@ bound-le_plus k t h d less inside strong =
     quotients (k * (h + d - t)) great (k * x) small (omega (arith, square, strong)) (omega (arith, strong))
     (subst (λ n. k * n * small ≤ k * x * great) (sym shift) (crosswise k x d (h + d + h) small great grown narrow))
 
+-- the same for any greater number of answers
 pub bound-le : (k t h a : ℕ) → t < h → h ≤ k → h ≤ a → k * t < h * h → bound_of k t a ≤ bound_of k t h
 bound-le k t h a less inside l strong =
     let whole : h + (a - h) ≡ a = omega (arith, l) in
     subst (λ n. bound_of k t n ≤ bound_of k t h) whole (bound-le_plus k t h (a - h) less inside strong)
 
+-- so the sum of such counts is no greater than so many times the first
 bounds-le : (k t step numbers h a : ℕ) → t < h → h ≤ k → h ≤ a → k * t < h * h
     → bounds_from k t step a numbers ≤ numbers * bound_of k t h
 unfolding bounds_from

@@ -16,6 +16,7 @@ use Rattle.block_decoder.proofs.UsableAnswers.{answers_from-cons, length-answers
 
 -- ---- the answers
 
+-- an answer in front of two lists is in front of the first
 with-append : (i : ℕ) (payload : Option (List ℕ)) (one two : List Answer) → with_answer i payload (one ++ two) ≡ with_answer i payload one ++ two
 with-append i None one two = refl
 with-append i (Some payload) one two = refl
@@ -36,6 +37,7 @@ from-append i p (x ∷ xs) ys =
 unfoldable pub first_of : Transcript → ℕ → List Answer
 first_of session count = answers_from 1 session.params (take count session.records)
 
+-- they are those of the first records
 pub first_of-is : (session : Transcript) (count : ℕ) → first_of session count ≡ answers_from 1 session.params (take count session.records)
 unfolding first_of
 first_of-is session count = refl
@@ -44,10 +46,12 @@ first_of-is session count = refl
 abbrev pub of_server : Transcript → ℕ → List Answer
 of_server session i = with_answer i (payload_of session i) []
 
+-- there are none of no servers
 pub first_of-none : (session : Transcript) → first_of session 0 ≡ []
 unfolding first_of
 first_of-none session = refl
 
+-- one server more adds its answer, where that is usable
 pub first_of-more : (session : Transcript) (count : ℕ) → count < length session.records
     → first_of session (count + 1) ≡ first_of session count ++ of_server session (count + 1)
 unfolding first_of
@@ -62,6 +66,7 @@ first_of-more session count within =
     ∙ ap (λ (l : List Answer). first_of session count ++ l) (answers_from-cons (count + 1) p x []
     ∙ ap (λ (k : ℕ). with_answer (count + 1) (option_and_then (λ bytes. usable bytes (asked p (count + 1))) (get_or session.records k None)) []) place)
 
+-- those of as many servers as there are are all
 pub first_of-all : (session : Transcript) (count : ℕ) → length session.records ≤ count → first_of session count ≡ answers session
 unfolding first_of
 first_of-all session count all = ap (answers_from 1 session.params) (take_all count session.records all)
@@ -79,6 +84,7 @@ answers-pieces session count within =
 
 -- ---- those that aren't among some
 
+-- what passes of two lists is what passes of each
 filter-append : {X : Type 0} (test : X → Bool) (xs ys : List X) → filter test (xs ++ ys) ≡ filter test xs ++ filter test ys
 filter-append test [] ys = refl
 filter-append test (x ∷ xs) ys = step (test x) (filter-append test xs ys)
@@ -88,16 +94,19 @@ filter-append test (x ∷ xs) ys = step (test x) (filter-append test xs ys)
     step true e = ap (λ l. x ∷ l) e
     step false e = e
 
+-- so the others of two lists are those of each
 pub others-append : (indices : List ℕ) (one two : List Answer) → others indices (one ++ two) ≡ others indices one ++ others indices two
 unfolding others
 others-append indices one two =
     ap (filter (λ i. not (list_any (λ j. j == i) indices))) (map-append (λ (a : Answer). a.index) one two)
     ∙ filter-append (λ i. not (list_any (λ j. j == i) indices)) (indices_of one) (indices_of two)
 
+-- and their numbers
 pub words_of-append : (indices : List ℕ) (one two : List Answer) → words_of indices (one ++ two) ≡ words_of indices one ++ words_of indices two
 unfolding words_of
 words_of-append indices one two = ap (flat_map number_word) (others-append indices one two) ∙ flat_map-append number_word (others indices one) (others indices two)
 
+-- no answers have no numbers
 pub words_of-none : (indices : List ℕ) → words_of indices [] ≡ []
 unfolding words_of others
 words_of-none indices = refl
@@ -127,6 +136,7 @@ count-one session count bytes within is =
     ap length (first_of-more session count within) ∙ length-append (first_of session count) (of_server session (count + 1))
     ∙ ap (λ (payload : Option (List ℕ)). length (first_of session count) + length (with_answer (count + 1) payload [])) (sym is)
 
+-- a server whose answer is not usable adds none
 pub count-no : (session : Transcript) (count : ℕ) → count < length session.records → None ≡ payload_of session (count + 1)
     → length (first_of session (count + 1)) ≡ length (first_of session count)
 count-no session count within is =
@@ -152,10 +162,12 @@ words-pieces indices session count within =
     ∙ words_of-append indices (first_of session count) (of_server session (count + 1) ++ rest)
     ∙ ap (λ (l : List ℕ). words_of indices (first_of session count) ++ l) (words_of-append indices (of_server session (count + 1)) rest)
 
+-- before the first server there is no number
 pub words-none : (indices : List ℕ) (session : Transcript) → words_of indices (first_of session 0) ≡ []
 unfolding words_of others first_of
 words-none indices session = refl
 
+-- each server adds the numbers of its own
 pub words-more : (indices : List ℕ) (session : Transcript) (count : ℕ) → count < length session.records
     → words_of indices (first_of session (count + 1)) ≡ words_of indices (first_of session count) ++ words_of indices (of_server session (count + 1))
 words-more indices session count within =
@@ -163,16 +175,19 @@ words-more indices session count within =
 
 -- ---- the line of liars
 
+-- there is no line where other answers could agree
 pub liars-far : (answers : List Answer) (t h : ℕ) (agreements : List Agreement) → 2 * h ≤ length answers + t → liars_line answers t h agreements ≡ []
 liars-far answers t h [] far = refl
 liars-far answers t h (one ∷ []) far = ap (λ b. if b then codes "liars" ++ (words_of one.indices answers ++ codes "\n") else []) (le-ltb _ _ far)
 liars-far answers t h (one ∷ another ∷ more) far = refl
 
+-- nor where there is no one agreement
 pub liars-many : (answers : List Answer) (t h : ℕ) (agreements : List Agreement) → length agreements ≢ 1 → liars_line answers t h agreements ≡ []
 liars-many answers t h [] many = refl
 liars-many answers t h (one ∷ []) many = absurd (many refl)
 liars-many answers t h (one ∷ another ∷ more) many = refl
 
+-- else it is that of the one agreement
 pub liars-close : (answers : List Answer) (t h : ℕ) (agreements : List Agreement) (one : Agreement) → length answers + t < 2 * h → length agreements ≡ 1
     → one ≡ get_or agreements 0 one → liars_line answers t h agreements ≡ codes "liars" ++ (words_of one.indices answers ++ codes "\n")
 liars-close answers t h [] one close e is = absurd (omega (arith, e))

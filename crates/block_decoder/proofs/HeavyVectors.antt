@@ -88,6 +88,7 @@ module _ (answers : List Answer) (bytes : All (λ a. a.index < 256) answers)
 
 -- ---- no column
 
+-- a list of no elements is empty
 pub empty_list : {X : Type 0} (xs : List X) → length xs ≡ 0 → xs ≡ []
 empty_list [] e = refl
 empty_list (x ∷ xs) e = absurd (omega arith)

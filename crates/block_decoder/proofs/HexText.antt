@@ -3,11 +3,13 @@ use Rattle.std.proofs.Common.{◌≡◌, ◌∙◌, ℕ, List, [], ◌∷◌, �
 use Rattle.std.proofs.Math.Seq.{take-add}
 use Rattle.hex.specs.Hex.{encode_lower, encode_with, lower_digits}
 
+-- what is encoded of two lists is that of each
 pub encode_with-append : (t xs ys : List ℕ) → encode_with t (xs ++ ys) ≡ encode_with t xs ++ encode_with t ys
 unfolding encode_with
 encode_with-append t [] ys = refl
 encode_with-append t (x ∷ xs) ys = ap (λ zs. slice_index t (x / 16) ∷ slice_index t (x % 16) ∷ zs) (encode_with-append t xs ys)
 
+-- nothing is encoded as nothing
 pub encode_lower-nil : encode_lower [] ≡ []
 unfolding encode_with
 encode_lower-nil = refl
@@ -21,4 +23,6 @@ pub encode_lower-pieces : (at size : ℕ) (bytes : List ℕ)
     → encode_lower bytes ≡ encode_lower (take at bytes) ++ (encode_lower (take size (drop at bytes)) ++ encode_lower (drop size (drop at bytes)))
 encode_lower-pieces at size bytes =
     ap encode_lower (sym (take-append-drop at bytes)) ∙ encode_with-append lower_digits (take at bytes) (drop at bytes)
-    ∙ ap (λ l. encode_lower (take at bytes) ++ l) (ap encode_lower (sym (take-append-drop size (drop at bytes))) ∙ encode_with-append lower_digits (take size (drop at bytes)) (drop size (drop at bytes)))
+    ∙ ap (λ l. encode_lower (take at bytes) ++ l)
+    (ap encode_lower (sym (take-append-drop size (drop at bytes))) ∙ encode_with-append lower_digits (take size (drop at bytes))
+    (drop size (drop at bytes)))

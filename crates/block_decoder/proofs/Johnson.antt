@@ -16,6 +16,7 @@ first_marks zero (b ∷ bs) = 0 ∷ first_marks zero bs
 first_marks (suc h) (false ∷ bs) = 0 ∷ first_marks (suc h) bs
 first_marks (suc h) (true ∷ bs) = 1 ∷ first_marks h bs
 
+-- there are as many marks as tests
 length-first_marks : (h : ℕ) (bs : List Bool) → length (first_marks h bs) ≡ length bs
 length-first_marks h [] = refl
 length-first_marks zero (b ∷ bs) = ap suc (length-first_marks zero bs)
@@ -27,17 +28,20 @@ abbrev passed : List Bool → ℕ
 passed [] = 0
 passed (b ∷ bs) = one_if b + passed bs
 
+-- at how many places both lists have passed
 abbrev passed_both : List Bool → List Bool → ℕ
 passed_both [] cs = 0
 passed_both (b ∷ bs) [] = 0
 passed_both (b ∷ bs) (c ∷ cs) = one_if (b && c) + passed_both bs cs
 
+-- where enough have passed, so many are marked
 total-first_marks : (h : ℕ) (bs : List Bool) → h ≤ passed bs → total (first_marks h bs) ≡ h
 total-first_marks h [] many = omega arith
 total-first_marks zero (b ∷ bs) many = let rest = total-first_marks zero bs (omega arith) in omega arith
 total-first_marks (suc h) (false ∷ bs) many = let rest = total-first_marks (suc h) bs (omega arith) in omega arith
 total-first_marks (suc h) (true ∷ bs) many = let rest = total-first_marks h bs (omega arith) in omega arith
 
+-- a mark is its own square
 squares-first_marks : (h : ℕ) (bs : List Bool) → squares (first_marks h bs) ≡ total (first_marks h bs)
 squares-first_marks h [] = refl
 squares-first_marks zero (b ∷ bs) = let rest = squares-first_marks zero bs in omega arith
@@ -63,10 +67,12 @@ dot-first_marks (suc g) (suc h) (true ∷ bs) (true ∷ cs) = let rest = dot-fir
 
 -- ---- tests on the elements of a list
 
+-- as many tests pass as elements do
 passed-map : {X : Type 0} (test : X → Bool) (xs : List X) → passed (map test xs) ≡ count_by test xs
 passed-map test [] = refl
 passed-map test (x ∷ xs) = ap (λ n. one_if (test x) + n) (passed-map test xs) ∙ sym (count-cons test x xs)
 
+-- as many pass both as elements do
 passed_both-map : {X : Type 0} (p q : X → Bool) (xs : List X)
     → passed_both (map p xs) (map q xs) ≡ count_by (λ x. p x && q x) xs
 passed_both-map p q [] = refl
@@ -74,9 +80,11 @@ passed_both-map p q (x ∷ xs) =
     ap (λ n. one_if (p x && q x) + n) (passed_both-map p q xs) ∙ sym (count-cons (λ x. p x && q x) x xs)
 
 module _ {X V : Type 0} (passes : V → X → Bool) (xs : List X) where
+  -- the row of marks of a vector
   row_of : ℕ → V → List ℕ
   row_of h v = first_marks h (map (passes v) xs)
 
+  -- it is a row of so many marks
   is_row : (h : ℕ) (v : V) → h ≤ count_by (passes v) xs → IsRow (length xs) h (row_of h v)
   unfolding row_of
   is_row h v many =
@@ -88,6 +96,7 @@ module _ {X V : Type 0} (passes : V → X → Bool) (xs : List X) where
         squared = squares-first_marks h (map (passes v) xs) ∙ marked;
       }
 
+  -- the rows of two vectors share few marks where these share few elements
   share_few : (t h : ℕ) (v w : V) → count_by (λ x. passes v x && passes w x) xs ≤ t
       → ShareFew t (row_of h v) (row_of h w)
   unfolding row_of

@@ -10,6 +10,7 @@ use Rattle.block_decoder.specs.Narrowing.{points_of, IsPart}
 use Rattle.block_decoder.proofs.Pairs.{AllPairs-map}
 
 module _ (answers part : List Answer) (is : IsPart answers part) where
+  -- they are no more than all
   pub part-few : length part ≤ length answers
   part-few =
       let n = length-filter is.test answers in
@@ -17,26 +18,32 @@ module _ (answers part : List Answer) (is : IsPart answers part) where
       let e = ap length is.is in
       omega (arith, n, m, e)
 
+  -- what holds of all holds of them
   pub part-All : (P : Answer → Type 0) → All P answers → All P part
   part-All P all = subst (All P) (sym is.is) (All-filter is.test P answers all)
 
+  -- they are of different servers where all are
   pub part-different : AllPairs (λ a b. a.index ≢ b.index) answers → AllPairs (λ a b. a.index ≢ b.index) part
   part-different all = subst (AllPairs (λ a b. a.index ≢ b.index)) (sym is.is) (AllPairs-filter (λ a b. a.index ≢ b.index) is.test answers all)
 
 -- ---- the points of a column
 
 module _ (part : List Answer) (column : ℕ) where
+  -- the point of an answer
   point : Answer → ℕ × ℕ
   point a = (a.index, get_or a.payload column 0)
 
+  -- there is a point for each answer
   pub length-points : length (points_of part column) ≡ length part
   unfolding point
   length-points = length-map part point
 
+  -- what holds of the indices holds of the first members
   pub points-All : (P : ℕ → Type 0) → All (λ a. P a.index) part → All (λ p. P p.0) (points_of part column)
   unfolding point
   points-All P all = All-map (λ (p : ℕ × ℕ). P p.0) point part all
 
+  -- no two have the same where no two indices are one
   pub points-different : AllPairs (λ a b. a.index ≢ b.index) part → AllPairs (λ p q. p.0 ≢ q.0) (points_of part column)
   unfolding point
   points-different all = AllPairs-map (λ (p q : ℕ × ℕ). p.0 ≢ q.0) point part all
@@ -69,14 +76,18 @@ pub made_all : {Y Z : Type 0} (f : Y → Z) (i : ℕ) (items all : List Y) (made
 made_all f i items all made same end before = before ∙ ap (map f) (take_all i items end ∙ same)
 
 -- what passes of one more item
-module _ {X : Type 0} (test : X → Bool) (i : ℕ) (items : List X) (a : X) (made new : List X) (inside : i < length items) (item : a ≡ get_or items i a) (before : made ≡ filter test (take i items)) where
+module _ {X : Type 0} (test : X → Bool) (i : ℕ) (items : List X) (a : X) (made new : List X) (inside : i < length items)
+    (item : a ≡ get_or items i a) (before : made ≡ filter test (take i items)) where
+  -- whether the next item passes
   one_more : (b : Bool) → test a ≡ b → filter test (take (i + 1) items) ≡ filter test (take i items) ++ cond b (a ∷ []) []
   one_more b e =
       filter_more test items i a inside ∙ ap (λ x. filter test (take i items) ++ cond (test x) (x ∷ []) []) (sym item)
       ∙ ap (λ b. filter test (take i items) ++ cond b (a ∷ []) []) e
 
+  -- it is kept where it does
   pub kept_more : test a ≡ true → new ≡ made ++ a ∷ [] → new ≡ filter test (take (i + 1) items)
   kept_more passes is = is ∙ ap (λ xs. xs ++ a ∷ []) before ∙ sym (one_more true passes)
 
+  -- and is not where it does not
   pub kept_same : test a ≡ false → new ≡ made → new ≡ filter test (take (i + 1) items)
   kept_same fails is = is ∙ before ∙ sym (one_more false fails ∙ append-nil (filter test (take i items)))

@@ -16,9 +16,11 @@ module _ {K : Type 0} where
   first : (x : K) (xs : List K) → Contains (x ∷ xs) x
   first x xs = (0, omega arith, refl)
 
+  -- a member behind the first
   later : (x : K) (xs : List K) (b : K) → Contains xs b → Contains (x ∷ xs) b
   later x xs b (i, l, is) = (suc i, omega arith, is)
 
+  -- a member is the first or behind it
   pub first_or_later : (x : K) (xs : List K) (b : K) → Contains (x ∷ xs) b → (x ≡ b) ⊎ Contains xs b
   first_or_later x xs b (zero, l, is) = inl is
   first_or_later x xs b (suc i, l, is) = inr (i, omega arith, is)
@@ -39,12 +41,14 @@ module _ {K : Type 0} {R : K → K → Ordering} (o : IsTotalOrder R) where
   unfolding IsStrictlySortedBy
   sorted_cons x xs before ascending = (recursion_from_All (λ y. R x y ≡ Less) xs before, ascending)
 
+  -- no elements are in order
   pub sorted_nil : IsStrictlySortedBy R []
   unfolding IsStrictlySortedBy
   sorted_nil = tt
 
   -- ---- two lists with the same members
 
+  -- two that have each other as members begin alike
   first_same : (x y : K) (xs ys : List K) → IsStrictlySortedBy R (x ∷ xs) → IsStrictlySortedBy R (y ∷ ys)
       → Contains (y ∷ ys) x → Contains (x ∷ xs) y → x ≡ y
   first_same x y xs ys p q in_ys in_xs =
@@ -56,6 +60,7 @@ module _ {K : Type 0} {R : K → K → Ordering} (o : IsTotalOrder R) where
         ]
       ]
 
+  -- a member behind the first of one is behind that of the other
   still_later : (x y : K) (xs ys : List K) → IsStrictlySortedBy R (x ∷ xs) → x ≡ y → (b : K) → Contains xs b → Contains (y ∷ ys) b → Contains ys b
   still_later x y xs ys p e b behind c =
       elim (first_or_later y ys b c) [

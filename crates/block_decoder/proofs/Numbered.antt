@@ -14,14 +14,17 @@ take-bytes_low_first i zero m n h = refl
 take-bytes_low_first i (suc k) zero n h = absurd (omega arith)
 take-bytes_low_first i (suc k) (suc m) n h = ap (λ l. byte_at i n ∷ l) (take-bytes_low_first (suc i) k m n (omega arith))
 
+-- so many bytes are so many
 length-bytes_low_first : (i k n : ℕ) → length (bytes_low_first i k n) ≡ k
 length-bytes_low_first i zero n = refl
 length-bytes_low_first i (suc k) n = let ih = length-bytes_low_first (suc i) k n in omega (arith, ih)
 
+-- each is a byte
 byte_at-lt : (i n : ℕ) → byte_at i n < 256
 byte_at-lt zero n = mod_below n 256 (lit< tt)
 byte_at-lt (suc i) n = mod_below (n / 256 ^ suc i) 256 (lit< tt)
 
+-- so all are bytes
 All-bytes_low_first : (i k n : ℕ) → All (λ b. b < 256) (bytes_low_first i k n)
 All-bytes_low_first i zero n = All-nil (λ b. b < 256)
 All-bytes_low_first i (suc k) n = All-cons (λ b. b < 256) (byte_at i n) (bytes_low_first (suc i) k n) (byte_at-lt i n) (All-bytes_low_first (suc i) k n)
@@ -50,10 +53,12 @@ byte_at-above (suc i) b n h =
     ∙ ap (λ x. x % 256) (sym (div-div-eq-div-mul (b + 256 * n) 256 (256 ^ suc i)))
     ∙ ap (λ x. x / 256 ^ suc i % 256) e
 
+-- the bytes above the lowest are those of the rest
 bytes-above : (i k b n : ℕ) → b < 256 → bytes_low_first (suc i) k (b + 256 * n) ≡ bytes_low_first i k n
 bytes-above i zero b n h = refl
 bytes-above i (suc k) b n h = ap₂ (λ x l. x ∷ l) (byte_at-above i b n h) (bytes-above (suc i) k b n h)
 
+-- the bytes of the number of bytes are these
 bytes-number_of : (bytes : List ℕ) → All (λ b. b < 256) bytes → bytes_low_first 0 (length bytes) (number_of bytes) ≡ bytes
 unfolding number_of
 bytes-number_of [] h = refl
@@ -62,6 +67,7 @@ bytes-number_of (b ∷ bytes) h =
     let e : (b + 256 * number_of bytes) % 256 ≡ b = omega arith in
     ap₂ (λ x l. x ∷ l) e (bytes-above 0 (length bytes) b (number_of bytes) low ∙ bytes-number_of bytes (All-tail (λ b. b < 256) b bytes h))
 
+-- it is less than 256 to the power of how many there are
 number_of-lt : (bytes : List ℕ) → All (λ b. b < 256) bytes → number_of bytes < 256 ^ length bytes
 unfolding number_of
 number_of-lt [] h = lit< tt
@@ -77,6 +83,7 @@ pub record HasNumber (t : ℕ) (p : List ℕ) : Type 0 where
   pub below : number < 256 ^ (t + 1)
   pub is : numbered t number ≡ p
 
+-- each polynomial has a number
 pub number-IsPolynomial : (t : ℕ) (p : List ℕ) → IsPolynomial t p → HasNumber t p
 unfolding numbered
 number-IsPolynomial t p h = record {
@@ -91,6 +98,7 @@ pub record HaveNumbers (t : ℕ) (ps : List (List ℕ)) : Type 0 where
   pub below : All (λ n. n < 256 ^ (t + 1)) numbers
   pub are : all_numbered t numbers ≡ ps
 
+-- so have all of several
 pub numbers-IsPolynomial : (t : ℕ) (ps : List (List ℕ)) → All (IsPolynomial t) ps → HaveNumbers t ps
 numbers-IsPolynomial t [] h = record { numbers = []; below = All-nil (λ n. n < 256 ^ (t + 1)); are = refl }
 numbers-IsPolynomial t (p ∷ ps) h =

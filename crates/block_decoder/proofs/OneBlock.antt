@@ -13,6 +13,7 @@ use Rattle.wire_frames.specs.Session.{Transcript}
 use Rattle.column_lists.specs.declared.TheConstants.{MOST_POINTS}
 use Rattle.column_lists.proofs.Counting.{close_is_cheap}
 use Rattle.block_decoder.specs.Agreed.{constants_of, Agreed, Lists, holds_first, HasColumns}
+use Rattle.block_decoder.specs.Decoding.{decoding}
 use Rattle.block_decoder.specs.Narrowing.{ContinuesFrom, agreement_on}
 use Rattle.block_decoder.specs.Report.{Agreement, agreement_cmp, IsAgreement, IsReport}
 use Rattle.block_decoder.specs.Verdict.{IsDecided, IsCombined, IsVerdict, ListsAtMostOne}
@@ -28,12 +29,13 @@ use Rattle.block_decoder.proofs.UsableAnswers.{length-answers_from-le}
 
 -- where 2 h > k + t what is made of two heavy vectors is one
 pub one_made : {X : Type 0} (made : List (List ℕ) → X) (answers : List Answer) (width t h : ℕ) (one other : X) → HasColumns width answers
-    → length answers + t < 2 * h → ContinuesFrom made answers width t h [] one → ContinuesFrom made answers width t h [] other → one ≡ other
+    → length answers + t < 2 * h → ContinuesFrom made (decoding answers width t h) [] one → ContinuesFrom made (decoding answers width t h) [] other → one ≡ other
 one_made made answers width t h one other columns close p q =
     let m = p.enough in
     let n = q.enough in
     let both = count_by_both (holds_first p.more) (holds_first q.more) answers in
-    let same = same_vectors answers columns.indices columns.different width t p.more q.more (let c = p.one_a_column in omega (arith, c)) (let c = q.one_a_column in omega (arith, c)) p.degree q.degree (omega (arith, m, n, both, close)) in
+    let same = same_vectors answers columns.indices columns.different width t p.more q.more (let c = p.one_a_column in omega (arith, c))
+    (let c = q.one_a_column in omega (arith, c)) p.degree q.degree (omega (arith, m, n, both, close)) in
     p.is ∙ ap made same ∙ sym q.is
 
 -- so two agreed blocks are one
@@ -41,8 +43,8 @@ pub one_block : (answers : List Answer) (width t h : ℕ) (one other : List ℕ)
     → Agreed answers width t h one → Agreed answers width t h other → one ≡ other
 one_block answers width t h one other columns close first second =
     one_made constants_of answers width t h one other columns close
-    ((continues-Heavy answers width t h one).1 (heavy_from_agreed answers width t h one columns.filled first))
-    ((continues-Heavy answers width t h other).1 (heavy_from_agreed answers width t h other columns.filled second))
+    ((continues-Heavy (decoding answers width t h) one).1 (heavy_from_agreed answers width t h one columns.filled first))
+    ((continues-Heavy (decoding answers width t h) other).1 (heavy_from_agreed answers width t h other columns.filled second))
 
 -- and two agreements
 pub one_agreement : (answers : List Answer) (width t h : ℕ) (one other : Agreement) → HasColumns width answers → length answers + t < 2 * h
@@ -82,6 +84,7 @@ reported_alone answers width t h agreements columns close report =
       | inr few ↦ few
     ]
 
+-- where h lies so close to k, Johnson's bound holds
 strong : (t g r : ℕ) → r < g → (t + g + r) * t < (t + g) * (t + g)
 strong t g r less =
     let part : t * r ≤ t * g = mul-le-mul_left t (let l : r ≤ g = omega arith in l) in

@@ -37,6 +37,7 @@ module _ (all : List Answer) (width t h : ℕ) where
 
 -- of a session in either scheme
 module _ (session : Transcript) (verdict : Verdict) (scheme : (session.params.scheme ≡ SHAMIR) ⊎ (session.params.scheme ≡ XOR)) where
+  -- what stands beside its verdict is its report
   pub session_report : (report : Option (List Agreement)) (agreements : List Agreement) → IsReportOn session verdict report → report ≡ Some agreements → IsSessionReport session agreements
   session_report report agreements is same =
       let p = session.params in
@@ -47,6 +48,7 @@ module _ (session : Transcript) (verdict : Verdict) (scheme : (session.params.sc
         | inr xor ↦ let none = is.xor xor in absurd cc
       ]
 
+  -- and there is one such
   pub one_report : (one other : Option (List Agreement)) → IsReportOn session verdict one → IsReportOn session verdict other → one ≡ other
   one_report one other p q =
       let n = session.params in

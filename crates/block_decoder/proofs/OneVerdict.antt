@@ -17,10 +17,12 @@ one_listing answers width t h one other p q = same_members nat_list_cmp_total on
   λ c. (p.exact block).1 ((q.exact block).0 c),
 ))
 
+-- with equal numbers two such verdicts are one
 too_weak : (k t h j u i : ℕ) → k ≡ j → t ≡ u → h ≡ i → ◌≡◌ {A = Verdict} (TooWeak k t h) (TooWeak j u i)
 too_weak k t h j u i a b c = cc
 
 module _ (all : List Answer) (width : ℕ) where
+  -- two verdicts on the same answers are one
   pub one_decided : (t h : ℕ) (one other : Verdict) → IsDecided all width t h one → IsDecided all width t h other → one ≡ other
   one_decided t h (TooFew k agree) (TooFew j agreed) p q = ap₂ TooFew (p.0 ∙ sym q.0) (p.1 ∙ sym q.1)
   one_decided t h (TooFew k agree) (TooWeak j u agreed) p q = absurd (let few = p.2 in let enough = q.3 in omega (arith, few, enough))
@@ -39,6 +41,7 @@ module _ (all : List Answer) (width : ℕ) where
   one_decided t h (Listed blocks) (TooCostly equations) p q = absurd (let costly = q.3 in let cheap = p.2 in omega (arith, costly, cheap))
   one_decided t h (Listed blocks) (Listed others) p q = ap Listed (one_listing all width t h blocks others p.3 q.3)
 
+  -- and in the XOR scheme
   pub one_combined : (n h : ℕ) (one other : Verdict) → IsCombined all width n h one → IsCombined all width n h other → one ≡ other
   one_combined n h (TooFew k agree) (TooFew j agreed) p q = ap₂ TooFew (p.0 ∙ sym q.0) (p.1 ∙ sym q.1)
   one_combined n h (TooFew k agree) (Listed blocks) p q = absurd (let few = p.2 in let enough = q.0 in omega (arith, few, enough))

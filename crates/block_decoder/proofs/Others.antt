@@ -12,9 +12,11 @@ use Rattle.block_decoder.proofs.Members.{first_or_later}
 use Rattle.block_decoder.proofs.Pairs.{AllPairs-head, AllPairs-tail}
 use Rattle.block_decoder.proofs.Reported.{image-in}
 
+-- a number is equal to itself
 same_number : (i : ℕ) → (i == i) ≡ true
 same_number i = elim (eqb_tells i i) [ inl same ↦ same.0 | inr other ↦ absurd (other.1 refl) ]
 
+-- different numbers are not equal
 other_number : (i j : ℕ) → i ≢ j → (i == j) ≡ false
 other_number i j differ = elim (eqb_tells i j) [ inl same ↦ absurd (differ same.1) | inr other ↦ other.0 ]
 
@@ -23,6 +25,7 @@ has_index : List Answer → ℕ → Bool
 has_index answers i = list_any (λ j. j == i) (indices_of answers)
 
 module _ (test : Answer → Bool) where
+  -- where no answer has the index, none that passes has
   none_with : (answers : List Answer) (i : ℕ) → All (λ b. b.index ≢ i) answers → has_index (filter test answers) i ≡ false
   unfolding has_index
   none_with answers i apart =
@@ -31,11 +34,13 @@ module _ (test : Answer → Bool) where
       (All-weaker (λ (b : Answer). b.index ≢ i) (λ (b : Answer). (b.index == i) ≡ false) (λ b differ. other_number b.index i differ) (filter test answers)
       (All-filter test (λ (b : Answer). b.index ≢ i) answers apart)))
 
+  -- the first answer is among those that pass where it passes
   here : (b : Bool) (x : Answer) (kept : List Answer) → has_index kept x.index ≡ false → has_index (cond b (x ∷ kept) kept) x.index ≡ b
   unfolding has_index
   here true x kept none = ap (λ c. c || list_any (λ j. j == x.index) (indices_of kept)) (same_number x.index)
   here false x kept none = none
 
+  -- another is among them where it was
   there : (b : Bool) (x a : Answer) (kept : List Answer) → x.index ≢ a.index → has_index (cond b (x ∷ kept) kept) a.index ≡ has_index kept a.index
   unfolding has_index
   there true x a kept differ = ap (λ c. c || list_any (λ j. j == a.index) (indices_of kept)) (other_number x.index a.index differ)
@@ -55,6 +60,7 @@ module _ (test : Answer → Bool) where
             ∙ passes_with xs (AllPairs-tail (λ a b. a.index ≢ b.index) x xs different) a later
       ]
 
+  -- what is not so is false
   not_true : (b : Bool) → not b ≡ true → b ≡ false
   not_true true e = absurd cc
   not_true false e = refl

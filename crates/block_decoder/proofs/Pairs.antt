@@ -5,12 +5,15 @@ use Rattle.std.proofs.lemmas.List.Elements.{All-head, All-tail, All-append}
 use Rattle.std.proofs.lemmas.List.Kept.{AllPairs-cons}
 
 module _ {X : Type 0} (R : X → X → Type 0) where
+  -- it holds of all pairs of none
   pub AllPairs-nil : AllPairs R []
   AllPairs-nil i j d before within = absurd (omega arith)
 
+  -- of the first with each behind it
   pub AllPairs-head : (x : X) (xs : List X) → AllPairs R (x ∷ xs) → All (R x) xs
   AllPairs-head x xs pairs j d within = pairs zero (suc j) d (omega arith) (omega arith)
 
+  -- and of all pairs behind the first
   pub AllPairs-tail : (x : X) (xs : List X) → AllPairs R (x ∷ xs) → AllPairs R xs
   AllPairs-tail x xs pairs i j d before within = pairs (suc i) (suc j) d (omega arith) (omega arith)
 

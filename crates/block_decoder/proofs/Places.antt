@@ -13,6 +13,7 @@ use Rattle.block_decoder.proofs.Counting.{one_if, count-cons}
 pub count_by-take : {X : Type 0} (test : X → Bool) (xs : List X) (m n : ℕ) → m ≤ n → count_by test (take m xs) ≤ count_by test (take n xs)
 count_by-take test xs m n h = let e = sum_by-take-le (λ x. one_if (test x)) (take n xs) m in rw (take-take m n xs h) at e
 
+-- places from one on are no more than the elements that pass
 few_from : {X : Type 0} (test : X → Bool) (xs : List X) (d : X) (places : List ℕ) (from : ℕ)
     → AllPairs (λ p q. p < q) places → All (λ p. from ≤ p) places → All (λ p. p < length xs) places → All (λ p. test (get_or xs p d) ≡ true) places
     → count_by test (take from xs) + length places ≤ count_by test xs
@@ -39,6 +40,7 @@ few_places test xs d places ascending within pass =
 pub places_of : {X : Type 0} → (X → Bool) → List X → X → List ℕ
 places_of test xs d = filter (λ p. test (get_or xs p d)) (range_with_len 0 (length xs))
 
+-- they ascend
 pub ascending-places_of : {X : Type 0} (test : X → Bool) (xs : List X) (d : X) → IsStrictlyIncreasing (places_of test xs d)
 unfolding places_of
 ascending-places_of test xs d =
@@ -48,6 +50,7 @@ ascending-places_of test xs d =
     let f = get_or-range_with_len 0 (length xs) (k + 1) 0 (omega (arith, h, n)) in
     omega (arith, e, f))
 
+-- each is a place of the list
 pub within-places_of : {X : Type 0} (test : X → Bool) (xs : List X) (d : X) → All (λ p. p < length xs) (places_of test xs d)
 unfolding places_of
 within-places_of test xs d =
@@ -56,10 +59,12 @@ within-places_of test xs d =
     let e = get_or-range_with_len 0 (length xs) i 0 (omega (arith, h, n)) in
     omega (arith, e, h, n)))
 
+-- at each an element passes
 pub pass-places_of : {X : Type 0} (test : X → Bool) (xs : List X) (d : X) → All (λ p. test (get_or xs p d) ≡ true) (places_of test xs d)
 unfolding places_of
 pass-places_of test xs d = filter_passes (λ p. test (get_or xs p d)) (range_with_len 0 (length xs))
 
+-- as many places pass as elements
 count_by-range : {X : Type 0} (test : X → Bool) (xs : List X) (d : X) (whole : List X) (from : ℕ)
     → ((i : ℕ) → i < length xs → get_or whole (from + i) d ≡ get_or xs i d)
     → count_by (λ p. test (get_or whole p d)) (range_with_len from (length xs)) ≡ count_by test xs
@@ -76,6 +81,7 @@ pub length-places_of : {X : Type 0} (test : X → Bool) (xs : List X) (d : X) �
 unfolding places_of
 length-places_of test xs d = length-filter _ (range_with_len 0 (length xs)) ∙ count_by-range test xs d xs 0 (λ i h. let e : 0 + i ≡ i = omega arith in ap (λ i. get_or xs i d) e)
 
+-- of two tests that pass both are counted once more
 both_or_one : (a b : Bool) → one_if a + one_if b ≤ 1 + one_if (a && b)
 both_or_one true true = omega arith
 both_or_one true false = omega arith

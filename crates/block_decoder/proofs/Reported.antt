@@ -14,6 +14,7 @@ use Rattle.std.proofs.lemmas.List.Sums.{length-filter}
 use Rattle.gf256.specs.Polynomial.{val}
 use Rattle.wire_frames.specs.Answer.{Answer}
 use Rattle.block_decoder.specs.Agreed.{weight, holds_first, Filled, Heavy, Lists}
+use Rattle.block_decoder.specs.Decoding.{decoding}
 use Rattle.block_decoder.specs.Gains.{Gains}
 use Rattle.block_decoder.specs.Narrowing.{agreement_on, holding, ContinuesFrom}
 use Rattle.block_decoder.specs.Report.{Agreement, agreement_cmp, holds, indices_of, HasBlocks, IsAgreement, IsReport}
@@ -24,6 +25,7 @@ use Rattle.block_decoder.proofs.Ascending.{comparisons_rise, same_bytes, sorted_
 
 -- ---- the order
 
+-- it is a total order
 pub agreement_cmp_total : IsTotalOrder agreement_cmp
 agreement_cmp_total = then_total (on_total (λ (a : Agreement). a.block) nat_list_cmp_total) (on_total (λ (a : Agreement). a.indices) nat_list_cmp_total)
 
@@ -118,7 +120,7 @@ many-indices answers v = length-map (holding v answers) (λ (a : Answer). a.inde
 module _ (answers : List Answer) (width t h : ℕ) (filled : Filled width answers) where
   -- what the empty vector is continued to are the agreements
   pub continues-agreement : (a : Agreement)
-      → ContinuesFrom (agreement_on answers) answers width t h [] a ↔ IsAgreement answers width t h a
+      → ContinuesFrom (agreement_on answers) (decoding answers width t h) [] a ↔ IsAgreement answers width t h a
   continues-agreement a = (
     λ c.
         let e : length c.more ≡ width = let n = c.one_a_column in omega (arith, n) in
@@ -150,7 +152,7 @@ module _ (answers : List Answer) (width t h : ℕ) (filled : Filled width answer
 
   -- so where these have come to the empty report, it is whole
   pub report-gains : (agreements : List Agreement) → IsStrictlySortedBy agreement_cmp agreements
-      → Gains (ContinuesFrom (agreement_on answers) answers width t h []) [] agreements
+      → Gains (ContinuesFrom (agreement_on answers) (decoding answers width t h) []) [] agreements
       → IsReport answers width t h agreements
   report-gains agreements ascending gains = record {
     ascending = ascending;
@@ -179,7 +181,7 @@ module _ (answers : List Answer) (width t h : ℕ) (filled : Filled width answer
         },
     λ y.
         let a : Agreement = agreement_on answers y.polynomials in
-        let c : ContinuesFrom (agreement_on answers) answers width t h [] a = record {
+        let c : ContinuesFrom (agreement_on answers) (decoding answers width t h) [] a = record {
           more = y.polynomials;
           one_a_column = let n = y.one_a_column in omega (arith, n);
           degree = y.degree;

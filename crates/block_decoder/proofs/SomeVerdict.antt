@@ -15,9 +15,11 @@ use Rattle.chor_xor.specs.Chosen.{combined}
 use Rattle.column_lists.specs.Numbers.{cost}
 use Rattle.column_lists.specs.declared.TheConstants.{MOST_COST}
 use Rattle.block_decoder.specs.Agreed.{constants_of, Heavy, weight, Filled, Lists}
+use Rattle.block_decoder.specs.Decoding.{decoding}
 use Rattle.block_decoder.specs.Gains.{Gains}
 use Rattle.block_decoder.specs.Numbered.{all_numbered, Continues, ContinuesBelow}
 use Rattle.block_decoder.specs.Verdict.{IsDecided, IsCombined, HasVerdict}
+use Rattle.block_decoder.specs.declared.decoding.Decoding.{Decoding}
 use Rattle.block_decoder.specs.declared.verdict.Verdict.{Verdict}
 use Rattle.block_decoder.specs.declared.verdict.Verdict.TheVariants.{Listed, TooFew, TooWeak, TooCostly}
 use Rattle.block_decoder.proofs.Continued.{continues-light, continues-Heavy}
@@ -33,12 +35,12 @@ record Gained (P : List ℕ → Type 0) (old : List (List ℕ)) : Type 0 where
   ascending : IsStrictlySortedBy (slice_cmp nat_cmp) new
   gains : Gains P old new
 
-module _ (answers : List Answer) (width t h : ℕ) where
+module _ (d : Decoding) where
   -- by the next number, where the continuations by each number may be gained
-  gained_below : (numbers : List ℕ) → ((n : ℕ) (old : List (List ℕ)) → IsStrictlySortedBy (slice_cmp nat_cmp) old → Gained (Continues answers width t h (numbers ++ n ∷ [])) old)
-      → (bound : ℕ) (old : List (List ℕ)) → IsStrictlySortedBy (slice_cmp nat_cmp) old → Gained (ContinuesBelow bound answers width t h numbers) old
+  gained_below : (numbers : List ℕ) → ((n : ℕ) (old : List (List ℕ)) → IsStrictlySortedBy (slice_cmp nat_cmp) old → Gained (Continues d (numbers ++ n ∷ [])) old)
+      → (bound : ℕ) (old : List (List ℕ)) → IsStrictlySortedBy (slice_cmp nat_cmp) old → Gained (ContinuesBelow bound d numbers) old
   gained_below numbers each zero old p =
-      record { new = old; ascending = p; gains = Gains-none (ContinuesBelow 0 answers width t h numbers) old (λ b c. let l = c.below in absurd (omega (arith, l))) }
+      record { new = old; ascending = p; gains = Gains-none (ContinuesBelow 0 d numbers) old (λ b c. let l = c.below in absurd (omega (arith, l))) }
   gained_below numbers each (suc bound) old p =
       let some = gained_below numbers each bound old p in
       let more = each bound some.new some.ascending in
@@ -46,47 +48,48 @@ module _ (answers : List Answer) (width t h : ℕ) where
       record {
         new = more.new;
         ascending = more.ascending;
-        gains = subst (λ n. Gains (ContinuesBelow n answers width t h numbers) old more.new) e
-            (Gains-both (ContinuesBelow bound answers width t h numbers) (Continues answers width t h (numbers ++ bound ∷ [])) (ContinuesBelow (bound + 1) answers width t h numbers)
-            old some.new more.new some.gains more.gains (ContinuesBelow-more answers width t h numbers bound));
+        gains = subst (λ n. Gains (ContinuesBelow n d numbers) old more.new) e
+            (Gains-both (ContinuesBelow bound d numbers) (Continues d (numbers ++ bound ∷ [])) (ContinuesBelow (bound + 1) d numbers)
+            old some.new more.new some.gains more.gains (ContinuesBelow-more d numbers bound));
       }
 
   -- one column after the other
-  gained : (left : ℕ) (numbers : List ℕ) → length numbers + left ≡ width → (old : List (List ℕ)) → IsStrictlySortedBy (slice_cmp nat_cmp) old
-      → Gained (Continues answers width t h numbers) old
+  gained : (left : ℕ) (numbers : List ℕ) → length numbers + left ≡ d.width → (old : List (List ℕ)) → IsStrictlySortedBy (slice_cmp nat_cmp) old
+      → Gained (Continues d numbers) old
   gained zero numbers e old p =
-      elim (cases_lt (weight (all_numbered t numbers) answers) h) [
-        | inl light ↦ record { new = old; ascending = p; gains = Gains-none (Continues answers width t h numbers) old (continues-light constants_of answers width t h (all_numbered t numbers) light) }
+      elim (cases_lt (weight (all_numbered d.degree numbers) d.answers) d.agreement) [
+        | inl light ↦ record { new = old; ascending = p; gains = Gains-none (Continues d numbers) old (continues-light constants_of d (all_numbered d.degree numbers) light) }
         | inr heavy ↦
             let block = map (λ n. n % 256) numbers in
             let more = with_member nat_list_cmp_total exact_bytes block old p in
             record {
               new = more.new;
               ascending = more.ascending;
-              gains = Gains-same (λ b. b ≡ block) (Continues answers width t h numbers) old more.new (Continues-whole answers width t h numbers (omega (arith, e)) heavy) more.members;
+              gains = Gains-same (λ b. b ≡ block) (Continues d numbers) old more.new (Continues-whole d numbers (omega (arith, e)) heavy) more.members;
             }
       ]
   gained (suc left) numbers e old p =
-      let all = gained_below numbers (λ n older q. let l = length-append numbers (n ∷ []) in gained left (numbers ++ n ∷ []) (omega (arith, l, e)) older q) (256 ^ (t + 1)) old p in
+      let all = gained_below numbers (λ n older q. let l = length-append numbers (n ∷ []) in gained left (numbers ++ n ∷ []) (omega (arith, l, e)) older q) (256 ^ (d.degree + 1)) old p in
       record {
         new = all.new;
         ascending = all.ascending;
-        gains = Gains-same (ContinuesBelow (256 ^ (t + 1)) answers width t h numbers) (Continues answers width t h numbers) old all.new
-            (Continues-next answers width t h numbers (omega (arith, e))) all.gains;
+        gains = Gains-same (ContinuesBelow (256 ^ (d.degree + 1)) d numbers) (Continues d numbers) old all.new
+            (Continues-next d numbers (omega (arith, e))) all.gains;
       }
 
   -- the agreed blocks can be listed
-  pub some_listing : Filled width answers → (blocks : List (List ℕ)) × Lists blocks answers width t h
+  pub some_listing : Filled d.width d.answers → (blocks : List (List ℕ)) × Lists blocks d.answers d.width d.degree d.agreement
   some_listing filled =
-      let all = gained width [] (omega arith) [] (sorted_nil nat_list_cmp_total) in (
+      let all = gained d.width [] (omega arith) [] (sorted_nil nat_list_cmp_total) in (
         all.new,
-        Lists-Gains answers width t h all.new filled all.ascending
-            (Gains-same (Continues answers width t h []) (Heavy answers width t h) [] all.new (continues-Heavy answers width t h) all.gains),
+        Lists-Gains d.answers d.width d.degree d.agreement all.new filled all.ascending
+            (Gains-same (Continues d []) (Heavy d.answers d.width d.degree d.agreement) [] all.new (continues-Heavy d) all.gains),
       )
 
 -- ---- the verdict
 
 module _ (all : List Answer) (width : ℕ) where
+  -- there is one on answers in Shamir's scheme
   pub some_decided : (t h : ℕ) → Filled width all → (verdict : Verdict) × IsDecided all width t h verdict
   some_decided t h filled =
       elim (cases_lt (length all) h) [
@@ -94,12 +97,13 @@ module _ (all : List Answer) (width : ℕ) where
         | inr enough ↦ elim (cases_lt (length all * t) (h * h)) [
           | inl strong ↦ elim (cases_lt MOST_COST (cost (length all) t h)) [
             | inl costly ↦ (TooCostly (cost (length all) t h), (refl, enough, strong, costly))
-            | inr cheap ↦ let (blocks, lists) = some_listing all width t h filled in (Listed blocks, (enough, strong, cheap, lists))
+            | inr cheap ↦ let (blocks, lists) = some_listing (decoding all width t h) filled in (Listed blocks, (enough, strong, cheap, lists))
           ]
           | inr weak ↦ (TooWeak (length all) t h, (refl, refl, refl, enough, weak))
         ]
       ]
 
+  -- and in the XOR scheme
   pub some_combined : (n h : ℕ) → (verdict : Verdict) × IsCombined all width n h verdict
   some_combined n h =
       elim (cases_lt (length all) n) [
@@ -108,14 +112,17 @@ module _ (all : List Answer) (width : ℕ) where
       ]
 
 -- usable answers have a byte for each column
-filled_with : (width i : ℕ) (payload : Option (List ℕ)) (rest : List Answer) → ((bytes : List ℕ) → payload ≡ Some bytes → length bytes ≡ width) → Filled width rest → Filled width (with_answer i payload rest)
+filled_with : (width i : ℕ) (payload : Option (List ℕ)) (rest : List Answer) → ((bytes : List ℕ) → payload ≡ Some bytes
+    → length bytes ≡ width) → Filled width rest → Filled width (with_answer i payload rest)
 filled_with width i None rest size filled = filled
 filled_with width i (Some payload) rest size filled = All-cons (λ (a : Answer). length a.payload ≡ width) (record { index = i; payload = payload }) rest (size payload refl) filled
 
+-- so have all usable answers of a session
 filled_from : (i : ℕ) (p : SessionParams) (records : List (Option (List ℕ))) → Filled (block_len p) (answers_from i p records)
 filled_from i p [] = All-nil (λ (a : Answer). length a.payload ≡ block_len p)
 filled_from i p (None ∷ records) = filled_from (i + 1) p records
-filled_from i p (Some bytes ∷ records) = filled_with (block_len p) i (usable bytes (asked p i)) (answers_from (i + 1) p records) (λ payload e. usable_size bytes payload (asked p i) e) (filled_from (i + 1) p records)
+filled_from i p (Some bytes ∷ records) = filled_with (block_len p) i (usable bytes (asked p i)) (answers_from (i + 1) p records)
+    (λ payload e. usable_size bytes payload (asked p i) e) (filled_from (i + 1) p records)
 
 -- there is a verdict on each session
 pub some_verdict : (session : Transcript) → HasVerdict session

@@ -46,6 +46,7 @@ two_le_squares a b =
           subst (λ x. 2 * (x * b) ≤ x * x + b * b) (sym e) (omega arith)
     ]
 
+-- a number against each of others
 one_against : (x : ℕ) (ys : List ℕ) → 2 * (x * total ys) ≤ length ys * (x * x) + squares ys
 one_against x [] = omega arith
 one_against x (y ∷ ys) = let rest = one_against x ys in let two = two_le_squares x y in omega arith
@@ -57,30 +58,36 @@ cauchy (y ∷ ys) = let rest = cauchy ys in let first = one_against y ys in omeg
 
 -- ---- zeros, and sums of two rows
 
+-- zeros sum to 0
 total-zeros : (k : ℕ) → total (replicate k 0) ≡ 0
 total-zeros zero = refl
 total-zeros (suc k) = let rest = total-zeros k in omega arith
 
+-- so do their squares
 squares-zeros : (k : ℕ) → squares (replicate k 0) ≡ 0
 squares-zeros zero = refl
 squares-zeros (suc k) = let rest = squares-zeros k in omega arith
 
+-- and their products
 dot-zeros : (xs : List ℕ) (k : ℕ) → dot xs (replicate k 0) ≡ 0
 dot-zeros [] k = refl
 dot-zeros (x ∷ xs) zero = refl
 dot-zeros (x ∷ xs) (suc k) = let rest = dot-zeros xs k in omega arith
 
+-- two rows are as long together as either
 length-plus : (xs ys : List ℕ) → length xs ≡ length ys → length (plus xs ys) ≡ length xs
 length-plus [] ys e = refl
 length-plus (x ∷ xs) [] e = absurd (omega arith)
 length-plus (x ∷ xs) (y ∷ ys) e = ap suc (length-plus xs ys (omega arith))
 
+-- their total is both totals
 total-plus : (xs ys : List ℕ) → length xs ≡ length ys → total (plus xs ys) ≡ total xs + total ys
 total-plus [] [] e = refl
 total-plus [] (y ∷ ys) e = absurd (omega arith)
 total-plus (x ∷ xs) [] e = absurd (omega arith)
 total-plus (x ∷ xs) (y ∷ ys) e = let rest = total-plus xs ys (omega arith) in omega arith
 
+-- their squares are both squares and twice their products
 squares-plus : (xs ys : List ℕ) → length xs ≡ length ys
     → squares (plus xs ys) ≡ squares xs + (2 * dot xs ys + squares ys)
 squares-plus [] [] e = refl
@@ -88,6 +95,7 @@ squares-plus [] (y ∷ ys) e = absurd (omega arith)
 squares-plus (x ∷ xs) [] e = absurd (omega arith)
 squares-plus (x ∷ xs) (y ∷ ys) e = let rest = squares-plus xs ys (omega arith) in omega arith
 
+-- products with both are the products with each
 dot-plus : (zs xs ys : List ℕ) → length xs ≡ length ys → dot zs (plus xs ys) ≡ dot zs xs + dot zs ys
 dot-plus [] xs ys e = refl
 dot-plus (z ∷ zs) [] [] e = refl
@@ -112,6 +120,7 @@ abbrev sums : ℕ → List (List ℕ) → List ℕ
 sums k [] = replicate k 0
 sums k (row ∷ rows) = plus row (sums k rows)
 
+-- the sums of rows are as long as a row
 length-sums : (k h : ℕ) (rows : List (List ℕ)) → All (IsRow k h) rows → length (sums k rows) ≡ k
 length-sums k h [] all = length-replicate k 0
 length-sums k h (row ∷ rows) all =
@@ -124,6 +133,7 @@ same_length : (k h : ℕ) (row : List ℕ) (rows : List (List ℕ)) → All (IsR
 same_length k h row rows all =
     (All-head (IsRow k h) row rows all).size ∙ sym (length-sums k h rows (All-tail (IsRow k h) row rows all))
 
+-- their total is that of all rows
 total-sums : (k h : ℕ) (rows : List (List ℕ)) → All (IsRow k h) rows → total (sums k rows) ≡ length rows * h
 total-sums k h [] all = let none = total-zeros k in omega (arith, none)
 total-sums k h (row ∷ rows) all =
@@ -132,6 +142,7 @@ total-sums k h (row ∷ rows) all =
     let both = total-plus row (sums k rows) (same_length k h row rows all) in
     omega (arith, rest, first, both)
 
+-- their products with a row are few where each row shares few marks with it
 dot-sums : (k h t : ℕ) (xs : List ℕ) (rows : List (List ℕ)) → All (IsRow k h) rows → All (ShareFew t xs) rows
     → dot xs (sums k rows) ≤ length rows * t
 dot-sums k h t xs [] all few = let none = dot-zeros xs k in omega (arith, none)
@@ -155,6 +166,7 @@ squares-sums k h t (row ∷ rows) all few =
 
 -- ---- the double count
 
+-- a factor that is not 0 may be left away
 cancel : (n a b : ℕ) → 0 < n → n * a ≤ n * b → a ≤ b
 cancel n a b some le =
     elim (cases_lt b a) [
@@ -169,6 +181,7 @@ one_cancelled n k h t s some square most =
     let times = mul-le-mul_left k most in
     cancel n (n * (h * h) + k * t) (k * h + n * (k * t)) some (omega (arith, times, square))
 
+-- the squares of the sums counted in two ways
 double_count : (k h t : ℕ) (rows : List (List ℕ)) → 0 < length rows → All (IsRow k h) rows
     → AllPairs (ShareFew t) rows → length rows * (h * h) + k * t ≤ k * h + length rows * (k * t)
 double_count k h t rows some all few =
@@ -180,6 +193,7 @@ double_count k h t rows some all few =
     one_cancelled (length rows) k h t (squares (sums k rows)) some
     (subst (λ n. n * n ≤ k * squares (sums k rows)) sum places) (squares-sums k h t rows all few)
 
+-- what is common to both sides is left away
 without : (n k t h g d : ℕ) → h * h ≡ k * t + d → h ≡ t + g → n * (h * h) + k * t ≤ k * h + n * (k * t)
     → n * d ≤ k * g
 without n k t h g d square more le =

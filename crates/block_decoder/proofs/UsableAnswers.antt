@@ -19,6 +19,7 @@ use Rattle.block_decoder.specs.Agreed.{Filled, HasColumns}
 
 -- ---- one answer
 
+-- what there is under a test is there where it passes
 when_some : (t : Bool) (x b : List ℕ) → cond t (Some x) None ≡ Some b → (t ≡ true) × (x ≡ b)
 when_some true x b e = (refl, cc)
 when_some false x b e = absurd (cc)
@@ -64,6 +65,7 @@ pub record AreInOrder (width low high : ℕ) (answers : List Answer) : Type 0 wh
   pub below : All (λ a. a.index < high) answers
   pub ascending : AllPairs (λ a b. a.index < b.index) answers
 
+-- no answers are in order
 in_order_none : (width low high : ℕ) → AreInOrder width low high []
 in_order_none width low high = record {
   filled = All-nil (λ (a : Answer). length a.payload ≡ width);
@@ -93,6 +95,7 @@ in_order_with width i high (Some payload) rest below is order =
       ascending = AllPairs-cons (λ (a b : Answer). a.index < b.index) one rest (λ k d l. let f = order.from k d l in omega (arith, f)) order.ascending;
     }
 
+-- a usable payload of bytes has bytes
 bytes_if_usable : (bytes payload : List ℕ) (q : QueryHeader) → All (λ b. b < 256) bytes → usable bytes q ≡ Some payload → All (λ b. b < 256) payload
 bytes_if_usable bytes payload q small e = subst (All (λ b. b < 256)) (usable_payload bytes payload q e) (All-drop (λ b. b < 256) FRAME_HEADER_LEN bytes small)
 
@@ -102,10 +105,12 @@ payload_is : (x : Option (List ℕ)) (payload : List ℕ) (q : QueryHeader) → 
 payload_is None payload q small e = absurd (cc)
 payload_is (Some bytes) payload q small e = (usable_size bytes payload q e, bytes_if_usable bytes payload q small e)
 
+-- what holds of whatever there is holds where there is something
 if_is : {X : Type 0} (o : Option X) (P : X → Type 0) → ((x : X) → o ≡ Some x → P x) → IfSome o P
 if_is None P h = tt
 if_is (Some x) P h = h x refl
 
+-- so the usable answers of records are in order
 in_order_from : (records : List (Option (List ℕ))) (i : ℕ) (p : SessionParams) → All (λ r. IfSome r (All (λ b. b < 256))) records
     → AreInOrder (block_len p) i (i + length records) (answers_from i p records)
 in_order_from [] i p small = in_order_none (block_len p) i (i + 0)

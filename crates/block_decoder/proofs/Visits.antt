@@ -7,10 +7,11 @@ use Rattle.std.proofs.lemmas.List.Elements.{All-nil, All-cons, All-append, All-w
 use Rattle.std.proofs.lemmas.List.Kept.{AllPairs-cons}
 use Rattle.gf256.specs.Polynomial.{IsPolynomial}
 use Rattle.column_runs.specs.Close.{least_misses}
-use Rattle.wire_frames.specs.Answer.{Answer}
 use Rattle.block_decoder.specs.Agreed.{weight, HasColumns}
-use Rattle.block_decoder.specs.Numbers.{bound_of, column_nodes, most_columns, most_lists, most_nodes}
-use Rattle.block_decoder.specs.Narrowing.{IsVisited, IsVisitedBy, AreVisited, CountsFrom, CountsBy}
+use Rattle.block_decoder.specs.Decoding.{most_columns_of, most_nodes_of, Counters}
+use Rattle.block_decoder.specs.Numbers.{bound_of, most_columns, most_lists, most_nodes}
+use Rattle.block_decoder.specs.Narrowing.{list_nodes, IsVisited, IsVisitedBy, AreVisited, CountsFrom, CountsBy}
+use Rattle.block_decoder.specs.declared.decoding.Decoding.{Decoding}
 use Rattle.block_decoder.proofs.HeavyByLength.{few_by_length}
 use Rattle.block_decoder.proofs.FewLists.{few_nodes}
 use Rattle.block_decoder.proofs.Lists.{MissMany, nodes-nothing, nodes-none, nodes-after, nodes-more, nodes-below, nodes-whole}
@@ -19,54 +20,53 @@ use Rattle.block_decoder.proofs.Pairs.{AllPairs-nil, AllPairs-append}
 use Rattle.block_decoder.proofs.Runs.{HasRun, visits}
 use Rattle.block_decoder.proofs.Vectors.{differ_by_beginning, differ_by_last}
 
-module _ (answers : List Answer) (width t h most : ℕ) (v : List (List ℕ)) where
+module _ (d : Decoding) (most : ℕ) (v : List (List ℕ)) where
   -- nothing is visited yet
-  pub counts-nothing : (c0 c1 n0 n1 : ℕ) → c1 ≤ c0 → n1 ≤ n0 → CountsFrom answers width t h most v c0 c1 n0 n1
-  counts-nothing c0 c1 n0 n1 cols nodes = record {
+  pub counts-nothing : (a b : Counters) → b.cols ≤ a.cols → b.nodes ≤ a.nodes → CountsFrom d most v a b
+  counts-nothing a b cols nodes = record {
     visited = [];
-    are = record { different = AllPairs-nil (λ v w. v ≢ w); each = All-nil (IsVisited answers width t h v) };
+    are = record { different = AllPairs-nil (λ v w. v ≢ w); each = All-nil (IsVisited d v) };
     cols = omega (arith, cols);
     lists = omega (arith, nodes);
-    nodes = nodes-nothing answers t h most v n0 n1 nodes;
+    nodes = nodes-nothing d most v a.nodes b.nodes nodes;
   }
 
-  pub counts-none : (cols nodes : ℕ) → CountsBy [] answers width t h most v cols cols nodes nodes
-  counts-none cols nodes = record {
+  -- nor below no polynomial
+  pub counts-none : (a : Counters) → CountsBy [] d most v a a
+  counts-none a = record {
     visited = [];
     different = AllPairs-nil (λ v w. v ≢ w);
-    each = All-nil (IsVisitedBy [] answers width t h v);
+    each = All-nil (IsVisitedBy [] d v);
     cols = omega arith;
     lists = omega arith;
-    nodes = nodes-none answers t h most v nodes;
+    nodes = nodes-none d most v a.nodes;
   }
 
   -- those below one more polynomial, with fewer answers
-  pub counts-more : (nexts : List (List ℕ)) (p : List ℕ) (c0 c1 c2 n0 n1 n2 : ℕ) → HasColumns width answers
-      → All (IsPolynomial t) v → IsPolynomial t p → ¬ Contains nexts p
-      → CountsBy nexts answers width t h most v c0 c1 n0 n1
-      → CountsFrom answers width t h most (v ++ p ∷ []) c1 c2 n1 n2
-      → CountsBy (nexts ++ p ∷ []) answers width t h most v c0 c2 n0 n2
-  counts-more nexts p c0 c1 c2 n0 n1 n2 columns degree next_degree new before below =
+  pub counts-more : (nexts : List (List ℕ)) (p : List ℕ) (a b c : Counters) → HasColumns d.width d.answers
+      → All (IsPolynomial d.degree) v → IsPolynomial d.degree p → ¬ Contains nexts p → CountsBy nexts d most v a b
+      → CountsFrom d most (v ++ p ∷ []) b c → CountsBy (nexts ++ p ∷ []) d most v a c
+  counts-more nexts p a b c columns degree next_degree new before below =
       let size = length-append before.visited below.visited in
       let first = before.cols in
       let second = below.cols in
       record {
         visited = before.visited ++ below.visited;
-        different = AllPairs-append (λ v w. v ≢ w) before.visited below.visited before.different below.are.different (λ i d k j e l. apart (before.each i d k) (below.are.each j e l));
-        each = All-append (IsVisitedBy (nexts ++ p ∷ []) answers width t h v) before.visited below.visited
-            (All-weaker (IsVisitedBy nexts answers width t h v) (IsVisitedBy (nexts ++ p ∷ []) answers width t h v)
+        different = AllPairs-append (λ v w. v ≢ w) before.visited below.visited before.different below.are.different (λ i z k j e l. apart (before.each i z k) (below.are.each j e l));
+        each = All-append (IsVisitedBy (nexts ++ p ∷ []) d v) before.visited below.visited
+            (All-weaker (IsVisitedBy nexts d v) (IsVisitedBy (nexts ++ p ∷ []) d v)
             (λ u is. record { next = is.next; listed = Contains-append_left nexts (p ∷ []) is.next is.listed; visited = is.visited })
             before.visited before.each)
-            (All-weaker (IsVisited answers width t h (v ++ p ∷ [])) (IsVisitedBy (nexts ++ p ∷ []) answers width t h v)
+            (All-weaker (IsVisited d (v ++ p ∷ [])) (IsVisitedBy (nexts ++ p ∷ []) d v)
             (λ u is. record { next = p; listed = Contains-append_right nexts (p ∷ []) p (0, omega arith, refl); visited = is })
             below.visited below.are.each);
         cols = omega (arith, size, first, second);
-        lists = products_both (length before.visited) (length below.visited) (length (before.visited ++ below.visited)) most n0 n1 n2 (omega (arith, size)) before.lists below.lists;
-        nodes = nodes-more answers width t h most columns v degree nexts p n0 n1 n2 next_degree new before.nodes below.nodes;
+        lists = products_both (length before.visited) (length below.visited) (length (before.visited ++ below.visited)) most a.nodes b.nodes c.nodes (omega (arith, size)) before.lists below.lists;
+        nodes = nodes-more d most columns v degree nexts p a.nodes b.nodes c.nodes next_degree new before.nodes below.nodes;
       }
     where
-      apart : {u w : List (List ℕ)} → IsVisitedBy nexts answers width t h v u
-          → IsVisited answers width t h (v ++ p ∷ []) w → u ≢ w
+      apart : {u w : List (List ℕ)} → IsVisitedBy nexts d v u
+          → IsVisited d (v ++ p ∷ []) w → u ≢ w
       apart {u} {w} is other equal =
           differ_by_beginning (v ++ is.next ∷ []) (v ++ p ∷ []) is.visited.more other.more
           (length-append v (is.next ∷ []) ∙ sym (length-append v (p ∷ [])))
@@ -74,44 +74,48 @@ module _ (answers : List Answer) (width t h most : ℕ) (v : List (List ℕ)) wh
           (sym is.visited.begins ∙ equal ∙ other.begins)
 
 -- a run alone
-pub counts-run : (answers : List Answer) (width t h most : ℕ) (v : List (List ℕ)) (n : ℕ) (bytes : List ℕ)
-    (c0 c1 n0 : ℕ) → HasRun answers width t h v n bytes → c1 ≤ c0 + n
-    → CountsFrom answers width t h most v c0 c1 n0 n0
-counts-run answers width t h most v n bytes c0 c1 n0 r e =
+pub counts-run : (d : Decoding) (most : ℕ) (v : List (List ℕ)) (n : ℕ) (bytes : List ℕ) (a b : Counters)
+    → HasRun d v n bytes → b.cols ≤ a.cols + n → b.nodes ≤ a.nodes → CountsFrom d most v a b
+counts-run d most v n bytes a b r e same =
     let count = r.count in
-    record { visited = r.visited; are = r.are; cols = omega (arith, e, count); lists = omega arith; nodes = nodes-nothing answers t h most v n0 n0 (omega arith) }
+    record {
+      visited = r.visited;
+      are = r.are;
+      cols = omega (arith, e, count);
+      lists = omega (arith, same);
+      nodes = nodes-nothing d most v a.nodes b.nodes same;
+    }
 
 -- a run, the column after it, and what is below each polynomial of that column
-pub counts-whole : (answers : List Answer) (width t h most : ℕ) (v : List (List ℕ)) (n : ℕ) (bytes : List ℕ)
-    (nexts : List (List ℕ)) (c0 c1 c2 n0 n1 n2 : ℕ) → (r : HasRun answers width t h v n bytes)
-    → All (IsPolynomial t) v → length v + n < width → h ≤ weight (v ++ r.more) answers → c1 ≤ c0 + n + 1
-    → n1 ≤ n0 + most → ((n1 ≤ n0) ⊎ MissMany answers t h (v ++ r.more))
-    → CountsBy nexts answers width t h most (v ++ r.more) c1 c2 n1 n2
-    → CountsFrom answers width t h most v c0 c2 n0 n2
-counts-whole answers width t h most v n bytes nexts c0 c1 c2 n0 n1 n2 r degree short enough cols nodes far below =
+pub counts-whole : (d : Decoding) (most : ℕ) (v : List (List ℕ)) (n : ℕ) (bytes : List ℕ) (nexts : List (List ℕ))
+    (a b c : Counters) → (r : HasRun d v n bytes) → All (IsPolynomial d.degree) v → length v + n < d.width
+    → d.agreement ≤ weight (v ++ r.more) d.answers → b.cols ≤ a.cols + n + 1 → b.nodes ≤ a.nodes + most
+    → ((b.nodes ≤ a.nodes) ⊎ MissMany d (v ++ r.more)) → CountsBy nexts d most (v ++ r.more) b c
+    → CountsFrom d most v a c
+counts-whole d most v n bytes nexts a b c r degree short enough cols nodes far below =
     let w = v ++ r.more in
     let long : length w ≡ length v + n = length-append v r.more ∙ ap (λ m. length v + m) r.size in
     let count = r.count in
     let size = length-append (w ∷ r.visited) below.visited in
-    let c = below.cols in
+    let more_cols = below.cols in
     let first : All (λ u. length u < length v + n + 1) (w ∷ r.visited) =
-    All-cons (λ u. length u < length v + n + 1) w r.visited (omega (arith, long)) (λ k d l. let shorter = r.before k d l in omega (arith, shorter)) in
+    All-cons (λ u. length u < length v + n + 1) w r.visited (omega (arith, long)) (λ k z l. let shorter = r.before k z l in omega (arith, shorter)) in
     record {
       visited = (w ∷ r.visited) ++ below.visited;
       are = record {
         different = AllPairs-append (λ v w. v ≢ w) (w ∷ r.visited) below.visited
-            (AllPairs-cons (λ v w. v ≢ w) w r.visited (λ k d l same. let shorter = r.before k d l in let equal = ap length same in omega (arith, shorter, equal, long)) r.are.different)
+            (AllPairs-cons (λ v w. v ≢ w) w r.visited (λ k z l same. let shorter = r.before k z l in let equal = ap length same in omega (arith, shorter, equal, long)) r.are.different)
             below.different
-            (λ i d k j e l same.
+            (λ i z k j e l same.
             let is = below.each j e l in
-            let shorter = first i d k in
+            let shorter = first i z k in
             let equal = ap length same in
             let one = ap length is.visited.begins in
             let two = length-append (w ++ is.next ∷ []) is.visited.more in
             let three = length-append w (is.next ∷ []) in
             omega (arith, shorter, equal, one, two, three, long));
-        each = All-append (IsVisited answers width t h v) (w ∷ r.visited) below.visited
-            (All-cons (IsVisited answers width t h v) w r.visited (visits answers width t h v r.more degree r.degree (let s = r.size in omega (arith, short, s)) enough) r.are.each)
+        each = All-append (IsVisited d v) (w ∷ r.visited) below.visited
+            (All-cons (IsVisited d v) w r.visited (visits d v r.more degree r.degree (let s = r.size in omega (arith, short, s)) enough) r.are.each)
             (λ j e l.
             let is = below.each j e l in record {
               more = r.more ++ (is.next ∷ is.visited.more);
@@ -120,24 +124,24 @@ counts-whole answers width t h most v n bytes nexts c0 c1 c2 n0 n1 n2 r degree s
               heavy = is.visited.heavy;
             });
       };
-      cols = omega (arith, c, cols, size, count);
-      lists = products_both (length (w ∷ r.visited)) (length below.visited) (length ((w ∷ r.visited) ++ below.visited)) most n0 n1 n2 (omega (arith, size))
-          (product_some (length r.visited) most n0 n1 nodes) below.lists;
-      nodes = nodes-after answers t h most v r.more n0 n2 (elim far [
-        | inl none ↦ nodes-below answers t h most w nexts n0 n1 n2 none below.nodes
-        | inr many ↦ nodes-whole answers t h most w nexts n0 n1 n2 many nodes below.nodes
+      cols = omega (arith, more_cols, cols, size, count);
+      lists = products_both (length (w ∷ r.visited)) (length below.visited) (length ((w ∷ r.visited) ++ below.visited)) most a.nodes b.nodes c.nodes (omega (arith, size))
+          (product_some (length r.visited) most a.nodes b.nodes nodes) below.lists;
+      nodes = nodes-after d most v r.more a.nodes c.nodes (elim far [
+        | inl none ↦ nodes-below d most w nexts a.nodes b.nodes c.nodes none below.nodes
+        | inr many ↦ nodes-whole d most w nexts a.nodes b.nodes c.nodes many nodes below.nodes
       ]);
     }
 
 -- ---- how many there are in all
 
 -- from the empty vector: one for the first column, and Johnson's bound for each further one
-few_visits : (answers : List Answer) (width t h : ℕ) → HasColumns width answers → t < h → length answers * t < h * h
-    → (vs : List (List (List ℕ))) → AreVisited answers width t h [] vs
-    → length vs ≤ 1 + (width - 1) * bound_of (length answers) t h
-few_visits answers width t h columns less strong vs are =
-    few_by_length answers columns.indices columns.different t h less strong width vs are.different
-    (λ i d l. (are.each i d l).heavy) (λ i d l. (are.each i d l).short)
+few_visits : (d : Decoding) → HasColumns d.width d.answers → d.degree < d.agreement → length d.answers * d.degree < d.agreement * d.agreement
+    → (vs : List (List (List ℕ))) → AreVisited d [] vs
+    → length vs ≤ 1 + (d.width - 1) * bound_of (length d.answers) d.degree d.agreement
+few_visits d columns less strong vs are =
+    few_by_length d.answers columns.indices columns.different d.degree d.agreement less strong d.width vs are.different
+    (λ i z l. (are.each i z l).heavy) (λ i z l. (are.each i z l).short)
 
 -- where no polynomial is close, each misses an answer or more
 misses-some : (t h : ℕ) → t < h → 0 < least_misses t h
@@ -145,16 +149,16 @@ unfolding least_misses
 misses-some t h less = le-min {k = 1} {a = h - t} {b = h / (t + 1)} (omega (arith, less)) (le-div 1 h (t + 1) (omega arith) (omega (arith, less)))
 
 -- so many columns and nodes are counted
-pub counts-few : (answers : List Answer) (width t h c0 c1 n0 n1 : ℕ) → HasColumns width answers → t < h
-    → length answers * t < h * h → CountsFrom answers width t h (column_nodes (length answers) t h) [] c0 c1 n0 n1
-    → (c1 ≤ c0 + most_columns (length answers) t h width) × (n1 ≤ n0 + most_nodes (length answers) t h width)
+pub counts-few : (d : Decoding) (a b : Counters) → HasColumns d.width d.answers → d.degree < d.agreement → length d.answers * d.degree < d.agreement * d.agreement
+    → CountsFrom d (list_nodes d) [] a b
+    → (b.cols ≤ a.cols + most_columns_of d) × (b.nodes ≤ a.nodes + most_nodes_of d)
 unfolding most_columns most_nodes
-counts-few answers width t h c0 c1 n0 n1 columns less strong counts =
-    let few = few_visits answers width t h columns less strong counts.visited counts.are in
+counts-few d a b columns less strong counts =
+    let few = few_visits d columns less strong counts.visited counts.are in
     let cols = counts.cols in
-    let most = column_nodes (length answers) t h in (
+    let most = list_nodes d in (
       omega (arith, few, cols),
-      products_lesser (most_columns (length answers) t h width) (most_lists (length answers) t h) most n0 n1
-          (products_up (length counts.visited) (most_columns (length answers) t h width) most n0 n1 few counts.lists)
-          (few_nodes answers t h most n0 n1 less strong (misses-some t h less) counts.nodes),
+      products_lesser (most_columns_of d) (most_lists (length d.answers) d.degree d.agreement) most a.nodes b.nodes
+          (products_up (length counts.visited) (most_columns_of d) most a.nodes b.nodes few counts.lists)
+          (few_nodes d most a.nodes b.nodes less strong (misses-some d.degree d.agreement less) counts.nodes),
     )

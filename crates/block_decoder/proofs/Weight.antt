@@ -12,6 +12,7 @@ use Rattle.block_decoder.specs.Agreed.{holds_first, weight}
 use Rattle.block_decoder.proofs.Counting.{one_if}
 
 module _ (ps : List (List ℕ)) (a : Answer) (long : length ps ≤ length a.payload) where
+  -- what the polynomials take at the answer's index
   values : List ℕ
   values = map (λ p. val p a.index) ps
 
@@ -56,6 +57,7 @@ holds_first-column ps a k long l h =
     ∙ ap (λ bytes. get_or bytes k 0) (sym ((bytes_eq-Decides (take (length ps) a.payload) (map (λ p. val p a.index) ps)).0 h))
     ∙ get_or-take (length ps) a.payload k 0 l
 
+-- a test passes or fails
 either_bool : (b : Bool) → (b ≡ true) ⊎ (b ≡ false)
 either_bool true = inl refl
 either_bool false = inr refl

@@ -8,6 +8,7 @@ pub mod Report
 pub mod Reported
 pub mod Judging
 pub mod Vectors
+pub mod Decoding
 pub mod Narrowing
 pub mod Lists
 pub mod Usable

@@ -1,9 +1,9 @@
 -- Vectors of polynomials, each by its number.
 use Rattle.std.specs.Prelude.{ℕ, ◌+◌, ◌<◌, List, [], ◌∷◌, ◌++◌, map}
 use Rattle.std.specs.Int.{bytes_low_first}
-use Rattle.wire_frames.specs.Answer.{Answer}
 use Rattle.block_decoder.specs.Agreed.{constants_of}
 use Rattle.block_decoder.specs.Narrowing.{ContinuesFrom}
+use Rattle.block_decoder.specs.declared.decoding.Decoding.{Decoding}
 
 -- the polynomial of t + 1 bytes with this number: the number's lowest bytes, from the lowest
 unfoldable pub numbered : ℕ → ℕ → List ℕ
@@ -14,12 +14,11 @@ abbrev pub all_numbered : ℕ → List ℕ → List (List ℕ)
 all_numbered t numbers = map (numbered t) numbers
 
 -- the polynomials with these numbers can be continued to some with this block
-abbrev pub Continues : List Answer → ℕ → ℕ → ℕ → List ℕ → List ℕ → Type 0
-Continues answers width t h numbers block =
-    ContinuesFrom constants_of answers width t h (all_numbered t numbers) block
+abbrev pub Continues : Decoding → List ℕ → List ℕ → Type 0
+Continues decoding numbers block = ContinuesFrom constants_of decoding (all_numbered decoding.degree numbers) block
 
 -- the same where the next number is below a bound
-pub record ContinuesBelow (bound : ℕ) (answers : List Answer) (width t h : ℕ) (numbers block : List ℕ) : Type 0 where
+pub record ContinuesBelow (bound : ℕ) (decoding : Decoding) (numbers block : List ℕ) : Type 0 where
   pub next : ℕ
   pub below : next < bound
-  pub continues : Continues answers width t h (numbers ++ next ∷ []) block
+  pub continues : Continues decoding (numbers ++ next ∷ []) block

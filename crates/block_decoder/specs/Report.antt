@@ -7,7 +7,7 @@ use Rattle.std.specs.Ordering.{nat_cmp, on, then_cmp}
 use Rattle.std.specs.declared.cmp.Ordering.{Ordering}
 use Rattle.gf256.specs.Polynomial.{val, IsPolynomial}
 use Rattle.wire_frames.specs.Answer.{Answer}
-use Rattle.block_decoder.specs.Agreed.{constants_of}
+use Rattle.block_decoder.specs.Agreed.{constants_of, Lists}
 
 -- a block, and the indices of the answers that agree on it
 pub record Agreement : Type 0 where
@@ -21,6 +21,10 @@ holds polynomials answer = bytes_eq answer.payload (map (λ p. val p answer.inde
 -- the indices of the answers
 abbrev pub indices_of : List Answer → List ℕ
 indices_of answers = map (λ a. a.index) answers
+
+-- it is on this block, of these answers
+abbrev pub IsAgreementOf : List ℕ → List Answer → Agreement → Type 0
+IsAgreementOf block answers agreement = agreement ≡ record { block = block; indices = indices_of answers }
 
 -- some polynomials of degree at most t, one for each column: their constants are the block, and the indices are those of all
 -- answers at which they hold, which are h or more
@@ -44,3 +48,8 @@ pub record IsReport (answers : List Answer) (width t h : ℕ) (agreements : List
 -- the blocks are those of the agreements
 abbrev pub HasBlocks : List (List ℕ) → List Agreement → Type 0
 HasBlocks blocks agreements = (block : List ℕ) → Contains blocks block ↔ Contains (map (λ a. a.block) agreements) block
+
+-- it has the blocks of the listing of the same answers
+abbrev pub HasListedBlocks : List Answer → ℕ → ℕ → ℕ → List Agreement → Type 0
+HasListedBlocks answers width t h agreements =
+    (blocks : List (List ℕ)) → Lists blocks answers width t h → HasBlocks blocks agreements

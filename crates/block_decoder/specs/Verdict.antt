@@ -30,12 +30,16 @@ IsCombined all width n h (TooCostly equations) = ⊥
 IsCombined all width n h (Listed blocks) =
     (n ≤ length all) × (blocks ≡ combined width (map (λ a. a.payload) all) ∷ [])
 
+-- the same for the usable answers of a session
+abbrev pub IsCombinedSession : Transcript → Verdict → Type 0
+IsCombinedSession session =
+    IsCombined (answers session) (block_len session.params) session.params.n session.params.h
+
 -- the verdict on a session, by its usable answers: in Shamir's scheme, and in the XOR scheme
 pub record IsVerdict (session : Transcript) (verdict : Verdict) : Type 0 where
   pub shamir : session.params.scheme ≡ SHAMIR
       → IsDecided (answers session) (block_len session.params) session.params.t session.params.h verdict
-  pub xor : session.params.scheme ≡ XOR
-      → IsCombined (answers session) (block_len session.params) session.params.n session.params.h verdict
+  pub xor : session.params.scheme ≡ XOR → IsCombinedSession session verdict
 
 -- k answers are fewer than h, or their agreement is so weak that Johnson's bound says nothing, or the cost is too high
 abbrev pub IsUnlisted : ℕ → ℕ → ℕ → Type 0

@@ -1,10 +1,11 @@
 //! Who agrees: blocks, each with the servers whose answers agree on it.
 
-ghost use Rattle.std.specs.Prelude.{◌≡◌, ◌==◌, ◌↔◌, ◌⊎◌, [], length, Contains, IfOk, OnOk, OnErr};
+ghost use Rattle.std.specs.Prelude.{◌≡◌, [], length, IfOk, OnOk, OnErr};
 ghost use Rattle.std.specs.Cmp.Lexicographic.{slice_cmp};
 ghost use Rattle.std.specs.List.Sorted.{IsStrictlySortedBy, IsSearchInRange, IsBinarySearchResult};
 ghost use Rattle.std.specs.Ordering.{nat_cmp};
-ghost use Rattle.block_decoder.specs.Report.{Agreement as Agreeing, agreement_cmp, indices_of, HasBlocks};
+ghost use Rattle.block_decoder.specs.Gains.{Gains};
+ghost use Rattle.block_decoder.specs.Report.{agreement_cmp, HasBlocks, IsAgreementOf};
 
 use crate::answer_set::AnswerSet;
 use crate::listing::Listing;
@@ -34,7 +35,7 @@ impl Agreement {
         block: &[u8],
         agreeing: &AnswerSet<'_>,
     ) -> Result<Self, AllocError>
-        ensures { IfOk result (λ a. a ≡ record { block = block.now; indices = indices_of agreeing.now }) }
+        ensures { IfOk result (IsAgreementOf block.now agreeing.now) }
     {
         let indices = agreeing.indices(alloc)?;
         let block = Vec::from_slice(alloc, block)?;
@@ -113,8 +114,7 @@ impl Report {
     ) -> Result<(), AllocError>
         requires { IsStrictlySortedBy agreement_cmp self.old }
         ensures ascending { IsStrictlySortedBy agreement_cmp self.new }
-        ensures ok { OnOk result ((a : Agreeing) → Contains self.new a
-            ↔ (Contains self.old a ⊎ (a ≡ record { block = block.now; indices = indices_of agreeing.now }))) }
+        ensures ok { OnOk result (Gains (IsAgreementOf block.now agreeing.now) self.old self.new) }
         ensures err { OnErr result (self.new ≡ self.old) }
     {
         self.insert(Agreement::new(alloc, block, agreeing)?)
@@ -123,7 +123,7 @@ impl Report {
     /// Puts the agreement in its place, where it is not there yet.
     fn insert(&mut self, agreement: Agreement) -> Result<(), AllocError>
         ensures ascending { IsStrictlySortedBy agreement_cmp self.new }
-        ensures ok { OnOk result ((a : Agreeing) → Contains self.new a ↔ (Contains self.old a ⊎ (a ≡ agreement))) }
+        ensures ok { OnOk result (Gains (λ a. a ≡ agreement) self.old self.new) }
         ensures err { OnErr result (self.new ≡ self.old) }
     {
         match place_of(&self.agreements, &agreement) {

@@ -1,8 +1,7 @@
 //! The verdict in the XOR scheme.
 
 ghost use Rattle.std.specs.Prelude.{◌≡◌, length, IfOk};
-ghost use Rattle.wire_frames.specs.Answer.{block_len, answers};
-ghost use Rattle.block_decoder.specs.Verdict.{IsCombined};
+ghost use Rattle.block_decoder.specs.Verdict.{IsCombinedSession};
 
 use crate::listing::Listing;
 use crate::usable::usable_payload;
@@ -15,8 +14,7 @@ use wire_frames::Session;
 /// is the block, and without one of them nothing is known of it. Memory is taken for the block and its listing.
 pub(crate) fn combine_all(alloc: Global, session: &Session) -> Result<Verdict, AllocError>
     requires { length session.now.records ≡ session.now.params.n }
-    ensures { IfOk result (IsCombined (answers session.now)
-        (block_len session.now.params) session.now.params.n session.now.params.h) }
+    ensures { IfOk result (IsCombinedSession session.now) }
 {
     let params = session.params();
     let mut sum = vec![in alloc; 0; params.block_len() as usize]?;

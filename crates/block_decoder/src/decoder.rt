@@ -1,13 +1,14 @@
 //! The verdict on answers, and how many blocks can be agreed on.
 
-ghost use Rattle.std.specs.Prelude.{◌≡◌, ◌≢◌, ◌+◌, ◌*◌, ◌^◌, ◌<◌, ◌≤◌, ◌⊎◌, ℕ, true, List, length, All, IfNone, IfOk, IfSome, OnOk};
+ghost use Rattle.std.specs.Prelude.{◌≡◌, ◌≢◌, ◌+◌, ◌*◌, ◌^◌, ◌<◌, ◌≤◌, length, All, IfNone, IfOk, IfSome, OnOk};
 ghost use Rattle.std.specs.List.Sorted.{IsStrictlyIncreasing};
 ghost use Rattle.quantity_limits.specs.declared.TheConstants.{MOST_SERVERS};
 ghost use Rattle.column_lists.specs.declared.TheConstants.{MOST_COST};
 ghost use Rattle.column_lists.specs.Numbers.{cost};
-ghost use Rattle.block_decoder.specs.Agreed.{answers_of, HasColumns, Lists};
+ghost use Rattle.block_decoder.specs.Agreed.{answers_of, HasColumns};
+ghost use Rattle.block_decoder.specs.Decoding.{counters};
 ghost use Rattle.block_decoder.specs.Numbers.{bound_of, most_columns, most_nodes};
-ghost use Rattle.block_decoder.specs.Report.{HasBlocks, IsReport};
+ghost use Rattle.block_decoder.specs.Report.{HasListedBlocks, IsReport};
 ghost use Rattle.block_decoder.specs.Reported.{IsListedFrom};
 ghost use Rattle.block_decoder.specs.Judging.{DecidesWith};
 ghost use Rattle.block_decoder.specs.Vectors.{HeavyVectorsAreFew};
@@ -16,7 +17,8 @@ ghost use Rattle.block_decoder.specs.Verdict.{IsDecided, IsRefusal, IsUnlisted, 
 use crate::agreements::Report;
 use crate::answer_set::AnswerSet;
 use crate::answers::PackedAnswers;
-use crate::narrowing::find_agreements;
+use crate::decoding::Decoding;
+use crate::narrowing::Narrowing;
 use crate::verdict::Verdict;
 use column_lists::{MOST_COST, plan};
 use interpolation::Interpolate;
@@ -90,7 +92,13 @@ pub fn decide<I: Interpolate, C: Ledger, N: Ledger>(
     ensures few { IfOk result (ListsNoMoreThan (bound_of (length indices.now) t h)) }
 {
     let answers = PackedAnswers::new(indices, bytes, s as usize).to_set(alloc)?;
-    let (verdict, _report) = decide_among(alloc, way, answers, t, h, s, false, cols, nodes)?;
+    let decoding = Decoding {
+        answers,
+        width: s as usize,
+        degree: t,
+        agreement: h,
+    };
+    let (verdict, _report) = decide_among(alloc, way, decoding, false, cols, nodes)?;
     Ok(verdict)
 }
 
@@ -130,8 +138,7 @@ pub fn report<I: Interpolate, C: Ledger, N: Ledger>(
     requires strong { length indices.now * t < h * h }
     requires cheap { cost (length indices.now) t h ≤ MOST_COST }
     ensures report { IfOk result (IsReport (answers_of s indices.now bytes.now) s t h) }
-    ensures blocks { IfOk result (λ report. (blocks : List (List ℕ))
-        → Lists blocks (answers_of s indices.now bytes.now) s t h → HasBlocks blocks report) }
+    ensures blocks { IfOk result (HasListedBlocks (answers_of s indices.now bytes.now) s t h) }
     ensures cols { cols.new ≤ cols.old + most_columns (length indices.now) t h s }
     ensures nodes { nodes.new ≤ nodes.old + most_nodes (length indices.now) t h s }
     ensures least { cols.old ≤ cols.new }
@@ -141,32 +148,47 @@ pub fn report<I: Interpolate, C: Ledger, N: Ledger>(
     ensures few { IfOk result (λ report. length report ≤ bound_of (length indices.now) t h) }
 {
     let answers = PackedAnswers::new(indices, bytes, s as usize).to_set(alloc)?;
-    find_agreements(alloc, way, answers, s as usize, t, h, cols, nodes)
+    let decoding = Decoding {
+        answers,
+        width: s as usize,
+        degree: t,
+        agreement: h,
+    };
+    let narrowing = Narrowing {
+        alloc,
+        way,
+        decoding,
+    };
+    narrowing.find_agreements(cols, nodes)
 }
 
-/// The verdict on answers that lie wherever they do, `s` bytes each; and, where it is wanted and a listing, who agrees.
+/// The verdict on answers that lie wherever they do; and, where it is wanted and a listing, who agrees.
 pub(crate) fn decide_among<I: Interpolate, C: Ledger, N: Ledger>(
     alloc: Global,
     way: &I,
-    answers: AnswerSet<'_>,
-    t: u32,
-    h: u32,
-    s: u32,
+    decoding: Decoding<'_>,
     wanted: bool,
     cols: &mut Steps<C>,
     nodes: &mut Steps<N>,
 ) -> Result<(Verdict, Option<Report>), AllocError>
-    requires columns { HasColumns s answers }
-    requires nonzero { All (λ a. a.index ≢ 0) answers }
-    requires few { length answers ≤ MOST_SERVERS }
-    requires agreement { (1 ≤ t) × (t < h) }
-    requires width { 1 ≤ s }
-    ensures { DecidesWith wanted answers.entry s t h result cols.old cols.new nodes.old nodes.new }
+    requires columns { HasColumns decoding.width decoding.answers }
+    requires nonzero { All (λ a. a.index ≢ 0) decoding.answers }
+    requires few { length decoding.answers ≤ MOST_SERVERS }
+    requires agreement { (1 ≤ decoding.degree) × (decoding.degree < decoding.agreement) }
+    requires width { 1 ≤ decoding.width }
+    ensures { DecidesWith wanted decoding.entry result
+        (counters cols.old nodes.old) (counters cols.new nodes.new) }
 {
-    if let Some(verdict) = refusal(answers.len() as u32, t, h) {
+    let k = decoding.answers.len() as u32;
+    if let Some(verdict) = refusal(k, decoding.degree, decoding.agreement) {
         return Ok((verdict, None));
     }
-    let report = find_agreements(alloc, way, answers, s as usize, t, h, cols, nodes)?;
+    let narrowing = Narrowing {
+        alloc,
+        way,
+        decoding,
+    };
+    let report = narrowing.find_agreements(cols, nodes)?;
     listed(alloc, report, wanted)
 }
 
@@ -207,13 +229,13 @@ fn listed(
 }
 
 /// Johnson's count (Johnson 1962) of the blocks on which `h` of `k` answers can agree, with polynomials of degree at
-/// most `t`: `k * (h - t)` over `h * h - k * t`, rounded down. There are at most 255 answers, since the number of a
-/// server is a byte and not 0. On any `k` answers, no two of one server, no more than so many different vectors of
-/// polynomials, one for each of the same columns, hold at `h` answers; so no listing is longer. With k 5, t 1, h 3 it
-/// is 2.
+/// most `t`: `k * (h - t)` over `h * h - k * t`, rounded down. There are at most
+/// [`MOST_SERVERS`](wire_frames::MOST_SERVERS) answers, since the number of a server is a byte and not 0. On any `k`
+/// answers, no two of one server, no more than so many different vectors of polynomials, one for each of the same
+/// columns, hold at `h` answers; so no listing is longer. With k 5, t 1, h 3 it is 2.
 pub fn bound(k: u32, t: u32, h: u32) -> u32
     requires degree { (1 ≤ t) × (t < h) }
-    requires agreement { (h ≤ k) × (k ≤ 255) }
+    requires agreement { (h ≤ k) × (k ≤ MOST_SERVERS) }
     requires close { k * t < h * h }
     ensures value { result ≡ bound_of k t h }
     ensures most { HeavyVectorsAreFew k t h result }

@@ -1,19 +1,19 @@
 //! The verdict on a session.
 
-ghost use Rattle.std.specs.Prelude.{◌≡◌, ◌≢◌, ◌+◌, ◌≤◌, true, length, All, IfOk};
-ghost use Rattle.wire_frames.specs.declared.scheme.TheConstants.{SHAMIR, XOR};
+ghost use Rattle.std.specs.Prelude.{◌≡◌, ◌≢◌, ◌+◌, ◌≤◌, length, All, IfOk};
 ghost use Rattle.wire_frames.specs.Answer.{answers, block_len};
 ghost use Rattle.block_decoder.specs.Agreed.{HasColumns};
-ghost use Rattle.block_decoder.specs.Numbers.{bound_of, most_columns, most_nodes};
+ghost use Rattle.block_decoder.specs.Decoding.{counters};
 ghost use Rattle.block_decoder.specs.Reported.{IsReportOn, ReportsNoMoreThan};
-ghost use Rattle.block_decoder.specs.Judging.{JudgesWith};
-ghost use Rattle.block_decoder.specs.Verdict.{IsUnlisted, IsVerdict, ListsNoMoreThan, least_columns};
+ghost use Rattle.block_decoder.specs.Judging.{session_blocks, session_columns, session_least, session_nodes, IsShamirSession, IsUnlistedSession, IsXorSession, JudgesWith};
+ghost use Rattle.block_decoder.specs.Verdict.{IsVerdict, ListsNoMoreThan};
 
 use crate::agreements::Report;
 use crate::answer_set::AnswerSet;
 use crate::answers::Answer;
 use crate::combining::combine_all;
 use crate::decoder::decide_among;
+use crate::decoding::Decoding;
 use crate::usable::usable_payload;
 use crate::verdict::Verdict;
 use interpolation::Interpolate;
@@ -43,19 +43,15 @@ pub fn judge<I: Interpolate, C: Ledger, N: Ledger>(
 ) -> Result<Verdict, AllocError>
     requires all { length session.now.records ≡ session.now.params.n }
     ensures verdict { IfOk result (IsVerdict session.now) }
-    ensures cols { cols.new ≤ cols.old
-        + most_columns (length (answers session.now)) session.now.params.t session.now.params.h (block_len session.now.params) }
-    ensures nodes { nodes.new ≤ nodes.old
-        + most_nodes (length (answers session.now)) session.now.params.t session.now.params.h (block_len session.now.params) }
+    ensures cols { cols.new ≤ cols.old + session_columns session.now }
+    ensures nodes { nodes.new ≤ nodes.old + session_nodes session.now }
     ensures least { cols.old ≤ cols.new }
     ensures least_nodes { nodes.old ≤ nodes.new }
-    ensures listed { session.now.params.scheme ≡ SHAMIR
-        → IfOk result (λ verdict. cols.old + least_columns (block_len session.now.params) verdict ≤ cols.new) }
-    ensures unlisted { IsUnlisted (length (answers session.now)) session.now.params.t session.now.params.h
-        → (cols.new ≡ cols.old) × (nodes.new ≡ nodes.old) }
-    ensures few { session.now.params.scheme ≡ SHAMIR → IfOk result (ListsNoMoreThan
-        (bound_of (length (answers session.now)) session.now.params.t session.now.params.h)) }
-    ensures xor { session.now.params.scheme ≡ XOR → (cols.new ≡ cols.old) × (nodes.new ≡ nodes.old) }
+    ensures listed { IsShamirSession session.now
+        → IfOk result (λ verdict. cols.old + session_least session.now verdict ≤ cols.new) }
+    ensures unlisted { IsUnlistedSession session.now → (cols.new ≡ cols.old) × (nodes.new ≡ nodes.old) }
+    ensures few { IsShamirSession session.now → IfOk result (ListsNoMoreThan (session_blocks session.now)) }
+    ensures xor { IsXorSession session.now → (cols.new ≡ cols.old) × (nodes.new ≡ nodes.old) }
 {
     let (verdict, _report) = judge_with(alloc, way, session, false, cols, nodes)?;
     Ok(verdict)
@@ -78,21 +74,18 @@ pub fn judge_report<I: Interpolate, C: Ledger, N: Ledger>(
     requires all { length session.now.records ≡ session.now.params.n }
     ensures verdict { IfOk result (λ found. IsVerdict session.now found.0) }
     ensures report { IfOk result (λ found. IsReportOn session.now found.0 found.1) }
-    ensures cols { cols.new ≤ cols.old
-        + most_columns (length (answers session.now)) session.now.params.t session.now.params.h (block_len session.now.params) }
-    ensures nodes { nodes.new ≤ nodes.old
-        + most_nodes (length (answers session.now)) session.now.params.t session.now.params.h (block_len session.now.params) }
+    ensures cols { cols.new ≤ cols.old + session_columns session.now }
+    ensures nodes { nodes.new ≤ nodes.old + session_nodes session.now }
     ensures least { cols.old ≤ cols.new }
     ensures least_nodes { nodes.old ≤ nodes.new }
-    ensures listed { session.now.params.scheme ≡ SHAMIR
-        → IfOk result (λ found. cols.old + least_columns (block_len session.now.params) found.0 ≤ cols.new) }
-    ensures unlisted { IsUnlisted (length (answers session.now)) session.now.params.t session.now.params.h
-        → (cols.new ≡ cols.old) × (nodes.new ≡ nodes.old) }
-    ensures few { session.now.params.scheme ≡ SHAMIR → IfOk result (λ found. ListsNoMoreThan
-        (bound_of (length (answers session.now)) session.now.params.t session.now.params.h) found.0) }
-    ensures few_agree { session.now.params.scheme ≡ SHAMIR → IfOk result (λ found. ReportsNoMoreThan
-        (bound_of (length (answers session.now)) session.now.params.t session.now.params.h) found.1) }
-    ensures xor { session.now.params.scheme ≡ XOR → (cols.new ≡ cols.old) × (nodes.new ≡ nodes.old) }
+    ensures listed { IsShamirSession session.now
+        → IfOk result (λ found. cols.old + session_least session.now found.0 ≤ cols.new) }
+    ensures unlisted { IsUnlistedSession session.now → (cols.new ≡ cols.old) × (nodes.new ≡ nodes.old) }
+    ensures few { IsShamirSession session.now
+        → IfOk result (λ found. ListsNoMoreThan (session_blocks session.now) found.0) }
+    ensures few_agree { IsShamirSession session.now
+        → IfOk result (λ found. ReportsNoMoreThan (session_blocks session.now) found.1) }
+    ensures xor { IsXorSession session.now → (cols.new ≡ cols.old) × (nodes.new ≡ nodes.old) }
 {
     judge_with(alloc, way, session, true, cols, nodes)
 }
@@ -112,23 +105,19 @@ pub fn judge_with<I: Interpolate, C: Ledger, N: Ledger>(
     nodes: &mut Steps<N>,
 ) -> Result<(Verdict, Option<Report>), AllocError>
     requires all { length session.now.records ≡ session.now.params.n }
-    ensures { JudgesWith wanted session.now result cols.old cols.new nodes.old nodes.new }
+    ensures { JudgesWith wanted session.now result (counters cols.old nodes.old) (counters cols.new nodes.new) }
 {
     let params = session.params();
     match Scheme::of(params.scheme) {
         Scheme::Shamir => {
             let usable = usable_answers(alloc, session)?;
-            decide_among(
-                alloc,
-                way,
-                usable,
-                u32::from(params.t),
-                u32::from(params.h),
-                params.block_len(),
-                wanted,
-                cols,
-                nodes,
-            )
+            let decoding = Decoding {
+                answers: usable,
+                width: params.block_len() as usize,
+                degree: u32::from(params.t),
+                agreement: u32::from(params.h),
+            };
+            decide_among(alloc, way, decoding, wanted, cols, nodes)
         }
         Scheme::Xor => Ok((combine_all(alloc, session)?, None)),
     }

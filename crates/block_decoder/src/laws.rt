@@ -4,7 +4,7 @@ ghost use Rattle.std.specs.Prelude.{◌≡◌, ◌+◌, ◌-◌, ◌*◌, ◌<�
 ghost use Rattle.std.specs.List.Sorted.{IsStrictlyIncreasing};
 ghost use Rattle.quantity_limits.specs.declared.TheConstants.{MOST_SERVERS};
 ghost use Rattle.wire_frames.specs.Answer.{answers};
-ghost use Rattle.block_decoder.specs.Agreed.{answers_of, Agreed};
+ghost use Rattle.block_decoder.specs.Agreed.{answers_of, HasOneBlock};
 ghost use Rattle.block_decoder.specs.Numbers.{bound_of, most_lists};
 ghost use Rattle.block_decoder.specs.Report.{IsReport};
 ghost use Rattle.block_decoder.specs.Reported.{HasOneReport};
@@ -35,21 +35,11 @@ pub fn one_report(session: &Session, verdict: &Verdict)
 }
 
 /// Where `2h > k + t`, two blocks on which `h` of k answers agree are one.
-pub fn one_block_where_agreement_is_close(
-    indices: &[u8],
-    bytes: &[u8],
-    t: u32,
-    h: u32,
-    s: u32,
-    one: &[u8],
-    other: &[u8],
-)
+pub fn one_block_where_agreement_is_close(indices: &[u8], bytes: &[u8], t: u32, h: u32, s: u32)
     requires ascending { IsStrictlyIncreasing indices.now }
     requires fit { length bytes.now ≡ length indices.now * s }
     requires close { length indices.now + t < 2 * h }
-    requires one { Agreed (answers_of s indices.now bytes.now) s t h one.now }
-    requires other { Agreed (answers_of s indices.now bytes.now) s t h other.now }
-    ensures { one.now ≡ other.now }
+    ensures { HasOneBlock (answers_of s indices.now bytes.now) s t h }
 {}
 
 /// Where `2h > k + t`, there is one agreement at most: so where a block is listed, its agreement is the only one.

@@ -18,8 +18,10 @@
 mod agreements;
 mod answer_set;
 mod answers;
+mod candidate;
 mod combining;
 mod decoder;
+mod decoding;
 mod judging;
 pub mod laws;
 mod liars;

@@ -1,9 +1,10 @@
 //! Blocks in ascending order, each once.
 
-ghost use Rattle.std.specs.Prelude.{◌≡◌, ◌==◌, ◌↔◌, ◌⊎◌, ℕ, List, [], ◌∷◌, length, map, Contains, IfOk, OnOk, OnErr, slice_get, option_map};
+ghost use Rattle.std.specs.Prelude.{◌≡◌, ◌==◌, [], ◌∷◌, length, map, IfOk, OnOk, OnErr, slice_get, option_map};
 ghost use Rattle.std.specs.Cmp.Lexicographic.{slice_cmp};
 ghost use Rattle.std.specs.List.Sorted.{IsStrictlySortedBy, IsSearchInRange, IsBinarySearchResult};
 ghost use Rattle.std.specs.Ordering.{nat_cmp};
+ghost use Rattle.block_decoder.specs.Gains.{Gains};
 
 use std::alloc::{AllocError, Global};
 use std::marker::Model;
@@ -57,7 +58,7 @@ impl Listing {
     /// `AllocError` where there is no memory for a longer list; the listing is as it was.
     pub fn insert(&mut self, block: Vec<u8>) -> Result<(), AllocError>
         ensures ascending { IsStrictlySortedBy (slice_cmp nat_cmp) self.new }
-        ensures ok { OnOk result ((b : List ℕ) → Contains self.new b ↔ (Contains self.old b ⊎ (b ≡ block.items))) }
+        ensures ok { OnOk result (Gains (λ b. b ≡ block.items) self.old self.new) }
         ensures err { OnErr result (self.new ≡ self.old) }
     {
         match place_of(&self.blocks, &block) {

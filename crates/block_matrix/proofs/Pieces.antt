@@ -40,7 +40,8 @@ all_read n first read (Some h) o1 is a b size ends =
     b.bytes ∙ take_all (length read) h (omega (arith, size, left, a.there, length-drop (length first) h))
 
 -- the port ended within a piece
-pub reads_ended : (most n : ℕ) (read before after : List ℕ) (w v u : World) → take (length read) before ≡ read → take (length read) after ≡ take (length read) before → length after ≡ length before → length before ≤ most
+pub reads_ended : (most n : ℕ) (read before after : List ℕ) (w v u : World) → take (length read) before ≡ read
+    → take (length read) after ≡ take (length read) before → length after ≡ length before → length before ≤ most
     → Reads DATABASE read w v → Ends DATABASE n (drop (length read) before) (drop (length read) after) v u → ReadsUpTo most (take (length read + n) after) w u
 reads_ended most n read before after w v u kept still same few so_far ends =
     let reads = reads_piece n read before after w v u kept still same so_far ends.hands in
@@ -52,7 +53,8 @@ reads_ended most n read before after w v u kept still same few so_far ends =
     }
 
 -- more was held than was read
-held_more : (n : ℕ) (read : List ℕ) (o o1 : Option (List ℕ)) → o1 ≡ option_map (drop (length read)) o → IfSome o (IsFront read) → IfSome o1 (λ h. n ≤ length h) → IfSome o (λ h. length read + n ≤ length h)
+held_more : (n : ℕ) (read : List ℕ) (o o1 : Option (List ℕ)) → o1 ≡ option_map (drop (length read)) o → IfSome o (IsFront read)
+    → IfSome o1 (λ h. n ≤ length h) → IfSome o (λ h. length read + n ≤ length h)
 held_more n read None o1 is a more = tt
 held_more n read (Some h) o1 is a more =
     let left : n ≤ length (drop (length read) h) = subst (λ (x : Option (List ℕ)). IfSome x (λ l. n ≤ length l)) is more in

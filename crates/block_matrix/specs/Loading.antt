@@ -1,10 +1,11 @@
 -- What reading the file of a database does to its port.
-use Rattle.std.specs.Prelude.{◌≡◌, ℕ, ◌+◌, ◌<◌, ◌≤◌, List, [], length, take, IfSome, Vec, Result, Ok, Err}
+use Rattle.std.specs.Prelude.{◌≡◌, ℕ, ◌+◌, ◌<◌, ◌≤◌, List, [], length, take, drop, IfSome, Vec, Result, Ok, Err}
 use Rattle.std.specs.declared.alloc.Global.{Global}
 use Rattle.port_rules.specs.World.{Cell, World}
 use Rattle.port_rules.specs.Number.{DATABASE}
 use Rattle.port_rules.specs.Moves.{took}
-use Rattle.port_rules.specs.Whole.{Reads, FailsShort}
+use Rattle.port_rules.specs.Whole.{Fills, Reads, FailsShort}
+use Rattle.port_rules.specs.declared.moves.Filled.{Filled}
 use Rattle.block_matrix.specs.Database.{Database, limit}
 use Rattle.block_matrix.specs.Loaded.{IsFileOf}
 use Rattle.block_matrix.specs.declared.matrix.LoadFault.{LoadFault}
@@ -23,6 +24,11 @@ Lengthens most old new (Err EmptyFile) = ⊥
 Lengthens most old new (Err (TooBig n)) = ⊥
 Lengthens most old new (Err ReadFault) = ⊥
 Lengthens most old new (Err Memory) = Unit {0}
+
+-- what follows the first `filled` bytes was read from the port, or a call on it failed
+abbrev pub FillsFrom : ℕ → Filled → List ℕ → List ℕ → World → World → Type 0
+FillsFrom filled result before after old new =
+    Fills DATABASE result (drop filled before) (drop filled after) old new
 
 -- the port was read to its end, or so many bytes of it
 pub record ReadsUpTo (most : ℕ) (read : List ℕ) (old new : World) : Type 0 where

@@ -1,10 +1,9 @@
 //! Reads a database from its file.
-ghost use Rattle.std.specs.Prelude.{◌≡◌, ◌+◌, ◌<◌, ◌≤◌, length, take, drop, vec_len};
+ghost use Rattle.std.specs.Prelude.{◌≡◌, ◌+◌, ◌<◌, ◌≤◌, length, take, vec_len};
 ghost use Rattle.port_rules.specs.Number.{DATABASE};
 ghost use Rattle.port_rules.specs.Moves.{Touches};
-ghost use Rattle.port_rules.specs.Whole.{Fills};
 ghost use Rattle.quantity_limits.specs.declared.TheConstants.{MOST_WIDTH};
-ghost use Rattle.block_matrix.specs.Loading.{Lengthens, ReadsOr, Loads};
+ghost use Rattle.block_matrix.specs.Loading.{FillsFrom, Lengthens, ReadsOr, Loads};
 
 use crate::matrix::{LoadFault, Matrix, most_bytes};
 use port_rules::{Filled, Port, Ports, read_exactly};
@@ -41,7 +40,7 @@ fn lengthen(bytes: &mut Vec<u8>, most: usize) -> Result<(), LoadFault>
 fn fill_rest<P: Ports>(ports: &mut P, bytes: &mut [u8], filled: usize) -> Filled
     requires { filled < length bytes.old }
     ensures kept { take filled bytes.new ≡ take filled bytes.old }
-    ensures rest { Fills DATABASE result (drop filled bytes.old) (drop filled bytes.new) (P.world ports.old) (P.world ports.new) }
+    ensures rest { FillsFrom filled result bytes.old bytes.new (P.world ports.old) (P.world ports.new) }
     ensures others { Touches DATABASE (P.world ports.old) (P.world ports.new) }
 {
     read_exactly(ports, Port::Database, &mut bytes[filled..])

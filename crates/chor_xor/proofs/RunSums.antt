@@ -32,6 +32,7 @@ quarters bitmap rows k from quarter a b c d =
     run_sum (given bitmap rows k) from a ⊕ run_sum (given bitmap rows k) (from + quarter) b
     ⊕ run_sum (given bitmap rows k) (from + 2 * quarter) c ⊕ run_sum (given bitmap rows k) (from + 3 * quarter) d
 
+-- four sums of two as two sums of four
 in_pairs : (a b c d w x y z : ℕ) → (a ⊕ w) ⊕ (b ⊕ x) ⊕ (c ⊕ y) ⊕ (d ⊕ z) ≡ (a ⊕ b ⊕ c ⊕ d) ⊕ (w ⊕ x ⊕ y ⊕ z)
 in_pairs a b c d w x y z =
     ap (λ s. s ⊕ (c ⊕ y) ⊕ (d ⊕ z)) (add_swap a w b x)
@@ -45,7 +46,8 @@ pub quarters-none : (bitmap : List ℕ) (rows : List (List ℕ)) (k from quarter
     → quarters bitmap rows k from quarter a b c d ≡ 0
 unfolding quarters
 quarters-none bitmap rows k from quarter a b c d na nb nc nd =
-    ap₂ ◌⊕◌ (ap₂ ◌⊕◌ (ap₂ ◌⊕◌ (run-left bitmap rows k from a na) (run-left bitmap rows k (from + quarter) b nb)) (run-left bitmap rows k (from + 2 * quarter) c nc)) (run-left bitmap rows k (from + 3 * quarter) d nd)
+    let left = run-left bitmap rows k in
+    ap₂ ◌⊕◌ (ap₂ ◌⊕◌ (ap₂ ◌⊕◌ (left from a na) (left (from + quarter) b nb)) (left (from + 2 * quarter) c nc)) (left (from + 3 * quarter) d nd)
     ∙ (let e : 0 ⊕ 0 ⊕ 0 ⊕ 0 ≡ 0 = simp add_zero in e)
 
 -- row j of a quarter that begins with row `from` is read, and the next of its rows whose bit is set

@@ -1,6 +1,6 @@
 -- Bitmaps, which say of each row of a database whether a server is asked for it (Chor, Goldreich,
 -- Kushilevitz and Sudan 1995).
-use Rattle.std.specs.Prelude.{◌≡◌, ℕ, ◌+◌, ◌-◌, ◌*◌, ◌/◌, ◌%◌, ◌^◌, ◌≤◌, Bool, not, List, map, slice_index, ◌==◌, if◌then◌else◌}
+use Rattle.std.specs.Prelude.{◌≡◌, ℕ, ◌+◌, ◌-◌, ◌*◌, ◌/◌, ◌%◌, ◌^◌, ◌<◌, ◌≤◌, Bool, not, List, map, slice_index, ◌==◌, if◌then◌else◌}
 use Rattle.std.specs.List.{range_with_len}
 use Rattle.std.specs.Int.{bit_at, div_ceil}
 use Rattle.gf256.specs.Field.{◌⊕◌}
@@ -49,3 +49,8 @@ IsTrim r bitmap = (j : ℕ) → r ≤ j → bit_of bitmap j ≡ 0
 unfoldable pub has_unused : ℕ → List ℕ → Bool
 has_unused r bitmap =
     not (slice_index bitmap (size_of r - 1) % 2 ^ unused_bits r (size_of r - 1) == 0)
+
+-- each byte is the sum of those at its place in n pieces of the coins, of so many bytes each
+abbrev pub AreSummed : List ℕ → ℕ → ℕ → List ℕ → Type 0
+AreSummed coins size n out =
+    (k : ℕ) → k < size → slice_index out k ≡ sum_to (λ i. slice_index coins (i * size + k)) n

@@ -2,9 +2,8 @@
 
 ghost use Rattle.std.specs.Prelude.{◌≡◌, ℕ, ◌≤◌, length, slice_index};
 ghost use Rattle.gf256.specs.Field.{◌⊕◌};
-ghost use Rattle.gf256.specs.Sums.{run_sum};
 ghost use Rattle.chor_xor.specs.Bitmap.{size_of};
-ghost use Rattle.chor_xor.specs.Chosen.{chosen, given};
+ghost use Rattle.chor_xor.specs.Chosen.{AddsChosen, AddsFour, chosen};
 
 use crate::bitmap::{is_set, next_set};
 use block_matrix::Matrix;
@@ -31,8 +30,7 @@ pub fn add_chosen_rows(matrix: &Matrix, bitmap: &[u8], from: u32, to: u32, sum: 
     requires within { to ≤ length matrix.now.rows }
     requires bitmap { length bitmap.now ≡ size_of (length matrix.now.rows) }
     requires room { length sum.old ≡ matrix.now.width }
-    ensures { (k : ℕ) → slice_index sum.new k
-        ≡ slice_index sum.old k ⊕ run_sum (given bitmap.now matrix.now.rows k) from to }
+    ensures { AddsChosen bitmap.now matrix.now.rows from to sum.old sum.new }
 {
     // Its contract bounds the number of rows, and says that they are bytes.
     let _rows = matrix.rows();
@@ -69,8 +67,7 @@ fn add_rows(matrix: &Matrix, bitmap: &[u8], from: u32, to: u32, sum: &mut [u8])
     requires within { to ≤ length matrix.now.rows }
     requires bitmap { length bitmap.now ≡ size_of (length matrix.now.rows) }
     requires room { length sum.old ≡ matrix.now.width }
-    ensures { (k : ℕ) → slice_index sum.new k
-        ≡ slice_index sum.old k ⊕ run_sum (given bitmap.now matrix.now.rows k) from to }
+    ensures { AddsChosen bitmap.now matrix.now.rows from to sum.old sum.new }
 {
     // Its contract says that the rows are bytes.
     let _rows = matrix.rows();
@@ -87,8 +84,7 @@ fn add_four_rows(acc: &mut [u8], a: &[u8], b: &[u8], c: &[u8], d: &[u8])
     requires b { length b.now ≡ length acc.old }
     requires c { length c.now ≡ length acc.old }
     requires d { length d.now ≡ length acc.old }
-    ensures { (k : ℕ) → slice_index acc.new k ≡ slice_index acc.old k
-        ⊕ (slice_index a.now k ⊕ slice_index b.now k ⊕ slice_index c.now k ⊕ slice_index d.now k) }
+    ensures { AddsFour a.now b.now c.now d.now acc.old acc.new }
 {
     for i in 0..acc.len() {
         acc[i] ^= a[i] ^ b[i] ^ c[i] ^ d[i];

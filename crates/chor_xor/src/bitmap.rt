@@ -2,8 +2,7 @@
 
 ghost use Rattle.std.specs.Prelude.{◌≡◌, ℕ, ◌+◌, ◌-◌, ◌*◌, ◌<◌, ◌≤◌, ◌^◌, MatchBool, length, slice_index, if◌then◌else◌};
 ghost use Rattle.quantity_limits.specs.declared.TheConstants.{MOST_ROWS};
-ghost use Rattle.gf256.specs.Sums.{sum_to};
-ghost use Rattle.chor_xor.specs.Bitmap.{IsTrim, bit_of, bitmap, cleared, has_unused, size_of, unused_bits};
+ghost use Rattle.chor_xor.specs.Bitmap.{AreSummed, IsTrim, bit_of, bitmap, cleared, has_unused, size_of, unused_bits};
 
 use gf256::rows::{add_row, clear};
 
@@ -46,8 +45,7 @@ pub fn bitmap_into(coins: &[u8], n: u32, r: u32, block: u32, index: u8, out: &mu
 /// Makes `out` the XOR of so many pieces of the coins, each as long as it is.
 fn sum_pieces(coins: &[u8], count: usize, out: &mut [u8])
     requires { length coins.now ≡ count * length out.old }
-    ensures { (k : ℕ) → k < length out.old → slice_index out.new k
-        ≡ sum_to (λ i. slice_index coins.now (i * length out.old + k)) count }
+    ensures { AreSummed coins.now (length out.old) count out.new }
 {
     clear(out);
     let size = out.len();

@@ -1,11 +1,9 @@
 //! The law of the scheme, as a call whose contract is the law. A call changes nothing.
 
-ghost use Rattle.std.specs.Prelude.{◌≡◌, ℕ, [], ◌+◌, ◌<◌, ◌≤◌, slice_index, slice_index_or};
+ghost use Rattle.std.specs.Prelude.{◌<◌, ◌≤◌};
 ghost use Rattle.gf256.specs.Product.{IsMatrix};
-ghost use Rattle.gf256.specs.Sums.{sum_to};
 ghost use Rattle.block_matrix.specs.Database.{Database};
-ghost use Rattle.chor_xor.specs.Bitmap.{bitmap};
-ghost use Rattle.chor_xor.specs.Chosen.{answers, chosen, combined};
+ghost use Rattle.chor_xor.specs.Chosen.{SumToBlock, CombineToBlock};
 
 /// The answers of `n` servers that hold one matrix of `r` rows, each to its own bitmap for the row
 /// `block`, have that row as their sum, whatever the coins (Chor, Goldreich, Kushilevitz and Sudan
@@ -13,9 +11,7 @@ ghost use Rattle.chor_xor.specs.Chosen.{answers, chosen, combined};
 pub fn answers_sum_to_the_block(coins: &[u8], n: u32, r: u32, block: u32)
     requires servers { 2 ≤ n }
     requires block { block < r }
-    ensures columns { (m : Database) → IsMatrix m.rows r m.width → (c : ℕ)
-        → sum_to (λ i. slice_index (chosen m (bitmap coins.now n r block (i + 1))) c) n
-        ≡ slice_index (slice_index_or m.rows block []) c }
-    ensures list { (m : Database) → IsMatrix m.rows r m.width
-        → combined m.width (answers m coins.now n block) ≡ slice_index_or m.rows block [] }
+    ensures columns { (m : Database) → IsMatrix m.rows r m.width
+        → SumToBlock m coins.now n r block }
+    ensures list { (m : Database) → IsMatrix m.rows r m.width → CombineToBlock m coins.now n block }
 {}

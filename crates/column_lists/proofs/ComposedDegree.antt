@@ -21,6 +21,7 @@ IsZeroFrom n g = (e : ℕ) → n ≤ e → g e ≡ 0
 times-none : (f g : ℕ → ℕ) (e : ℕ) → IsZeroFrom 0 g → times f g e ≡ 0
 times-none f g e z = ap (λ s. times f s e) (ext g (λ i. 0) (λ i. z i (omega arith))) ∙ times-zero f e
 
+-- a product with 0 is 0
 none-times : (f g : ℕ → ℕ) (e : ℕ) → IsZeroFrom 0 f → times f g e ≡ 0
 unfolding times tail
 none-times f g zero z = ap (λ x. x ⊗ g 0) (z 0 (omega arith)) ∙ zero_mul _

@@ -31,6 +31,7 @@ many (suc rows) t n some h =
 
 -- ---- against the number of equations
 
+-- a common factor may be left away
 cancel : (t a b : ℕ) → t * a < t * b → a < b
 cancel t a b h = elim (cases_lt a b) [ inl l ↦ l | inr l ↦ absurd (let w = mul-le-mul_left t l in omega arith) ]
 
@@ -41,15 +42,18 @@ weigh t k h r m d ek eh l =
     let e2 = ap (λ (x : ℕ). t * x) ek in
     omega arith
 
+-- the monomials outnumber the equations, by their numbers
 outnumber : (t k h r m d n : ℕ) → 1 ≤ m → k ≡ h + r → h * h ≡ k * t + d → t * r < m * d → h * m * (h * m + t) ≤ 2 * t * n
     → k * (m * (m + 1)) < 2 * n
 outnumber t k h r m d n some ek eh l q =
     let i = weigh t k h r m d ek eh l in
     cancel t (k * (m * (m + 1))) (2 * n) (let w = mul-le-mul_left m i in omega arith)
 
+-- one more than a quotient, times the divisor, is past the number
 past_quotient : (x d : ℕ) → 1 ≤ d → x < (x / d + 1) * d
 past_quotient x d h = omega arith
 
+-- the same halved
 halves : (k m n : ℕ) → k * (m * (m + 1)) < 2 * n → k * m * (m + 1) / 2 < n
 halves k m n h = let q : ℕ = k * m * (m + 1) in let e : q ≡ k * (m * (m + 1)) = omega arith in (let l : q < 2 * n = omega arith in omega arith)
 
@@ -71,9 +75,11 @@ enough_monomials k t h d some l strong degree =
 
 -- ---- sizes
 
+-- greater factors have a greater product
 products : (a b c d : ℕ) → a ≤ c → b ≤ d → a * b ≤ c * d
 products a b c d h l = let e = mul-le-mul_left a l in let f = mul-le-mul_left d h in omega (arith, e, f)
 
+-- a number below a multiple has no greater quotient
 quotient_below : (x d n : ℕ) → x < suc n * d → x / d ≤ n
 quotient_below x d n h =
     elim (cases_lt (x / d) (suc n)) [
@@ -132,6 +138,7 @@ byte_multiplicity k m some few =
     halved : (q : ℕ) → 1 * 256 * 257 ≤ q → ¬ (q / 2 ≤ MOST_COST)
     halved q l few = omega (arith, l, few)
 
+-- so the multiplicity is in its range
 pub multiplicity-in_range : (k t h m : ℕ) → 1 ≤ k → m ≡ mult k t h → conditions k m ≤ MOST_COST → (1 ≤ m) × (m ≤ 255)
 unfolding mult
 multiplicity-in_range k t h m some is few = (subst (λ (x : ℕ). 1 ≤ x) (sym is) (more (t * (k - h) / (h * h - k * t))), byte_multiplicity k m some few)

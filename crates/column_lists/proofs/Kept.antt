@@ -14,10 +14,12 @@ map-filter f test [] = refl
 map-filter f test (x ∷ xs) =
     map-cond f (test (f x)) x (filter (λ x. test (f x)) xs) ∙ ap (λ ys. cond (test (f x)) (f x ∷ ys) ys) (map-filter f test xs)
 
+-- a member stays behind what may stand in front
 Contains-cond : {X : Type 0} (b : Bool) (y : X) (ys : List X) (x : X) → Contains ys x → Contains (cond b (y ∷ ys) ys) x
 Contains-cond true y ys x c = (suc c.0, let l = c.1 in omega arith, c.2)
 Contains-cond false y ys x c = c
 
+-- what stands in front is a member
 Contains-first : {X : Type 0} (b : Bool) (y : X) (ys : List X) (x : X) → b ≡ true → y ≡ x → Contains (cond b (y ∷ ys) ys) x
 Contains-first true y ys x t e = (0, omega arith, e)
 Contains-first false y ys x t e = absurd (false≢true t)

@@ -14,6 +14,7 @@ use Rattle.column_lists.specs.Agreement.{agreements, ListsAgreeing}
 use Rattle.column_lists.proofs.Kept.{Contains-filter}
 use Rattle.column_lists.proofs.Agreeing.{agreeing_root}
 
+-- the roots that agree are the list
 pub listed : (roots kept q : List (List ℕ)) (points : List (ℕ × ℕ)) (m t h d : ℕ) → AreBytes q → IsInterpolant q points m t d → d + 1 ≡ h * m
     → AllPairs (λ p q. p.0 ≢ q.0) points → All (λ p. p.0 < 256) points → ListsYRoots roots q t → kept ≡ filter (λ phi. nat_le h (agreements phi points)) roots
     → ListsAgreeing kept points t h

@@ -15,10 +15,12 @@ use Rattle.column_lists.proofs.Agreeing.{takes}
 use Rattle.column_lists.proofs.Kept.{Contains-filter}
 use Rattle.column_lists.proofs.OnOne.{only_one}
 
+-- a test or its contrary passes
 counts : (b : Bool) → cond b 1 0 + cond (not b) 1 0 ≡ 1
 counts true = refl
 counts false = refl
 
+-- a test counts once at most
 counts-le : (b : Bool) → cond b 1 0 ≤ 1
 counts-le true = omega arith
 counts-le false = omega arith

@@ -1,8 +1,9 @@
 //! Which polynomials agree with enough points.
 
-ghost use Rattle.std.specs.Prelude.{◌≡◌, ◌<◌, nat_le, map, All};
+ghost use Rattle.std.specs.Prelude.{◌≡◌, ◌<◌, All};
 ghost use Rattle.std.specs.List.{filter};
-ghost use Rattle.column_lists.specs.Agreement.{agreements};
+ghost use Rattle.column_lists.specs.Agreement.{agreements, has_agreed};
+ghost use Rattle.column_runs.specs.Rows.{lists_of};
 
 use uni_poly::eval;
 
@@ -17,9 +18,8 @@ fn agreements(phi: &[u8], points: &[(u8, u8)]) -> usize
 }
 
 /// Keeps in the list the polynomials that agree with at least `h` of the points. It copies none.
-pub fn keep_agreeing(list: &mut Vec<Vec<u8>>, points: &[(u8, u8)], h: u32)
-    ensures { map (λ r. r.items) list.new.items
-        ≡ filter (λ phi. nat_le h (agreements phi points.now)) (map (λ r. r.items) list.old.items) }
+pub(crate) fn keep_agreeing(list: &mut Vec<Vec<u8>>, points: &[(u8, u8)], h: u32)
+    ensures { lists_of list.new.items ≡ filter (has_agreed points.now h) (lists_of list.old.items) }
 {
     list.retain(|phi| agreements(phi, points) >= h as usize);
 }
@@ -31,7 +31,7 @@ fn is_byte(x: u8)
 
 /// The first members of the points are bytes. It looks at each point once, since a contract sees the points as pairs of
 /// numbers.
-pub fn places_are_bytes(points: &[(u8, u8)])
+pub(crate) fn places_are_bytes(points: &[(u8, u8)])
     ensures { All (λ p. p.0 < 256) points.now }
 {
     for i in 0..points.len() {

@@ -1,7 +1,8 @@
 //! Columns that are decoded without a list proper, since most points lie on one polynomial or too few do.
 
-ghost use Rattle.std.specs.Prelude.{◌≡◌, ◌≢◌, ◌+◌, ◌<◌, ◌≤◌, length, map, AllPairs, IfNone, IfOk, IfSome, MatchOption, MatchResult};
+ghost use Rattle.std.specs.Prelude.{◌≡◌, ◌≢◌, ◌+◌, ◌<◌, ◌≤◌, length, AllPairs, IfNone, IfOk, IfSome, MatchOption, MatchResult};
 ghost use Rattle.column_runs.specs.Close.{least_misses, EachMisses};
+ghost use Rattle.column_runs.specs.Rows.{lists_of};
 ghost use Rattle.column_lists.specs.Agreement.{ListsAgreeing};
 
 use crate::agreement::{keep_agreeing, places_are_bytes};
@@ -37,7 +38,7 @@ pub fn close_list<C: Ledger>(
     requires redundant { t < h }
     requires agreement { h ≤ length points.now }
     requires distinct { AllPairs (λ p q. p.0 ≢ q.0) points.now }
-    ensures exact { IfOk result (λ found. IfSome found (λ list. ListsAgreeing (map (λ r. r.items) list.items) points.now t h)) }
+    ensures exact { IfOk result (λ found. IfSome found (λ list. ListsAgreeing (lists_of list.items) points.now t h)) }
     ensures far { IfOk result (λ found. IfNone found (EachMisses (least_misses t h) points.now t)) }
     ensures many { IfOk result (λ found. IfNone found (h + least_misses t h ≤ length points.now)) }
     ensures cols { MatchResult result (λ found. MatchOption found (cols.new ≡ cols.old) (λ _. cols.new ≡ cols.old + 1))

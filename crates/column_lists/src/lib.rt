@@ -30,13 +30,14 @@ pub use column_runs::decode_run;
 use column_runs::one_polynomial::{lie_on, through_first};
 use interpolation::Interpolate;
 pub use numbers::Plan;
+use quantity_limits::MOST_SERVERS;
 use rr_roots::y_roots;
 use std::alloc::{AllocError, Global};
 use std::sync::ledger::Ledger;
 use uni_poly::steps::Steps;
 
-/// The most points of a list decoding. Their first members are bytes, and none is 0.
-pub const MOST_POINTS: u32 = 255;
+/// The most points of a list decoding, one for each server's answer. Their first members are bytes, and none is 0.
+pub const MOST_POINTS: u32 = MOST_SERVERS as u32;
 
 /// The most equations that a list decoding takes, as many as an
 /// [interpolation](interpolation::MOST_EQUATIONS) takes. With so many the multiplicity and the degree of [`plan`] are

@@ -10,6 +10,7 @@ pub length-rows : (rows : List (Bor (List ℕ))) → length (map (λ (row : Bor 
 length-rows rows = length-map rows (λ (row : Bor (List ℕ)). row.now)
 
 module _ (xs : List ℕ) (rows : List (List ℕ)) (same : length rows ≡ length xs) (column : ℕ) where
+  -- there are as many points as xs
   pub length-points : length (points_at xs rows column) ≡ length xs
   length-points =
       let n = length-map rows (λ row. get_or row column 0) in

@@ -10,6 +10,7 @@ pub items_at : (ds : List (Vec ℕ Global)) (i : ℕ) (d : Vec ℕ Global) → i
     → (get_or ds i d).items ≡ get_or (map (λ (d : Vec ℕ Global). d.items) ds) i []
 items_at ds i d l = sym (get_or-map (λ (d : Vec ℕ Global). d.items) ds i d [] l)
 
+-- there are as many rows as lists
 pub length-items : (ds : List (Vec ℕ Global)) → length (map (λ (d : Vec ℕ Global). d.items) ds) ≡ length ds
 length-items ds = length-map ds (λ (d : Vec ℕ Global). d.items)
 

@@ -18,6 +18,7 @@ use Rattle.uni_poly.proofs.Values.{val_lt, val_cons, val_zero}
 use Rattle.column_runs.specs.Lagrange.{basis_polynomial, factor, extended, Extends}
 use Rattle.column_runs.proofs.Basis.{length-basis, factor-own, factor-other}
 
+-- the basis polynomials of the xs
 basis : List ℕ → List (List ℕ)
 basis xs = map (basis_polynomial xs) (range_with_len 0 (length xs))
 
@@ -50,6 +51,7 @@ val-through_all xs ys a =
 one : ℕ → List ℕ
 one m = 1 ∷ replicate m 0
 
+-- of zeros each is 0
 zeros : (m e : ℕ) → get_or {A = ℕ} (replicate m 0) e 0 ≡ 0
 zeros m e =
     elim (cases_lt e m) [
@@ -57,10 +59,12 @@ zeros m e =
       | inr past ↦ get_or_past (replicate m 0) e 0 (let n = length-replicate {A = ℕ} m 0 in omega (arith, n, past))
     ]
 
+-- one has so many coefficients
 length-one : (m : ℕ) → length (one m) ≡ suc m
 unfolding one
 length-one m = ap suc (length-replicate {A = ℕ} m 0)
 
+-- they are bytes
 bytes-one : (m : ℕ) → All (λ c. c < 256) (one m)
 unfolding one
 bytes-one m = All-from_get_or (λ c. c < 256) (1 ∷ replicate m 0) 0 (λ k l. at k)
@@ -69,6 +73,7 @@ bytes-one m = All-from_get_or (λ c. c < 256) (1 ∷ replicate m 0) 0 (λ k l. a
     at zero = lit< tt
     at (suc k) = subst (λ c. c < 256) (sym (zeros m k)) (lit< tt)
 
+-- it is 1 everywhere
 val-one : (m x : ℕ) → val (one m) x ≡ 1
 unfolding one coef
 val-one m x =
@@ -76,6 +81,7 @@ val-one m x =
     ∙ ap₂ (λ c v. c ⊕ x ⊗ v) (mul_one 1 (lit< tt)) (val_zero (replicate m 0) x (λ e. ap (λ c. c ⊗ 1) (zeros m e) ∙ zero_mul 1))
     ∙ ap (◌⊕◌ 1) (mul_zero x) ∙ add_zero 1
 
+-- a factor is a byte
 factor_lt : (xs : List ℕ) (j a : ℕ) → factor xs j a < 256
 unfolding factor
 factor_lt xs j a = mul_lt (val (basis_polynomial xs j) a) (inverse (val (basis_polynomial xs j) (get_or xs j 0)))

@@ -15,12 +15,14 @@ misses-take phi points n = sum_by-take-le (λ p. cond (not (val phi p.0 == p.1))
 
 -- one point more
 module _ (phi : List ℕ) (points : List (ℕ × ℕ)) (i v : ℕ) (l : i < length points) (value : v ≡ val phi (get_or points i (0, 0)).0) where
+  -- a point that is off phi is missed
   pub misses-off : v ≢ (get_or points i (0, 0)).1 → misses phi (take (i + 1) points) ≡ misses phi (take i points) + 1
   unfolding misses
   misses-off off =
       count_by_more_yes (λ p. not (val phi p.0 == p.1)) points i (0, 0) l
       (not_from_false _ (ne_eqb _ _ (λ same. off (value ∙ same))))
 
+  -- another is not
   pub misses-on : v ≡ (get_or points i (0, 0)).1 → misses phi (take (i + 1) points) ≡ misses phi (take i points)
   unfolding misses
   misses-on on =

@@ -24,6 +24,7 @@ off_one phi points t all apart test only one =
 
 -- the first members of some of the points
 module _ (points : List (ℕ × ℕ)) (n : ℕ) (l : n ≤ length points) where
+  -- they are so many
   pub length-firsts : length (map (λ p. p.0) (take n points)) ≡ n
   length-firsts = let m = length-map (take n points) (λ p. p.0) in let s = length-take n points in omega arith
 
@@ -47,5 +48,6 @@ AllPairs-take n points h = λ i j d l m same.
     h i j d l (omega arith)
     (ap (λ (p : ℕ × ℕ). p.0) (sym (get_or-take n points i d (omega arith))) ∙ same ∙ ap (λ (p : ℕ × ℕ). p.0) (get_or-take n points j d (omega arith)))
 
+-- no two of them are equal
 pub distinct_firsts : (n : ℕ) (points : List (ℕ × ℕ)) → AllPairs (λ p q. p.0 ≢ q.0) points → AllPairs (λ x y. x ≢ y) (map (λ p. p.0) (take n points))
 distinct_firsts n points h = AllPairs-firsts (take n points) (AllPairs-take n points h)

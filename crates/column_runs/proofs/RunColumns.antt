@@ -24,6 +24,7 @@ extended-same factors u v same =
     (sum_to-same (λ i. get_or factors i 0 ⊗ (u (i + 1) ⊕ u 0)) (λ i. get_or factors i 0 ⊗ (v (i + 1) ⊕ v 0)) (length factors)
     (λ i l. ap₂ (λ x y. get_or factors i 0 ⊗ (x ⊕ y)) (same (i + 1) (omega (arith, l))) (same 0 (omega arith))))
 
+-- of the first of the xs no two are equal
 AllPairs-front : (n : ℕ) (xs : List ℕ) → n ≤ length xs → AllPairs (λ x y. x ≢ y) xs → AllPairs (λ x y. x ≢ y) (take n xs)
 AllPairs-front n xs enough apart = λ i j d l m same.
     let size = length-take-le n xs enough in
@@ -31,16 +32,20 @@ AllPairs-front n xs enough apart = λ i j d l m same.
     (sym (get_or-take n xs i d (omega (arith, l, m, size))) ∙ same ∙ get_or-take n xs j d (omega (arith, m, size)))
 
 module _ (xs : List ℕ) (t : ℕ) (others : List (List ℕ)) (zero : List ℕ) (are : AreFactors xs t others zero) where
+  -- there are xs enough
   enough : t + 1 ≤ length xs
   enough = let n = are.count in omega (arith, n)
 
+  -- the first of the xs
   base : List ℕ
   base = take (t + 1) xs
 
+  -- they are t + 1
   length-base : length base ≡ t + 1
   unfolding base
   length-base = length-take-le (t + 1) xs enough
 
+  -- each is the one of the xs at its place
   base-at : (i : ℕ) → i < t + 1 → get_or base i 0 ≡ get_or xs i 0
   unfolding base
   base-at i l = get_or-take (t + 1) xs i 0 l
@@ -50,6 +55,7 @@ module _ (xs : List ℕ) (t : ℕ) (others : List (List ℕ)) (zero : List ℕ) 
   unfolding base
   length-zero = let n = length-base in let m = are.constant.size in omega (arith, n, m)
 
+  -- each of the others has t factors
   pub length-other : (k : ℕ) → k < length others → length (get_or others k []) ≡ t
   unfolding base
   length-other k l = let n = length-base in let m = (are.each k l).size in omega (arith, n, m)

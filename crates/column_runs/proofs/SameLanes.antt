@@ -15,6 +15,7 @@ or-zero a b e =
     let m = le_or_r a b in
     (omega (arith, l, e), omega (arith, m, e))
 
+-- where all bits together are 0, each is
 fold_or-zero : (xs : List ℕ) (a : ℕ) → fold_l bit_or a xs ≡ 0 → (a ≡ 0) × ((k d : ℕ) → k < length xs → get_or xs k d ≡ 0)
 fold_or-zero [] a e = (e, λ k d l. absurd (omega (arith, l)))
 fold_or-zero (x ∷ xs) a e =

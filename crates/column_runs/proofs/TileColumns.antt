@@ -3,7 +3,7 @@ use Rattle.std.proofs.Common.{◌≡◌, ℕ, ◌+◌, ◌<◌, ◌≤◌, List,
 use Rattle.gf256.specs.Field.{◌⊕◌, ◌⊗◌}
 use Rattle.gf256.proofs.Sums.{sum_to-same}
 use Rattle.column_runs.specs.Lagrange.{extended}
-use Rattle.column_runs.specs.Tile.{cell, with_differences, Agree, AreDifferences, Follow, IsTile}
+use Rattle.column_runs.specs.Tile.{cell, with_differences, tile, Agree, AreDifferences, Follow, IsTile}
 
 module _ (rows : List (List ℕ)) (from : ℕ) (first : List ℕ) (ds : List (List ℕ))
     (are : AreDifferences ds rows from first)
@@ -20,16 +20,16 @@ module _ (rows : List (List ℕ)) (from : ℕ) (first : List ℕ) (ds : List (Li
 
   module _ (others : List (List ℕ)) (sizes : (k : ℕ) → k < length others → length (get_or others k []) ≡ length ds) where
     -- where the rows agree in a place of the tile, they do in its column
-    pub follow : (c : ℕ) → c < length first → Agree rows from first ds others c (length others) → Follow rows (length ds) others (from + c)
+    pub follow : (c : ℕ) → c < length first → Agree rows (tile from first ds) others c (length others) → Follow rows (length ds) others (from + c)
     follow c l agree = λ k m. agree k m ∙ by_differences (get_or others k []) c (sizes k m) l
 
     -- and the other way round
-    agree_from_follow : (c : ℕ) → c < length first → Follow rows (length ds) others (from + c) → Agree rows from first ds others c (length others)
+    agree_from_follow : (c : ℕ) → c < length first → Follow rows (length ds) others (from + c) → Agree rows (tile from first ds) others c (length others)
     agree_from_follow c l follows = λ k m. follows k m ∙ sym (by_differences (get_or others k []) c (sizes k m) l)
 
     pub is_tile : (zero bytes : List ℕ) (n : ℕ) → length zero ≡ length ds → length bytes ≡ length first → n ≤ length first
-        → ((c : ℕ) → c < n → Agree rows from first ds others c (length others))
-        → (n < length first → ¬ Agree rows from first ds others n (length others))
+        → ((c : ℕ) → c < n → Agree rows (tile from first ds) others c (length others))
+        → (n < length first → ¬ Agree rows (tile from first ds) others n (length others))
         → ((c : ℕ) → c < length first → get_or bytes c 0 ≡ with_differences zero ds (get_or first c 0) c)
         → IsTile rows from others zero bytes n
     is_tile zero bytes n size same within agree differ made = record {

@@ -8,12 +8,15 @@ use Rattle.column_runs.specs.Tile.{cell, Follow, IsTile}
 
 -- a part of a list is written
 module _ (out new : List ℕ) (done size : ℕ) (room : done + size ≤ length out) (long : length new ≡ size) where
+  -- the list with that part
   abbrev written : List ℕ
   written = put_mid done size out new
 
+  -- so many stand before it
   front-size : length (take done out) ≡ done
   front-size = length-take-le done out (omega (arith, room))
 
+  -- it is as long as it was
   pub length-written : length written ≡ length out
   length-written =
       let rest = drop size (drop done out) in
@@ -24,10 +27,12 @@ module _ (out new : List ℕ) (done size : ℕ) (room : done + size ≤ length o
       let behind = length-drop done out in
       omega (arith, front, all, both, after, behind, room, long)
 
+  -- what stands before is as it was
   pub written-before : (i : ℕ) → i < done → get_or written i 0 ≡ get_or out i 0
   written-before i l =
       get_or_append_left (take done out) (new ++ drop size (drop done out)) 0 i (let n = front-size in omega (arith, l, n)) ∙ get_or-take done out i 0 l
 
+  -- and the part is the new one
   pub written-part : (i : ℕ) → done ≤ i → i < done + size → get_or written i 0 ≡ get_or new (i - done) 0
   written-part i l m =
       get_or-append_right (take done out) (new ++ drop size (drop done out)) done i 0 front-size l

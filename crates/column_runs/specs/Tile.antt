@@ -13,17 +13,31 @@ unfoldable pub with_differences : List ℕ → List (List ℕ) → ℕ → ℕ �
 with_differences factors differences first c =
     first ⊕ sum_to (λ i. slice_index factors i ⊗ cell differences c i) (length factors)
 
+-- these rows are as long as those
+abbrev pub AreAsLong : List (List ℕ) → List (List ℕ) → Type 0
+AreAsLong these those = (i : ℕ) → length (slice_index_or these i []) ≡ length (slice_index_or those i [])
+
 -- the rows of differences begin with what the rows after the first have, from a column on, less what the first has
 abbrev pub AreDifferences : List (List ℕ) → List (List ℕ) → ℕ → List ℕ → Type 0
 AreDifferences differences rows from first =
     (i c : ℕ) → i < length differences → c < length first
     → cell differences c i ≡ cell rows (from + c) (i + 1) ⊕ slice_index first c
 
+-- a tile of rows: the column where it begins, what the first row has there, and the rows of differences
+pub record Tile : Type 0 where
+  pub from : ℕ
+  pub first : List ℕ
+  pub differences : List (List ℕ)
+
+-- the tile from this column on, with these
+abbrev pub tile : ℕ → List ℕ → List (List ℕ) → Tile
+tile from first differences = record { from = from; first = first; differences = differences }
+
 -- in place c of a tile, each of n rows after those of the differences has the byte that its factors give
-abbrev pub Agree : List (List ℕ) → ℕ → List ℕ → List (List ℕ) → List (List ℕ) → ℕ → ℕ → Type 0
-Agree rows from first differences others c n =
-    (k : ℕ) → k < n → cell rows (from + c) (length differences + 1 + k)
-    ≡ with_differences (slice_index_or others k []) differences (slice_index first c) c
+abbrev pub Agree : List (List ℕ) → Tile → List (List ℕ) → ℕ → ℕ → Type 0
+Agree rows tile others c n =
+    (k : ℕ) → k < n → cell rows (tile.from + c) (length tile.differences + 1 + k)
+    ≡ with_differences (slice_index_or others k []) tile.differences (slice_index tile.first c) c
 
 -- in a column, each row after the first t + 1 has the byte that its factors give from those of these
 abbrev pub Follow : List (List ℕ) → ℕ → List (List ℕ) → ℕ → Type 0

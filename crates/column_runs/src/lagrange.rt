@@ -21,7 +21,7 @@ pub struct Factors {
 /// The factors by which the values of a polynomial of degree at most `t` at the first `t + 1` of the `xs` give those at the
 /// others, and its constant (Lagrange 1795). What they share, a weight for each of the first, is made once, so that all
 /// together take about `t * t` products, and `4 * t` more for each of the others.
-pub fn factors_by_first(alloc: Global, xs: &[u8], t: u32) -> Result<Factors, AllocError>
+pub(crate) fn factors_by_first(alloc: Global, xs: &[u8], t: u32) -> Result<Factors, AllocError>
     requires enough { t < length xs.now }
     requires distinct { AllPairs (λ x y. x ≢ y) xs.now }
     ensures { IfOk result (λ f. AreFactors xs.now t (map (λ v. v.items) f.others.items) f.zero.items) }

@@ -1,6 +1,7 @@
 //! Runs of columns, a column at a time.
 
-ghost use Rattle.std.specs.Prelude.{◌≡◌, ◌≢◌, ◌+◌, ◌<◌, ◌≤◌, length, map, All, AllPairs, IfOk};
+ghost use Rattle.std.specs.Prelude.{◌≡◌, ◌≢◌, ◌+◌, ◌<◌, ◌≤◌, length, All, AllPairs, IfOk};
+ghost use Rattle.column_runs.specs.Rows.{rows_of};
 ghost use Rattle.column_runs.specs.Run.{points_at, IsRun};
 
 use crate::one_polynomial::{lie_on, through_first};
@@ -23,9 +24,9 @@ pub fn plain_run(
 ) -> Result<usize, AllocError>
     requires enough { t < length xs.now }
     requires rows { length rows.now ≡ length xs.now }
-    requires widths { All (λ row. from + length out.old ≤ length row) (map (λ row. row.now) rows.now) }
+    requires widths { All (λ row. from + length out.old ≤ length row) (rows_of rows.now) }
     requires distinct { AllPairs (λ x y. x ≢ y) xs.now }
-    ensures { IfOk result (λ n. IsRun xs.now (map (λ row. row.now) rows.now) t from out.new n) }
+    ensures { IfOk result (λ n. IsRun xs.now (rows_of rows.now) t from out.new n) }
 {
     for column in 0..out.len() {
         let points = points_at(alloc, xs, rows, from, column)?;
@@ -47,8 +48,8 @@ fn points_at(
     column: usize,
 ) -> Result<Vec<(u8, u8)>, AllocError>
     requires rows { length rows.now ≡ length xs.now }
-    requires widths { All (λ row. from + column < length row) (map (λ row. row.now) rows.now) }
-    ensures { IfOk result (λ v. v.items ≡ points_at xs.now (map (λ row. row.now) rows.now) (from + column)) }
+    requires widths { All (λ row. from + column < length row) (rows_of rows.now) }
+    ensures { IfOk result (λ v. v.items ≡ points_at xs.now (rows_of rows.now) (from + column)) }
 {
     let mut points = Vec::with_capacity(alloc, xs.len())?;
     for place in 0..xs.len() {

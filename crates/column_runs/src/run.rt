@@ -1,6 +1,8 @@
 //! Runs of columns whose points lie on one polynomial each.
 
-ghost use Rattle.std.specs.Prelude.{◌≡◌, ◌≢◌, ◌+◌, ◌^◌, ◌<◌, ◌≤◌, length, map, All, AllPairs, IfOk, MatchResult};
+ghost use Rattle.std.specs.Prelude.{◌≡◌, ◌≢◌, ◌+◌, ◌^◌, ◌<◌, ◌≤◌, length, All, AllPairs, IfOk, MatchResult};
+ghost use Rattle.column_runs.specs.Factors.{place_count, AreOfOneSize};
+ghost use Rattle.column_runs.specs.Rows.{lists_of, rows_of};
 ghost use Rattle.column_runs.specs.Run.{IsRun};
 ghost use Rattle.column_runs.specs.Tile.{IsTile};
 
@@ -41,21 +43,24 @@ pub fn decode_run<C: Ledger>(
 ) -> Result<usize, AllocError>
     requires enough { t < length xs.now }
     requires rows { length rows.now ≡ length xs.now }
-    requires widths { All (λ row. from + length out.old ≤ length row) (map (λ row. row.now) rows.now) }
+    requires widths { All (λ row. from + length out.old ≤ length row) (rows_of rows.now) }
     requires distinct { AllPairs (λ x y. x ≢ y) xs.now }
-    ensures run { IfOk result (λ n. IsRun xs.now (map (λ row. row.now) rows.now) t from out.new n) }
+    ensures run { IfOk result (λ n. IsRun xs.now (rows_of rows.now) t from out.new n) }
     ensures cols { MatchResult result (λ n. cols.new ≡ cols.old + n) (λ _. cols.new ≡ cols.old) }
 {
     let factors = factors_by_first(alloc, xs, t)?;
     let mut differences = rows_of_zeros(alloc, t as usize, TILE)?;
     let mut sums = vec![in alloc; 0; TILE]?;
     rows_are_bytes(rows);
-    Ok(decode_tiles(rows, from, &factors, &mut differences, &mut sums, out, cols))
+    let columns = decode_tiles(rows, from, &factors, &mut differences, &mut sums, out);
+    count(columns, cols);
+    Ok(columns)
 }
 
 /// So many rows of zeros, of so many columns each.
 fn rows_of_zeros(alloc: Global, count: usize, columns: usize) -> Result<Vec<Vec<u8>>, AllocError>
-    ensures { IfOk result (λ v. (length v.items ≡ count) × All (λ row. length row.items ≡ columns) v.items) }
+    ensures count { IfOk result (λ v. length v.items ≡ count) }
+    ensures columns { IfOk result (λ v. All (λ row. length row.items ≡ columns) v.items) }
 {
     let mut rows = Vec::with_capacity(alloc, count)?;
     for _row in 0..count {
@@ -67,32 +72,29 @@ fn rows_of_zeros(alloc: Global, count: usize, columns: usize) -> Result<Vec<Vec<
 /// The columns from `from` on in which each row past those that the factors go by has the byte that its factors give, tile
 /// by tile, each as long as `sums`. There are as many as before the first other one, and `out` has a place for each that may
 /// be taken; there go the bytes that the factors for 0 give.
-fn decode_tiles<C: Ledger>(
+fn decode_tiles(
     rows: &[&[u8]],
     from: usize,
     factors: &Factors,
     differences: &mut [Vec<u8>],
     sums: &mut [u8],
     out: &mut [u8],
-    cols: &mut Steps<C>,
 ) -> usize
-    requires rows { length rows.now ≡ length factors.now.zero.items + 1 + length factors.now.others.items }
-    requires factors { All (λ f. length f.items ≡ length factors.now.zero.items) factors.now.others.items }
-    requires widths { All (λ row. from + length out.old ≤ length row) (map (λ row. row.now) rows.now) }
+    requires rows { length rows.now ≡ place_count factors.now }
+    requires factors { AreOfOneSize factors.now }
+    requires widths { All (λ row. from + length out.old ≤ length row) (rows_of rows.now) }
     requires memory { from + length out.old < 2 ^ 64 }
     requires count { length differences.old ≡ length factors.now.zero.items }
     requires some { 0 < length sums.old }
     requires room { All (λ d. length sums.old ≤ length d.items) differences.old }
-    ensures tile { IsTile (map (λ row. row.now) rows.now) from (map (λ f. f.items) factors.now.others.items)
+    ensures { IsTile (rows_of rows.now) from (lists_of factors.now.others.items)
         factors.now.zero.items out.new result }
-    ensures cols { cols.new ≡ cols.old + result }
 {
     let mut done = 0;
     'tiles: while done < out.len() {
         let size = sums.len().min(out.len() - done);
         let tile = &mut out[done..done + size];
         let columns = decode_tile(rows, from + done, factors, differences, sums, tile);
-        count(columns, cols);
         done += columns;
         if columns < size {
             return done;

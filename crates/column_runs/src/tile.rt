@@ -1,8 +1,10 @@
 //! Columns of several rows at once, in tiles that a near cache holds.
 
-ghost use Rattle.std.specs.Prelude.{◌≡◌, ◌≢◌, ◌+◌, ◌<◌, ◌≤◌, ℕ, [], length, map, slice_index, slice_index_or, true, All};
+ghost use Rattle.std.specs.Prelude.{◌≡◌, ◌≢◌, ◌+◌, ◌<◌, ◌≤◌, ℕ, length, slice_index, true, All};
 ghost use Rattle.gf256.specs.Field.{◌⊕◌};
-ghost use Rattle.column_runs.specs.Tile.{with_differences, Agree, AreDifferences, IsTile};
+ghost use Rattle.column_runs.specs.Factors.{place_count, AreOfOneSize};
+ghost use Rattle.column_runs.specs.Rows.{lists_of, rows_of};
+ghost use Rattle.column_runs.specs.Tile.{tile, with_differences, Agree, AreAsLong, AreDifferences, IsTile};
 
 use crate::lagrange::Factors;
 use crate::rows::row_from;
@@ -13,7 +15,7 @@ use std::simd::prelude::*;
 /// as many as there are before the first other one; `out` has a place for each that may be taken. There go the bytes that
 /// the factors for 0 give. In `differences` there is a row for each factor, and in each of these, and in `sums`, a place for
 /// each of `out`.
-pub fn decode_tile(
+pub(crate) fn decode_tile(
     rows: &[&[u8]],
     from: usize,
     factors: &Factors,
@@ -21,15 +23,14 @@ pub fn decode_tile(
     sums: &mut [u8],
     out: &mut [u8],
 ) -> usize
-    requires rows { length rows.now ≡ length factors.now.zero.items + 1 + length factors.now.others.items }
-    requires factors { All (λ f. length f.items ≡ length factors.now.zero.items) factors.now.others.items }
-    requires widths { All (λ row. from + length out.old ≤ length row) (map (λ row. row.now) rows.now) }
+    requires rows { length rows.now ≡ place_count factors.now }
+    requires factors { AreOfOneSize factors.now }
+    requires widths { All (λ row. from + length out.old ≤ length row) (rows_of rows.now) }
     requires count { length differences.old ≡ length factors.now.zero.items }
     requires room { All (λ d. length out.old ≤ length d.items) differences.old }
     requires sums { length out.old ≤ length sums.old }
-    ensures sizes { (i : ℕ) → length (slice_index_or (map (λ d. d.items) differences.new) i [])
-        ≡ length (slice_index_or (map (λ d. d.items) differences.old) i []) }
-    ensures tile { IsTile (map (λ row. row.now) rows.now) from (map (λ f. f.items) factors.now.others.items)
+    ensures sizes { AreAsLong (lists_of differences.new) (lists_of differences.old) }
+    ensures tile { IsTile (rows_of rows.now) from (lists_of factors.now.others.items)
         factors.now.zero.items out.new result }
 {
     let first = &row_from(rows, 0, from)[..out.len()];
@@ -51,14 +52,14 @@ fn agreeing(
 ) -> usize
     requires rows { length rows.now ≡ length differences.now + 1 + length others.now }
     requires factors { All (λ f. length f.items ≡ length differences.now) others.now }
-    requires widths { All (λ row. from + length first.now ≤ length row) (map (λ row. row.now) rows.now) }
+    requires widths { All (λ row. from + length first.now ≤ length row) (rows_of rows.now) }
     requires room { All (λ d. length first.now ≤ length d.items) differences.now }
     requires sums { length first.now ≤ length sums.old }
     ensures within { result ≤ length first.now }
-    ensures agree { (c : ℕ) → c < result → Agree (map (λ row. row.now) rows.now) from first.now
-        (map (λ d. d.items) differences.now) (map (λ f. f.items) others.now) c (length others.now) }
-    ensures differ { result < length first.now → ¬ Agree (map (λ row. row.now) rows.now) from first.now
-        (map (λ d. d.items) differences.now) (map (λ f. f.items) others.now) result (length others.now) }
+    ensures agree { (c : ℕ) → c < result → Agree (rows_of rows.now)
+        (tile from first.now (lists_of differences.now)) (lists_of others.now) c (length others.now) }
+    ensures differ { result < length first.now → ¬ Agree (rows_of rows.now)
+        (tile from first.now (lists_of differences.now)) (lists_of others.now) result (length others.now) }
 {
     let mut columns = first.len();
     for k in 0..others.len() {
@@ -72,13 +73,12 @@ fn agreeing(
 
 /// Makes the first places of each of the `differences` those of its row, the next one of `rows` after the first, from column
 /// `from` on, less those of `first`.
-pub fn subtract(rows: &[&[u8]], from: usize, first: &[u8], differences: &mut [Vec<u8>])
+pub(crate) fn subtract(rows: &[&[u8]], from: usize, first: &[u8], differences: &mut [Vec<u8>])
     requires rows { length differences.old < length rows.now }
-    requires widths { All (λ row. from + length first.now ≤ length row) (map (λ row. row.now) rows.now) }
+    requires widths { All (λ row. from + length first.now ≤ length row) (rows_of rows.now) }
     requires room { All (λ d. length first.now ≤ length d.items) differences.old }
-    ensures sizes { (i : ℕ) → length (slice_index_or (map (λ d. d.items) differences.new) i [])
-        ≡ length (slice_index_or (map (λ d. d.items) differences.old) i []) }
-    ensures each { AreDifferences (map (λ d. d.items) differences.new) (map (λ row. row.now) rows.now) from first.now }
+    ensures sizes { AreAsLong (lists_of differences.new) (lists_of differences.old) }
+    ensures each { AreDifferences (lists_of differences.new) (rows_of rows.now) from first.now }
 {
     for i in 0..differences.len() {
         let row = &row_from(rows, i + 1, from)[..first.len()];
@@ -98,12 +98,12 @@ fn set_difference(difference: &mut [u8], row: &[u8], first: &[u8])
 }
 
 /// Makes each of the `sums` that byte of `first`, plus each factor times that byte of its row of `differences`.
-pub fn extend(first: &[u8], differences: &[Vec<u8>], factors: &[u8], sums: &mut [u8])
+pub(crate) fn extend(first: &[u8], differences: &[Vec<u8>], factors: &[u8], sums: &mut [u8])
     requires same { length first.now ≡ length sums.old }
     requires count { length factors.now ≡ length differences.now }
     requires room { All (λ d. length first.now ≤ length d.items) differences.now }
     ensures { (c : ℕ) → c < length first.now → slice_index sums.new c
-        ≡ with_differences factors.now (map (λ d. d.items) differences.now) (slice_index first.now c) c }
+        ≡ with_differences factors.now (lists_of differences.now) (slice_index first.now c) c }
 {
     sums.copy_from_slice(first);
     for i in 0..factors.len() {
@@ -112,7 +112,7 @@ pub fn extend(first: &[u8], differences: &[Vec<u8>], factors: &[u8], sums: &mut 
 }
 
 /// In how many places from the first on the two rows, which are of one length, have the same bytes.
-pub fn common_length(a: &[u8], b: &[u8]) -> usize
+pub(crate) fn common_length(a: &[u8], b: &[u8]) -> usize
     requires { length a.now ≡ length b.now }
     ensures within { result ≤ length a.now }
     ensures same { (k : ℕ) → k < result → slice_index a.now k ≡ slice_index b.now k }

@@ -41,6 +41,7 @@ count_front p f a (suc n) (suc m) few pass =
 abbrev asked : Workload → List ℕ
 asked w = asked_block w ∷ []
 
+-- where enough servers are honest, enough answers are the products of what they were sent
 products_of : (w : Workload) → IsWorkload w → w.agree ≤ honest w → AreProducts (all_answers w) (database_of w).rows 0 [] (coins_of w) (asked w) w.degree w.rows w.width w.agree
 unfolding all_answers held_by
 products_of w is enough =
@@ -60,6 +61,7 @@ products_of w is enough =
 
 -- ---- so the row is found
 
+-- the verdict on a workload's answers has the row that is asked for
 pub finds_asked_row : (w : Workload) (verdict : Verdict) → IsWorkload w → IsDecidedOn w verdict → FindsAskedRow w verdict
 finds_asked_row w verdict is decided =
     let rows = (database_of w).rows in

@@ -14,13 +14,16 @@ use Rattle.commands.specs.DemoOrder.{address_from}
 use Rattle.commands.specs.DemoOutcome.{StartsAll, StartsSome}
 
 -- the address of the next child comes behind those before it
-pub address_next : {X : Type 0} (f : X → List ℕ) (port i : ℕ) (xs : List X) (x : X) → map f xs ≡ map (address_from port) (range_with_len 1 i) → f x ≡ address_from port (i + 1) → map f (xs ++ x ∷ []) ≡ map (address_from port) (range_with_len 1 (i + 1))
+pub address_next : {X : Type 0} (f : X → List ℕ) (port i : ℕ) (xs : List X) (x : X)
+    → map f xs ≡ map (address_from port) (range_with_len 1 i) → f x ≡ address_from port (i + 1)
+    → map f (xs ++ x ∷ []) ≡ map (address_from port) (range_with_len 1 (i + 1))
 address_next f port i xs x so_far next =
     map-append f xs (x ∷ []) ∙ ap (λ l. l ++ f x ∷ []) so_far ∙ ap (λ a. map (address_from port) (range_with_len 1 i) ++ a ∷ []) next
     ∙ sym (map-range_with_len_more (address_from port) 1 i (i + 1) (omega arith))
 
 -- a child could not be started after those before it
-pub starts_some : {X : Type 0} (f : X → List (List ℕ)) (xs : List X) (i k : ℕ) (w v u : World) → i < length xs → k ≡ 512 + (i + 1) → StartsAll (map f (take i xs)) w v → Fails k v u → Touches k v u → StartsSome (map f xs) w u
+pub starts_some : {X : Type 0} (f : X → List (List ℕ)) (xs : List X) (i k : ℕ) (w v u : World) → i < length xs
+    → k ≡ 512 + (i + 1) → StartsAll (map f (take i xs)) w v → Fails k v u → Touches k v u → StartsSome (map f xs) w u
 starts_some f xs i k w v u lt is all fails touch =
     let at : k ≡ (child 1) + i = omega (arith, is) in
     record {
@@ -33,16 +36,19 @@ starts_some f xs i k w v u lt is all fails touch =
     }
 
 -- or it was
-pub starts_more : {X : Type 0} (f : X → List (List ℕ)) (xs : List X) (i : ℕ) (d : X) (w v u : World) → i < length xs → StartsAll (map f (take i xs)) w v → Starts (f (get_or xs i d)) v u → StartsAll (map f (take (i + 1) xs)) w u
+pub starts_more : {X : Type 0} (f : X → List (List ℕ)) (xs : List X) (i : ℕ) (d : X) (w v u : World) → i < length xs
+    → StartsAll (map f (take i xs)) w v → Starts (f (get_or xs i d)) v u → StartsAll (map f (take (i + 1) xs)) w u
 starts_more f xs i d w v u lt all one = record {
   started = one.started ∙ ap (option_map (λ starts. starts ++ f (get_or xs i d) ∷ [])) all.started ∙ join w.started;
   ports = λ q l. one.ports q l ∙ all.ports q l;
   crowd = one.crowd ∙ all.crowd;
 }
   where
+    -- the first i lists and the next one are the first i + 1
     more : map f (take i xs) ++ f (get_or xs i d) ∷ [] ≡ map f (take (i + 1) xs)
     more = sym (ap (map f) (take_more xs i d lt) ∙ map-append f (take i xs) (get_or xs i d ∷ []))
 
+    -- so they are of what is told of the children
     join : (told : Option (List (List (List ℕ)))) → option_map (λ starts. starts ++ f (get_or xs i d) ∷ []) (option_map (λ starts. starts ++ map f (take i xs)) told)
         ≡ option_map (λ starts. starts ++ map f (take (i + 1) xs)) told
     join None = refl

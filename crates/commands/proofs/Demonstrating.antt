@@ -1,6 +1,6 @@
 -- A demonstration from its first child to the verdict.
-use Rattle.std.proofs.Common.{◌≡◌, ◌∙◌, ◌⊎◌, inl, inr, ℕ, ◌+◌, ◌<◌, ◌≤◌, List, [], ◌∷◌, length, map, false, refl, lit<, sym, ap, subst, arith}
-use Rattle.std.specs.Prelude.{Some, None}
+use Rattle.std.proofs.Common.{◌≡◌, ◌∙◌, ◌⊎◌, inl, inr, ℕ, ◌+◌, ◌<◌, ◌≤◌, List, [], ◌∷◌, length, map, refl, lit<, sym, ap, subst, arith}
+use Rattle.std.specs.Prelude.{Some}
 use Rattle.std.specs.List.{range_with_len}
 use Rattle.std.proofs.lemmas.List.{length-map}
 use Rattle.std.proofs.lemmas.List.FromFn.{length-map-range_with_len}
@@ -16,9 +16,9 @@ use Rattle.query_rounds.specs.Plan.{need}
 use Rattle.port_rules.specs.Tossed.{Tossed}
 use Rattle.commands.specs.Said.{whole_text}
 use Rattle.commands.specs.Told.{NoneRose, NoChildRose}
-use Rattle.commands.specs.FetchOrder.{FetchOrder}
+use Rattle.commands.specs.FetchOrder.{FetchOrder, plain_fetch}
 use Rattle.commands.specs.FetchOutcome.{InSession, FetchReported, FetchEnds, TouchesFetch}
-use Rattle.commands.specs.DemoOrder.{DemoOrder, plan_of, address_from, addresses_from, words_to_serve, words_of_children, fetch_from_children}
+use Rattle.commands.specs.DemoOrder.{DemoOrder, address_from, addresses_from, addresses_of_children, words_to_serve, words_of_children, fetch_from_children}
 use Rattle.commands.specs.DemoOutcome.{StartsAll, StartsSome, Demonstrated, DemoOutcome, DemoPromise, DemoReported, files}
 use Rattle.commands.specs.declared.status.Status.{Status}
 use Rattle.commands.specs.declared.status.Status.TheVariants.{One, Usage, NoBlock, Several, Absent, TooFew, TooWeak, TooCostly, ReadFault, WriteFault, BadInput, DoorFault, ChildFault, Memory}
@@ -32,7 +32,8 @@ unfolding addresses_from
 length-addresses port n = length-map-range_with_len (address_from port) 1 n
 
 -- the words that are made of the addresses are those of all children
-pub words_are : {X Y : Type 0} (f : X → List ℕ) (g : Y → List (List ℕ)) (database : List ℕ) (width port n : ℕ) (made given : List X) (lists taken : List Y) → map f made ≡ addresses_from port n → given ≡ made
+pub words_are : {X Y : Type 0} (f : X → List ℕ) (g : Y → List (List ℕ)) (database : List ℕ) (width port n : ℕ) (made given : List X) (lists taken : List Y)
+    → map f made ≡ addresses_from port n → given ≡ made
     → map g lists ≡ map (words_to_serve database width) (map f given) → taken ≡ lists → map g taken ≡ map (λ i. words_to_serve database width (address_from port i)) (range_with_len 1 n)
 unfolding addresses_from
 words_are f g database width port n made given lists taken at same words as_made =
@@ -65,19 +66,22 @@ demonstrated_as o ChildFault old new d = absurd d.fetched.ends
 demonstrated_as o Memory old new d = inr d
 
 -- the children were started with these words, and then a block was fetched from these addresses
-pub demonstrates : (o : DemoOrder) (addresses : List (List ℕ)) (lists : List (List (List ℕ))) (status : Status) (w v u : World) → addresses ≡ addresses_from o.port o.servers → lists ≡ words_of_children o
-    → StartsAll lists w v → FetchEnds (record { plan = plan_of o; blocks = o.block ∷ []; addresses = addresses; coins = o.coins; keep = None; report = false }) status v u → TouchesFetch o.servers v u → DemoOutcome o status w u
+pub demonstrates : (o : DemoOrder) (addresses : List (List ℕ)) (lists : List (List (List ℕ))) (status : Status) (w v u : World)
+    → addresses ≡ addresses_of_children o → lists ≡ words_of_children o → StartsAll lists w v
+    → FetchEnds (plain_fetch o.plan (o.block ∷ []) addresses o.coins) status v u → TouchesFetch o.plan.n v u
+    → DemoOutcome o status w u
 demonstrates o addresses lists status w v u at words starts ends others = demonstrated_as o status w u record {
   between = v;
   starts = subst (λ l. StartsAll l w v) words starts;
   fetched = record {
-    ends = subst (λ a. FetchEnds (record { plan = plan_of o; blocks = o.block ∷ []; addresses = a; coins = o.coins; keep = None; report = false }) status v u) at ends;
+    ends = subst (λ a. FetchEnds (plain_fetch o.plan (o.block ∷ []) a o.coins) status v u) at ends;
     others = others;
   };
 }
 
 -- no port is touched before the fetch
 module _ (o : FetchOrder) (w v z : World) (same : (q : ℕ) → q < PORT_COUNT → v.at q ≡ w.at q) (fits : (link 1) + o.plan.n ≤ PORT_COUNT) where
+  -- so the session counts from before
   in_session_before : (coins : List ℕ) (session : Transcript) → InSession o coins session v z → InSession o coins session w z
   in_session_before coins session s = record {
     tossed = subst (λ (c : Cell). Tossed (need o.plan (length o.blocks)) coins (named o.coins c) (z.at COINS)) (same 3 (lit< tt)) s.tossed;
@@ -88,6 +92,7 @@ module _ (o : FetchOrder) (w v z : World) (same : (q : ℕ) → q < PORT_COUNT �
     };
   }
 
+  -- and so does what is reported
   reported_before : (status : Status) → FetchReported o status v z → FetchReported o status w z
   reported_before status r = record {
     session = r.session;
@@ -108,24 +113,27 @@ module _ (o : FetchOrder) (w v z : World) (same : (q : ℕ) → q < PORT_COUNT �
   }
 
 -- no call failed
-module _ (o : DemoOrder) (old new : World) (few : o.servers < 256) (none : NoneRose files old new) (ready : NoChildRose o.servers old new) where
+module _ (o : DemoOrder) (old new : World) (few : o.plan.n < 256) (none : NoneRose files old new) (ready : NoChildRose o.plan.n old new) where
   -- so all children were started
   started : StartsSome (words_of_children o) old new → ⊥
   started s =
-      let fewer : s.before < o.servers = omega (arith, s.fewer, length-map-range_with_len (λ i. words_to_serve o.database o.width (address_from o.port i)) 1 o.servers) in
+      let fewer : s.before < o.plan.n = omega (arith, s.fewer, length-map-range_with_len (λ i. words_to_serve o.database o.plan.s (address_from o.port i)) 1 o.plan.n) in
       ready s.before fewer (subst (λ (c : Cell). Rose c.faults (new.at ((child 1) + s.before)).faults) (s.starts.ports ((child 1) + s.before) (omega (arith, fewer, few))) (once_rose _ _ s.fails.rose))
 
+  -- nor has any in the fetch
   none_after : (v : World) → ((q : ℕ) → q < PORT_COUNT → v.at q ≡ old.at q) → NoneRose files v new
   none_after v same = (
     λ rose. none.0 (subst (λ (c : Cell). Rose c.faults (new.at OUTPUT).faults) (same 1 (lit< tt)) rose),
     (λ rose. none.1.0 (subst (λ (c : Cell). Rose c.faults (new.at COINS).faults) (same 3 (lit< tt)) rose), tt),
   )
 
+  -- Coins holds the same for the fetch
   told_after : (v : World) (held : List ℕ) → ((q : ℕ) → q < PORT_COUNT → v.at q ≡ old.at q) → (old.at COINS).holds ≡ Some held → (v.at COINS).holds ≡ Some held
   told_after v held same told = ap (λ (c : Cell). c.holds) (same 3 (lit< tt)) ∙ told
 
   module _ (held : List ℕ) (told : (old.at COINS).holds ≡ Some held) where
-    reports : (status : Status) → need (plan_of o) 1 ≤ length held → Demonstrated o status old new → DemoReported o status old new ⊎ (status ≡ Memory)
+    -- so the verdict of the fetch is reported
+    reports : (status : Status) → need o.plan 1 ≤ length held → Demonstrated o status old new → DemoReported o status old new ⊎ (status ≡ Memory)
     reports status enough d =
         let same = d.starts.ports in
         elim ((fetch_promised (fetch_from_children o) status d.between new d.fetched.ends).reported held (told_after d.between held same told) enough (none_after d.between same)) [
@@ -137,13 +145,14 @@ module _ (o : DemoOrder) (old new : World) (few : o.servers < 256) (none : NoneR
           | inr m ↦ inr m
         ]
 
-    lacks : (status : Status) → length held < need (plan_of o) 1 → Demonstrated o status old new → (status ≡ BadInput (CoinsEnded (length held))) ⊎ (status ≡ Memory)
+    -- or there are too few coins for it
+    lacks : (status : Status) → length held < need o.plan 1 → Demonstrated o status old new → (status ≡ BadInput (CoinsEnded (length held))) ⊎ (status ≡ Memory)
     lacks status short d =
         let same = d.starts.ports in
         (fetch_promised (fetch_from_children o) status d.between new d.fetched.ends).too_few_coins held (told_after d.between held same told) short (none_after d.between same)
 
     -- where there are coins enough, the verdict is reported
-    demo_reported : (status : Status) → need (plan_of o) 1 ≤ length held → DemoOutcome o status old new → DemoReported o status old new ⊎ (status ≡ Memory)
+    demo_reported : (status : Status) → need o.plan 1 ≤ length held → DemoOutcome o status old new → DemoReported o status old new ⊎ (status ≡ Memory)
     demo_reported One enough d = reports One enough d
     demo_reported Usage enough d = reports Usage enough d
     demo_reported NoBlock enough d = reports NoBlock enough d
@@ -160,7 +169,7 @@ module _ (o : DemoOrder) (old new : World) (few : o.servers < 256) (none : NoneR
     demo_reported Memory enough d = inr refl
 
     -- where there are fewer, that is said
-    demo_too_few : (status : Status) → length held < need (plan_of o) 1 → DemoOutcome o status old new → (status ≡ BadInput (CoinsEnded (length held))) ⊎ (status ≡ Memory)
+    demo_too_few : (status : Status) → length held < need o.plan 1 → DemoOutcome o status old new → (status ≡ BadInput (CoinsEnded (length held))) ⊎ (status ≡ Memory)
     demo_too_few One short d = lacks One short d
     demo_too_few Usage short d = lacks Usage short d
     demo_too_few NoBlock short d = lacks NoBlock short d
@@ -177,7 +186,7 @@ module _ (o : DemoOrder) (old new : World) (few : o.servers < 256) (none : NoneR
     demo_too_few Memory short d = inr refl
 
 -- what is promised of `demo`
-pub demo_promised : (o : DemoOrder) (status : Status) (old new : World) → o.servers < 256 → DemoOutcome o status old new → DemoPromise o status old new
+pub demo_promised : (o : DemoOrder) (status : Status) (old new : World) → o.plan.n < 256 → DemoOutcome o status old new → DemoPromise o status old new
 demo_promised o status old new few said = record {
   reported = λ held told enough none ready. demo_reported o old new few none ready held told status enough said;
   too_few_coins = λ held told short none ready. demo_too_few o old new few none ready held told status short said;

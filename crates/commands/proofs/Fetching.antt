@@ -15,50 +15,28 @@ use Rattle.block_decoder.specs.declared.verdict.Verdict.{Verdict}
 use Rattle.block_decoder.specs.declared.verdict.Verdict.TheVariants.{Listed as IsListed, TooFew as IsTooFew, TooWeak as IsTooWeak, TooCostly as IsTooCostly}
 use Rattle.block_decoder.specs.Report.{Agreement}
 use Rattle.query_rounds.specs.Plan.{AreBlocks, IsPlan, need}
+use Rattle.query_rounds.specs.Request.{Request}
 use Rattle.query_rounds.specs.Sent.{sent}
 use Rattle.query_rounds.specs.Link.{LinkAsked}
 use Rattle.query_rounds.specs.Gathered.{AsksWith, FetchesTo, TouchesLinks}
 use Rattle.fetch_client.specs.Fetched.{Fetches, FetchesWhole}
-use Rattle.query_rounds.specs.declared.plan.FetchPlan.{FetchPlan}
 use Rattle.query_rounds.specs.declared.plan.FetchFault.{FetchFault}
 use Rattle.query_rounds.specs.declared.plan.FetchFault.TheVariants.{CoinsFault, CoinsEnded, Memory as NoMemory}
 use Rattle.wire_frames.specs.declared.session.SessionParams.{SessionParams}
 use Rattle.wire_frames.specs.declared.scheme.TheConstants.{SHAMIR, XOR}
-use Rattle.pir_words.specs.declared.asked.Asked.{Asked as Command}
 use Rattle.commands.specs.Faults.{of_fetch}
 use Rattle.commands.specs.Table.{status_of}
 use Rattle.commands.specs.FetchOrder.{FetchOrder}
-use Rattle.commands.specs.Outcome.{Outcome, order_of}
-use Rattle.commands.specs.FetchOutcome.{ConcludesBeside, InSession, Settled, Recorded, Unrecorded, FetchReported, FetchEnds, FetchesBeside, Reports, TouchesFiles, with_none}
+use Rattle.commands.specs.FetchOutcome.{ConcludesBeside, InSession, Settled, Recorded, Unrecorded, FetchReported, FetchEnds, FetchesBeside, Reports, TouchesFiles, request_by, with_none}
 use Rattle.commands.specs.Said.{IsReportOf, whole_text}
 use Rattle.commands.proofs.HeldRow.{held_row}
 use Rattle.commands.proofs.Saying.{report_of}
 use Rattle.commands.specs.declared.status.Status.{Status}
 use Rattle.commands.specs.declared.status.Status.TheVariants.{ReadFault}
 
--- words ask for one command
-pub one_command : (wanted : Option Command) (asked other : Command) → wanted ≡ Some asked → wanted ≡ Some other → asked ≡ other
-one_command wanted asked other a b = ap (λ (o : Option Command). unwrap_or o asked) (sym a ∙ b)
-
--- and what was done by the one was done by the other
-pub outcome_of_one : (wanted : Option Command) (asked other : Command) (status : Status) (old new : World) → wanted ≡ Some asked → wanted ≡ Some other → Outcome asked status old new → Outcome other status old new
-outcome_of_one wanted asked other status old new a b outcome = subst (λ (c : Command). Outcome c status old new) (one_command wanted asked other a b) outcome
-
--- an order for as many servers as it has addresses is the one that its command gives
-pub order_is : (o : FetchOrder) → o.plan.n ≡ length o.addresses
-    → order_of o.plan.scheme o.plan.r o.plan.s o.blocks o.plan.t o.plan.tau o.plan.h o.coins o.keep o.report o.addresses ≡ o
-order_is o is = ap (λ (n : ℕ). record {
-  plan = record { scheme = o.plan.scheme; t = o.plan.t; tau = o.plan.tau; h = o.plan.h; n = n; r = o.plan.r; s = o.plan.s };
-  blocks = o.blocks;
-  addresses = o.addresses;
-  coins = o.coins;
-  keep = o.keep;
-  report = o.report;
-}) (sym is)
-
 -- every server was asked after Coins was opened, and before other ports were touched
 pub asked_within : (o : FetchOrder) (coins : List ℕ) (session : Transcript) (w v u z : World) → (link 1) + o.plan.n ≤ PORT_COUNT → v.at COINS ≡ named o.coins (w.at COINS) → Touches COINS w v
-    → AsksWith o.plan o.blocks o.addresses coins session v u → TouchesFiles u z → InSession o coins session w z
+    → AsksWith (request_by o) coins session v u → TouchesFiles u z → InSession o coins session w z
 asked_within o coins session w v u z fits is_open touch asks files =
     let p = o.plan in
     let t = asks.tossed in
@@ -107,37 +85,39 @@ ends_as o (IsTooWeak k t h) w z said = said
 ends_as o (IsTooCostly equations) w z said = said
 
 -- every server was asked, so the report is that of the session
-pub report_of_fetch : (wanted : Bool) (p : FetchPlan) (blocks : List ℕ) (addresses : List (List ℕ)) (session : Transcript) (verdict : Verdict) (report : Option (List Agreement)) (old new : World) → IsPlan p
-    → ConcludesBeside wanted p blocks addresses (session, verdict, report) old new → IsReportOf session report
-report_of_fetch wanted p blocks addresses session verdict report old new plan found =
+pub report_of_fetch : (wanted : Bool) (r : Request) (session : Transcript) (verdict : Verdict) (report : Option (List Agreement))
+    (old new : World) → IsPlan r.plan → ConcludesBeside wanted r (session, verdict, report) old new → IsReportOf session report
+report_of_fetch wanted r session verdict report old new plan found =
     let same = ap (λ (q : SessionParams). q.scheme) found.concludes.asked.asked.params in
     report_of session verdict (subst (λ (n : ℕ). (n ≡ SHAMIR) ⊎ (n ≡ XOR)) (sym same) plan.numbers.scheme) wanted report found.beside
 
 -- every server was asked, so the session has a record for each
-pub whole_of_fetch : (wanted : Bool) (p : FetchPlan) (blocks : List ℕ) (addresses : List (List ℕ)) (session : Transcript) (verdict : Verdict) (report : Option (List Agreement)) (old new : World)
-    → ConcludesBeside wanted p blocks addresses (session, verdict, report) old new → length session.records ≡ session.params.n
-whole_of_fetch wanted p blocks addresses session verdict report old new found =
+pub whole_of_fetch : (wanted : Bool) (r : Request) (session : Transcript) (verdict : Verdict) (report : Option (List Agreement))
+    (old new : World) → ConcludesBeside wanted r (session, verdict, report) old new → length session.records ≡ session.params.n
+whole_of_fetch wanted r session verdict report old new found =
     found.concludes.asked.asked.whole ∙ sym (ap (λ (q : SessionParams). q.n) found.concludes.asked.asked.params)
 
 -- a fetch with no report
-pub fetches_plain : (p : FetchPlan) (blocks : List ℕ) (addresses : List (List ℕ)) (result : Result (Transcript × Verdict) FetchFault) (old new : World)
-    → Fetches p blocks addresses result old new → FetchesTo (ConcludesBeside false p blocks addresses) p blocks addresses (with_none result) old new
-fetches_plain p blocks addresses (Ok both) old new fetched = record { concludes = fetched; beside = refl; liars = λ agreements same. absurd cc }
-fetches_plain p blocks addresses (Err CoinsFault) old new fetched = fetched
-fetches_plain p blocks addresses (Err (CoinsEnded taken)) old new fetched = fetched
-fetches_plain p blocks addresses (Err NoMemory) old new fetched = fetched
+pub fetches_plain : (r : Request) (result : Result (Transcript × Verdict) FetchFault) (old new : World)
+    → Fetches r result old new → FetchesTo (ConcludesBeside false r) r (with_none result) old new
+fetches_plain r (Ok both) old new fetched = record { concludes = fetched; beside = refl; liars = λ agreements same. absurd cc }
+fetches_plain r (Err CoinsFault) old new fetched = fetched
+fetches_plain r (Err (CoinsEnded taken)) old new fetched = fetched
+fetches_plain r (Err NoMemory) old new fetched = fetched
 
 -- and one with a report
-pub fetches_whole : (p : FetchPlan) (blocks : List ℕ) (addresses : List (List ℕ)) (result : Result (Transcript × Verdict × Option (List Agreement)) FetchFault) (old new : World)
-    → FetchesWhole p blocks addresses result old new → FetchesTo (ConcludesBeside true p blocks addresses) p blocks addresses result old new
-fetches_whole p blocks addresses (Ok found) old new fetched = record { concludes = fetched.concludes; beside = fetched.report; liars = fetched.liars }
-fetches_whole p blocks addresses (Err CoinsFault) old new fetched = fetched
-fetches_whole p blocks addresses (Err (CoinsEnded taken)) old new fetched = fetched
-fetches_whole p blocks addresses (Err NoMemory) old new fetched = fetched
+pub fetches_whole : (r : Request) (result : Result (Transcript × Verdict × Option (List Agreement)) FetchFault) (old new : World)
+    → FetchesWhole r result old new → FetchesTo (ConcludesBeside true r) r result old new
+fetches_whole r (Ok found) old new fetched = record { concludes = fetched.concludes; beside = fetched.report; liars = fetched.liars }
+fetches_whole r (Err CoinsFault) old new fetched = fetched
+fetches_whole r (Err (CoinsEnded taken)) old new fetched = fetched
+fetches_whole r (Err NoMemory) old new fetched = fetched
 
 -- Coins was opened, every server was asked, and the session was reported
-pub ends_with_report : (o : FetchOrder) (session : Transcript) (verdict : Verdict) (report : Option (List Agreement)) (status : Status) (w v u z : World) → IsPlan o.plan → AreBlocks o.plan o.blocks → v.at COINS ≡ named o.coins (w.at COINS) → Touches COINS w v
-    → ConcludesBeside o.report o.plan o.blocks o.addresses (session, verdict, report) v u → TouchesLinks o.plan.n v u → Reports o.keep session verdict report status u z → TouchesFiles u z → FetchEnds o status w z
+pub ends_with_report : (o : FetchOrder) (session : Transcript) (verdict : Verdict) (report : Option (List Agreement)) (status : Status) (w v u z : World)
+    → IsPlan o.plan → AreBlocks o.plan o.blocks → v.at COINS ≡ named o.coins (w.at COINS) → Touches COINS w v
+    → ConcludesBeside o.report (request_by o) (session, verdict, report) v u → TouchesLinks o.plan.n v u
+    → Reports o.keep (session, verdict, report) status u z → TouchesFiles u z → FetchEnds o status w z
 ends_with_report o session verdict report status w v u z plan are is_open touch beside links reports files = elim reports [
   | inl told ↦ elim told.1 [
     | inl whole ↦
@@ -179,6 +159,7 @@ ends_with_report o session verdict report status w v u z plan are is_open touch 
       })
 ]
   where
+    -- the verdict on the session is what it has to be
     settled : Settled o session verdict w z
     settled = record {
       coins = beside.concludes.coins;
@@ -188,6 +169,7 @@ ends_with_report o session verdict report status w v u z plan are is_open touch 
       held = held_row o.plan o.blocks beside.concludes.coins session plan are beside.concludes.asked.tossed.size beside.concludes.asked.tossed.bytes beside.concludes.asked.asked.params beside.concludes.asked.asked.whole verdict beside.concludes.found;
     }
 
+    -- a port but Coins and the links wasn't touched before
     still : (q : ℕ) → q < 256 → q ≢ COINS → u.at q ≡ w.at q
     still q l ne = links.others q (omega arith) ne (λ lo hi. omega (arith, lo, l)) ∙ touch.others q (omega arith) ne
 
@@ -200,9 +182,11 @@ ends_unopened o w v fails touch = record {
 
 -- Coins was opened, but no session came of it, or there was no memory to judge it
 module _ (o : FetchOrder) (w v u : World) (plan : IsPlan o.plan) (is_open : v.at COINS ≡ named o.coins (w.at COINS)) (touch : Touches COINS w v) (links : TouchesLinks o.plan.n v u) where
+  -- a port but Coins and the links isn't touched
   untouched : (q : ℕ) → q < 256 → q ≢ COINS → u.at q ≡ w.at q
   untouched q l ne = links.others q (omega arith) ne (λ lo hi. omega (arith, lo, l)) ∙ touch.others q (omega arith) ne
 
+  -- the fetch ends as its fault says
   pub ends_with_fault : (fault : FetchFault) → FetchesBeside o (Err fault) v u → FetchEnds o (of_fetch fault) w u
   ends_with_fault CoinsFault fetched = record {
     unread = record {

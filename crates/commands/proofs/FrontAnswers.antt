@@ -16,8 +16,8 @@ use Rattle.shard_front.specs.declared.relayed.Relayed.{Relayed}
 use Rattle.shard_front.specs.declared.relayed.Relayed.TheVariants.{Served, Refused, Gone, GuestFault, ShardLost}
 use Rattle.shard_front.specs.Spread.{shards}
 use Rattle.shard_front.specs.Fronted.{Fronts, TouchesFirst}
-use Rattle.shard_front.specs.Relay.{Counts, FrontsTold, GivesRelay}
-use Rattle.commands.specs.FrontAnswers.{FrontsGuests, Fronting, IsFronted, of_link}
+use Rattle.shard_front.specs.Relay.{Counts, FrontsTold, GivesRelay, Visit, visit_of}
+use Rattle.commands.specs.FrontAnswers.{FrontsGuests, Fronting, IsFronted, of_link, visit_at}
 
 -- what is told of the link with a number, of the links now
 of_link_now : (w : World) (n : ℕ) → n < 256 → of_link (links_now w) n ≡ link_now (w.at (link n))
@@ -43,7 +43,7 @@ fronts_give spread addresses GuestFault m u empty (inr broke) = record { out = t
 
 -- it is given that by what the links held as it came in, and by which of their counts rose since
 fronts_by_links : (spread : Spread) (met : Relayed) (v m u : World) (guest out : List ℕ) → shards spread ≤ MOST_SHARDS → Meets v m → FrontsTold spread met m u → (m.at GUEST).holds ≡ Some guest
-    → (m.at GUEST).accepted ≡ Some [] → (u.at GUEST).accepted ≡ Some out → IsFronted spread guest out (m.at GUEST).faults (u.at GUEST).faults (links_now v) (links_now u)
+    → (m.at GUEST).accepted ≡ Some [] → (u.at GUEST).accepted ≡ Some out → IsFronted spread (visit_of guest out m u) (links_now v) (links_now u)
 fronts_by_links spread met v m u guest out few meets told holds empty accepted held are =
     let bytes = told guest held [] holds empty (λ i l. link_holds i l) in
     let same : bytes.out ≡ out = same_out bytes.out (sym bytes.accepted ∙ accepted) in
@@ -54,21 +54,26 @@ fronts_by_links spread met v m u guest out few meets told holds empty accepted h
           let before : (of_link (links_now v) (1 + i)).faults ≡ (m.at (link 1 + i)).faults = ap (λ (t : LinkThen). t.faults) (then_is i l) in
           let after : (of_link (links_now u) (1 + i)).faults ≡ (u.at (link 1 + i)).faults = ap (λ (t : LinkThen). t.faults) (end_is i l) in
           subst (λ (k : ℕ). Counts (bytes.failed i) k (of_link (links_now u) (1 + i)).faults) (sym before) (subst (λ (k : ℕ). Counts (bytes.failed i) (m.at (link 1 + i)).faults k) (sym after) (bytes.links.failed i l));
-      gives = subst (λ (o : List ℕ). GivesRelay spread guest (record { held = held; failed = bytes.failed }) met o (m.at GUEST).faults (u.at GUEST).faults) same bytes.gives;
+      gives = subst (λ (o : List ℕ). GivesRelay spread (record { held = held; failed = bytes.failed }) met (visit_of guest o m u)) same bytes.gives;
     }
   where
+    -- the port of the link to shard i, by either sum
     number_is : (i : ℕ) → link (1 + i) ≡ link 1 + i
     number_is i = omega arith
 
+    -- what is told of a link as the guest came in is what the port says
     then_is : (i : ℕ) → i < shards spread → of_link (links_now v) (1 + i) ≡ link_now (m.at (link 1 + i))
     then_is i l = of_link_now v (1 + i) (omega (arith, few, l)) ∙ ap link_now (ap v.at (number_is i) ∙ sym (meets.others (link 1 + i) (omega (arith, few, l)) (omega arith)))
 
+    -- and so is what is told at its end
     end_is : (i : ℕ) → i < shards spread → of_link (links_now u) (1 + i) ≡ link_now (u.at (link 1 + i))
     end_is i l = of_link_now u (1 + i) (omega (arith, few, l)) ∙ ap link_now (ap u.at (number_is i))
 
+    -- the link holds what is told
     link_holds : (i : ℕ) → i < shards spread → (m.at (link 1 + i)).holds ≡ Some (held i)
     link_holds i l = sym (ap (λ (t : LinkThen). t.holds) (then_is i l)) ∙ are i l
 
+    -- what was given to the guest is what is told
     same_out : (given : List ℕ) → Some ([] ++ given) ≡ Some out → given ≡ out
     same_out given e = cc
 
@@ -114,13 +119,16 @@ module _ (spread : Spread) where
         counts_size = s.counts_size;
         thens_size = s.thens_size;
         each = λ i l.
-            subst (λ (t : List LinkThen). IsFronted spread (get_or gs i []) (get_or s.outs i []) (get_or s.counts i 0) (get_or (s.counts ++ (v.at GUEST).faults ∷ []) (i + 1) 0) (get_or s.thens i []) (get_or (s.thens ++ t ∷ []) (i + 1) [])) (sym same)
-            (subst (λ (c : Cell). IsFronted spread (get_or gs i []) (get_or s.outs i []) (get_or s.counts i 0) (get_or (s.counts ++ c.faults ∷ []) (i + 1) 0) (get_or s.thens i []) (get_or (s.thens ++ links_now w ∷ []) (i + 1) [])) (sym cell) (s.each i l));
+            let then = get_or s.thens i [] in
+            let visit : Cell → Visit = λ c. visit_at gs s.outs s.counts c.faults i in
+            subst (λ (t : List LinkThen). IsFronted spread (visit (v.at GUEST)) then (get_or (s.thens ++ t ∷ []) (i + 1) [])) (sym same)
+            (subst (λ (c : Cell). IsFronted spread (visit c) then (get_or (s.thens ++ links_now w ∷ []) (i + 1) [])) (sym cell) (s.each i l));
       }
 
   -- one more guest is met
   fronting_more : (gs others : List (List ℕ)) (earlier : List ℕ) (found : List (List LinkThen)) (addresses : List (List ℕ)) (met : Relayed) (j : ℕ) (w v u : World) → shards spread ≤ MOST_SHARDS
-      → Fronting spread gs others earlier found j w → Meets w v → TouchesFirst (shards spread) v u → Fronts spread addresses met v u → FrontsTold spread met v u → Fronting spread gs others earlier found (j + 1) u
+      → Fronting spread gs others earlier found j w → Meets w v → TouchesFirst (shards spread) v u
+      → Fronts spread addresses met v u → FrontsTold spread met v u → Fronting spread gs others earlier found (j + 1) u
   fronting_more gs others earlier found addresses met j w v u few s meets touch fronts told =
       let first = subst (λ (o : Option (List (List ℕ))). IfSome o (λ l. (0 < length l) × ((v.at GUEST).holds ≡ Some (get_or l 0 [])))) s.guests meets.first in
       let guest : List ℕ = get_or gs j [] in
@@ -174,14 +182,17 @@ module _ (spread : Spread) where
         ];
       }
     where
-      moved : {g h a b : List ℕ} {c d e f : ℕ} {k l m n : List LinkThen} → g ≡ h → a ≡ b → c ≡ d → e ≡ f → k ≡ l → m ≡ n → IsFronted spread g a c e k m → IsFronted spread h b d f l n
+      -- what is told of a guest, by values that are the same
+      moved : {g h a b : List ℕ} {c d e f : ℕ} {k l m n : List LinkThen} → g ≡ h → a ≡ b → c ≡ d → e ≡ f → k ≡ l → m ≡ n
+          → IsFronted spread (record { guest = g; out = a; before = c; after = e }) k m
+          → IsFronted spread (record { guest = h; out = b; before = d; after = f }) l n
       moved {g} {h} {a} {b} {c} {d} {e} {f} {k} {l} {m} {n} gh ab cd ef kl mn is =
-          subst (λ (x : List ℕ). IsFronted spread x b d f l n) gh
-          (subst (λ (x : List ℕ). IsFronted spread g x d f l n) ab
-          (subst (λ (x : ℕ). IsFronted spread g a x f l n) cd
-          (subst (λ (x : ℕ). IsFronted spread g a c x l n) ef
-          (subst (λ (x : List LinkThen). IsFronted spread g a c e x n) kl
-          (subst (λ (x : List LinkThen). IsFronted spread g a c e k x) mn is)))))
+          subst (λ (x : List ℕ). IsFronted spread (record { guest = x; out = b; before = d; after = f }) l n) gh
+          (subst (λ (x : List ℕ). IsFronted spread (record { guest = g; out = x; before = d; after = f }) l n) ab
+          (subst (λ (x : ℕ). IsFronted spread (record { guest = g; out = a; before = x; after = f }) l n) cd
+          (subst (λ (x : ℕ). IsFronted spread (record { guest = g; out = a; before = c; after = x }) l n) ef
+          (subst (λ (x : List LinkThen). IsFronted spread (record { guest = g; out = a; before = c; after = e }) x n) kl
+          (subst (λ (x : List LinkThen). IsFronted spread (record { guest = g; out = a; before = c; after = e }) k x) mn is)))))
 
   -- before the first guest nobody was met
   pub fronts_none : (w : World) → FrontsGuests spread 0 w w

@@ -27,8 +27,8 @@ use Rattle.commands.specs.declared.status.Status.{Status}
 use Rattle.commands.specs.declared.status.Status.TheVariants.{One, Usage, NoBlock, Several, Absent, TooFew, TooWeak, TooCostly, ReadFault, WriteFault, BadInput, DoorFault, ChildFault, Memory}
 
 -- the values of `front` are those of a front
-pub front_spread : (r s k guests n : ℕ) → IsFront r s k guests n → IsSpread (record { rows = r; width = s; shard = k })
-front_spread r s k guests n is = record {
+pub front_spread : (r s k conns n : ℕ) → IsFront r s k conns n → IsSpread (record { rows = r; width = s; shard = k })
+front_spread r s k conns n is = record {
   shape = is.shape;
   some = is.some_on_each;
   within = is.within;
@@ -78,7 +78,8 @@ fronted_unnamed spread addresses GuestFault m u (inl broke) = ap (λ (c : Cell).
 fronted_unnamed spread addresses GuestFault m u (inr broke) = ap (λ (c : Cell). c.opened) broke.cell
 
 -- one guest came in and was met, by a front that is as it was
-pub fronts_next : (spread now : Spread) (addresses : List (List ℕ)) (met : Relayed) (v m u : World) → now ≡ spread → Meets v m → Fronts now addresses met m u → FrontsTold now met m u → FrontsNext spread addresses met v u
+pub fronts_next : (spread now : Spread) (addresses : List (List ℕ)) (met : Relayed) (v m u : World) → now ≡ spread
+    → Meets v m → Fronts now addresses met m u → FrontsTold now met m u → FrontsNext spread addresses met v u
 fronts_next spread now addresses met v m u same meets fronts told =
     let fronts_so = subst (λ (d : Spread). Fronts d addresses met m u) same fronts in
     record {
@@ -118,14 +119,16 @@ module _ (spread : Spread) (addresses : List (List ℕ)) where
   moved m m' a a' b b' p q r h = subst (λ (x : Relayed). FrontsNext spread addresses x a' b') p (subst (λ (x : World). FrontsNext spread addresses m x b') q (subst (λ (x : World). FrontsNext spread addresses m a x) r h))
 
   -- one guest more, while whom at most one call failed on Guest
-  guest_more : (n : ℕ) (met : Relayed) (w v u : World) → RoseAtMost n (w.at GUEST).faults (v.at GUEST).faults → FrontsNext spread addresses met v u → RoseAtMost (n + 1) (w.at GUEST).faults (u.at GUEST).faults
+  guest_more : (n : ℕ) (met : Relayed) (w v u : World) → RoseAtMost n (w.at GUEST).faults (v.at GUEST).faults
+      → FrontsNext spread addresses met v u → RoseAtMost (n + 1) (w.at GUEST).faults (u.at GUEST).faults
   guest_more n met w v u few next = elim (guest_once spread addresses met next.mid u next.fronts) [
     | inl still ↦ at_most_still n (w.at GUEST).faults (v.at GUEST).faults (u.at GUEST).faults few (still ∙ next.meets.faults)
     | inr once ↦ at_most_once n (w.at GUEST).faults (v.at GUEST).faults (u.at GUEST).faults few (subst (λ (k : ℕ). RoseOnce k (u.at GUEST).faults) next.meets.faults once)
   ]
 
   -- and on each link
-  link_more : (n i : ℕ) (met : Relayed) (w v u : World) → shards spread ≤ MOST_SHARDS → i < shards spread → RoseAtMost n (w.at (link 1 + i)).faults (v.at (link 1 + i)).faults → FrontsNext spread addresses met v u
+  link_more : (n i : ℕ) (met : Relayed) (w v u : World) → shards spread ≤ MOST_SHARDS → i < shards spread
+      → RoseAtMost n (w.at (link 1 + i)).faults (v.at (link 1 + i)).faults → FrontsNext spread addresses met v u
       → RoseAtMost (n + 1) (w.at (link 1 + i)).faults (u.at (link 1 + i)).faults
   link_more n i met w v u most there few next =
       let same : (next.mid.at (link 1 + i)).faults ≡ (v.at (link 1 + i)).faults = ap (λ (c : Cell). c.faults) (next.meets.others (link 1 + i) (omega (arith, most, there)) (omega arith)) in
@@ -135,7 +138,9 @@ module _ (spread : Spread) (addresses : List (List ℕ)) where
       ]
 
   -- one guest more
-  pub fronted_more : (n : ℕ) (met : Relayed) (w v u : World) → shards spread ≤ MOST_SHARDS → FrontsInTurn spread addresses n w v → FrontsNext spread addresses met v u → FrontsInTurn spread addresses (n + 1) w u
+  pub fronted_more : (n : ℕ) (met : Relayed) (w v u : World) → shards spread ≤ MOST_SHARDS
+      → FrontsInTurn spread addresses n w v → FrontsNext spread addresses met v u
+      → FrontsInTurn spread addresses (n + 1) w u
   fronted_more n met w v u most t next = record {
     worlds = worlds;
     mets = mets;
@@ -154,21 +159,27 @@ module _ (spread : Spread) (addresses : List (List ℕ)) where
     link_faults = λ i l. link_more n i met w v u most l (t.link_faults i l) next;
   }
     where
+      -- the worlds of the chain, one more
       worlds : ℕ → World
       worlds i = cond (nat_le i n) (t.worlds i) u
 
+      -- what each guest was met with, one more
       mets : ℕ → Relayed
       mets i = cond (nat_le (i + 1) n) (t.mets i) met
 
+      -- up to the last they are those of before
       before : (i : ℕ) → i ≤ n → worlds i ≡ t.worlds i
       before i l = ap (λ (b : Bool). cond b (t.worlds i) u) (le-leb i n l)
 
+      -- and behind it the new one
       after : (i : ℕ) → n < i → worlds i ≡ u
       after i l = ap (λ (b : Bool). cond b (t.worlds i) u) (lt-leb i n l)
 
+      -- each guest before was met as before
       met_before : (i : ℕ) → i < n → mets i ≡ t.mets i
       met_before i l = ap (λ (b : Bool). cond b (t.mets i) met) (le-leb (i + 1) n (omega (arith, l)))
 
+      -- and the last one as it was
       met_after : (i : ℕ) → n ≤ i → mets i ≡ met
       met_after i l = ap (λ (b : Bool). cond b (t.mets i) met) (lt-leb (i + 1) n (omega (arith, l)))
 
@@ -185,7 +196,9 @@ pub relaying_door : (n : ℕ) (w v m u : World) → v.at DOOR ≡ w.at DOOR → 
 relaying_door n w v m u same meets t = t.others 5 (omega arith) (omega arith) (λ from below. omega (arith, from)) ∙ meets.others 5 (omega arith) (omega arith) ∙ same
 
 -- no further guest comes in
-pub front_dry : (spread : Spread) (addresses : List (List ℕ)) (n served : ℕ) (w v u : World) → served < n → v.at DOOR ≡ w.at DOOR → FrontsGuests spread served w v → FrontsInTurn spread addresses served w v → Fails DOOR v u → Touches DOOR v u → FrontRunsDry spread addresses n w u
+pub front_dry : (spread : Spread) (addresses : List (List ℕ)) (n served : ℕ) (w v u : World) → served < n
+    → v.at DOOR ≡ w.at DOOR → FrontsGuests spread served w v → FrontsInTurn spread addresses served w v → Fails DOOR v u
+    → Touches DOOR v u → FrontRunsDry spread addresses n w u
 front_dry spread addresses n served w v u fewer same guests turns fails touch = record {
   served = served;
   fewer = fewer;
@@ -198,6 +211,7 @@ front_dry spread addresses n served w v u fewer same guests turns fails touch = 
   rose = subst (λ (c : Cell). RoseOnce c.faults (u.at DOOR).faults) same fails.rose;
 }
 
+-- and then Door, Guest and the links alone were touched
 pub front_dry_touch : (n : ℕ) (w v u : World) → TouchesRelaying n w v → Touches DOOR v u → TouchesRelaying n w u
 front_dry_touch n w v u s touch = record {
   others = λ q l ne5 ne6 off. touch.others q l ne5 ∙ s.others q l ne5 ne6 off;
@@ -233,9 +247,11 @@ front_guest_stays w u t = t.others 6 (omega arith) (omega arith) (omega arith)
 -- guests can come in
 module _ (o : FrontOrder) (front : Spread) (w u x : World) (is : front ≡ o.spread) (l : Listens o.listen (Ok tt) w u) (t : TouchesDoor w u)
     (given : TouchesRelaying (shards front) u x) where
+  -- no more is touched than by asking the shards
   g : TouchesRelaying (shards o.spread) u x
   g = subst (λ (d : Spread). TouchesRelaying (shards d) u x) is given
 
+  -- Output has what says that guests can come in
   output_is : x.at OUTPUT ≡ gave ready (w.at OUTPUT)
   output_is = g.others 1 (omega arith) (omega arith) (omega arith) (λ from below. omega (arith, from)) ∙ l.written
 
@@ -244,18 +260,18 @@ module _ (o : FrontOrder) (front : Spread) (w u x : World) (is : front ≡ o.spr
   before_them n guests = fronts_from o.spread n w u x t.crowd (front_guest_stays w u t) (subst (λ (d : Spread). FrontsGuests d n u x) is guests)
 
   -- all guests were met
-  pub fronted_all : FrontsInTurn front o.addresses o.guests u x → FrontsGuests front o.guests u x → x.at DOOR ≡ u.at DOOR → FrontedAll o w x
+  pub fronted_all : FrontsInTurn front o.addresses o.conns u x → FrontsGuests front o.conns u x → x.at DOOR ≡ u.at DOOR → FrontedAll o w x
   fronted_all turns guests same = record {
     door = same ∙ l.door;
     written = output_is;
     listening = u;
     nobody = t;
-    turns = subst (λ (d : Spread). FrontsInTurn d o.addresses o.guests u x) is turns;
-    guests = before_them o.guests guests;
+    turns = subst (λ (d : Spread). FrontsInTurn d o.addresses o.conns u x) is turns;
+    guests = before_them o.conns guests;
   }
 
   -- no further guest came in
-  pub fronted_some : FrontRunsDry front o.addresses o.guests u x → FrontedSome o w x
+  pub fronted_some : FrontRunsDry front o.addresses o.conns u x → FrontedSome o w x
   fronted_some dry = record {
     door = dry.door ∙ ap (counted (x.at DOOR).faults) l.door;
     rose = subst (λ (c : Cell). RoseOnce c.faults (x.at DOOR).faults) l.door dry.rose;

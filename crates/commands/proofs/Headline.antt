@@ -32,7 +32,9 @@ pub held_by_input : (P : List ℕ → Type 0) (name : List ℕ) (old new : World
 held_by_input P name old new bytes told r = subst P (at_told (λ (h : List ℕ). r.read ≡ h) (old.at INPUT).holds bytes told r.all) r.is
 
 -- the verdict reported is that of the session
-answered_by : (name : List ℕ) (wanted : Bool) (status : Status) (old new : World) (bytes : List ℕ) (session : Transcript) → (old.at INPUT).holds ≡ Some bytes → IsSession bytes session → Reported name wanted status old new → Answered session wanted status old new
+answered_by : (name : List ℕ) (wanted : Bool) (status : Status) (old new : World) (bytes : List ℕ) (session : Transcript)
+    → (old.at INPUT).holds ≡ Some bytes → IsSession bytes session → Reported name wanted status old new
+    → Answered session wanted status old new
 answered_by name wanted status old new bytes session told whole said =
     let concluded = held_by_input (Concluded wanted said.session said.verdict said.report) name old new bytes told said.read in
     let same = one_session bytes said.session session concluded.whole whole in
@@ -46,7 +48,8 @@ answered_by name wanted status old new bytes session told whole said =
     }
 
 -- where there is a session, its verdict is reported
-pub answered : (name : List ℕ) (wanted : Bool) (status : Status) (old new : World) (bytes : List ℕ) (session : Transcript) → (old.at INPUT).holds ≡ Some bytes → IsSession bytes session → NoneRose streams old new
+pub answered : (name : List ℕ) (wanted : Bool) (status : Status) (old new : World) (bytes : List ℕ) (session : Transcript)
+    → (old.at INPUT).holds ≡ Some bytes → IsSession bytes session → NoneRose streams old new
     → ReplayEnds name wanted status old new → Answered session wanted status old new ⊎ (status ≡ Memory)
 answered name wanted One old new bytes session told whole none said = inl (answered_by name wanted One old new bytes session told whole said)
 answered name wanted Usage old new bytes session told whole none said = absurd said
@@ -67,12 +70,16 @@ answered name wanted (BadInput (CoinsEnded taken)) old new bytes session told wh
 answered name wanted Memory old new bytes session told whole none said = inr refl
 
 -- nothing is reported where there is no session
-no_report : (name : List ℕ) (wanted : Bool) (status : Status) (old new : World) (bytes : List ℕ) → (old.at INPUT).holds ≡ Some bytes → ((session : Transcript) → IsSession bytes session → ⊥) → Reported name wanted status old new → ⊥
+no_report : (name : List ℕ) (wanted : Bool) (status : Status) (old new : World) (bytes : List ℕ)
+    → (old.at INPUT).holds ≡ Some bytes → ((session : Transcript) → IsSession bytes session → ⊥)
+    → Reported name wanted status old new → ⊥
 no_report name wanted status old new bytes told nothing said =
     nothing said.session (held_by_input (Concluded wanted said.session said.verdict said.report) name old new bytes told said.read).whole
 
 -- where there is no session, that is said
-refused : (name : List ℕ) (wanted : Bool) (status : Status) (old new : World) (bytes : List ℕ) → (old.at INPUT).holds ≡ Some bytes → ((session : Transcript) → IsSession bytes session → ⊥) → NoneRose streams old new
+refused : (name : List ℕ) (wanted : Bool) (status : Status) (old new : World) (bytes : List ℕ)
+    → (old.at INPUT).holds ≡ Some bytes → ((session : Transcript) → IsSession bytes session → ⊥)
+    → NoneRose streams old new
     → ReplayEnds name wanted status old new → ((place : ℕ) × (status ≡ BadInput (Session place)) × NoSession place bytes) ⊎ (status ≡ Memory)
 refused name wanted One old new bytes told nothing none said = absurd (no_report name wanted One old new bytes told nothing said)
 refused name wanted Usage old new bytes told nothing none said = absurd said
@@ -93,7 +100,8 @@ refused name wanted (BadInput (CoinsEnded taken)) old new bytes told nothing non
 refused name wanted Memory old new bytes told nothing none said = inr refl
 
 -- where there is a session, the text of its verdict and of its report is written, whichever these are
-told_by : (wanted : Bool) (status : Status) (old new : World) (session : Transcript) (verdict : Verdict) (report : Option (List Agreement)) → IsInRange session.params → IsVerdict session verdict → IsBeside wanted session verdict report
+told_by : (wanted : Bool) (status : Status) (old new : World) (session : Transcript) (verdict : Verdict) (report : Option (List Agreement))
+    → IsInRange session.params → IsVerdict session verdict → IsBeside wanted session verdict report
     → Answered session wanted status old new → ToldWhole session verdict report status old new
 told_by wanted status old new session verdict report range judged beside said =
     let same : said.verdict ≡ verdict = one_verdict session said.verdict verdict range said.judged judged in

@@ -13,7 +13,7 @@ use Rattle.block_decoder.specs.declared.verdict.Verdict.{Verdict}
 use Rattle.block_decoder.specs.declared.verdict.Verdict.TheVariants.{Listed}
 use Rattle.query_rounds.specs.declared.plan.FetchPlan.{FetchPlan}
 use Rattle.query_rounds.specs.Plan.{AreBlocks, IsPlan, need, params_of, with_degree}
-use Rattle.fetch_client.specs.Held.{held_by}
+use Rattle.fetch_client.specs.Held.{held_as, held_by}
 use Rattle.query_rounds.specs.Sent.{queries_from, session_number}
 use Rattle.fetch_client.specs.Honest.{FindsHonestBlock, HonestRecords, blocks_of, honest_frame, is_frame}
 use Rattle.fetch_client.proofs.HeldRows.{held_is_matrix}
@@ -49,6 +49,7 @@ module _ (p : FetchPlan) (blocks coins : List ℕ) (session : Transcript) (plan 
     abbrev test : ℕ → Bool
     test i = is_frame (frame (held i) i) (slice_index_or session.records (i - 1) None)
 
+    -- a record that is such a reply is that frame
     is_honest : (j : ℕ) → j < length session.records → IsReplyAt p blocks coins (held (1 + j)) session j → test (1 + j) ≡ true
     is_honest j below r =
         let here : 1 + j - 1 ≡ j = omega arith in
@@ -68,7 +69,8 @@ module _ (p : FetchPlan) (blocks coins : List ℕ) (session : Transcript) (plan 
         ∙ is_honest (get_or a.places k d) below (a.each k d l)) in
         omega (arith, few, a.enough)
 
-    honest : HonestRecords session p.t p.tau matrix share_coins (queries_from coins) blocks
+    -- so the records are honest
+    honest : HonestRecords session p.t (held_as p.tau matrix share_coins) (queries_from coins) blocks
     honest =
         let s = ap (λ (q : SessionParams). q.s) params in
         record {
@@ -90,7 +92,9 @@ module _ (p : FetchPlan) (blocks coins : List ℕ) (session : Transcript) (plan 
         alone matrix share_coins a (omega (arith, few, whole, agree, answer));
   }
     where
-      alone : (matrix : List (List ℕ)) (share_coins : List ℕ) → EnoughReply p blocks coins matrix share_coins session → length (answers session) + p.t + p.tau < 2 * p.h → verdict ≡ Listed (blocks_of matrix blocks ∷ [])
+      -- where the agreement is close, the row is listed alone
+      alone : (matrix : List (List ℕ)) (share_coins : List ℕ) → EnoughReply p blocks coins matrix share_coins session
+          → length (answers session) + p.t + p.tau < 2 * p.h → verdict ≡ Listed (blocks_of matrix blocks ∷ [])
       alone matrix share_coins a close =
           let t = ap (λ (q : SessionParams). q.t) params in
           let h = ap (λ (q : SessionParams). q.h) params in

@@ -37,49 +37,65 @@ use Rattle.commands.proofs.UnusedBits.{none_unused}
 
 -- two headers of queries with the same bytes are of one scheme and one shape
 module _ (q p : QueryHeader) (hq : IsQuery q) (hp : IsQuery p) (same : query_header q ≡ query_header p) where
+  -- their schemes are one
   same_scheme : q.scheme ≡ p.scheme
   same_scheme = ap (λ (l : List ℕ). get_or l 5 0) same
 
+  -- their numbers of rows are
   same_rows : q.r ≡ p.r
   same_rows = same_digits 4 q.r p.r (omega (arith, hq.shape.few_rows)) (omega (arith, hp.shape.few_rows)) (ap (λ (l : List ℕ). take 4 (drop 16 l)) same)
 
+  -- and their widths
   same_width : q.s ≡ p.s
   same_width = same_digits 4 q.s p.s (omega (arith, hq.shape.few_bytes)) (omega (arith, hp.shape.few_bytes)) (ap (λ (l : List ℕ). take 4 (drop 20 l)) same)
 
-module _ (p : FetchPlan) (blocks : List ℕ) (are : AreBlocks p blocks) (coins : List ℕ) (i : ℕ) (is_query : IsQuery (header_to p (length blocks) coins i)) (matrix : List (List ℕ)) (workers : ℕ) (is : IsMatrix matrix p.r p.s) where
+module _ (p : FetchPlan) (blocks : List ℕ) (are : AreBlocks p blocks) (coins : List ℕ) (i : ℕ)
+    (is_query : IsQuery (header_to p (length blocks) coins i)) (matrix : List (List ℕ)) (workers : ℕ)
+    (is : IsMatrix matrix p.r p.s) where
+  -- the numbers of the session
   abbrev params : SessionParams
   params = query_params p (length blocks) (session_number coins)
 
+  -- the header of the query
   abbrev header : QueryHeader
   header = header_to p (length blocks) coins i
 
+  -- the coins of the queries
   abbrev own : List ℕ
   own = queries_from coins
 
+  -- what stands behind the header
   abbrev asked_for : List ℕ
   asked_for = payload_for params own blocks i
 
+  -- how long the vector of a block is
   abbrev vector_len : ℕ
   vector_len = payload_len (scheme_of p.scheme) p.r
 
+  -- the frame begins with the header
   front : take FRAME_HEADER_LEN (sent p blocks coins i) ≡ query_header header
   unfolding sent
   front = take-append_seam (query_header header) asked_for
 
+  -- and goes on with that
   rest : drop FRAME_HEADER_LEN (sent p blocks coins i) ≡ asked_for
   unfolding sent
   rest = drop-append_seam (query_header header) asked_for
 
+  -- and has that length
   size : length (sent p blocks coins i) ≡ frame_len p (length blocks)
   unfolding sent
   size = length-append (query_header header) asked_for ∙ ap (λ n. FRAME_HEADER_LEN + n) (length-payload_for params own blocks i)
 
+  -- the server that holds the matrix
   abbrev service : Service
   service = service_with p matrix workers
 
+  -- the header is one of a query
   is_header : IsQueryHeader (query_header header) header
   is_header = record { range = is_query; spelled = refl }
 
+  -- and suits the server
   suits : Suits (terms_of service) (sent p blocks coins i)
   suits = record {
     query = header;
@@ -92,12 +108,15 @@ module _ (p : FetchPlan) (blocks : List ℕ) (are : AreBlocks p blocks) (coins :
   asked : asked_of (sent p blocks coins i) ≡ length blocks
   asked = ap blocks_in front ∙ blocks_in_query (query_header header) header is_header
 
+  -- the server takes vectors to be that long
   vector_is : vector_len_for (terms_of service) ≡ vector_len
   vector_is = ap (payload_len (scheme_of p.scheme)) is.rows
 
+  -- so it takes the payload to be as long as it is
   size_is : payload_len_for (terms_of service) (asked_of (sent p blocks coins i)) ≡ length blocks * vector_len
   size_is = ap₂ (λ (n m : ℕ). n * m) asked vector_is
 
+  -- and to be what it is
   query_is : payload (terms_of service) (sent p blocks coins i) ≡ asked_for
   query_is = ap₂ take size_is rest ∙ take_all (length blocks * vector_len) asked_for (let n = length-payload_for params own blocks i in omega (arith, n))
 
@@ -111,17 +130,20 @@ module _ (p : FetchPlan) (blocks : List ℕ) (are : AreBlocks p blocks) (coins :
   unfolding payload_to
   trim_vector v low = by_scheme (scheme_of p.scheme)
     where
+      -- in either scheme
       by_scheme : (s : Scheme) → sets_unused s (length service.database.rows) (payload_in s params (piece (query_coins params) v own) (get_or blocks v 0) i) ≡ false
       by_scheme Shamir = refl
       by_scheme Xor = ap (λ (r : ℕ). has_unused r (bitmap (piece (query_coins params) v own) p.n p.r (get_or blocks v 0) i)) is.rows
           ∙ none_unused (piece (query_coins params) v own) p.n p.r (get_or blocks v 0) i (are.each v 0 low)
 
+  -- nor do the first of them
   trim_first : (n : ℕ) → n ≤ length blocks → some_sets_unused (terms_of service) n asked_for ≡ false
   unfolding some_sets_unused
   trim_first zero few = refl
   trim_first (suc n) few = ap₂ (λ (x y : Bool). x || y) (trim_first n (omega (arith, few)))
       (ap (sets_unused (scheme_of p.scheme) (length service.database.rows)) (vectors_are n (omega (arith, few))) ∙ trim_vector n (omega (arith, few)))
 
+  -- so the payload sets none
   trim : some_sets_unused (terms_of service) (asked_of (sent p blocks coins i)) (payload (terms_of service) (sent p blocks coins i)) ≡ false
   trim = ap₂ (some_sets_unused (terms_of service)) asked query_is ∙ trim_first (length blocks) (omega arith)
 
@@ -130,14 +152,17 @@ module _ (p : FetchPlan) (blocks : List ℕ) (are : AreBlocks p blocks) (coins :
   unfolding honest_answer
   answer_is vector = by_scheme (scheme_of p.scheme)
     where
+      -- in either scheme
       by_scheme : (s : Scheme) → answer s service.database vector ≡ answer_in s params matrix vector
       by_scheme Shamir = refl
       by_scheme Xor = refl
 
+  -- and so are its answers to all of them
   answers_are : answers service (blocks_in (query_header header)) asked_for ≡ answer_by params matrix own blocks i
   answers_are = ap (λ (n : ℕ). answers service n asked_for) (blocks_in_query (query_header header) header is_header)
       ∙ in_turn-same (length blocks) _ _ (λ v low. ap (answer (scheme_of p.scheme) service.database) (vectors_are v low) ∙ answer_is (vector_at params own blocks i v))
 
+  -- so its frame is that of an honest server
   frame_is : answer_frame service (take FRAME_HEADER_LEN (sent p blocks coins i)) (payload (terms_of service) (sent p blocks coins i)) ≡ frame_of p blocks coins matrix i
   unfolding honest_frame
   frame_is = ap₂ (answer_frame service) front query_is ∙ ap₂ (λ (h l : List ℕ). h ++ l) (answer_to_query header 0 is_query.blocks.some_version is_query.blocks.two_versions) answers_are
@@ -148,11 +173,13 @@ module _ (p : FetchPlan) (blocks : List ℕ) (are : AreBlocks p blocks) (coins :
       let same : query_header other ≡ query_header header = sym h.spelled ∙ front in
       (same_scheme other header h.range is_query same, record { rows = same_rows other header h.range is_query same ∙ sym is.rows; width = same_width other header h.range is_query same })
 
+  -- it refuses the query by no status
   never_refused : (status : ℕ) → RefusedByHeader (terms_of service) (sent p blocks coins i) status → ⊥
   never_refused status (inl bad) = bad.1.none header (record { range = is_query; spelled = front })
   never_refused status (inr (inl other)) = other.1.other (no_other other.1.query other.1.asks.header).0
   never_refused status (inr (inr other)) = other.1.other (no_other other.1.query other.1.asks.header).1
 
+  -- any reply is that frame
   only_reply : (met : Met) (frame : List ℕ) → Replies service (sent p blocks coins i) met frame → (met ≡ Served) × (frame ≡ frame_of p blocks coins matrix i)
   only_reply Served frame r = (refl, r.1 ∙ frame_is)
   only_reply (Refused status) frame (inl by_header, f) = absurd (never_refused status by_header)
@@ -161,6 +188,7 @@ module _ (p : FetchPlan) (blocks : List ℕ) (are : AreBlocks p blocks) (coins :
   only_reply Gone frame (inr cut, none) = let few = cut.1 in absurd (omega (arith, size, few, size_is))
   only_reply GuestFault frame r = absurd r
 
+  -- and that frame is a reply
   the_reply : (met : Met) (frame : List ℕ) → (met ≡ Served) × (frame ≡ frame_of p blocks coins matrix i) → Replies service (sent p blocks coins i) met frame
   the_reply met frame r = subst (λ (m : Met). Replies service (sent p blocks coins i) m frame) (sym r.0)
       (record { whole = record { suits = suits; enough = omega (arith, size, size_is) }; unused_is = trim }, r.1 ∙ sym frame_is)

@@ -29,7 +29,9 @@ moved : (service : Service) (m m' : Met) (a a' b b' : World) → m ≡ m' → a 
 moved service m m' a a' b b' p q r h = subst (λ (x : Met). AttendsNext service x a' b') p (subst (λ (x : World). AttendsNext service m x b') q (subst (λ (x : World). AttendsNext service m a x) r h))
 
 -- one guest more, on which at most one call failed
-faults_more : (service : Service) (n : ℕ) (met : Met) (w v u : World) → RoseAtMost n (w.at GUEST).faults (v.at GUEST).faults → AttendsNext service met v u → RoseAtMost (n + 1) (w.at GUEST).faults (u.at GUEST).faults
+faults_more : (service : Service) (n : ℕ) (met : Met) (w v u : World)
+    → RoseAtMost n (w.at GUEST).faults (v.at GUEST).faults → AttendsNext service met v u
+    → RoseAtMost (n + 1) (w.at GUEST).faults (u.at GUEST).faults
 faults_more service n met w v u few next = elim (attended_once service met next.mid u next.attends) [
   | inl still ↦ at_most_still n (w.at GUEST).faults (v.at GUEST).faults (u.at GUEST).faults few (still ∙ next.meets.faults)
   | inr once ↦ at_most_once n (w.at GUEST).faults (v.at GUEST).faults (u.at GUEST).faults few (subst (λ (k : ℕ). RoseOnce k (u.at GUEST).faults) next.meets.faults once)
@@ -54,21 +56,27 @@ turns_more service n met w v u t next = record {
   faults = faults_more service n met w v u t.faults next;
 }
   where
+    -- the worlds of the chain, one more
     worlds : ℕ → World
     worlds i = cond (nat_le i n) (t.worlds i) u
 
+    -- what each guest was met with, one more
     mets : ℕ → Met
     mets i = cond (nat_le (i + 1) n) (t.mets i) met
 
+    -- up to the last they are those of before
     before : (i : ℕ) → i ≤ n → worlds i ≡ t.worlds i
     before i l = ap (λ (b : Bool). cond b (t.worlds i) u) (le-leb i n l)
 
+    -- and behind it the new one
     after : (i : ℕ) → n < i → worlds i ≡ u
     after i l = ap (λ (b : Bool). cond b (t.worlds i) u) (lt-leb i n l)
 
+    -- each guest before was met as before
     met_before : (i : ℕ) → i < n → mets i ≡ t.mets i
     met_before i l = ap (λ (b : Bool). cond b (t.mets i) met) (le-leb (i + 1) n (omega (arith, l)))
 
+    -- and the last one as it was
     met_after : (i : ℕ) → n ≤ i → mets i ≡ met
     met_after i l = ap (λ (b : Bool). cond b (t.mets i) met) (lt-leb (i + 1) n (omega (arith, l)))
 

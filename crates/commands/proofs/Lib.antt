@@ -11,6 +11,7 @@ pub mod HonestReplies
 mod HeldRow
 mod Plans
 mod Formless
+mod Ordered
 mod InTurn
 pub mod Fetching
 mod AskedRow

@@ -38,7 +38,8 @@ desk_unmade o m w v u is_open loads = record {
 }
 
 -- the desk is open
-pub desk_opened : (o : ServeOrder) (service : Service) (m : Database) (w v u : World) → service ≡ service_of o m → v.at DATABASE ≡ named o.database (w.at DATABASE) → Loads o.width (Ok m) v u → OpensDesk o (Ok service) w u
+pub desk_opened : (o : ServeOrder) (service : Service) (m : Database) (w v u : World) → service ≡ service_of o m
+    → v.at DATABASE ≡ named o.database (w.at DATABASE) → Loads o.width (Ok m) v u → OpensDesk o (Ok service) w u
 desk_opened o service m w v u is is_open loads =
     subst (λ (s : Service). OpensDesk o (Ok s) w u) (sym is)
     (refl, refl, subst (λ (c : Cell). Holds o.width m c (u.at DATABASE)) is_open loads)

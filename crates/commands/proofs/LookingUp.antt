@@ -30,9 +30,8 @@ use Rattle.key_fetches.specs.LookedUp.{LookedUp, LooksUp, TooFewHeld}
 use Rattle.key_fetches.proofs.Within.{looks_within}
 use Rattle.commands.specs.HeldRow.{EnoughReply}
 use Rattle.commands.specs.LookUpOrder.{LookUpOrder}
-use Rattle.commands.specs.LookUpOutcome.{EndTold, EnoughReplyInEach, LookUpEnds, LookUpPromise, LookUpReported, LookUpSettled, coins_needed, opened_coins, read_and_written}
+use Rattle.commands.specs.LookUpOutcome.{EndTold, EnoughReplyInEach, LookUpEnds, LookUpPromise, LookUpReported, LookUpSettled, coins_needed, key_request_by, opened_coins, read_and_written}
 use Rattle.commands.specs.Faults.{of_fetch}
-use Rattle.commands.specs.Outcome.{look_up_by}
 use Rattle.commands.specs.Table.{status_by_end}
 use Rattle.commands.specs.Told.{NoneRose}
 use Rattle.commands.proofs.HeldRow.{held_row}
@@ -40,22 +39,6 @@ use Rattle.commands.specs.declared.status.Status.{Status}
 use Rattle.commands.specs.declared.status.Status.TheVariants.{One, Usage, NoBlock, Several, Absent, TooFew, TooWeak, TooCostly, ReadFault, WriteFault, BadInput, DoorFault, ChildFault, Memory}
 use Rattle.commands.specs.declared.status.Bad.TheVariants.{Session, EmptyFile, TooBig, CoinsEnded}
 use Rattle.block_decoder.specs.declared.verdict.Verdict.TheVariants.{Listed as IsListed, TooFew as IsTooFew, TooWeak as IsTooWeak, TooCostly as IsTooCostly}
-
--- an order in Shamir's scheme, for as many servers as it has addresses, each with the whole database, is the one that its
--- command gives
-pub look_up_is : (o : LookUpOrder) → o.plan.scheme ≡ SHAMIR → o.plan.tau ≡ 0 → o.plan.n ≡ length o.addresses
-    → look_up_by o.plan.r o.plan.s o.key o.plan.t o.plan.h o.coins o.addresses ≡ o
-look_up_is o scheme whole servers =
-    ap₂ (λ (s n : ℕ). with_plan s 0 n) (sym scheme) (sym servers)
-    ∙ ap (λ (tau : ℕ). with_plan o.plan.scheme tau o.plan.n) (sym whole)
-  where
-    with_plan : ℕ → ℕ → ℕ → LookUpOrder
-    with_plan s tau n = record {
-      plan = record { scheme = s; t = o.plan.t; tau = tau; h = o.plan.h; n = n; r = o.plan.r; s = o.plan.s };
-      key = o.key;
-      addresses = o.addresses;
-      coins = o.coins;
-    }
 
 -- ---- the row that enough servers hold
 
@@ -84,8 +67,9 @@ rows_held p matrix s (round ∷ rounds) (verdict ∷ verdicts) plan whole judged
   rows_held p matrix (standing_after s (only_block verdict)) rounds verdicts plan whole judged.1 enough.2,
 )
 
+-- so what a look-up came to is what the matrix has
 settled_by : (o : LookUpOrder) (ended : Ended) (old new : World) → IsPlan o.plan
-    → LookedUp o.plan o.key o.addresses ended (opened_coins o old) old new → LookUpSettled o ended old new
+    → LookedUp (key_request_by o) ended (opened_coins o old) old new → LookUpSettled o ended old new
 settled_by o ended old new plan looked = record {
   looked = looked;
   held = λ matrix whole sorted enough. looked.row matrix whole.rows sorted
@@ -113,19 +97,20 @@ module _ (o : LookUpOrder) (w v u : World) (plan : IsPlan o.plan) (is_open : v.a
 
   -- the look-up, over the opening of Coins before it and what is written after it
   whole : (z : World) (r : Result Ended FetchFault) → ((q : ℕ) → q < PORT_COUNT → q ≢ OUTPUT → z.at q ≡ u.at q)
-      → LooksUp o.plan o.key o.addresses r (v.at COINS) v u → LooksUp o.plan o.key o.addresses r (opened_coins o w) w z
+      → LooksUp (key_request_by o) r (v.at COINS) v u → LooksUp (key_request_by o) r (opened_coins o w) w z
   whole z r still looks =
-      subst (λ (c : Cell). LooksUp o.plan o.key o.addresses r c w z) is_open
-      (looks_within o.plan o.key o.addresses (v.at COINS) w v u z
+      subst (λ (c : Cell). LooksUp (key_request_by o) r c w z) is_open
+      (looks_within (key_request_by o) (v.at COINS) w v u z
       (λ i l. touch.others (link 1 + i) (omega (arith, fits, l)) (λ e. omega (arith, e)))
       (λ i l. still (link 1 + i) (omega (arith, fits, l)) (λ e. omega (arith, e)))
       (still COINS (lit< tt) (λ e. omega (arith, e))) r looks)
 
+  -- Output isn't touched
   output : u.at OUTPUT ≡ w.at OUTPUT
   output = links.others OUTPUT (lit< tt) (λ e. omega (arith, e)) (λ lo hi. omega (arith, lo)) ∙ touch.others OUTPUT (lit< tt) (λ e. omega (arith, e))
 
   -- a fetch failed, or the memory for the search
-  pub ends_with_fault : (fault : FetchFault) → LooksUp o.plan o.key o.addresses (Err fault) (v.at COINS) v u
+  pub ends_with_fault : (fault : FetchFault) → LooksUp (key_request_by o) (Err fault) (v.at COINS) v u
       → LookUpEnds o (of_fetch fault) w u
   ends_with_fault CoinsFault looks =
       record { part = inr (whole u (Err CoinsFault) (λ q l ne. refl) looks); output = output }
@@ -136,7 +121,7 @@ module _ (o : LookUpOrder) (w v u : World) (plan : IsPlan o.plan) (is_open : v.a
 
   -- all turns were taken, and what they came to was written, or not
   pub ends_with_end : (ended : Ended) (status : Status) (z : World)
-      → LooksUp o.plan o.key o.addresses (Ok ended) (v.at COINS) v u → EndTold ended status u z → Touches OUTPUT u z
+      → LooksUp (key_request_by o) (Ok ended) (v.at COINS) v u → EndTold ended status u z → Touches OUTPUT u z
       → LookUpEnds o status w z
   ends_with_end ended status z looks told touched =
       let settled = settled_by o ended w z plan (whole z (Ok ended) touched.others looks) in
@@ -190,6 +175,7 @@ no_end o status old new held told few said =
     let coins = at_told (λ (h : List ℕ). coins_of looked.rounds ≡ take (coins_needed o) h) (old.at COINS).holds held told looked.coins.told in
     omega (arith, looked.coins.size, ap length coins, length-take (coins_needed o) held, few)
 
+-- where there are too few coins, that is said
 too_few : (o : LookUpOrder) (status : Status) (old new : World) (held : List ℕ) → (old.at COINS).holds ≡ Some held → length held < coins_needed o
     → NoneRose read_and_written old new → LookUpEnds o status old new
     → (status ≡ BadInput (CoinsEnded (length held % need o.plan 1))) ⊎ (status ≡ Memory)

@@ -2,27 +2,31 @@
 use Rattle.std.proofs.Common.{ℕ, add-zero, sym, subst, arith}
 use Rattle.wire_frames.specs.declared.scheme.TheConstants.{SHAMIR}
 use Rattle.pir_words.specs.FetchForm.{IsSharedFetch}
+use Rattle.pir_words.specs.Ranges.{sharing_of}
 use Rattle.pir_words.specs.Ranges.{FitsSession}
+use Rattle.pir_words.specs.declared.ranges.Sharing.{Sharing}
+use Rattle.pir_words.specs.declared.ranges.Sizes.{Sizes}
 use Rattle.query_rounds.specs.Plan.{IsPlan}
-use Rattle.commands.specs.DemoOrder.{plan_with}
+use Rattle.commands.specs.Orders.{plan_with}
 
 -- that of `fetch`
-pub fetch_plan : (scheme r s t tau h n : ℕ) → IsSharedFetch scheme r s t tau h n
-    → IsPlan (record { scheme = scheme; t = t; tau = tau; h = h; n = n; r = r; s = s })
-fetch_plan scheme r s t tau h n is = record { numbers = is.numbers; private = is.private; held_whole = is.held_whole }
+pub fetch_plan : (scheme : ℕ) (sizes : Sizes) (sharing : Sharing) (tau n : ℕ) → IsSharedFetch scheme sizes sharing tau n
+    → IsPlan (record {
+      scheme = scheme;
+      t = sharing.degree;
+      tau = tau;
+      h = sharing.agree;
+      n = n;
+      r = sizes.rows;
+      s = sizes.width;
+    })
+fetch_plan scheme sizes sharing tau n is = record { numbers = is.numbers; private = is.private; held_whole = is.held_whole }
 
--- that of `demo`
-pub demo_plan : (r s n t h : ℕ) → FitsSession SHAMIR t h n r s → IsPlan (plan_with r s n t h)
-demo_plan r s n t h fits = record {
-  numbers = subst (λ (d : ℕ). FitsSession SHAMIR d h n r s) (sym (add-zero t)) fits;
-  private = fits.private;
-  held_whole = λ two. absurd (omega (arith, two));
-}
-
--- that of `lookup` is one of a fetch in Shamir's scheme, where each server holds the whole database
-pub look_up_shared : (r s t h n : ℕ) → FitsSession SHAMIR t h n r s → IsSharedFetch SHAMIR r s t 0 h n
-look_up_shared r s t h n fits = record {
-  numbers = subst (λ (d : ℕ). FitsSession SHAMIR d h n r s) (sym (add-zero t)) fits;
+-- those of `demo` and of `lookup`, in Shamir's scheme, where each server holds the whole database
+pub shamir_plan : (sizes : Sizes) (sharing : Sharing) (n : ℕ) → FitsSession SHAMIR sharing n sizes
+    → IsPlan (plan_with sizes.rows sizes.width n sharing.degree sharing.agree)
+shamir_plan sizes sharing n fits = record {
+  numbers = subst (λ (d : ℕ). FitsSession SHAMIR (sharing_of d sharing.agree) n sizes) (sym (add-zero sharing.degree)) fits;
   private = fits.private;
   held_whole = λ two. absurd (omega (arith, two));
 }

@@ -30,8 +30,12 @@ ends_as name wanted (IsTooWeak k t h) w z said = said
 ends_as name wanted (IsTooCostly equations) w z said = said
 
 -- Input was opened, all of it was read and judged, and that was told
-pub replay_told : (name : List ℕ) (wanted : Bool) (session : Transcript) (verdict : Verdict) (report : Option (List Agreement)) (status : Status) (w v u z : World) → v.at INPUT ≡ named name (w.at INPUT) → Touches INPUT w v
-    → ReadsWhole (Concluded wanted session verdict report) (v.at INPUT) (u.at INPUT) → Touches INPUT v u → ToldAs (whole_text session verdict report) verdict status u z → Touches OUTPUT u z → ReplayEnds name wanted status w z
+pub replay_told : (name : List ℕ) (wanted : Bool) (session : Transcript) (verdict : Verdict)
+    (report : Option (List Agreement)) (status : Status) (w v u z : World)
+    → v.at INPUT ≡ named name (w.at INPUT) → Touches INPUT w v
+    → ReadsWhole (Concluded wanted session verdict report) (v.at INPUT) (u.at INPUT) → Touches INPUT v u
+    → ToldAs (whole_text session verdict report) verdict status u z → Touches OUTPUT u z
+    → ReplayEnds name wanted status w z
 replay_told name wanted session verdict report status w v u z is_open touch read touched told last = elim told [
   | inl whole ↦
       subst (λ (s : Status). ReplayEnds name wanted s w z) (sym whole.0) (ends_as name wanted verdict w z record {
@@ -52,9 +56,11 @@ replay_told name wanted session verdict report status w v u z is_open touch read
       })
 ]
   where
+    -- Output isn't touched before
     still : u.at OUTPUT ≡ w.at OUTPUT
     still = touched.others 1 (lit< tt) (λ e. omega (arith, e)) ∙ touch.others 1 (lit< tt) (λ e. omega (arith, e))
 
+    -- Input was read whole, from its opening on
     all : ReadsWhole (Concluded wanted session verdict report) (named name (w.at INPUT)) (z.at INPUT)
     all = subst (λ (c : Cell). ReadsWhole (Concluded wanted session verdict report) c (z.at INPUT)) is_open
         (subst (λ (c : Cell). ReadsWhole (Concluded wanted session verdict report) (v.at INPUT) c) (sym (last.others 0 (lit< tt) (λ e. omega (arith, e)))) read)
@@ -71,8 +77,11 @@ plain_told name verdict status w v u z is_open touch read touched told last =
     } touched told last
 
 -- with the report behind the verdict
-pub whole_told : (name : List ℕ) (session : Transcript) (verdict : Verdict) (report : Option (List Agreement)) (status : Status) (w v u z : World) → v.at INPUT ≡ named name (w.at INPUT) → Touches INPUT w v
-    → ReadsWhole (JudgedWhole (session, verdict, report)) (v.at INPUT) (u.at INPUT) → Touches INPUT v u → ToldAs (whole_text session verdict report) verdict status u z → Touches OUTPUT u z → ReplayEnds name true status w z
+pub whole_told : (name : List ℕ) (session : Transcript) (verdict : Verdict) (report : Option (List Agreement)) (status : Status) (w v u z : World)
+    → v.at INPUT ≡ named name (w.at INPUT) → Touches INPUT w v
+    → ReadsWhole (JudgedWhole (session, verdict, report)) (v.at INPUT) (u.at INPUT) → Touches INPUT v u
+    → ToldAs (whole_text session verdict report) verdict status u z → Touches OUTPUT u z
+    → ReplayEnds name true status w z
 whole_told name session verdict report status w v u z is_open touch read touched told last =
     replay_told name true session verdict report status w v u z is_open touch record {
       read = read.read;
@@ -91,9 +100,11 @@ unopened name wanted w v fails touch = record {
 
 -- Input was opened, but nothing was judged
 module _ (name : List ℕ) (wanted : Bool) (w v u : World) (is_open : v.at INPUT ≡ named name (w.at INPUT)) (touch : Touches INPUT w v) (touched : Touches INPUT v u) where
+  -- Output isn't touched before
   still : u.at OUTPUT ≡ w.at OUTPUT
   still = touched.others 1 (lit< tt) (λ e. omega (arith, e)) ∙ touch.others 1 (lit< tt) (λ e. omega (arith, e))
 
+  -- the run ends as the fault says
   pub unjudged : {T : Type 0} → (P : T → List ℕ → Type 0) (fault : ReplayFault) → ReadTo P (Err fault) v u → ReplayEnds name wanted (of_replay fault) w u
   unjudged P Unreadable read = record {
     input = inr (subst (λ (c : Cell). BreaksOff c (u.at INPUT)) is_open read);

@@ -59,9 +59,11 @@ replying_broken service n w v m u r meets b =
     }
 
 -- whatever it was met with
-pub replying_more : (service now : Service) (n : ℕ) (met : Met) (w v m u : World) → now ≡ service → Replying service n w v → Meets v m → Touches GUEST m u → Attends now met m u → Replying service (n + 1) w u
+pub replying_more : (service now : Service) (n : ℕ) (met : Met) (w v m u : World) → now ≡ service
+    → Replying service n w v → Meets v m → Touches GUEST m u → Attends now met m u → Replying service (n + 1) w u
 replying_more service now n met w v m u same r meets touch attends = by met (subst (λ (d : Service). Attends d met m u) same attends)
   where
+    -- however it was met
     by : (met : Met) → Attends service met m u → Replying service (n + 1) w u
     by Served a = replying_answered service Served n w v m u r meets touch a
     by (Refused status) a = replying_answered service (Refused status) n w v m u r meets touch a
@@ -69,7 +71,9 @@ replying_more service now n met w v m u same r meets touch attends = by met (sub
     by GuestFault a = replying_broken service n w v m u r meets a
 
 -- one guest more
-pub guests_more : (service now : Service) (n : ℕ) (met : Met) (w v m u : World) → now ≡ service → ServesGuests service n w v → Meets v m → Touches GUEST m u → Attends now met m u → ServesGuests service (n + 1) w u
+pub guests_more : (service now : Service) (n : ℕ) (met : Met) (w v m u : World) → now ≡ service
+    → ServesGuests service n w v → Meets v m → Touches GUEST m u → Attends now met m u
+    → ServesGuests service (n + 1) w u
 guests_more service now n met w v m u same s meets touch attends = served_more (IsServed service) n w v m u s meets touch (serves_one service met m u (subst (λ (d : Service). Attends d met m u) same attends))
 
 -- Door and Guest alone are touched by one guest more
@@ -85,7 +89,9 @@ pub guests_door : (w v m u : World) → v.at DOOR ≡ w.at DOOR → Meets v m �
 guests_door w v m u same meets touch = touch.others 5 (omega arith) (omega arith) ∙ meets.others 5 (omega arith) (omega arith) ∙ same
 
 -- no further guest comes in
-pub guests_dry : (service : Service) (n served : ℕ) (w v u : World) → served < n → v.at DOOR ≡ w.at DOOR → ServesGuests service served w v → AttendsInTurn service served w v → Fails DOOR v u → Touches DOOR v u → RunsDry service n w u
+pub guests_dry : (service : Service) (n served : ℕ) (w v u : World) → served < n → v.at DOOR ≡ w.at DOOR
+    → ServesGuests service served w v → AttendsInTurn service served w v → Fails DOOR v u → Touches DOOR v u
+    → RunsDry service n w u
 guests_dry service n served w v u fewer same s turns fails touch = record {
   served = served;
   fewer = fewer;
@@ -98,6 +104,7 @@ guests_dry service n served w v u fewer same s turns fails touch = record {
   rose = subst (λ (c : Cell). RoseOnce c.faults (u.at DOOR).faults) same fails.rose;
 }
 
+-- and then Door and Guest alone were touched
 pub guests_dry_touch : (w v u : World) → TouchesGuests w v → Touches DOOR v u → TouchesGuests w u
 guests_dry_touch w v u s touch = record {
   others = λ q l ne5 ne6. touch.others q l ne5 ∙ s.others q l ne5 ne6;
@@ -107,6 +114,7 @@ guests_dry_touch w v u s touch = record {
 
 -- a world with the same guests, and the same of the one that is in
 module _ (F : List ℕ → List ℕ → ℕ → ℕ → Type 0) where
+  -- what is told of guests is told from before
   same_guests : (n : ℕ) (w u x : World) → u.crowd ≡ w.crowd → u.at GUEST ≡ w.at GUEST → IsServing F n u x → IsServing F n w x
   same_guests n w u x crowd guest s = record {
     told = λ gs others earlier before a b c d.
@@ -117,9 +125,11 @@ module _ (F : List ℕ → List ℕ → ℕ → ℕ → Type 0) where
         (ap (λ (k : Cell). k.accepted) guest ∙ d);
   }
 
+-- so they were served from before
 served_from : (service : Service) (n : ℕ) (w u x : World) → u.crowd ≡ w.crowd → u.at GUEST ≡ w.at GUEST → ServesGuests service n u x → ServesGuests service n w x
 served_from service = same_guests (IsServed service)
 
+-- and given their replies
 replied_from : (service : Service) (n : ℕ) (w u x : World) → u.crowd ≡ w.crowd → u.at GUEST ≡ w.at GUEST → RepliesToGuests service n u x → RepliesToGuests service n w x
 replied_from service = same_guests (λ guest out before after. HasReply service guest out)
 
@@ -129,21 +139,26 @@ loaded_still name width database w v u l same = record { read = l.read; cell = s
 
 -- the desk is open
 module _ (o : ServeOrder) (service : Service) (w v : World) (has : HasOpenDesk o service w v) where
+  -- the database that was loaded
   abbrev database : Database
   database = service.database
 
+  -- it is served as the words say
   service_is : service ≡ record { database = database; scheme = o.scheme; workers = o.workers }
   service_is = ap₂ (λ (s k : ℕ). record { database = database; scheme = s; workers = k }) has.opens.0 has.opens.1
 
+  -- Door isn't touched before
   door_is : v.at DOOR ≡ w.at DOOR
   door_is = has.others.others 5 (omega arith) (omega arith)
 
+  -- nobody came in before the guests could
   nobody : (u : World) → TouchesDoor v u → Nobody w u
   nobody u t = record {
     guest = t.others 6 (omega arith) (omega arith) (omega arith) ∙ has.others.others 6 (omega arith) (omega arith);
     crowd = t.crowd ∙ has.others.crowd;
   }
 
+  -- the database is loaded then too
   loaded_after : (u : World) → TouchesDoor v u → Loaded o.database o.width database w u
   loaded_after u t = loaded_still o.database o.width database w v u has.opens.2 (t.others 2 (omega arith) (omega arith) (omega arith))
 
@@ -187,23 +202,28 @@ module _ (o : ServeOrder) (service : Service) (w v : World) (has : HasOpenDesk o
 
   -- guests can come in
   module _ (u x : World) (l : Listens o.listen (Ok tt) v u) (t : TouchesDoor v u) (g : TouchesGuests u x) where
+    -- Output has what says that guests can come in
     output_is : x.at OUTPUT ≡ gave ready (w.at OUTPUT)
     output_is = g.others 1 (omega arith) (omega arith) (omega arith) ∙ l.written ∙ ap (gave ready) (has.others.others 1 (omega arith) (omega arith))
 
+    -- the database is loaded at the end too
     loaded_at_end : Loaded o.database o.width database w x
     loaded_at_end = loaded_still o.database o.width database w u x (loaded_after u t) (g.others 2 (omega arith) (omega arith) (omega arith))
 
+    -- the guests are those from the start on
     guests_from : (n : ℕ) → ServesGuests service n u x → ServesGuests (service_of o database) n w x
     guests_from n s = subst (λ (d : Service). ServesGuests d n w x) service_is (let none = nobody u t in served_from service n w u x none.crowd none.guest s)
 
+    -- Door is opened by its name
     door_opened : u.at DOOR ≡ named o.listen (w.at DOOR)
     door_opened = l.door ∙ ap (named o.listen) door_is
 
+    -- they are served as the words say
     turns_from : (n : ℕ) (y : World) → AttendsInTurn service n u y → AttendsInTurn (service_of o database) n u y
     turns_from n y turns = subst (λ (d : Service). AttendsInTurn d n u y) service_is turns
 
     -- all guests were served
-    pub served_all : ServesGuests service o.guests u x → AttendsInTurn service o.guests u x → ((DidRise GUEST u x → ⊥) → RepliesToGuests service o.guests u x) → x.at DOOR ≡ u.at DOOR → ServedAll o w x
+    pub served_all : ServesGuests service o.conns u x → AttendsInTurn service o.conns u x → ((DidRise GUEST u x → ⊥) → RepliesToGuests service o.conns u x) → x.at DOOR ≡ u.at DOOR → ServedAll o w x
     served_all s turns r same = record {
       database = database;
       loaded = loaded_at_end;
@@ -211,16 +231,16 @@ module _ (o : ServeOrder) (service : Service) (w v : World) (has : HasOpenDesk o
       written = output_is;
       listening = u;
       nobody = nobody u t;
-      turns = turns_from o.guests x turns;
-      guests = guests_from o.guests s;
+      turns = turns_from o.conns x turns;
+      guests = guests_from o.conns s;
       replied = λ stayed.
           let none = nobody u t in
-          subst (λ (d : Service). RepliesToGuests d o.guests w x) service_is
-          (replied_from service o.guests w u x none.crowd none.guest (r (λ rose. stayed (subst (λ (c : Cell). Rose c.faults (x.at GUEST).faults) none.guest rose))));
+          subst (λ (d : Service). RepliesToGuests d o.conns w x) service_is
+          (replied_from service o.conns w u x none.crowd none.guest (r (λ rose. stayed (subst (λ (c : Cell). Rose c.faults (x.at GUEST).faults) none.guest rose))));
     }
 
     -- no further guest came in
-    pub no_further_guest : RunsDry service o.guests u x → NoFurtherGuest o w x
+    pub no_further_guest : RunsDry service o.conns u x → NoFurtherGuest o w x
     no_further_guest dry = record {
       database = database;
       loaded = loaded_at_end;
@@ -250,6 +270,7 @@ desk_touches v u x t g = record { others = λ q b n1 n5 n6. g.others q b n5 n6 �
 pub server_touches : (w v x : World) → Touches DATABASE w v → TouchesAtDesk v x → TouchesServer w x
 server_touches w v x touch t = record { others = λ q b n1 n2 n5 n6. t.others q b n1 n5 n6 ∙ touch.others q b n2; crowd = tt; started = t.started ∙ touch.started }
 
+-- where no more than Database was touched, no more than a server touches was
 pub database_touches : (w v : World) → Touches DATABASE w v → TouchesServer w v
 database_touches w v touch = record { others = λ q b n1 n2 n5 n6. touch.others q b n2; crowd = tt; started = touch.started }
 
@@ -257,6 +278,7 @@ database_touches w v touch = record { others = λ q b n1 n2 n5 n6. touch.others 
 pub unnamed_by_door : (v u : World) → TouchesDoor v u → (u.at GUEST).opened ≡ (v.at GUEST).opened
 unnamed_by_door v u t = ap (λ (c : Cell). c.opened) (t.others 6 (omega arith) (omega arith) (omega arith))
 
+-- nor is it by loading the database
 pub unnamed_by_database : (w v : World) → Touches DATABASE w v → (v.at GUEST).opened ≡ (w.at GUEST).opened
 unnamed_by_database w v touch = ap (λ (c : Cell). c.opened) (touch.others 6 (omega arith) (omega arith))
 

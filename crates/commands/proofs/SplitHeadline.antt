@@ -25,7 +25,8 @@ pub record IsSized (o : SplitOrder) (m : Database) (size : ℕ) : Type 0 where
   pub few : size ≤ shared_limit o.width o.tau
   pub coins : coins_to_split o m ≡ coins_of_file o size
 
-module _ (o : SplitOrder) (old new : World) (wide : 0 < o.width) (none : NoneRose files old new) (written : NoShareRose o.servers old new) (bytes : List ℕ) (held : (old.at DATABASE).holds ≡ Some bytes) where
+module _ (o : SplitOrder) (old new : World) (wide : 0 < o.width) (none : NoneRose files old new)
+    (written : NoShareRose o.servers old new) (bytes : List ℕ) (held : (old.at DATABASE).holds ≡ Some bytes) where
   -- no call on a port that is read failed
   no_read_fault : SplitEnds o ReadFault old new → ⊥
   no_read_fault (inl unread) = none.1.0 (once_rose _ _ unread.0.rose)

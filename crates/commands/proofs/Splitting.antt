@@ -38,7 +38,9 @@ unread_before p name most w v u still cut = record {
 }
 
 -- not every share was written
-pub unshared : (o : SplitOrder) (m : Database) (fault : SplitFault) (w v : World) → Splits (plan_to_split o) (cells_of m) (Err fault) w v → TouchesShares o.servers w v → SharesOut o m (of_split fault) w v
+pub unshared : (o : SplitOrder) (m : Database) (fault : SplitFault) (w v : World)
+    → Splits (plan_to_split o) (cells_of m) (Err fault) w v → TouchesShares o.servers w v
+    → SharesOut o m (of_split fault) w v
 unshared o m NoCoins w v splits touch = splits
 unshared o m (FewCoins taken) w v splits touch = splits
 unshared o m ShareFault w v splits touch = inl (splits, touch.others OUTPUT (lit< tt) (λ e. omega (arith, e)) (λ lo hi. omega (arith, lo)))
@@ -46,16 +48,20 @@ unshared o m NoMemoryToSplit w v splits touch = splits
 
 -- the database was loaded, and then it was shared
 module _ (o : SplitOrder) (m : Database) (w v u : World) (few : o.servers < 256) (loaded : LoadedToShare o m w v) (touch : Touches DATABASE w v) (sharing : TouchesSharing o.servers v u) where
+  -- the database is loaded at the end too
   still_loaded : LoadedToShare o m w u
   still_loaded = subst (λ (c : Cell). HoldsFew o.width o.tau m (named o.database (w.at DATABASE)) c)
       (sym (sharing.others DATABASE (lit< tt) (λ e. omega (arith, e)) (λ e. omega (arith, e)) (λ lo hi. omega (arith, lo)))) loaded
 
+  -- Output isn't touched before
   output_still : v.at OUTPUT ≡ w.at OUTPUT
   output_still = touch.others OUTPUT (lit< tt) (λ e. omega (arith, e))
 
+  -- nor is Coins
   coins_still : v.at COINS ≡ w.at COINS
   coins_still = touch.others COINS (lit< tt) (λ e. omega (arith, e))
 
+  -- where Coins alone is touched then, nothing is written
   read_alone : Touches COINS v u → TouchesRead w u
   read_alone b = record {
     others = λ q l ne2 ne3. b.others q l ne3 ∙ touch.others q l ne2;
@@ -63,12 +69,14 @@ module _ (o : SplitOrder) (m : Database) (w v u : World) (few : o.servers < 256)
     started = b.started ∙ touch.started;
   }
 
+  -- a sharing that is cut short is so from before
   not_all : SharesNotAll o m v u → SharesNotAll o m w u
   not_all cut = elim cut [
     | inl part ↦ inl (part_before (plan_to_split o) (cells_of m) w v u few touch part.0, part.1 ∙ output_still)
     | inr mute ↦ inr (whole_before (plan_to_split o) (cells_of m) w v u few touch mute.0, fails_writing_before OUTPUT w v u output_still (split_text o m) mute.1)
   ]
 
+  -- where nothing is done then, the database was begun
   begun : u ≡ v → HasBegun o.database o.width w u × Touches DATABASE w u
   begun same =
       let holds = still_loaded.holds in (
@@ -115,6 +123,7 @@ module _ (o : SplitOrder) (m : Database) (w v u : World) (few : o.servers < 256)
 
 -- Database was opened by its name, and then it was read
 module _ (o : SplitOrder) (w v u : World) (is_open : v.at DATABASE ≡ named o.database (w.at DATABASE)) (first : Touches DATABASE w v) (second : Touches DATABASE v u) where
+  -- Database alone was touched
   pub both_touch : Touches DATABASE w u
   both_touch = record {
     others = λ q l ne. second.others q l ne ∙ first.others q l ne;

@@ -7,7 +7,7 @@ use Rattle.port_rules.specs.Number.{OUTPUT, COINS, child}
 use Rattle.port_rules.specs.Moves.{Fails, Touches}
 use Rattle.query_rounds.specs.Plan.{need}
 use Rattle.commands.specs.Told.{NoneRose, NoChildRose}
-use Rattle.commands.specs.DemoOrder.{DemoOrder, fetch_from_children, plan_of, words_of_children}
+use Rattle.commands.specs.DemoOrder.{DemoOrder, fetch_from_children, words_of_children}
 use Rattle.commands.specs.FetchOutcome.{FetchOutcome, FetchReported}
 use Rattle.commands.specs.declared.status.Status.{Status}
 use Rattle.commands.specs.declared.status.Status.TheVariants.{ChildFault, BadInput, Memory}
@@ -55,8 +55,8 @@ files = OUTPUT ∷ COINS ∷ []
 -- children were started, each with its words, and the text of the verdict on the session with them is written whole;
 -- where it holds fewer, that is said, with their number
 pub record DemoPromise (o : DemoOrder) (status : Status) (old new : World) : Type 0 where
-  pub reported : (held : List ℕ) → (old.at COINS).holds ≡ Some held → need (plan_of o) 1 ≤ length held
-      → NoneRose files old new → NoChildRose o.servers old new → DemoReported o status old new ⊎ (status ≡ Memory)
-  pub too_few_coins : (held : List ℕ) → (old.at COINS).holds ≡ Some held → length held < need (plan_of o) 1
-      → NoneRose files old new → NoChildRose o.servers old new
+  pub reported : (held : List ℕ) → (old.at COINS).holds ≡ Some held → need o.plan 1 ≤ length held
+      → NoneRose files old new → NoChildRose o.plan.n old new → DemoReported o status old new ⊎ (status ≡ Memory)
+  pub too_few_coins : (held : List ℕ) → (old.at COINS).holds ≡ Some held → length held < need o.plan 1
+      → NoneRose files old new → NoChildRose o.plan.n old new
       → (status ≡ BadInput (CoinsEnded (length held))) ⊎ (status ≡ Memory)

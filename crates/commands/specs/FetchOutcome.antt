@@ -12,8 +12,8 @@ use Rattle.block_decoder.specs.Report.{Agreement}
 use Rattle.block_decoder.specs.Verdict.{IsVerdict}
 use Rattle.block_decoder.specs.declared.verdict.Verdict.{Verdict}
 use Rattle.query_rounds.specs.declared.plan.FetchFault.{FetchFault}
-use Rattle.query_rounds.specs.declared.plan.FetchPlan.{FetchPlan}
 use Rattle.query_rounds.specs.Plan.{need}
+use Rattle.query_rounds.specs.Request.{Request, request}
 use Rattle.query_rounds.specs.Sent.{queries_from}
 use Rattle.fetch_client.specs.Honest.{FindsHonestBlock, NamesLiarsIn}
 use Rattle.query_rounds.specs.Gathered.{AsksAll, FetchesTo}
@@ -28,10 +28,14 @@ use Rattle.commands.specs.declared.status.Status.{Status}
 use Rattle.commands.specs.declared.status.Status.TheVariants.{Usage, Absent, ReadFault, WriteFault, BadInput, DoorFault, ChildFault, Memory}
 use Rattle.commands.specs.declared.status.Bad.TheVariants.{Session, EmptyFile, TooBig, CoinsEnded}
 
+-- what the order asks for, and of whom
+abbrev pub request_by : FetchOrder → Request
+request_by o = request o.plan o.blocks o.addresses
+
 -- Coins was opened by its name and gave these coins, and every server was asked with them, in this session
 pub record InSession (o : FetchOrder) (coins : List ℕ) (session : Transcript) (old new : World) : Type 0 where
   pub tossed : Tossed (need o.plan (length o.blocks)) coins (named o.coins (old.at COINS)) (new.at COINS)
-  pub asked : AsksAll o.plan o.blocks o.addresses coins session old new
+  pub asked : AsksAll (request_by o) coins session old new
 
 -- every server was asked in this session, and this is its verdict, which has the block of honest servers, and the row
 -- that enough servers hold
@@ -138,23 +142,23 @@ TouchesFiles old new = TouchesOnly (One OUTPUT ∷ One RECORD ∷ []) old new
 
 -- the session is recorded, and its verdict written with the report behind it, where there is one; or one of them was cut
 -- short, and nothing was written after it
-abbrev pub Reports : Option (List ℕ) → Transcript → Verdict → Option (List Agreement) → Status → World → World → Type 0
-Reports keep session verdict report status old new =
-    (Recorded keep session old new × ToldAs (whole_text session verdict report) verdict status old new)
-    ⊎ (Unrecorded keep session old new × (status ≡ WriteFault) × (new.at OUTPUT ≡ old.at OUTPUT))
+abbrev pub Reports : Option (List ℕ) → Transcript × Verdict × Option (List Agreement) → Status → World → World → Type 0
+Reports keep found status old new =
+    (Recorded keep found.0 old new × ToldAs (whole_text found.0 found.1 found.2) found.1 status old new)
+    ⊎ (Unrecorded keep found.0 old new × (status ≡ WriteFault) × (new.at OUTPUT ≡ old.at OUTPUT))
 
 -- every server was asked, with some coins, in this session; this is its verdict, and this the report beside it, where one is
 -- wanted, which names those who lied
-pub record ConcludesBeside (wanted : Bool) (p : FetchPlan) (blocks : List ℕ) (addresses : List (List ℕ))
-    (found : Transcript × Verdict × Option (List Agreement)) (old new : World) : Type 0 where
-  pub concludes : Concludes p blocks addresses found.0 found.1 old new
+pub record ConcludesBeside (wanted : Bool) (r : Request) (found : Transcript × Verdict × Option (List Agreement))
+    (old new : World) : Type 0 where
+  pub concludes : Concludes r found.0 found.1 old new
   pub beside : IsBeside wanted found.0 found.1 found.2
-  pub liars : NamesLiarsIn found.0 p.t p.tau (queries_from concludes.coins) blocks found.2
+  pub liars : NamesLiarsIn found.0 r.plan.t r.plan.tau (queries_from concludes.coins) r.blocks found.2
 
 -- what the fetch of an order answers, and what it did then
 abbrev pub FetchesBeside : FetchOrder → Result (Transcript × Verdict × Option (List Agreement)) FetchFault
     → World → World → Type 0
-FetchesBeside o = FetchesTo (ConcludesBeside o.report o.plan o.blocks o.addresses) o.plan o.blocks o.addresses
+FetchesBeside o = FetchesTo (ConcludesBeside o.report (request_by o)) (request_by o)
 
 -- what a fetch answered, with no report
 abbrev pub with_none : Result (Transcript × Verdict) FetchFault → Result (Transcript × Verdict × Option (List Agreement)) FetchFault

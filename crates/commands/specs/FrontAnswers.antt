@@ -5,26 +5,35 @@ use Rattle.port_rules.specs.Number.{GUEST}
 use Rattle.shard_front.specs.declared.spread.Spread.{Spread}
 use Rattle.shard_front.specs.declared.relayed.Relayed.{Relayed}
 use Rattle.shard_front.specs.Spread.{shards}
-use Rattle.shard_front.specs.Relay.{Counts, GivesRelay}
+use Rattle.shard_front.specs.Relay.{Counts, GivesRelay, Visit}
 
 -- what is told of the link with this number
 abbrev pub of_link : List LinkThen → ℕ → LinkThen
 of_link links number = get_or links number (record { holds = None; faults = 0 })
 
--- a guest with these bytes was given some, by what the link to each shard held as it came in, and by whether the count of
+-- a guest was given some on its visit, by what the link to each shard held as it came in, and by whether the count of
 -- that link rose from then to the guest's end
-pub record GivenByLinks (spread : Spread) (held : ℕ → List ℕ) (guest out : List ℕ) (before after : ℕ) (thens ends : List LinkThen)
-    : Type 0 where
+pub record GivenByLinks (spread : Spread) (held : ℕ → List ℕ) (visit : Visit) (thens ends : List LinkThen) : Type 0 where
   pub met : Relayed
   pub failed : ℕ → Bool
   pub rose : (i : ℕ) → i < shards spread → Counts (failed i) (of_link thens (1 + i)).faults (of_link ends (1 + i)).faults
-  pub gives : GivesRelay spread guest (record { held = held; failed = failed }) met out before after
+  pub gives : GivesRelay spread (record { held = held; failed = failed }) met visit
 
 -- the same where it is told what the links held
-abbrev pub IsFronted : Spread → List ℕ → List ℕ → ℕ → ℕ → List LinkThen → List LinkThen → Type 0
-IsFronted spread guest out before after thens ends = (held : ℕ → List ℕ)
+abbrev pub IsFronted : Spread → Visit → List LinkThen → List LinkThen → Type 0
+IsFronted spread visit thens ends = (held : ℕ → List ℕ)
     → ((i : ℕ) → i < shards spread → (of_link thens (1 + i)).holds ≡ Some (held i))
-    → GivenByLinks spread held guest out before after thens ends
+    → GivenByLinks spread held visit thens ends
+
+-- the visit of the i-th of these guests, counted from 0, who were given these answers and came in at these counts, and the
+-- last of whom ended at this one
+abbrev pub visit_at : List (List ℕ) → List (List ℕ) → List ℕ → ℕ → ℕ → Visit
+visit_at guests outs counts last i = record {
+  guest = get_or guests i [];
+  out = get_or outs i [];
+  before = get_or counts i 0;
+  after = get_or (counts ++ last ∷ []) (i + 1) 0;
+}
 
 -- of the guests gs the first j were met, after guests that were given other answers, came in at other counts and found other
 -- links. A guest ends at the counts at which the next came in, and the last at the present ones
@@ -43,8 +52,7 @@ pub record Fronting (spread : Spread) (gs others : List (List ℕ)) (earlier : L
   pub outs_size : length outs ≡ j
   pub counts_size : length counts ≡ j
   pub thens_size : length thens ≡ j
-  pub each : (i : ℕ) → i < j → IsFronted spread (get_or gs i []) (get_or outs i [])
-      (get_or counts i 0) (get_or (counts ++ (w.at GUEST).faults ∷ []) (i + 1) 0)
+  pub each : (i : ℕ) → i < j → IsFronted spread (visit_at gs outs counts (w.at GUEST).faults i)
       (get_or thens i []) (get_or (thens ++ links_now w ∷ []) (i + 1) [])
 
 -- j guests were met, where the guests are told

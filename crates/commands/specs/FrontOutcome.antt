@@ -21,8 +21,8 @@ pub record FrontedAll (o : FrontOrder) (old new : World) : Type 0 where
   pub written : new.at OUTPUT ≡ gave ready (old.at OUTPUT)
   pub listening : World
   pub nobody : TouchesDoor old listening
-  pub turns : FrontsInTurn o.spread o.addresses o.guests listening new
-  pub guests : FrontsGuests o.spread o.guests old new
+  pub turns : FrontsInTurn o.spread o.addresses o.conns listening new
+  pub guests : FrontsGuests o.spread o.conns old new
 
 -- the same, but when some guests were met no further one came in
 pub record FrontedSome (o : FrontOrder) (old new : World) : Type 0 where
@@ -32,7 +32,7 @@ pub record FrontedSome (o : FrontOrder) (old new : World) : Type 0 where
   pub listening : World
   pub nobody : TouchesDoor old listening
   pub served : ℕ
-  pub fewer : served < o.guests
+  pub fewer : served < o.conns
   pub last : World
   pub turns : FrontsInTurn o.spread o.addresses served listening last
   pub none : Fails DOOR last new

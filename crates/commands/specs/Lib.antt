@@ -2,6 +2,7 @@ pub mod Table
 pub mod Told
 pub mod Said
 pub mod Faults
+pub mod ReplayOrder
 pub mod ReplayOutcome
 pub mod FetchOrder
 pub mod FetchOutcome
@@ -21,7 +22,7 @@ pub mod FrontSteps
 pub mod FrontOutcome
 pub mod HonestReply
 pub mod HeldRow
+pub mod Orders
 pub mod Outcome
 pub mod Ending
-pub mod SelfrunOrder
 pub mod SelfrunOutcome

@@ -1,5 +1,5 @@
 -- What `lookup` does to the outside, by the status that it ends with.
-use Rattle.std.specs.Prelude.{◌≡◌, ◌⊎◌, ℕ, ◌+◌, ◌*◌, ◌%◌, ◌<◌, ◌≤◌, List, [], ◌∷◌, length, ⊤, Some}
+use Rattle.std.specs.Prelude.{◌≡◌, ◌⊎◌, ℕ, ◌+◌, ◌*◌, ◌%◌, ◌<◌, ◌≤◌, List, [], ◌∷◌, length, ⊤, Some, Result}
 use Rattle.gf256.specs.Product.{IsMatrix}
 use Rattle.port_rules.specs.World.{Cell, World}
 use Rattle.port_rules.specs.Number.{OUTPUT, COINS, link}
@@ -8,13 +8,15 @@ use Rattle.port_rules.specs.Whole.{FailsWithin}
 use Rattle.port_rules.specs.Touched.{One, From, TouchesOnly}
 use Rattle.wire_frames.specs.Answer.{answers}
 use Rattle.query_rounds.specs.declared.plan.FetchPlan.{FetchPlan}
+use Rattle.query_rounds.specs.declared.plan.FetchFault.{FetchFault}
 use Rattle.query_rounds.specs.Plan.{need}
 use Rattle.key_search.specs.Standing.{turns_of}
 use Rattle.key_search.specs.Answers.{AreSortedByKey}
+use Rattle.key_fetches.specs.KeyRequest.{KeyRequest, key_request}
 use Rattle.key_fetches.specs.Listed.{Ended, end_among}
 use Rattle.key_fetches.specs.Text.{end_text}
 use Rattle.key_fetches.specs.Rounds.{Round}
-use Rattle.key_fetches.specs.LookedUp.{LookUpShort, LookUpUnfinished, LookUpUnread, LookedUp}
+use Rattle.key_fetches.specs.LookedUp.{LookUpShort, LookUpUnfinished, LookUpUnread, LookedUp, LooksUp}
 use Rattle.commands.specs.HeldRow.{EnoughReply}
 use Rattle.commands.specs.LookUpOrder.{LookUpOrder}
 use Rattle.commands.specs.Table.{status_of_end}
@@ -27,6 +29,10 @@ use Rattle.commands.specs.declared.status.Bad.TheVariants.{Session, EmptyFile, T
 abbrev pub opened_coins : LookUpOrder → World → Cell
 opened_coins o old = named o.coins (old.at COINS)
 
+-- what the order asks for, and of whom
+abbrev pub key_request_by : LookUpOrder → KeyRequest
+key_request_by o = key_request o.plan o.key o.addresses
+
 -- in each fetch, h of the records or more are what servers that hold the matrix reply to the frames that they were sent, and
 -- 2 h > k + t + tau, for k usable answers
 abbrev pub EnoughReplyInEach : FetchPlan → List (List ℕ) → List Round → Type 0
@@ -38,9 +44,13 @@ EnoughReplyInEach p matrix (round ∷ rounds) =
 -- a fetch was made in each turn, with the coins that Coins gave, and this is what they came to: where enough servers reply
 -- in each from one matrix, whose rows ascend by their keys, the row with the key, or that there is none
 pub record LookUpSettled (o : LookUpOrder) (ended : Ended) (old new : World) : Type 0 where
-  pub looked : LookedUp o.plan o.key o.addresses ended (opened_coins o old) old new
+  pub looked : LookedUp (key_request_by o) ended (opened_coins o old) old new
   pub held : (matrix : List (List ℕ)) → IsMatrix matrix o.plan.r o.plan.s → AreSortedByKey o.key matrix
       → EnoughReplyInEach o.plan matrix looked.rounds → ended ≡ end_among o.key matrix
+
+-- what a look-up answers, and what it did then, once Coins was opened
+abbrev pub LooksUpBy : LookUpOrder → Result Ended FetchFault → World → World → Type 0
+LooksUpBy o result old new = LooksUp (key_request_by o) result (old.at COINS) old new
 
 -- what the look-up came to is written whole
 pub record LookUpReported (o : LookUpOrder) (status : Status) (old new : World) : Type 0 where
@@ -58,17 +68,17 @@ pub record LookUpCutShort (o : LookUpOrder) (old new : World) : Type 0 where
 -- Coins can't be opened, and nothing else was touched; or a call on it failed later, before all turns
 pub record LookUpUnreadable (o : LookUpOrder) (old new : World) : Type 0 where
   pub part : (Fails COINS old new × Touches COINS old new)
-      ⊎ LookUpUnread o.plan o.key o.addresses (opened_coins o old) old new
+      ⊎ LookUpUnread (key_request_by o) (opened_coins o old) old new
   pub output : new.at OUTPUT ≡ old.at OUTPUT
 
 -- there are too few coins for all turns
 pub record LookUpRefused (o : LookUpOrder) (taken : ℕ) (old new : World) : Type 0 where
-  pub short : LookUpShort o.plan o.key o.addresses taken (opened_coins o old) old new
+  pub short : LookUpShort (key_request_by o) taken (opened_coins o old) old new
   pub output : new.at OUTPUT ≡ old.at OUTPUT
 
 -- memory ran out, before all turns or after them; nothing is written
 pub record LookUpStopped (o : LookUpOrder) (old new : World) : Type 0 where
-  pub part : LookUpUnfinished o.plan o.key o.addresses (opened_coins o old) old new
+  pub part : LookUpUnfinished (key_request_by o) (opened_coins o old) old new
   pub output : new.at OUTPUT ≡ old.at OUTPUT
 
 -- what `lookup` did, by its status

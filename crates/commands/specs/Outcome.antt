@@ -1,101 +1,50 @@
--- What a run does to the outside, by the command that the words ask for and the status that it ends with.
-use Rattle.std.specs.Prelude.{◌≡◌, ◌⊎◌, ℕ, Bool, List, length, Option, Some, None}
+-- What a run does to the outside, by the order that the words give and the status that it ends with, and what it promises.
+use Rattle.std.specs.Prelude.{◌≡◌, ◌⊎◌, ℕ, List, None, Some}
 use Rattle.port_rules.specs.World.{World}
+use Rattle.port_rules.specs.Number.{INPUT}
+use Rattle.wire_frames.specs.Session.{Transcript, IsSession}
 use Rattle.pir_words.specs.Form.{asked_of}
-use Rattle.pir_words.specs.declared.asked.Asked.{Asked}
-use Rattle.pir_words.specs.declared.asked.Asked.TheVariants.{Replay, Fetch, Serve, Selfrun, Demo, Lookup, Split, Front}
-use Rattle.commands.specs.FetchOrder.{FetchOrder}
-use Rattle.wire_frames.specs.declared.scheme.TheConstants.{SHAMIR}
-use Rattle.commands.specs.LookUpOrder.{LookUpOrder}
-use Rattle.commands.specs.LookUpOutcome.{LookUpOutcome}
-use Rattle.commands.specs.ReplayOutcome.{ReplayOutcome}
-use Rattle.commands.specs.FetchOutcome.{FetchOutcome}
-use Rattle.commands.specs.ServeOutcome.{ServeOutcome}
-use Rattle.commands.specs.SelfrunOutcome.{SelfrunOutcome}
-use Rattle.commands.specs.DemoOutcome.{DemoOutcome}
-use Rattle.commands.specs.SplitOutcome.{SplitOutcome}
-use Rattle.commands.specs.FrontOutcome.{FrontOutcome}
+use Rattle.commands.specs.Told.{NoneRose}
+use Rattle.commands.specs.ReplayOrder.{ReplayOrder}
+use Rattle.commands.specs.ReplayOutcome.{Answered, ReplayOutcome, ReplayPromise, streams}
+use Rattle.commands.specs.FetchOutcome.{FetchOutcome, FetchPromise}
+use Rattle.commands.specs.ServeOutcome.{ServeOutcome, ServePromise}
+use Rattle.commands.specs.SelfrunOutcome.{SelfrunOutcome, SelfrunPromise}
+use Rattle.commands.specs.DemoOutcome.{DemoOutcome, DemoPromise}
+use Rattle.commands.specs.LookUpOutcome.{LookUpOutcome, LookUpPromise}
+use Rattle.commands.specs.SplitOutcome.{SplitOutcome, SplitPromise}
+use Rattle.commands.specs.FrontOutcome.{FrontOutcome, FrontPromise}
+use Rattle.commands.specs.Orders.{Orders}
+use Rattle.commands.specs.declared.orders.Order.{Order}
+use Rattle.commands.specs.declared.orders.Order.TheVariants.{Replay, Fetch, Serve, Selfrun, Demo, Lookup, Split, Front}
 use Rattle.commands.specs.declared.status.Status.{Status}
 use Rattle.commands.specs.declared.status.Status.TheVariants.{Usage, Memory}
 
--- what the words of `fetch` order
-abbrev pub order_of : ℕ → ℕ → ℕ → List ℕ → ℕ → ℕ → ℕ → List ℕ → Option (List ℕ) → Bool → List (List ℕ)
-    → FetchOrder
-order_of scheme rows width blocks degree tau agree coins keep report addresses = record {
-  plan = record { scheme = scheme; t = degree; tau = tau; h = agree; n = length addresses; r = rows; s = width };
-  blocks = blocks;
-  addresses = addresses;
-  coins = coins;
-  keep = keep;
-  report = report;
-}
+-- what was done for an order, by the status
+abbrev pub Outcome : Order → Status → World → World → Type 0
+Outcome (Replay order) status old new = ReplayOutcome order.file order.report status old new
+Outcome (Fetch order) status old new = FetchOutcome order status old new
+Outcome (Serve order) status old new = ServeOutcome order status old new
+Outcome (Selfrun order) status old new = SelfrunOutcome order.load status old new
+Outcome (Demo order) status old new = DemoOutcome order status old new
+Outcome (Lookup order) status old new = LookUpOutcome order status old new
+Outcome (Split order) status old new = SplitOutcome order status old new
+Outcome (Front order) status old new = FrontOutcome order status old new
 
--- what the words of `lookup` order
-abbrev pub look_up_by : ℕ → ℕ → List ℕ → ℕ → ℕ → List ℕ → List (List ℕ) → LookUpOrder
-look_up_by rows width key degree agree coins addresses = record {
-  plan = record { scheme = SHAMIR; t = degree; tau = 0; h = agree; n = length addresses; r = rows; s = width };
-  key = key;
-  addresses = addresses;
-  coins = coins;
-}
+-- what is promised of an order where no call failed
+abbrev pub Promise : Order → Status → World → World → Type 0
+Promise (Replay order) status old new = ReplayPromise order.report status old new
+Promise (Fetch order) status old new = FetchPromise order status old new
+Promise (Serve order) status old new = ServePromise order status old new
+Promise (Selfrun order) status old new = SelfrunPromise order.load status old new
+Promise (Demo order) status old new = DemoPromise order status old new
+Promise (Lookup order) status old new = LookUpPromise order status old new
+Promise (Split order) status old new = SplitPromise order status old new
+Promise (Front order) status old new = FrontPromise order status old new
 
--- what the command did, by its status
-abbrev pub Outcome : Asked → Status → World → World → Type 0
-Outcome (Replay file report) status old new = ReplayOutcome file report status old new
-Outcome (Fetch scheme rows width blocks degree tau agree coins keep report addresses) status old new =
-    FetchOutcome (order_of scheme rows width blocks degree tau agree coins keep report addresses) status old new
-Outcome (Serve scheme database width guests listen workers) status old new = ServeOutcome (record {
-  scheme = scheme;
-  database = database;
-  width = width;
-  guests = guests;
-  listen = listen;
-  workers = workers;
-}) status old new
-Outcome (Selfrun seed rows width servers degree agree liars workers slow) status old new = SelfrunOutcome (record {
-  seed = seed;
-  rows = rows;
-  width = width;
-  servers = servers;
-  degree = degree;
-  agree = agree;
-  liars = liars;
-}) status old new
-Outcome (Demo port database rows width block servers degree agree coins) status old new = DemoOutcome (record {
-  port = port;
-  database = database;
-  rows = rows;
-  width = width;
-  block = block;
-  servers = servers;
-  degree = degree;
-  agree = agree;
-  coins = coins;
-}) status old new
-Outcome (Lookup rows width key degree agree coins addresses) status old new =
-    LookUpOutcome (look_up_by rows width key degree agree coins addresses) status old new
-Outcome (Split database width servers tau into coins) status old new = SplitOutcome (record {
-  database = database;
-  width = width;
-  servers = servers;
-  tau = tau;
-  into = into;
-  coins = coins;
-}) status old new
-Outcome (Front rows width shard guests listen addresses) status old new = FrontOutcome (record {
-  spread = record { rows = rows; width = width; shard = shard };
-  guests = guests;
-  listen = listen;
-  addresses = addresses;
-}) status old new
-
--- memory ran out before the command, which nothing was touched for; or this is what the command did
-abbrev pub Runs : Asked → Status → World → World → Type 0
-Runs asked status old new = ((status ≡ Memory) × (new ≡ old)) ⊎ Outcome asked status old new
-
--- the words ask for this command
-abbrev pub AskFor : List (List ℕ) → Asked → Type 0
-AskFor words asked = asked_of words ≡ Some asked
+-- memory ran out before the order was made, and nothing was touched; or this is what was done for it
+abbrev pub Runs : Order → Status → World → World → Type 0
+Runs order status old new = ((status ≡ Memory) × (new ≡ old)) ⊎ Outcome order status old new
 
 -- words without a form, and they alone, are refused, unless memory runs out; then nothing was touched
 pub record RefusesWords (words : List (List ℕ)) (status : Status) (old new : World) : Type 0 where
@@ -103,6 +52,17 @@ pub record RefusesWords (words : List (List ℕ)) (status : Status) (old new : W
   pub said : asked_of words ≡ None → (status ≡ Usage) ⊎ (status ≡ Memory)
   pub untouched : asked_of words ≡ None → new ≡ old
 
--- each command that the words ask for ends as it may, by its status
-abbrev pub EndsAsAsked : List (List ℕ) → Status → World → World → Type 0
-EndsAsAsked words status old new = (asked : Asked) → AskFor words asked → Runs asked status old new
+-- what the words order ends as it may, by its status
+abbrev pub EndsAsOrdered : List (List ℕ) → Status → World → World → Type 0
+EndsAsOrdered words status old new = (order : Order) → Orders words order → Runs order status old new
+
+-- where the words order a replay, Input holds a session and no call failed, exactly the text of its verdict is written, and that
+-- of its report behind it where one is wanted, or memory ran out
+abbrev pub AnswersSession : List (List ℕ) → Status → World → World → Type 0
+AnswersSession words status old new = (order : ReplayOrder) (bytes : List ℕ) (session : Transcript)
+    → Orders words (Replay order) → (old.at INPUT).holds ≡ Some bytes → IsSession bytes session
+    → NoneRose streams old new → Answered session order.report status old new ⊎ (status ≡ Memory)
+
+-- each promise of what the words order is kept
+abbrev pub KeepsPromise : List (List ℕ) → Status → World → World → Type 0
+KeepsPromise words status old new = (order : Order) → Orders words order → Promise order status old new

@@ -29,6 +29,10 @@ pub record IsVerdictOn (w : Workload) (verdict : Verdict) : Type 0 where
   pub decided : IsDecidedOn w verdict
   pub found : FindsAskedRow w verdict
 
+-- the agreement is strong enough to list blocks
+abbrev pub IsStrong : Workload → Type 0
+IsStrong w = w.servers * w.degree < w.agree * w.agree
+
 -- the numbers of the servers, each behind its name: all n answer, so that k is n
 abbrev pub words_of_servers : Workload → List (List ℕ)
 words_of_servers w =

@@ -8,9 +8,10 @@ use Rattle.port_rules.specs.Touched.{One, Crowd, TouchesOnly}
 use Rattle.port_rules.specs.Files.{Unread}
 use Rattle.block_matrix.specs.Database.{Database, limit}
 use Rattle.block_matrix.specs.Loading.{asked_for}
-use Rattle.commands.specs.Told.{DidRise, DidRiseOnce, NoneRose}
+use Rattle.commands.specs.Told.{DidRiseOnce, NoneRose}
 use Rattle.commands.specs.ServeOrder.{ServeOrder, service_of}
-use Rattle.commands.specs.ServeSteps.{ready, Loaded, HasNoBytes, HasTooMany, HasBegun, AttendsInTurn, ServesGuests, RepliesToGuests}
+use Rattle.commands.specs.ServeSteps.{ready, Loaded, HasNoBytes, HasOpenDesk, HasTooMany, HasBegun, AttendsInTurn, ServesGuests, RepliesUnlessCut}
+use Rattle.serve_core.specs.Service.{Service}
 use Rattle.commands.specs.declared.status.Status.{Status}
 use Rattle.commands.specs.declared.status.Status.TheVariants.{One, ReadFault, WriteFault, BadInput, DoorFault, Memory}
 use Rattle.commands.specs.declared.status.Bad.TheVariants.{EmptyFile, TooBig}
@@ -29,9 +30,9 @@ pub record ServedAll (o : ServeOrder) (old new : World) : Type 0 where
   pub written : new.at OUTPUT ≡ gave ready (old.at OUTPUT)
   pub listening : World
   pub nobody : Nobody old listening
-  pub turns : AttendsInTurn (service_of o database) o.guests listening new
-  pub guests : ServesGuests (service_of o database) o.guests old new
-  pub replied : (DidRise GUEST old new → ⊥) → RepliesToGuests (service_of o database) o.guests old new
+  pub turns : AttendsInTurn (service_of o database) o.conns listening new
+  pub guests : ServesGuests (service_of o database) o.conns old new
+  pub replied : RepliesUnlessCut (service_of o database) o.conns old new
 
 -- the same, but when some guests were served no further one came in
 pub record NoFurtherGuest (o : ServeOrder) (old new : World) : Type 0 where
@@ -41,7 +42,7 @@ pub record NoFurtherGuest (o : ServeOrder) (old new : World) : Type 0 where
   pub rose : DidRiseOnce DOOR old new
   pub written : new.at OUTPUT ≡ gave ready (old.at OUTPUT)
   pub served : ℕ
-  pub fewer : served < o.guests
+  pub fewer : served < o.conns
   pub listening : World
   pub nobody : Nobody old listening
   pub last : World
@@ -77,6 +78,14 @@ ServeEnds o (BadInput (TooBig most)) old new = HasTooMany o.database o.width mos
 ServeEnds o DoorFault old new = CannotListen o old new ⊎ NoFurtherGuest o old new
 ServeEnds o Memory old new = HasBegun o.database o.width old new × Touches DATABASE old new
 ServeEnds o status old new = ⊥
+
+-- all guests were served at a desk, wherever its database was loaded
+abbrev pub ServesFromDesk : ServeOrder → Service → World → World → Type 0
+ServesFromDesk o service old new = (start : World) → HasOpenDesk o service start old → ServedAll o start new
+
+-- what `serve` did, by its status, wherever the database of its desk was loaded
+abbrev pub EndsFromDesk : ServeOrder → Service → Status → World → World → Type 0
+EndsFromDesk o service status old new = (start : World) → HasOpenDesk o service start old → ServeEnds o status start new
 
 -- Output, Database, Door and Guest alone are touched, and guests come and go
 abbrev pub TouchesServer : World → World → Type 0

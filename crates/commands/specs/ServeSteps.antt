@@ -12,7 +12,7 @@ use Rattle.block_matrix.specs.Loading.{Holds, HoldsMore, HoldsNone, Stopped, ask
 use Rattle.serve_core.specs.Service.{Service}
 use Rattle.serve_core.specs.Attended.{AttendsNext, HasReply, IsServed}
 use Rattle.serve_core.specs.declared.met.Met.{Met}
-use Rattle.commands.specs.Told.{DidRiseOnce}
+use Rattle.commands.specs.Told.{DidRise, DidRiseOnce}
 use Rattle.commands.specs.ServeOrder.{ServeOrder}
 use Rattle.commands.specs.declared.status.Status.{Status}
 use Rattle.commands.specs.declared.status.Status.TheVariants.{ReadFault, WriteFault, BadInput, DoorFault, Memory}
@@ -87,6 +87,10 @@ ServesGuests service n old new = Served (IsServed service) n old new
 -- n guests were given their whole replies
 abbrev pub RepliesToGuests : Service → ℕ → World → World → Type 0
 RepliesToGuests service n old new = Served (λ guest out before after. HasReply service guest out) n old new
+
+-- where no call on a guest failed, n guests were given their whole replies
+abbrev pub RepliesUnlessCut : Service → ℕ → World → World → Type 0
+RepliesUnlessCut service n old new = (DidRise GUEST old new → ⊥) → RepliesToGuests service n old new
 
 -- n guests came in, and each was attended to, one after the other: the worlds between them, and what each was met with. No
 -- more calls on Guest failed than guests came in

@@ -1,8 +1,6 @@
 -- What the words of `split` order.
 use Rattle.std.specs.Prelude.{ℕ, List}
 use Rattle.share_files.specs.SplitPlan.{SplitPlan}
-use Rattle.pir_words.specs.declared.asked.Asked.{Asked}
-use Rattle.pir_words.specs.declared.asked.Asked.TheVariants.{Split}
 
 -- the name of the database and the width of its rows, how many servers share it and in which degree, what the names of
 -- their files begin with, and the name of the coins
@@ -13,10 +11,6 @@ pub record SplitOrder : Type 0 where
   pub tau : ℕ
   pub into : List ℕ
   pub coins : List ℕ
-
--- the command that orders it
-abbrev pub asked_to_split : SplitOrder → Asked
-asked_to_split o = Split o.database o.width o.servers o.tau o.into o.coins
 
 -- how the database is split
 abbrev pub plan_to_split : SplitOrder → SplitPlan

@@ -1,37 +1,15 @@
 //! The command `demo`.
 
 ghost use Rattle.std.specs.Prelude.{◌≡◌, ◌+◌, ◌<◌, length, map, string_bytes, IfOk, OnOk, OnErr};
-ghost use Rattle.query_rounds.specs.Plan.{IsPlan};
 ghost use Rattle.commands.specs.declared.orders.TheConstants.{TCP_PORTS};
-ghost use Rattle.commands.specs.DemoOrder.{address_from, addresses_from, plan_of, words_of_children, words_to_serve};
+ghost use Rattle.commands.specs.DemoOrder.{address_from, addresses_from, addresses_of_children, words_of_children, words_to_serve};
 ghost use Rattle.commands.specs.DemoOutcome.{DemoOutcome, StartsAll, StartsSome};
 
 use crate::fetch_command::fetch_block;
-use crate::orders::{Demonstration, Fetching};
+use crate::orders::{DemoOrder, FetchOrder};
 use crate::status::Status;
-use fetch_client::FetchPlan;
 use port_rules::{Failed, Ports};
 use std::alloc::{AllocError, Global};
-use wire_frames::SHAMIR;
-
-impl<'a> Demonstration<'a> {
-    /// The plan of the fetch, in Shamir's scheme, from servers that each hold the whole database.
-    fn plan(&self) -> FetchPlan
-        ensures plan { result ≡ plan_of self.now }
-        ensures ranges { IsPlan result }
-        ensures block { self.now.block < self.now.rows }
-    {
-        FetchPlan {
-            scheme: SHAMIR,
-            t: self.degree,
-            tau: 0,
-            h: self.agree,
-            n: self.servers,
-            r: self.rows,
-            s: self.width,
-        }
-    }
-}
 
 /// The address of child i, counted from 1.
 #[tactic(auto, unfolding(crate::specs::DemoOrder::address_from))]
@@ -134,12 +112,12 @@ fn start_children<P: Ports>(ports: &mut P, lists: &[Vec<String>]) -> Result<(), 
 /// Starts a child with each list of words, and fetches the block from them at these addresses.
 fn fetch_from_children<P: Ports>(
     alloc: Global,
-    order: &Demonstration,
+    order: &DemoOrder,
     addresses: &[String],
     lists: &[Vec<String>],
     ports: &mut P,
 ) -> Status
-    requires addresses { map string_bytes addresses.now ≡ addresses_from order.now.port order.now.servers }
+    requires addresses { map string_bytes addresses.now ≡ addresses_of_children order.now }
     requires words { map (λ words. map string_bytes words.items) lists.now ≡ words_of_children order.now }
     ensures { DemoOutcome order.now result (P.world ports.old) (P.world ports.new) }
 {
@@ -147,26 +125,19 @@ fn fetch_from_children<P: Ports>(
     let Ok(()) = start_children(ports, lists) else {
         return Status::ChildFault;
     };
-    let fetching = Fetching {
-        plan: order.plan(),
-        blocks: &blocks,
-        addresses,
-        coins: order.coins,
-        record_name: None,
-        report: false,
-    };
+    let fetching = FetchOrder::plain(order.plan, &blocks, addresses, order.coins);
     fetch_block(alloc, &fetching, ports)
 }
 
 /// Starts servers as children, each for one guest on loopback, and fetches a block from them, as `fetch` does, with no
 /// record. All texts are made before the first child is started.
-pub(crate) fn demonstrate<P: Ports>(alloc: Global, order: &Demonstration, ports: &mut P) -> Status
+pub(crate) fn demonstrate<P: Ports>(alloc: Global, order: &DemoOrder, ports: &mut P) -> Status
     ensures { DemoOutcome order.now result (P.world ports.old) (P.world ports.new) }
 {
-    let Ok(addresses) = addresses_of_children(alloc, order.port, order.servers) else {
+    let Ok(addresses) = addresses_of_children(alloc, order.port, order.plan.n) else {
         return Status::Memory;
     };
-    let Ok(lists) = words_of_children(alloc, order.database, order.width, &addresses) else {
+    let Ok(lists) = words_of_children(alloc, order.database, order.plan.s, &addresses) else {
         return Status::Memory;
     };
     fetch_from_children(alloc, order, &addresses, &lists, ports)

@@ -3,8 +3,8 @@
 ghost use Rattle.std.specs.Prelude.{map, string_bytes};
 ghost use Rattle.commands.specs.Ending.{EndsAsRun};
 
+use crate::running::run;
 use crate::status::{Ending, Status, ending_of};
-use crate::top::run;
 use port_rules::Ports;
 use std::alloc::Global;
 use std::thread::Threads;

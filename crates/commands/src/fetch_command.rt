@@ -12,7 +12,7 @@ ghost use Rattle.commands.specs.FetchOutcome.{FetchEnds, FetchesBeside, Keeps, R
 ghost use Rattle.commands.specs.FetchOutcome.{with_none};
 ghost use Rattle.commands.specs.Said.{IsReportOf};
 
-use crate::orders::Fetching;
+use crate::orders::FetchOrder;
 use crate::report::report_whole;
 use crate::status::Status;
 use block_decoder::{Report, Verdict};
@@ -40,7 +40,7 @@ fn without_report(
 /// Fetches the blocks, with a report where one is wanted, and counts the columns and the nodes of its decoding.
 fn fetch_counted<C: Ledger, N: Ledger, P: Ports>(
     alloc: Global,
-    order: &Fetching,
+    order: &FetchOrder,
     ports: &mut P,
     cols: &mut Steps<C>,
     nodes: &mut Steps<N>,
@@ -61,7 +61,7 @@ fn fetch_once<C: Ledger, N: Ledger, P: Ports>(
     alloc: Global,
     cols: Blank,
     nodes: Blank,
-    order: &Fetching,
+    order: &FetchOrder,
     ports: &mut P,
 ) -> Result<(Session, Verdict, Option<Report>), FetchFault>
     requires cols { IsOwn cols C.name C.parts }
@@ -77,14 +77,14 @@ fn fetch_once<C: Ledger, N: Ledger, P: Ports>(
 /// Records the session in the file of this name, where one is given.
 fn record_session<P: Ports>(
     ports: &mut P,
-    record_name: Option<&str>,
+    keep: Option<&str>,
     session: &Session,
 ) -> Result<(), Failed>
     requires { length session.now.records ≡ session.now.params.n }
-    ensures keeps { Keeps (option_copied record_name.entry) session.now result (P.world ports.old) (P.world ports.new) }
+    ensures keeps { Keeps (option_copied keep.entry) session.now result (P.world ports.old) (P.world ports.new) }
     ensures others { Touches RECORD (P.world ports.old) (P.world ports.new) }
 {
-    let Some(name) = record_name else {
+    let Some(name) = keep else {
         return Ok(());
     };
     ports.open(Port::Record, name)?;
@@ -94,18 +94,18 @@ fn record_session<P: Ports>(
 /// Records the session, and then writes the text of its verdict, and behind it, where there is one, that of the report.
 fn report_session<P: Ports>(
     ports: &mut P,
-    record_name: Option<&str>,
+    keep: Option<&str>,
     session: &Session,
     verdict: &Verdict,
     report: &Option<Report>,
 ) -> Status
     requires all { length session.now.records ≡ session.now.params.n }
     requires report { IsReportOf session.now report.now }
-    ensures reports { Reports (option_copied record_name.entry) session.now verdict.now report.now result
+    ensures reports { Reports (option_copied keep.entry) (session.now, verdict.now, report.now) result
         (P.world ports.old) (P.world ports.new) }
     ensures others { TouchesFiles (P.world ports.old) (P.world ports.new) }
 {
-    match record_session(ports, record_name, session) {
+    match record_session(ports, keep, session) {
         Ok(()) => report_whole(ports, session, verdict, report),
         Err(Failed) => Status::WriteFault,
     }
@@ -113,7 +113,7 @@ fn report_session<P: Ports>(
 
 /// Fetches blocks: reads the coins from their file, asks every server, records the session where a file for it is
 /// named, and writes the verdict's text, and behind it, where it is wanted, that of the report.
-pub(crate) fn fetch_block<P: Ports>(alloc: Global, order: &Fetching, ports: &mut P) -> Status
+pub(crate) fn fetch_block<P: Ports>(alloc: Global, order: &FetchOrder, ports: &mut P) -> Status
     ensures ends { FetchEnds order.now result (P.world ports.old) (P.world ports.new) }
     ensures others { TouchesFetch order.now.plan.n (P.world ports.old) (P.world ports.new) }
 {
@@ -123,7 +123,7 @@ pub(crate) fn fetch_block<P: Ports>(alloc: Global, order: &Fetching, ports: &mut
     let (cols, nodes) = (Blank::new(1), Blank::new(1));
     match fetch_once::<Brand, Brand, P>(alloc, cols, nodes, order, ports) {
         Ok((session, verdict, found)) => {
-            report_session(ports, order.record_name, &session, &verdict, &found)
+            report_session(ports, order.keep, &session, &verdict, &found)
         }
         Err(fault) => fault.into(),
     }

@@ -7,7 +7,7 @@ ghost use Rattle.commands.specs.FrontAnswers.{FrontsGuests};
 ghost use Rattle.commands.specs.FrontSteps.{FrontRunsDry, FrontsInTurn, TouchesRelaying};
 ghost use Rattle.commands.specs.FrontOutcome.{FrontEnds, FrontedAll, TouchesFront};
 
-use crate::orders::Fronting;
+use crate::orders::FrontOrder;
 use crate::serve_command::listen;
 use crate::status::Status;
 use port_rules::{Failed, Ports};
@@ -23,21 +23,21 @@ use std::alloc::Global;
 fn relay_guests<P: Ports>(
     front: &mut Front,
     addresses: &[String],
-    guests: u32,
+    conns: u32,
     ports: &mut P,
 ) -> Result<(), Failed>
     requires spread { IsSpread front.old }
     requires addresses { length addresses.now ≡ shards front.old }
-    ensures turns { OnOk result (FrontsInTurn front.old (map string_bytes addresses.now) guests
+    ensures turns { OnOk result (FrontsInTurn front.old (map string_bytes addresses.now) conns
         (P.world ports.old) (P.world ports.new)) }
-    ensures guests { OnOk result (FrontsGuests front.old guests (P.world ports.old) (P.world ports.new)) }
+    ensures guests { OnOk result (FrontsGuests front.old conns (P.world ports.old) (P.world ports.new)) }
     ensures door { OnOk result ((P.world ports.new).at DOOR ≡ (P.world ports.old).at DOOR) }
-    ensures failed { OnErr result (FrontRunsDry front.old (map string_bytes addresses.now) guests
+    ensures failed { OnErr result (FrontRunsDry front.old (map string_bytes addresses.now) conns
         (P.world ports.old) (P.world ports.new)) }
     ensures unnamed { ((P.world ports.new).at GUEST).opened ≡ ((P.world ports.old).at GUEST).opened }
     ensures others { TouchesRelaying (shards front.old) (P.world ports.old) (P.world ports.new) }
 {
-    'guests: for _ in 0..guests {
+    'guests: for _ in 0..conns {
         let Ok(()) = ports.next_guest() else {
             return Err(Failed);
         };
@@ -51,7 +51,7 @@ fn relay_guests<P: Ports>(
 /// # Errors
 ///
 /// The status that the run ends with.
-fn relay_from<P: Ports>(front: &mut Front, order: &Fronting, ports: &mut P) -> Result<(), Status>
+fn relay_from<P: Ports>(front: &mut Front, order: &FrontOrder, ports: &mut P) -> Result<(), Status>
     requires { front.old ≡ order.now.spread }
     ensures relayed { OnOk result (FrontedAll order.now (P.world ports.old) (P.world ports.new)) }
     ensures ends { IfErr result (λ status. FrontEnds order.now status (P.world ports.old) (P.world ports.new)) }
@@ -59,7 +59,7 @@ fn relay_from<P: Ports>(front: &mut Front, order: &Fronting, ports: &mut P) -> R
     ensures unnamed { ((P.world ports.new).at GUEST).opened ≡ ((P.world ports.old).at GUEST).opened }
 {
     listen(order.listen, ports)?;
-    let Ok(()) = relay_guests(front, order.addresses, order.guests, ports) else {
+    let Ok(()) = relay_guests(front, order.addresses, order.conns, ports) else {
         return Err(Status::DoorFault);
     };
     Ok(())
@@ -70,7 +70,7 @@ fn relay_from<P: Ports>(front: &mut Front, order: &Fronting, ports: &mut P) -> R
 /// # Errors
 ///
 /// The status that the run ends with.
-fn relay_database<P: Ports>(alloc: Global, order: &Fronting, ports: &mut P) -> Result<(), Status>
+fn relay_database<P: Ports>(alloc: Global, order: &FrontOrder, ports: &mut P) -> Result<(), Status>
     ensures relayed { OnOk result (FrontedAll order.now (P.world ports.old) (P.world ports.new)) }
     ensures ends { IfErr result (λ status. FrontEnds order.now status (P.world ports.old) (P.world ports.new)) }
     ensures others { TouchesFront (shards order.now.spread) (P.world ports.old) (P.world ports.new) }
@@ -81,7 +81,7 @@ fn relay_database<P: Ports>(alloc: Global, order: &Fronting, ports: &mut P) -> R
 }
 
 /// Meets guests by asking shards, and says how that ends.
-pub(crate) fn relay_shards<P: Ports>(alloc: Global, order: &Fronting, ports: &mut P) -> Status
+pub(crate) fn relay_shards<P: Ports>(alloc: Global, order: &FrontOrder, ports: &mut P) -> Status
     ensures ends { FrontEnds order.now result (P.world ports.old) (P.world ports.new) }
     ensures others { TouchesFront (shards order.now.spread) (P.world ports.old) (P.world ports.new) }
     ensures unnamed { ((P.world ports.new).at GUEST).opened ≡ ((P.world ports.old).at GUEST).opened }

@@ -5,21 +5,21 @@
 #![tactic(auto)]
 
 mod demo_command;
+mod dispatch;
 mod ending;
 mod faults;
 mod fetch_command;
 mod front_command;
 mod lookup_command;
-mod obey;
 mod orders;
 mod replay_command;
 mod report;
+mod running;
 mod selfrun_command;
 mod serve_command;
 mod split_command;
 mod status;
-mod top;
 
 pub use ending::ending_of_run;
+pub use running::run;
 pub use status::{Bad, Ending, Status, code, ending_of, line};
-pub use top::run;

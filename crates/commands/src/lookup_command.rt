@@ -1,20 +1,19 @@
 //! The command `lookup`.
 
 ghost use Rattle.std.specs.Prelude.{◌≡◌};
-ghost use Rattle.port_rules.specs.Number.{COINS, OUTPUT};
+ghost use Rattle.port_rules.specs.Number.{OUTPUT};
 ghost use Rattle.port_rules.specs.Moves.{Touches};
 ghost use Rattle.query_rounds.specs.Gathered.{TouchesLinks};
 ghost use Rattle.drawn_workload.specs.Counters.{IsOwn};
-ghost use Rattle.key_fetches.specs.LookedUp.{LooksUp};
-ghost use Rattle.commands.specs.LookUpOutcome.{EndTold, LookUpEnds, TouchesLookUp};
+ghost use Rattle.commands.specs.LookUpOutcome.{EndTold, LookUpEnds, LooksUpBy, TouchesLookUp};
 ghost use Rattle.commands.specs.Table.{status_of_end};
 
-use crate::orders::LookingUp;
+use crate::orders::LookUpOrder;
 use crate::report::status_by;
 use crate::status::Status;
 use fetch_client::FetchFault;
 use gs_interpolate::Koetter;
-use key_fetches::{Ending, LookUp, look_up, write_end};
+use key_fetches::{Ending, KeyRequest, LookUp, look_up, write_end};
 use port_rules::{Failed, Port, Ports};
 use std::alloc::Global;
 use std::marker::Brand;
@@ -26,22 +25,18 @@ fn look_up_once<C: Ledger, N: Ledger, P: Ports>(
     alloc: Global,
     cols: Blank,
     nodes: Blank,
-    order: &LookingUp,
+    order: &LookUpOrder,
     ports: &mut P,
 ) -> Result<LookUp, FetchFault>
     requires cols { IsOwn cols C.name C.parts }
     requires nodes { IsOwn nodes N.name N.parts }
-    ensures looked { LooksUp order.now.plan order.now.key order.now.addresses result ((P.world ports.old).at COINS)
-        (P.world ports.old) (P.world ports.new) }
+    ensures looked { LooksUpBy order.now result (P.world ports.old) (P.world ports.new) }
     ensures others { TouchesLinks order.now.plan.n (P.world ports.old) (P.world ports.new) }
 {
-    let key = order.key.copied(alloc)?;
     let mut cols: Steps<C> = Steps::new(cols);
     let mut nodes: Steps<N> = Steps::new(nodes);
-    let (plan, addresses) = (&order.plan, order.addresses);
-    look_up(
-        alloc, &Koetter, plan, key, addresses, ports, &mut cols, &mut nodes,
-    )
+    let request = KeyRequest::new(&order.plan, order.key, order.addresses);
+    look_up(alloc, &Koetter, &request, ports, &mut cols, &mut nodes)
 }
 
 /// The status that a look-up ends with: that of the first verdict that did not list exactly one block, or else whether a
@@ -69,7 +64,7 @@ fn report_end<P: Ports>(ports: &mut P, look_up: &LookUp) -> Status
 
 /// Looks up a row by its key: reads the coins from their file, makes a fetch in each turn, and then writes what they
 /// came to.
-pub(crate) fn look_up_row<P: Ports>(alloc: Global, order: &LookingUp, ports: &mut P) -> Status
+pub(crate) fn look_up_row<P: Ports>(alloc: Global, order: &LookUpOrder, ports: &mut P) -> Status
     ensures ends { LookUpEnds order.now result (P.world ports.old) (P.world ports.new) }
     ensures others { TouchesLookUp order.now.plan.n (P.world ports.old) (P.world ports.new) }
 {

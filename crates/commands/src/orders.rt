@@ -1,44 +1,48 @@
-//! What each command is told to do, with the ranges of its values.
+//! What each command is told to do, with the ranges of its values, and how the words give it.
 
-ghost use Rattle.std.specs.Prelude.{◌≡◌, ◌<◌, ◌≤◌, length};
+ghost use Rattle.std.specs.Prelude.{◌≡◌};
 ghost use Rattle.std.specs.Option.{option_copied};
-ghost use Rattle.wire_frames.specs.declared.scheme.TheConstants.{SHAMIR};
-ghost use Rattle.query_rounds.specs.Plan.{AreBlocks, IsPlan};
-ghost use Rattle.pir_words.specs.FrontForm.{IsFront};
-ghost use Rattle.pir_words.specs.ServeForm.{IsServe};
-ghost use Rattle.pir_words.specs.SplitForm.{IsSplit};
+ghost use Rattle.pir_words.specs.Form.{InRange};
+ghost use Rattle.commands.specs.Orders.{order_of};
 
+use drawn_workload::{Workload, WorkloadOrder};
 use fetch_client::FetchPlan;
 use key_search::Key;
-use pir_words::{Blocks, Text, Texts};
+use pir_words::{Asked, Text};
 use std::marker::Model;
+use wire_frames::SHAMIR;
 
 /// TCP has so many ports, from 0 on.
 pub(crate) const TCP_PORTS: u32 = 65536;
 
-/// The text of a word, where there is one.
-fn text_of(word: &Option<Text>) -> Option<&str>
-    ensures { option_copied result ≡ word.now }
-{
-    match word {
-        Some(text) => Some(text.as_str()),
-        None => None,
-    }
+/// Which session is replayed, and whether a report is wanted.
+#[derive(Drop)]
+pub(crate) struct ReplayOrder<'a> {
+    pub(crate) file: &'a str,
+    pub(crate) report: bool,
 }
 
-/// Which blocks are fetched, and how, from which servers, with which coins, in which file the session is recorded, if it is,
+impl<'a> Model for ReplayOrder<'a> {
+    ghost use Rattle.commands.specs.ReplayOrder.{ReplayOrder};
+
+    ghost Value = { ReplayOrder };
+
+    ghost view = { λ r. record { file = r.file.now; report = r.report } };
+}
+
+/// Which blocks are fetched, and how, from which servers, with which coins, in which file the session is kept, if it is,
 /// and whether a report is wanted.
 #[derive(Drop)]
-pub(crate) struct Fetching<'a, 'b> {
+pub(crate) struct FetchOrder<'a, 'b> {
     pub(crate) plan: FetchPlan,
     pub(crate) blocks: &'a [u32],
     pub(crate) addresses: &'a [String],
     pub(crate) coins: &'b str,
-    pub(crate) record_name: Option<&'b str>,
+    pub(crate) keep: Option<&'b str>,
     pub(crate) report: bool,
 }
 
-impl<'a, 'b> Model for Fetching<'a, 'b> {
+impl<'a, 'b> Model for FetchOrder<'a, 'b> {
     ghost use Rattle.std.specs.Prelude.{◌≡◌, length, map, string_bytes};
     ghost use Rattle.std.specs.Option.{option_copied};
     ghost use Rattle.query_rounds.specs.Plan.{AreBlocks, IsPlan};
@@ -51,7 +55,7 @@ impl<'a, 'b> Model for Fetching<'a, 'b> {
       blocks = f.blocks.now;
       addresses = map string_bytes f.addresses.now;
       coins = f.coins.now;
-      keep = option_copied f.record_name;
+      keep = option_copied f.keep;
       report = f.report;
     } };
 
@@ -59,49 +63,44 @@ impl<'a, 'b> Model for Fetching<'a, 'b> {
         × (length f.addresses.now ≡ f.plan.n) };
 }
 
-impl<'a> Fetching<'a, 'a> {
-    /// What `fetch` orders, by its values.
-    pub(crate) fn new(
+impl<'a, 'b> FetchOrder<'a, 'b> {
+    ghost use Rattle.std.specs.Prelude.{◌≡◌, length, map, string_bytes};
+    ghost use Rattle.query_rounds.specs.Plan.{AreBlocks, IsPlan};
+    ghost use Rattle.commands.specs.FetchOrder.{plain_fetch};
+
+    /// A fetch that isn't recorded, and of which no report is wanted.
+    pub(crate) fn plain(
         plan: FetchPlan,
-        blocks: &'a Blocks,
-        addresses: &'a Texts,
-        coins: &'a Text,
-        keep: &'a Option<Text>,
-        report: bool,
-    ) -> Fetching<'a, 'a>
+        blocks: &'a [u32],
+        addresses: &'a [String],
+        coins: &'b str,
+    ) -> FetchOrder<'a, 'b>
         requires plan { IsPlan plan }
         requires blocks { AreBlocks plan blocks.now }
         requires servers { length addresses.now ≡ plan.n }
-        ensures { result ≡ record {
-          plan = plan;
-          blocks = blocks.now;
-          addresses = addresses.now;
-          coins = coins.now;
-          keep = keep.now;
-          report = report;
-        } }
+        ensures { result ≡ plain_fetch plan blocks.now (map string_bytes addresses.now) coins.now }
     {
-        Fetching {
+        FetchOrder {
             plan,
-            blocks: blocks.as_slice(),
-            addresses: addresses.as_slice(),
-            coins: coins.as_str(),
-            record_name: text_of(keep),
-            report,
+            blocks,
+            addresses,
+            coins,
+            keep: None,
+            report: false,
         }
     }
 }
 
 /// Which row is looked up, among which rows and how, from which servers, and with which coins.
 #[derive(Drop)]
-pub(crate) struct LookingUp<'a, 'b> {
+pub(crate) struct LookUpOrder<'a> {
     pub(crate) plan: FetchPlan,
     pub(crate) key: &'a Key,
     pub(crate) addresses: &'a [String],
-    pub(crate) coins: &'b str,
+    pub(crate) coins: &'a str,
 }
 
-impl<'a, 'b> Model for LookingUp<'a, 'b> {
+impl<'a> Model for LookUpOrder<'a> {
     ghost use Rattle.std.specs.Prelude.{◌≡◌, ◌≤◌, length, map, string_bytes};
     ghost use Rattle.wire_frames.specs.declared.scheme.TheConstants.{SHAMIR};
     ghost use Rattle.query_rounds.specs.Plan.{IsPlan};
@@ -120,41 +119,18 @@ impl<'a, 'b> Model for LookingUp<'a, 'b> {
         × (length l.addresses.now ≡ l.plan.n) };
 }
 
-impl<'a> LookingUp<'a, 'a> {
-    /// What `lookup` orders, by its values.
-    pub(crate) fn new(
-        plan: FetchPlan,
-        key: &'a Key,
-        addresses: &'a Texts,
-        coins: &'a Text,
-    ) -> LookingUp<'a, 'a>
-        requires plan { IsPlan plan }
-        requires scheme { plan.scheme ≡ SHAMIR }
-        requires key { length key.now ≤ plan.s }
-        requires servers { length addresses.now ≡ plan.n }
-        ensures { result ≡ record { plan = plan; key = key.now; addresses = addresses.now; coins = coins.now } }
-    {
-        LookingUp {
-            plan,
-            key,
-            addresses: addresses.as_slice(),
-            coins: coins.as_str(),
-        }
-    }
-}
-
 /// What is served, where, to how many guests, and by how many workers.
 #[derive(Drop)]
-pub(crate) struct Serving<'a> {
+pub(crate) struct ServeOrder<'a> {
     pub(crate) scheme: u8,
     pub(crate) database: &'a str,
     pub(crate) width: u32,
-    pub(crate) guests: u32,
+    pub(crate) conns: u32,
     pub(crate) listen: &'a str,
     pub(crate) workers: u8,
 }
 
-impl<'a> Model for Serving<'a> {
+impl<'a> Model for ServeOrder<'a> {
     ghost use Rattle.std.specs.Prelude.{◌≡◌, ◌⊎◌, ◌≤◌};
     ghost use Rattle.quantity_limits.specs.declared.TheConstants.{MOST_WIDTH, MOST_WORKERS};
     ghost use Rattle.wire_frames.specs.declared.scheme.TheConstants.{SHAMIR, XOR};
@@ -166,7 +142,7 @@ impl<'a> Model for Serving<'a> {
       scheme = s.scheme;
       database = s.database.now;
       width = s.width;
-      guests = s.guests;
+      conns = s.conns;
       listen = s.listen.now;
       workers = s.workers;
     } };
@@ -175,40 +151,9 @@ impl<'a> Model for Serving<'a> {
         × (s.width ≤ MOST_WIDTH) × (1 ≤ s.workers) × (s.workers ≤ MOST_WORKERS) };
 }
 
-impl<'a> Serving<'a> {
-    /// What `serve` orders, by its values.
-    pub(crate) fn new(
-        scheme: u8,
-        database: &'a Text,
-        width: u32,
-        guests: u32,
-        listen: &'a Text,
-        workers: u8,
-    ) -> Serving<'a>
-        requires { IsServe scheme width guests workers }
-        ensures { result ≡ record {
-          scheme = scheme;
-          database = database.now;
-          width = width;
-          guests = guests;
-          listen = listen.now;
-          workers = workers;
-        } }
-    {
-        Serving {
-            scheme,
-            database: database.as_str(),
-            width,
-            guests,
-            listen: listen.as_str(),
-            workers,
-        }
-    }
-}
-
 /// Which database is split, how, into which files, and with which coins.
 #[derive(Drop)]
-pub(crate) struct Splitting<'a> {
+pub(crate) struct SplitOrder<'a> {
     pub(crate) database: &'a str,
     pub(crate) width: u32,
     pub(crate) servers: u8,
@@ -217,7 +162,7 @@ pub(crate) struct Splitting<'a> {
     pub(crate) coins: &'a str,
 }
 
-impl<'a> Model for Splitting<'a> {
+impl<'a> Model for SplitOrder<'a> {
     ghost use Rattle.std.specs.Prelude.{◌<◌, ◌≤◌};
     ghost use Rattle.quantity_limits.specs.declared.TheConstants.{MOST_WIDTH};
     ghost use Rattle.commands.specs.SplitOrder.{SplitOrder};
@@ -236,50 +181,19 @@ impl<'a> Model for Splitting<'a> {
     ghost invariant = { λ s. (1 ≤ s.width) × (s.width ≤ MOST_WIDTH) × (1 ≤ s.tau) × (s.tau < s.servers) };
 }
 
-impl<'a> Splitting<'a> {
-    /// What `split` orders, by its values.
-    pub(crate) fn new(
-        database: &'a Text,
-        width: u32,
-        servers: u8,
-        tau: u8,
-        into: &'a Text,
-        coins: &'a Text,
-    ) -> Splitting<'a>
-        requires { IsSplit width servers tau }
-        ensures { result ≡ record {
-          database = database.now;
-          width = width;
-          servers = servers;
-          tau = tau;
-          into = into.now;
-          coins = coins.now;
-        } }
-    {
-        Splitting {
-            database: database.as_str(),
-            width,
-            servers,
-            tau,
-            into: into.as_str(),
-            coins: coins.as_str(),
-        }
-    }
-}
-
 /// How many rows of how many bytes are spread, so many on each shard, where guests come in, how many are met, and the address
 /// of each shard.
 #[derive(Drop)]
-pub(crate) struct Fronting<'a> {
+pub(crate) struct FrontOrder<'a> {
     pub(crate) rows: u32,
     pub(crate) width: u32,
     pub(crate) shard: u32,
-    pub(crate) guests: u32,
+    pub(crate) conns: u32,
     pub(crate) listen: &'a str,
     pub(crate) addresses: &'a [String],
 }
 
-impl<'a> Model for Fronting<'a> {
+impl<'a> Model for FrontOrder<'a> {
     ghost use Rattle.std.specs.Prelude.{length, map, string_bytes};
     ghost use Rattle.pir_words.specs.FrontForm.{IsFront};
     ghost use Rattle.commands.specs.FrontOrder.{FrontOrder};
@@ -288,77 +202,109 @@ impl<'a> Model for Fronting<'a> {
 
     ghost view = { λ f. record {
       spread = record { rows = f.rows; width = f.width; shard = f.shard };
-      guests = f.guests;
+      conns = f.conns;
       listen = f.listen.now;
       addresses = map string_bytes f.addresses.now;
     } };
 
-    ghost invariant = { λ f. IsFront f.rows f.width f.shard f.guests (length f.addresses.now) };
-}
-
-impl<'a> Fronting<'a> {
-    /// What `front` orders, by its values.
-    pub(crate) fn new(
-        rows: u32,
-        width: u32,
-        shard: u32,
-        guests: u32,
-        listen: &'a Text,
-        addresses: &'a Texts,
-    ) -> Fronting<'a>
-        requires { IsFront rows width shard guests (length addresses.now) }
-        ensures { result ≡ record {
-          spread = record { rows = rows; width = width; shard = shard };
-          guests = guests;
-          listen = listen.now;
-          addresses = addresses.now;
-        } }
-    {
-        Fronting {
-            rows,
-            width,
-            shard,
-            guests,
-            listen: listen.as_str(),
-            addresses: addresses.as_slice(),
-        }
-    }
+    ghost invariant = { λ f. IsFront f.rows f.width f.shard f.conns (length f.addresses.now) };
 }
 
 /// What is fetched, from which children, and with which coins.
 #[derive(Drop)]
-pub(crate) struct Demonstration<'a> {
+pub(crate) struct DemoOrder<'a> {
     pub(crate) port: u16,
     pub(crate) database: &'a str,
-    pub(crate) rows: u32,
-    pub(crate) width: u32,
+    pub(crate) plan: FetchPlan,
     pub(crate) block: u32,
-    pub(crate) servers: u8,
-    pub(crate) degree: u8,
-    pub(crate) agree: u8,
     pub(crate) coins: &'a str,
 }
 
-impl<'a> Model for Demonstration<'a> {
+impl<'a> Model for DemoOrder<'a> {
     ghost use Rattle.std.specs.Prelude.{◌+◌, ◌<◌};
     ghost use Rattle.query_rounds.specs.Plan.{IsPlan};
     ghost use Rattle.commands.specs.declared.orders.TheConstants.{TCP_PORTS};
-    ghost use Rattle.commands.specs.DemoOrder.{DemoOrder, plan_with};
+    ghost use Rattle.commands.specs.DemoOrder.{DemoOrder};
 
     ghost Value = { DemoOrder };
 
     ghost view = { λ d. record {
       port = d.port;
       database = d.database.now;
-      rows = d.rows;
-      width = d.width;
+      plan = d.plan;
       block = d.block;
-      servers = d.servers;
-      degree = d.degree;
-      agree = d.agree;
       coins = d.coins.now;
     } };
 
-    ghost invariant = { λ d. (d.port + d.servers < TCP_PORTS)
-        × IsPlan (plan_with d.rows d.width d.servers d.degree d.agree) × (d.block < d.rows) };
+    ghost invariant = { λ d. (d.port + d.plan.n < TCP_PORTS) × IsPlan d.plan × (d.block < d.plan.r) };
+}
+
+/// What a command is told to do.
+#[derive(Drop)]
+pub(crate) enum Order<'a> {
+    Replay(ReplayOrder<'a>),
+    Fetch(FetchOrder<'a, 'a>),
+    Serve(ServeOrder<'a>),
+    Selfrun(WorkloadOrder),
+    Demo(DemoOrder<'a>),
+    Lookup(LookUpOrder<'a>),
+    Split(SplitOrder<'a>),
+    Front(FrontOrder<'a>),
+}
+
+/// The text of a word, where there is one.
+fn text_of(word: &Option<Text>) -> Option<&str>
+    ensures { option_copied result ≡ word.now }
+{
+    match word {
+        Some(text) => Some(text.as_str()),
+        None => None,
+    }
+}
+
+/// What a command with its values orders. A command is taken apart here and nowhere else.
+#[rattlefmt::skip]
+pub(crate) fn order_of<'a>(asked: &'a Asked) -> Order<'a>
+    requires { InRange asked.now }
+    ensures { result ≡ order_of asked.now }
+{
+    match asked {
+        Asked::Replay { file, report } => Order::Replay(ReplayOrder { file: file.as_str(), report: *report }),
+        Asked::Fetch { scheme, rows, width, blocks, degree, tau, agree, coins, keep, report, addresses } => {
+            let addresses = addresses.as_slice();
+            let n = addresses.len() as u8;
+            let plan = FetchPlan { scheme: *scheme, t: *degree, tau: *tau, h: *agree, n, r: *rows, s: *width };
+            let (coins, keep) = (coins.as_str(), text_of(keep));
+            Order::Fetch(FetchOrder { plan, blocks: blocks.as_slice(), addresses, coins, keep, report: *report })
+        }
+        Asked::Serve { scheme, database, width, conns, listen, workers } => {
+            let (database, listen) = (database.as_str(), listen.as_str());
+            Order::Serve(ServeOrder { scheme: *scheme, database, width: *width, conns: *conns, listen, workers: *workers })
+        }
+        Asked::Selfrun { seed, rows, width, servers, degree, agree, liars, workers, slow } => {
+            let load = Workload {
+                seed: *seed, rows: *rows, width: *width, servers: *servers, degree: *degree, agree: *agree, liars: *liars,
+            };
+            Order::Selfrun(WorkloadOrder { load, workers: *workers, slow: *slow })
+        }
+        Asked::Demo { port, database, rows, width, block, servers, degree, agree, coins } => {
+            let plan = FetchPlan { scheme: SHAMIR, t: *degree, tau: 0, h: *agree, n: *servers, r: *rows, s: *width };
+            let (database, coins) = (database.as_str(), coins.as_str());
+            Order::Demo(DemoOrder { port: *port, database, plan, block: *block, coins })
+        }
+        Asked::Lookup { rows, width, key, degree, agree, coins, addresses } => {
+            let addresses = addresses.as_slice();
+            let n = addresses.len() as u8;
+            let plan = FetchPlan { scheme: SHAMIR, t: *degree, tau: 0, h: *agree, n, r: *rows, s: *width };
+            Order::Lookup(LookUpOrder { plan, key, addresses, coins: coins.as_str() })
+        }
+        Asked::Split { database, width, servers, tau, into, coins } => {
+            let (database, into, coins) = (database.as_str(), into.as_str(), coins.as_str());
+            Order::Split(SplitOrder { database, width: *width, servers: *servers, tau: *tau, into, coins })
+        }
+        Asked::Front { rows, width, shard, conns, listen, addresses } => {
+            let (listen, addresses) = (listen.as_str(), addresses.as_slice());
+            Order::Front(FrontOrder { rows: *rows, width: *width, shard: *shard, conns: *conns, listen, addresses })
+        }
+    }
 }

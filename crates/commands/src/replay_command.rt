@@ -7,6 +7,7 @@ ghost use Rattle.replay.specs.Replayed.{Judged, JudgedWhole, ReadTo};
 ghost use Rattle.drawn_workload.specs.Counters.{IsOwn};
 ghost use Rattle.commands.specs.ReplayOutcome.{ReplayEnds, ReplayOutcome, TouchesStreams};
 
+use crate::orders::ReplayOrder;
 use crate::report::{report, report_whole};
 use crate::status::Status;
 use block_decoder::{Report, Verdict};
@@ -81,20 +82,15 @@ fn replay_whole<P: Ports>(alloc: Global, name: &str, ports: &mut P) -> Status
     }
 }
 
-/// Judges the session in the file of this name, `-` for standard input, and writes the verdict's text, and behind it, where
-/// it is wanted, that of the report.
-pub(crate) fn replay_file<P: Ports>(
-    alloc: Global,
-    name: &str,
-    wanted: bool,
-    ports: &mut P,
-) -> Status
-    ensures ends { ReplayEnds name.now wanted result (P.world ports.old) (P.world ports.new) }
+/// Judges the session in a file, `-` for standard input, and writes the verdict's text, and behind it, where it is wanted, that
+/// of the report.
+pub(crate) fn replay_file<P: Ports>(alloc: Global, order: &ReplayOrder, ports: &mut P) -> Status
+    ensures ends { ReplayEnds order.now.file order.now.report result (P.world ports.old) (P.world ports.new) }
     ensures others { TouchesStreams (P.world ports.old) (P.world ports.new) }
 {
-    if wanted {
-        replay_whole(alloc, name, ports)
+    if order.report {
+        replay_whole(alloc, order.file, ports)
     } else {
-        replay_plain(alloc, name, ports)
+        replay_plain(alloc, order.file, ports)
     }
 }

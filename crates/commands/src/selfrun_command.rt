@@ -1,12 +1,12 @@
 //! The command `selfrun`.
 
-ghost use Rattle.std.specs.Prelude.{◌≡◌, ◌*◌, ◌<◌, ◌≤◌, ◌++◌, string_bytes, IfOk};
+ghost use Rattle.std.specs.Prelude.{◌≡◌, ◌≤◌, ◌++◌, string_bytes, IfOk};
 ghost use Rattle.std.specs.List.{concat};
 ghost use Rattle.port_rules.specs.Number.{OUTPUT};
 ghost use Rattle.port_rules.specs.Moves.{Touches};
 ghost use Rattle.port_rules.specs.Written.{Written};
 ghost use Rattle.block_decoder.specs.Text.{text};
-ghost use Rattle.commands.specs.SelfrunOutcome.{IsVerdictOn, SelfrunEnds, ending};
+ghost use Rattle.commands.specs.SelfrunOutcome.{IsStrong, IsVerdictOn, SelfrunEnds, ending};
 ghost use Rattle.commands.specs.SelfrunOutcome.{line_of_numbers, numbers_line, words_of_decoding, words_of_servers};
 
 use crate::report::status_by;
@@ -65,7 +65,7 @@ fn format_line(alloc: Global, load: &Workload, cost: u64, bound: u32) -> Result<
 
 /// The same of a workload whose agreement is strong enough to list blocks.
 fn format_numbers(alloc: Global, order: &WorkloadOrder) -> Result<String, AllocError>
-    requires { order.now.load.servers * order.now.load.degree < order.now.load.agree * order.now.load.agree }
+    requires { IsStrong order.now.load }
     ensures { IfOk result (λ line. string_bytes line ≡ line_of_numbers order.now.load) }
 {
     let load = &order.load;

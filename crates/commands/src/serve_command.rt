@@ -1,15 +1,13 @@
 //! The command `serve`.
 
 ghost use Rattle.std.specs.Prelude.{◌≡◌, IfErr, OnOk, OnErr};
-ghost use Rattle.port_rules.specs.World.{World};
 ghost use Rattle.port_rules.specs.Number.{DATABASE, DOOR, GUEST};
 ghost use Rattle.port_rules.specs.Moves.{Touches};
-ghost use Rattle.commands.specs.Told.{DidRise};
-ghost use Rattle.commands.specs.ServeSteps.{OpensDesk, HasOpenDesk, Listens, TouchesDoor, TouchesAtDesk};
-ghost use Rattle.commands.specs.ServeSteps.{AttendsInTurn, ServesGuests, RepliesToGuests, RunsDry, TouchesGuests};
-ghost use Rattle.commands.specs.ServeOutcome.{ServeEnds, ServedAll, TouchesServer};
+ghost use Rattle.commands.specs.ServeSteps.{OpensDesk, Listens, TouchesDoor, TouchesAtDesk};
+ghost use Rattle.commands.specs.ServeSteps.{AttendsInTurn, ServesGuests, RepliesUnlessCut, RunsDry, TouchesGuests};
+ghost use Rattle.commands.specs.ServeOutcome.{EndsFromDesk, ServeEnds, ServedAll, ServesFromDesk, TouchesServer};
 
-use crate::orders::Serving;
+use crate::orders::ServeOrder;
 use crate::status::Status;
 use block_matrix::load;
 use port_rules::{Failed, Port, Ports, write_all};
@@ -23,7 +21,7 @@ use std::thread::Threads;
 /// # Errors
 ///
 /// The status that the run ends with.
-fn open_desk<P: Ports>(alloc: Global, order: &Serving, ports: &mut P) -> Result<Desk, Status>
+fn open_desk<P: Ports>(alloc: Global, order: &ServeOrder, ports: &mut P) -> Result<Desk, Status>
     ensures opens { OpensDesk order.now result (P.world ports.old) (P.world ports.new) }
     ensures others { Touches DATABASE (P.world ports.old) (P.world ports.new) }
 {
@@ -58,19 +56,18 @@ pub(crate) fn listen<P: Ports>(address: &str, ports: &mut P) -> Result<(), Statu
 fn serve_guests<R: Threads + Sync, P: Ports>(
     rt: &R,
     desk: &mut Desk,
-    guests: u32,
+    conns: u32,
     ports: &mut P,
 ) -> Result<(), Failed>
-    ensures ok { OnOk result (ServesGuests desk.old guests (P.world ports.old) (P.world ports.new)) }
-    ensures replied { OnOk result ((DidRise GUEST (P.world ports.old) (P.world ports.new) → ⊥)
-        → RepliesToGuests desk.old guests (P.world ports.old) (P.world ports.new)) }
-    ensures turns { OnOk result (AttendsInTurn desk.old guests (P.world ports.old) (P.world ports.new)) }
+    ensures ok { OnOk result (ServesGuests desk.old conns (P.world ports.old) (P.world ports.new)) }
+    ensures replied { OnOk result (RepliesUnlessCut desk.old conns (P.world ports.old) (P.world ports.new)) }
+    ensures turns { OnOk result (AttendsInTurn desk.old conns (P.world ports.old) (P.world ports.new)) }
     ensures unnamed { ((P.world ports.new).at GUEST).opened ≡ ((P.world ports.old).at GUEST).opened }
     ensures door { OnOk result ((P.world ports.new).at DOOR ≡ (P.world ports.old).at DOOR) }
-    ensures failed { OnErr result (RunsDry desk.old guests (P.world ports.old) (P.world ports.new)) }
+    ensures failed { OnErr result (RunsDry desk.old conns (P.world ports.old) (P.world ports.new)) }
     ensures others { TouchesGuests (P.world ports.old) (P.world ports.new) }
 {
-    'guests: for _ in 0..guests {
+    'guests: for _ in 0..conns {
         let Ok(()) = ports.next_guest() else {
             return Err(Failed);
         };
@@ -87,18 +84,17 @@ fn serve_guests<R: Threads + Sync, P: Ports>(
 fn serve_at_desk<R: Threads + Sync, P: Ports>(
     rt: &R,
     desk: &mut Desk,
-    order: &Serving,
+    order: &ServeOrder,
     ports: &mut P,
 ) -> Result<(), Status>
-    ensures served { OnOk result ((start : World) → HasOpenDesk order.now desk.old start (P.world ports.old)
-        → ServedAll order.now start (P.world ports.new)) }
-    ensures ends { IfErr result (λ status. (start : World) → HasOpenDesk order.now desk.old start (P.world ports.old)
-        → ServeEnds order.now status start (P.world ports.new)) }
+    ensures served { OnOk result (ServesFromDesk order.now desk.old (P.world ports.old) (P.world ports.new)) }
+    ensures ends { IfErr result (λ status.
+        EndsFromDesk order.now desk.old status (P.world ports.old) (P.world ports.new)) }
     ensures others { TouchesAtDesk (P.world ports.old) (P.world ports.new) }
     ensures unnamed { ((P.world ports.new).at GUEST).opened ≡ ((P.world ports.old).at GUEST).opened }
 {
     listen(order.listen, ports)?;
-    let Ok(()) = serve_guests(rt, desk, order.guests, ports) else {
+    let Ok(()) = serve_guests(rt, desk, order.conns, ports) else {
         return Err(Status::DoorFault);
     };
     Ok(())
@@ -112,7 +108,7 @@ fn serve_at_desk<R: Threads + Sync, P: Ports>(
 fn serve_database<R: Threads + Sync, P: Ports>(
     rt: &R,
     alloc: Global,
-    order: &Serving,
+    order: &ServeOrder,
     ports: &mut P,
 ) -> Result<(), Status>
     ensures served { OnOk result (ServedAll order.now (P.world ports.old) (P.world ports.new)) }
@@ -128,7 +124,7 @@ fn serve_database<R: Threads + Sync, P: Ports>(
 pub(crate) fn serve_file<R: Threads + Sync, P: Ports>(
     rt: &R,
     alloc: Global,
-    order: &Serving,
+    order: &ServeOrder,
     ports: &mut P,
 ) -> Status
     ensures ends { ServeEnds order.now result (P.world ports.old) (P.world ports.new) }

@@ -7,14 +7,14 @@ ghost use Rattle.commands.specs.SplitOrder.{plan_to_split};
 ghost use Rattle.commands.specs.SplitSteps.{Says, SharesOut, TouchesSharing, numbers_text};
 ghost use Rattle.commands.specs.SplitOutcome.{SplitEnds, TouchesSplit};
 
-use crate::orders::Splitting;
+use crate::orders::SplitOrder;
 use crate::status::Status;
 use block_matrix::Matrix;
 use port_rules::{Failed, Port, Ports, write_all};
 use share_files::{SplitPlan, load_to_share, split};
 use std::alloc::{AllocError, Global};
 
-impl<'a> Splitting<'a> {
+impl<'a> SplitOrder<'a> {
     /// How the database is split.
     fn plan(&self) -> SplitPlan<'a>
         ensures { result ≡ plan_to_split self.now }
@@ -48,7 +48,7 @@ fn say<P: Ports>(ports: &mut P, text: &str) -> Status
 }
 
 /// Writes the shares of a database, and then says so. The text that says so is made before the coins are taken.
-fn share_out<P: Ports>(alloc: Global, order: &Splitting, matrix: &Matrix, ports: &mut P) -> Status
+fn share_out<P: Ports>(alloc: Global, order: &SplitOrder, matrix: &Matrix, ports: &mut P) -> Status
     ensures shares { SharesOut order.now matrix.now result (P.world ports.old) (P.world ports.new) }
     ensures others { TouchesSharing order.now.servers (P.world ports.old) (P.world ports.new) }
 {
@@ -62,7 +62,7 @@ fn share_out<P: Ports>(alloc: Global, order: &Splitting, matrix: &Matrix, ports:
 }
 
 /// Splits a database: loads it, takes the coins, writes the share of each server to its file, and says so.
-pub(crate) fn split_file<P: Ports>(alloc: Global, order: &Splitting, ports: &mut P) -> Status
+pub(crate) fn split_file<P: Ports>(alloc: Global, order: &SplitOrder, ports: &mut P) -> Status
     ensures ends { SplitEnds order.now result (P.world ports.old) (P.world ports.new) }
     ensures others { TouchesSplit order.now.servers (P.world ports.old) (P.world ports.new) }
 {

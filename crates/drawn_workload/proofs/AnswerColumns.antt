@@ -15,10 +15,12 @@ use Rattle.drawn_workload.specs.declared.order.Workload.{Workload}
 use Rattle.drawn_workload.proofs.StreamBytes.{small-stream_bytes}
 use Rattle.drawn_workload.proofs.Workloads.{length-payload, payload-honest, payload-lie}
 
+-- a product has bytes alone
 small-product : (rows : List (List ℕ)) (width : ℕ) (q : List ℕ) → All (λ b. b < 256) (product rows width q)
 unfolding product product_at
 small-product rows width q = All-map (λ (b : ℕ). b < 256) (product_at q rows) (range_with_len 0 width) (λ c d lt. sum_to-lt _ (length rows) (λ j l. mul_lt _ _))
 
+-- so has what a server answers
 small-payload : (w : Workload) (i : ℕ) → All (λ b. b < 256) (payload w i)
 small-payload w i = elim (cases_lt (honest w) i) [
   | inl more ↦ subst (All (λ b. b < 256)) (sym (payload-lie w i more)) (small-stream_bytes (key_by w.seed) _ w.width)

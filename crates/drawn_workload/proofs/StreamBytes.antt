@@ -34,9 +34,11 @@ le_byte n (suc (suc zero)) lt = refl
 le_byte n (suc (suc (suc zero))) lt = refl
 le_byte n (suc (suc (suc (suc j)))) lt = absurd (omega (arith, lt))
 
+-- the bytes of the next words
 abbrev front : ChaCha → ℕ → List ℕ
 front g k = (words g k).0
 
+-- a word has four bytes
 front_length : (g : ChaCha) (k : ℕ) → length (front g k) ≡ 4 * k
 unfolding word_bytes
 front_length g zero = refl
@@ -44,6 +46,7 @@ front_length g (suc k) =
     let ih = front_length g k in
     length-append (front g k) (to_le_bytes w32 (next_word 10 (words g k).1).0) ∙ omega (arith, ih)
 
+-- each of them is a byte of the stream
 front_byte : (g : ChaCha) (k i : ℕ) → g.stream ≡ 0 → g.word_pos + k < 2 ^ 68 → i < 4 * k → get_or (front g k) i 0 ≡ stream_byte g.key (4 * g.word_pos + i)
 unfolding word_bytes stream_byte
 front_byte g zero i first lt ilt = absurd (omega (arith, ilt))
@@ -71,10 +74,12 @@ pub length-stream_bytes : (key : List ℕ) (i n : ℕ) → length (stream_bytes 
 unfolding stream_bytes
 length-stream_bytes key i n = length-map-range_with_len (stream_byte key) i n
 
+-- one of them
 get_or-stream_bytes : (key : List ℕ) (i n j : ℕ) → j < n → get_or (stream_bytes key i n) j 0 ≡ stream_byte key (i + j)
 unfolding stream_bytes
 get_or-stream_bytes key i n j lt = get_or-map-range_with_len (stream_byte key) i n j (i + j) 0 lt refl
 
+-- they are bytes
 pub small-stream_bytes : (key : List ℕ) (i n : ℕ) → All (λ b. b < 256) (stream_bytes key i n)
 unfolding stream_byte stream_bytes
 small-stream_bytes key i n = All-map (λ (b : ℕ). b < 256) (stream_byte key) (range_with_len i n) (λ k d lt. omega arith)
@@ -88,7 +93,8 @@ filled g n first within =
     let few : q ≤ n = omega arith in
     let size : length (take n (front g q)) ≡ n = length-take n (front g q) ∙ omega (arith, whole, up) in
     ext_get_or 0 (take n (front g q)) (stream_bytes g.key (4 * g.word_pos) n) (size ∙ sym (length-stream_bytes g.key (4 * g.word_pos) n))
-    (λ i lt. get_or-take n (front g q) i 0 (omega (arith, lt, size)) ∙ front_byte g q i first (omega (arith, few)) (omega (arith, up, lt, size)) ∙ sym (get_or-stream_bytes g.key (4 * g.word_pos) n i (omega (arith, lt, size))))
+    (λ i lt. get_or-take n (front g q) i 0 (omega (arith, lt, size)) ∙ front_byte g q i first (omega (arith, few)) (omega (arith, up, lt, size)) ∙ sym
+    (get_or-stream_bytes g.key (4 * g.word_pos) n i (omega (arith, lt, size))))
 
 -- and where it stands then
 pub left : (g : ChaCha) (n : ℕ) → g.word_pos + n < 2 ^ 68 → (fill_via_u32 (next_word 10) n g).1 ≡ record g { word_pos = g.word_pos + (n + 3) / 4 }

@@ -50,8 +50,12 @@ rows-database_of w some =
     ∙ whole_rows w.rows w.width (omega (arith, some))
 
 -- the bytes that are drawn, parted
-pub parted : (w : Workload) (matrix : Database) (coins lies all : List ℕ) (cells tosses lying count : ℕ) → cells ≡ w.rows * w.width → tosses ≡ w.rows * w.degree → lying ≡ w.liars * w.width → count ≡ cells + 8 + tosses + lying
-    → all ≡ drawn w.seed 0 count → matrix ≡ database w.width (take cells (take (cells + 8) all)) → coins ≡ take tosses (drop (cells + 8) all) → lies ≡ drop tosses (drop (cells + 8) all) → IsDrawn w matrix coins lies
+pub parted : (w : Workload) (matrix : Database) (coins lies all : List ℕ) (cells tosses lying count : ℕ)
+    → cells ≡ w.rows * w.width → tosses ≡ w.rows * w.degree → lying ≡ w.liars * w.width
+    → count ≡ cells + 8 + tosses + lying
+    → all ≡ drawn w.seed 0 count → matrix ≡ database w.width (take cells (take (cells + 8) all))
+    → coins ≡ take tosses (drop (cells + 8) all) → lies ≡ drop tosses (drop (cells + 8) all)
+    → IsDrawn w matrix coins lies
 parted w matrix coins lies all cells tosses lying count c t l n is matrix_is coins_are lies_are =
     let key = key_by w.seed in
     let rest : drop (cells + 8) all ≡ stream_bytes key (cells + 8) (tosses + lying) =
@@ -87,7 +91,9 @@ width-database_of w = refl
 -- ---- the answers
 
 -- the product of the query and the database, from what was drawn
-pub product-honest : (w : Workload) (matrix : Database) (held lies coins q out : List ℕ) (t block i : ℕ) → IsDrawn w matrix held lies → coins ≡ held → t ≡ w.degree → block ≡ asked_block w → q ≡ query coins t w.rows block i
+pub product-honest : (w : Workload) (matrix : Database) (held lies coins q out : List ℕ) (t block i : ℕ)
+    → IsDrawn w matrix held lies → coins ≡ held → t ≡ w.degree → block ≡ asked_block w
+    → q ≡ query coins t w.rows block i
     → out ≡ product matrix.rows matrix.width q → out ≡ honest_payload w i
 unfolding database
 product-honest w matrix held lies coins q out t block i is c k b asked made =
@@ -100,6 +106,7 @@ pub payload-honest : (w : Workload) (i : ℕ) → i ≤ honest w → payload w i
 unfolding payload
 payload-honest w i few = ap (λ t. cond t (honest_payload w i) (lie w (i - honest w - 1))) (le-leb i (honest w) few)
 
+-- a server behind the honest ones lies
 pub payload-lie : (w : Workload) (i : ℕ) → honest w < i → payload w i ≡ lie w (i - honest w - 1)
 unfolding payload
 payload-lie w i more = ap (λ t. cond t (honest_payload w i) (lie w (i - honest w - 1))) (lt-leb i (honest w) more)
@@ -129,6 +136,7 @@ lie_fits w lies v is lt =
     let size = ap length is ∙ length-stream_bytes (key_by w.seed) (lies_from w) (w.liars * w.width) in
     omega (arith, all, size)
 
+-- a lie is as long as a row
 pub length-lie : (w : Workload) (v : ℕ) → length (lie w v) ≡ w.width
 length-lie w v = length-stream_bytes (key_by w.seed) (lies_from w + v * w.width) w.width
 
@@ -213,7 +221,8 @@ unfolding all_answers
 length-all_answers w = length-map-range_with_len _ 1 w.servers
 
 -- what was decided on the answers, as they lie in two slices, is the verdict on them
-pub decided_by : (w : Workload) (verdict : Verdict) (answers : List Answer) (t h : ℕ) → answers ≡ all_answers w → t ≡ w.degree → h ≡ w.agree → IsDecided answers w.width t h verdict → IsDecidedOn w verdict
+pub decided_by : (w : Workload) (verdict : Verdict) (answers : List Answer) (t h : ℕ) → answers ≡ all_answers w
+    → t ≡ w.degree → h ≡ w.agree → IsDecided answers w.width t h verdict → IsDecidedOn w verdict
 decided_by w verdict answers t h same degree agree decided =
     let by_degree = subst (λ k. IsDecided answers w.width k h verdict) degree decided in
     let by_agree = subst (λ k. IsDecided answers w.width w.degree k verdict) agree by_degree in

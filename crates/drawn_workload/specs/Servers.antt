@@ -1,6 +1,8 @@
 -- The servers of a workload, in memory, and what is drawn for them.
 use Rattle.std.specs.Prelude.{◌≡◌, ℕ, ◌*◌, List}
 use Rattle.std.specs.List.{flat_map, range_with_len}
+use Rattle.wire_frames.specs.Answer.{Answer}
+use Rattle.block_decoder.specs.Agreed.{answers_of}
 use Rattle.block_decoder.specs.declared.answers.ServerAnswers.{ServerAnswers}
 use Rattle.block_matrix.specs.Database.{Database}
 use Rattle.drawn_workload.specs.Stream.{drawn}
@@ -28,6 +30,14 @@ pub record IsDrawn (w : Workload) (matrix : Database) (coins lies : List ℕ) : 
   pub database_is : matrix ≡ database_of w
   pub coins_are : coins ≡ coins_of w
   pub lies_are : lies ≡ drawn w.seed (lies_from w) (w.liars * w.width)
+
+-- how many bytes the payloads of all servers have
+abbrev pub payloads_len : Workload → ℕ
+payloads_len w = w.servers * w.width
+
+-- the answers that lie in two slices
+abbrev pub answers_in : Workload → ServerAnswers → List Answer
+answers_in w all = answers_of w.width all.indices.items all.payloads.items
 
 -- the first n servers have answered
 pub record HasAnswered (w : Workload) (n : ℕ) (all : ServerAnswers) : Type 0 where

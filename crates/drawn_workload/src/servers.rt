@@ -2,8 +2,7 @@
 
 ghost use Rattle.std.specs.Prelude.{◌≡◌, ◌+◌, ◌*◌, ◌≤◌, [], ◌∷◌, ◌++◌, length, take, drop, vec_len, IfOk};
 ghost use Rattle.std.specs.List.{range_with_len};
-ghost use Rattle.block_decoder.specs.Agreed.{answers_of};
-ghost use Rattle.drawn_workload.specs.Servers.{HasAnswered, IsRoomFor, servers_of};
+ghost use Rattle.drawn_workload.specs.Servers.{HasAnswered, IsRoomFor, answers_in, payloads_len, servers_of};
 ghost use Rattle.drawn_workload.specs.Workload.{all_answers, honest_payload, payload};
 
 use crate::order::{NUMBER_LEN, Workload, WorkloadOrder};
@@ -206,9 +205,8 @@ pub fn answer_all<R: Threads + Sync>(
     order: &WorkloadOrder,
 ) -> Result<ServerAnswers, AllocError>
     ensures indices { IfOk result (λ all. all.indices.items ≡ range_with_len 1 order.now.load.servers) }
-    ensures size { IfOk result (λ all. vec_len all.payloads ≡ order.now.load.servers * order.now.load.width) }
-    ensures answers { IfOk result (λ all.
-        answers_of order.now.load.width all.indices.items all.payloads.items ≡ all_answers order.now.load) }
+    ensures size { IfOk result (λ all. vec_len all.payloads ≡ payloads_len order.now.load) }
+    ensures answers { IfOk result (λ all. answers_in order.now.load all ≡ all_answers order.now.load) }
 {
     let servers = Servers::draw(alloc, order)?;
     let mut room = Room::for_order(alloc, order)?;

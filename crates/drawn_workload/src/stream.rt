@@ -1,8 +1,8 @@
 //! The stream of bytes that a seed stands for.
 
-ghost use Rattle.std.specs.Prelude.{◌≡◌, ◌+◌, ◌-◌, ◌*◌, ◌/◌, ◌^◌, ◌<◌, ◌≤◌, ◌++◌, length, take, replicate, IfOk};
+ghost use Rattle.std.specs.Prelude.{◌≡◌, ◌+◌, ◌-◌, ◌^◌, ◌<◌, ◌≤◌, ◌++◌, length, take, replicate, IfOk};
 ghost use Rattle.std.specs.Int.{bytes_high_first};
-ghost use Rattle.drawn_workload.specs.Stream.{drawn, stream_bytes};
+ghost use Rattle.drawn_workload.specs.Stream.{after_bytes, drawn, next_bytes};
 
 use rand_chacha::ChaCha20Rng;
 use rand_core::SeedableRng;
@@ -25,8 +25,8 @@ fn key_bytes(seed: u64) -> [u8; 32]
 fn draw_piece(rng: &mut ChaCha20Rng, out: &mut [u8])
     requires first_stream { rng.old.stream ≡ 0 }
     requires within { rng.old.word_pos + length out.old < 2 ^ 68 }
-    ensures bytes { out.new ≡ stream_bytes rng.old.key (4 * rng.old.word_pos) (length out.old) }
-    ensures place { rng.new ≡ record rng.old { word_pos = rng.old.word_pos + (length out.old + 3) / 4 } }
+    ensures bytes { out.new ≡ next_bytes rng.old (length out.old) }
+    ensures place { rng.new ≡ after_bytes rng.old (length out.old) }
 {
     fill_bytes_via_u32(rng, out);
 }
@@ -36,9 +36,8 @@ fn draw_rest(rng: &mut ChaCha20Rng, bytes: &mut [u8], start: usize)
     requires start { start ≤ length bytes.old }
     requires first_stream { rng.old.stream ≡ 0 }
     requires within { rng.old.word_pos + length bytes.old < 2 ^ 68 }
-    ensures bytes { bytes.new ≡ take start bytes.old
-        ++ stream_bytes rng.old.key (4 * rng.old.word_pos) (length bytes.old - start) }
-    ensures place { rng.new ≡ record rng.old { word_pos = rng.old.word_pos + (length bytes.old - start + 3) / 4 } }
+    ensures bytes { bytes.new ≡ take start bytes.old ++ next_bytes rng.old (length bytes.old - start) }
+    ensures place { rng.new ≡ after_bytes rng.old (length bytes.old - start) }
 {
     draw_piece(rng, &mut bytes[start..]);
 }

@@ -26,6 +26,7 @@ pub answer_of_shamir : (p : SessionParams) (one : p.scheme ≡ SHAMIR) (matrix :
 unfolding honest_answer
 answer_of_shamir p one matrix payload = ap (λ (s : Scheme). answer_in s p matrix payload) (shamir_is p.scheme one)
 
+-- a product is as wide as the matrix
 length-product : (matrix : List (List ℕ)) (width : ℕ) (query : List ℕ) → length (product matrix width query) ≡ width
 unfolding product
 length-product matrix width query = length-map-range_with_len (product_at query matrix) 0 width

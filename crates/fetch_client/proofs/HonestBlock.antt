@@ -22,7 +22,7 @@ use Rattle.gf256.specs.Product.{IsMatrix, product}
 use Rattle.wire_frames.specs.Turns.{in_turn, piece}
 use Rattle.wire_frames.proofs.Turns.{All-in_turn, in_turn-one, in_turn-same, length-in_turn, length-piece, map-in_turn, piece-whole, piece_fits}
 use Rattle.query_rounds.specs.Plan.{query_coins, with_degree}
-use Rattle.fetch_client.specs.Held.{block_of, held_by}
+use Rattle.fetch_client.specs.Held.{block_of, held_as, held_by}
 use Rattle.fetch_client.specs.Honest.{IsHonest, answer_by, blocks_of}
 use Rattle.query_rounds.specs.Sent.{vector_at}
 use Rattle.query_rounds.proofs.Schemes.{coins_of_shamir, payload_of_shamir}
@@ -50,7 +50,9 @@ answer_by-products session t held coins blocks one a =
     ∙ ap (product (held a) p.s) (payload_of_shamir p one (piece (query_coins p) v coins) (get_or blocks v 0) a
     ∙ ap (λ (n : ℕ). query (piece n v coins) t p.r (get_or blocks v 0) a) (coins_of_shamir p one)))
 
-pub products_from_honest : (session : Transcript) (t tau : ℕ) (matrix : List (List ℕ)) (share_coins coins blocks : List ℕ) → session.params.scheme ≡ SHAMIR → IsHonest session t tau matrix share_coins coins blocks
+-- the answers of enough honest servers are enough such products
+pub products_from_honest : (session : Transcript) (t tau : ℕ) (matrix : List (List ℕ)) (share_coins coins blocks : List ℕ)
+    → session.params.scheme ≡ SHAMIR → IsHonest session t (held_as tau matrix share_coins) coins blocks
     → AreProducts (answers session) matrix tau share_coins coins blocks t session.params.r session.params.s session.params.h
 products_from_honest session t tau matrix share_coins coins blocks one honest =
     let p = with_degree t session.params in
@@ -154,7 +156,8 @@ honest_is_agreed answers matrix tau share_coins coins blocks t r s h size within
     }
 
 -- so it is listed, where blocks are
-pub honest_is_listed : (answers : List Answer) (matrix : List (List ℕ)) (tau : ℕ) (share_coins coins asked : List ℕ) (t r s h : ℕ) (blocks : List (List ℕ)) → length coins ≡ length asked * (r * t) → All (λ b. b < r) asked
+pub honest_is_listed : (answers : List Answer) (matrix : List (List ℕ)) (tau : ℕ) (share_coins coins asked : List ℕ) (t r s h : ℕ) (blocks : List (List ℕ))
+    → length coins ≡ length asked * (r * t) → All (λ b. b < r) asked
     → AreProducts answers matrix tau share_coins coins asked t r s h → IsDecided answers (length asked * s) (t + tau) h (Listed blocks) → Contains blocks (blocks_of matrix asked)
 honest_is_listed answers matrix tau share_coins coins asked t r s h blocks size within honest is =
     (is.3.exact (blocks_of matrix asked)).1 (honest_is_agreed answers matrix tau share_coins coins asked t r s h size within honest)
@@ -167,8 +170,11 @@ only_member (y ∷ []) x few (suc k, l, e) = absurd (omega arith)
 only_member (y ∷ z ∷ xs) x few c = absurd (omega arith)
 
 -- and alone where 2 h > k + t + tau
-pub honest_is_alone : (answers : List Answer) (matrix : List (List ℕ)) (tau : ℕ) (share_coins coins asked : List ℕ) (t r s h : ℕ) (verdict : Verdict) → HasColumns (length asked * s) answers → length answers ≤ MOST_SERVERS → length coins ≡ length asked * (r * t)
-    → All (λ b. b < r) asked → AreProducts answers matrix tau share_coins coins asked t r s h → length answers + (t + tau) < 2 * h → IsDecided answers (length asked * s) (t + tau) h verdict → verdict ≡ Listed (blocks_of matrix asked ∷ [])
+pub honest_is_alone : (answers : List Answer) (matrix : List (List ℕ)) (tau : ℕ) (share_coins coins asked : List ℕ) (t r s h : ℕ) (verdict : Verdict)
+    → HasColumns (length asked * s) answers → length answers ≤ MOST_SERVERS → length coins ≡ length asked * (r * t)
+    → All (λ b. b < r) asked → AreProducts answers matrix tau share_coins coins asked t r s h
+    → length answers + (t + tau) < 2 * h → IsDecided answers (length asked * s) (t + tau) h verdict
+    → verdict ≡ Listed (blocks_of matrix asked ∷ [])
 honest_is_alone answers matrix tau share_coins coins asked t r s h verdict columns most size within honest close is =
     let e = honest.enough in
     let few = count_by-le-length (λ (a : Answer). bytes_eq a.payload (products_at (held_by tau matrix s share_coins) coins asked t r s a.index)) answers in

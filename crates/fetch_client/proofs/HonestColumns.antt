@@ -88,7 +88,8 @@ module _ (matrix : List (List ℕ)) (tau : ℕ) (share_coins coins : List ℕ) (
         ∙ ap (sum_to (λ j. get_or (query coins t r block a) j 0 ⊗ get_or (get_or held j []) c 0)) (sym n)
 
     -- so at an index the columns' polynomials take the honest answer
-    pub reply_is : (a : ℕ) → map (λ p. val p a) (map (column_of matrix tau share_coins coins t r s block) (range_with_len 0 s)) ≡ product (held_by tau matrix s share_coins a) s (query coins t r block a)
+    pub reply_is : (a : ℕ)
+        → map (λ p. val p a) (map (column_of matrix tau share_coins coins t r s block) (range_with_len 0 s)) ≡ product (held_by tau matrix s share_coins a) s (query coins t r block a)
     unfolding product
     reply_is a =
         let value : ℕ → ℕ = λ c. val (column_of matrix tau share_coins coins t r s block c) a in

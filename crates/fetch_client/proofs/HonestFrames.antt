@@ -8,7 +8,7 @@ use Rattle.wire_frames.specs.Session.{Transcript}
 use Rattle.block_decoder.proofs.Counting.{one_if, count-cons}
 use Rattle.block_decoder.proofs.UsableAnswers.{usable_frame, answers_from-cons}
 use Rattle.query_rounds.specs.Plan.{with_degree}
-use Rattle.fetch_client.specs.Held.{held_by}
+use Rattle.fetch_client.specs.Held.{held_as, held_by}
 use Rattle.fetch_client.specs.Honest.{IsHonest, HonestRecords, answer_by, honest_frame, is_frame}
 use Rattle.fetch_client.proofs.HonestAnswers.{length-answer_by}
 
@@ -43,7 +43,8 @@ module _ (p : SessionParams) (t : ℕ) (held : ℕ → List (List ℕ)) (coins b
       let more = count-cons is_honest (record { index = i; payload = bytes }) rest in
       omega (arith, more, one)
 
-  by_test : (i : ℕ) (bytes : List ℕ) (rest : List Answer) (b : Bool) → bytes_eq bytes (frame i) ≡ b → one_if b + count_by is_honest rest ≤ count_by is_honest (with_answer i (usable bytes (asked p i)) rest)
+  by_test : (i : ℕ) (bytes : List ℕ) (rest : List Answer) (b : Bool) → bytes_eq bytes (frame i) ≡ b
+      → one_if b + count_by is_honest rest ≤ count_by is_honest (with_answer i (usable bytes (asked p i)) rest)
   by_test i bytes rest false e = let l = no_fewer i (usable bytes (asked p i)) rest in omega (arith, l)
   by_test i bytes rest true e =
       let same : bytes ≡ frame i = (bytes_eq-Decides bytes (frame i)).0 e in
@@ -68,10 +69,11 @@ module _ (p : SessionParams) (t : ℕ) (held : ℕ → List (List ℕ)) (coins b
 
 -- where enough records are honest frames, enough answers are honest
 pub honest_from_records : (session : Transcript) (t tau : ℕ) (matrix : List (List ℕ)) (share_coins coins blocks : List ℕ) → length blocks ≡ session.params.count
-    → HonestRecords session t tau matrix share_coins coins blocks → IsHonest session t tau matrix share_coins coins blocks
+    → HonestRecords session t (held_as tau matrix share_coins) coins blocks → IsHonest session t (held_as tau matrix share_coins) coins blocks
 honest_from_records session t tau matrix share_coins coins blocks count records =
     let held = held_by tau matrix session.params.s share_coins in
-    let few = count_frames session.params t held coins blocks count session.records session.records 1 (omega arith) (λ k l. let e : 1 + k - 1 ≡ k = omega arith in ap (λ k. get_or session.records k None) e) in
+    let few = count_frames session.params t held coins blocks count session.records session.records 1 (omega arith)
+    (λ k l. let e : 1 + k - 1 ≡ k = omega arith in ap (λ k. get_or session.records k None) e) in
     record {
       matrix_is = records.matrix_is;
       shared = records.shared;

@@ -98,7 +98,9 @@ liars_named session t tau coins asked agreements count range few bytes size with
       one = made (answers session) matrix tau share_coins coins asked t p.r p.s p.h own within are;
       alone = alone (answers session) matrix tau share_coins coins asked t p.r p.s p.h own within are agreements columns (omega (arith, close, degree)) is;
       block = block-made (answers session) matrix tau share_coins coins asked t p.r p.s p.h own within are;
-      exact = λ a among. subst (λ (payload : List ℕ). Contains (others (made (answers session) matrix tau share_coins coins asked t p.r p.s p.h own within are).indices (answers session)) a.index ↔ (a.payload ≢ payload))
+      exact = λ a among. subst (λ (payload : List ℕ). Contains
+          (others (made (answers session) matrix tau share_coins coins asked t p.r p.s p.h own within are).indices (answers session)) a.index ↔
+          (a.payload ≢ payload))
           (sym (answer_by-products session t (held_by tau matrix p.s share_coins) coins asked one a.index))
           (left_out (answers session) matrix tau share_coins coins asked t p.r p.s p.h own within are columns a among);
     }

@@ -14,6 +14,7 @@ use Rattle.block_decoder.specs.declared.verdict.Verdict.TheVariants.{Listed, Too
 use Rattle.block_decoder.proofs.OneBlock.{close_verdict_is_listed}
 use Rattle.block_decoder.proofs.UsableAnswers.{columns-answers, length-answers_from-le}
 use Rattle.query_rounds.specs.Plan.{query_coins, with_degree}
+use Rattle.fetch_client.specs.Held.{held_as}
 use Rattle.fetch_client.specs.Honest.{FindsHonestBlock, HonestRecords, IsHonest, blocks_of}
 use Rattle.query_rounds.proofs.Schemes.{coins_of_shamir}
 use Rattle.fetch_client.proofs.HonestFrames.{honest_from_records}
@@ -34,9 +35,12 @@ listed_if_alone verdict block blocks alone is =
     let same : block ∷ [] ≡ blocks = cc in
     subst (λ (bs : List (List ℕ)). Contains bs block) same (Contains-get_or (block ∷ []) 0 [] (omega arith))
 
-module _ (session : Transcript) (t tau : ℕ) (coins asked : List ℕ) (verdict : Verdict) (count : length asked ≡ session.params.count) (range : IsInRange session.params) (few : length session.records ≤ session.params.n)
-    (bytes : All (λ r. IfSome r (All (λ b. b < 256))) session.records) (size : length coins ≡ length asked * query_coins (with_degree t session.params)) (within : All (λ b. b < session.params.r) asked) (is : IsVerdict session verdict) where
-  by_frames : (matrix : List (List ℕ)) (share_coins : List ℕ) → HonestRecords session t tau matrix share_coins coins asked → IsHonest session t tau matrix share_coins coins asked
+module _ (session : Transcript) (t tau : ℕ) (coins asked : List ℕ) (verdict : Verdict) (count : length asked ≡ session.params.count)
+    (range : IsInRange session.params) (few : length session.records ≤ session.params.n)
+    (bytes : All (λ r. IfSome r (All (λ b. b < 256))) session.records)
+    (size : length coins ≡ length asked * query_coins (with_degree t session.params)) (within : All (λ b. b < session.params.r) asked)
+    (is : IsVerdict session verdict) where
+  by_frames : (matrix : List (List ℕ)) (share_coins : List ℕ) → HonestRecords session t (held_as tau matrix share_coins) coins asked → IsHonest session t (held_as tau matrix share_coins) coins asked
   by_frames matrix share_coins = honest_from_records session t tau matrix share_coins coins asked count
 
   columns : HasColumns (block_len session.params) (answers session)
@@ -60,13 +64,18 @@ module _ (session : Transcript) (t tau : ℕ) (coins asked : List ℕ) (verdict 
     coins_are : length coins ≡ length asked * (session.params.r * t)
     coins_are = size ∙ ap (λ (n : ℕ). length asked * n) (coins_of_shamir (with_degree t session.params) one)
 
-    listed : (matrix : List (List ℕ)) (share_coins : List ℕ) → IsHonest session t tau matrix share_coins coins asked → (blocks : List (List ℕ)) → verdict ≡ Listed blocks → Contains blocks (blocks_of matrix asked)
+    listed : (matrix : List (List ℕ)) (share_coins : List ℕ)
+        → IsHonest session t (held_as tau matrix share_coins) coins asked → (blocks : List (List ℕ))
+        → verdict ≡ Listed blocks → Contains blocks (blocks_of matrix asked)
     listed matrix share_coins honest blocks same =
         let p = session.params in
         honest_is_listed (answers session) matrix tau share_coins coins asked t p.r p.s p.h blocks coins_are within (products_from_honest session t tau matrix share_coins coins asked one honest)
         (subst (λ (v : Verdict). IsDecided (answers session) (length asked * p.s) (t + tau) p.h v) same decided)
 
-    alone : (matrix : List (List ℕ)) (share_coins : List ℕ) → IsHonest session t tau matrix share_coins coins asked → length (answers session) + session.params.t < 2 * session.params.h → verdict ≡ Listed (blocks_of matrix asked ∷ [])
+    alone : (matrix : List (List ℕ)) (share_coins : List ℕ)
+        → IsHonest session t (held_as tau matrix share_coins) coins asked
+        → length (answers session) + session.params.t < 2 * session.params.h
+        → verdict ≡ Listed (blocks_of matrix asked ∷ [])
     alone matrix share_coins honest near =
         let p = session.params in
         honest_is_alone (answers session) matrix tau share_coins coins asked t p.r p.s p.h verdict (subst (λ (w : ℕ). HasColumns w (answers session)) width columns) few_answers coins_are within
@@ -85,19 +94,21 @@ module _ (session : Transcript) (t tau : ℕ) (coins asked : List ℕ) (verdict 
 
   -- in the XOR scheme
   module _ (whole : tau ≡ 0) (two : session.params.scheme ≡ XOR) where
-    held_whole : (matrix : List (List ℕ)) (share_coins : List ℕ) → IsHonest session t tau matrix share_coins coins asked → IsHonest session t 0 matrix share_coins coins asked
-    held_whole matrix share_coins honest = subst (λ (u : ℕ). IsHonest session t u matrix share_coins coins asked) whole honest
+    held_whole : (matrix : List (List ℕ)) (share_coins : List ℕ) → IsHonest session t (held_as tau matrix share_coins) coins asked → IsHonest session t (held_as 0 matrix share_coins) coins asked
+    held_whole matrix share_coins honest = subst (λ (u : ℕ). IsHonest session t (held_as u matrix share_coins) coins asked) whole honest
 
-    alone_of_all : (matrix : List (List ℕ)) (share_coins : List ℕ) → IsHonest session t 0 matrix share_coins coins asked → verdict ≡ Listed (blocks_of matrix asked ∷ [])
+    alone_of_all : (matrix : List (List ℕ)) (share_coins : List ℕ) → IsHonest session t (held_as 0 matrix share_coins) coins asked → verdict ≡ Listed (blocks_of matrix asked ∷ [])
     alone_of_all matrix share_coins honest =
         let p = session.params in
         combined_alone (answers session) (block_len p) p.n p.h (blocks_of matrix asked) verdict (all_usable session t matrix coins asked count range two few bytes share_coins honest)
         (combined_is_the_blocks session t matrix coins asked count range two few bytes share_coins honest within) (is.xor two)
 
-    alone_of_enough : (matrix : List (List ℕ)) (share_coins : List ℕ) → IsHonest session t tau matrix share_coins coins asked → verdict ≡ Listed (blocks_of matrix asked ∷ [])
+    alone_of_enough : (matrix : List (List ℕ)) (share_coins : List ℕ) → IsHonest session t (held_as tau matrix share_coins) coins asked → verdict ≡ Listed (blocks_of matrix asked ∷ [])
     alone_of_enough matrix share_coins honest = alone_of_all matrix share_coins (held_whole matrix share_coins honest)
 
-    listed_of_all : (matrix : List (List ℕ)) (share_coins : List ℕ) → IsHonest session t tau matrix share_coins coins asked → (blocks : List (List ℕ)) → verdict ≡ Listed blocks → Contains blocks (blocks_of matrix asked)
+    listed_of_all : (matrix : List (List ℕ)) (share_coins : List ℕ)
+        → IsHonest session t (held_as tau matrix share_coins) coins asked → (blocks : List (List ℕ))
+        → verdict ≡ Listed blocks → Contains blocks (blocks_of matrix asked)
     listed_of_all matrix share_coins honest blocks same = listed_if_alone verdict (blocks_of matrix asked) blocks (alone_of_enough matrix share_coins honest) same
 
     finds_in_xor : FindsHonestBlock session t tau coins asked verdict

@@ -22,7 +22,7 @@ use Rattle.wire_frames.specs.Turns.{in_turn, piece}
 use Rattle.wire_frames.proofs.Turns.{in_turn-same, piece-in_turn}
 use Rattle.fetch_client.proofs.BlockSums.{combined-in_turn}
 use Rattle.query_rounds.specs.Plan.{query_coins, with_degree}
-use Rattle.fetch_client.specs.Held.{held_by}
+use Rattle.fetch_client.specs.Held.{held_as, held_by}
 use Rattle.query_rounds.specs.Sent.{vector_at}
 use Rattle.fetch_client.specs.Honest.{AllHonest, HonestRecords, IsHonest, answer_by, blocks_of, honest_frame, is_frame}
 use Rattle.query_rounds.proofs.Schemes.{coins_of_xor, payload_of_xor}
@@ -33,6 +33,7 @@ use Rattle.fetch_client.proofs.HonestAnswers.{answer_of_xor}
 abbrev no_answer : Answer
 no_answer = record { index = 0; payload = [] }
 
+-- the index of the answer at a place
 abbrev index_at : List Answer → ℕ → ℕ
 index_at all k = (get_or all k no_answer).index
 
@@ -58,7 +59,8 @@ index_is width n all k order size l =
 
 -- ---- the answers
 
-module _ (session : Transcript) (t : ℕ) (matrix : List (List ℕ)) (coins blocks : List ℕ) (count : length blocks ≡ session.params.count) (range : IsInRange session.params) (two : session.params.scheme ≡ XOR)
+module _ (session : Transcript) (t : ℕ) (matrix : List (List ℕ)) (coins blocks : List ℕ) (count : length blocks ≡ session.params.count)
+    (range : IsInRange session.params) (two : session.params.scheme ≡ XOR)
     (few : length session.records ≤ session.params.n) (bytes : All (λ r. IfSome r (All (λ b. b < 256))) session.records) where
   abbrev p : SessionParams
   p = session.params
@@ -89,7 +91,7 @@ module _ (session : Transcript) (t : ℕ) (matrix : List (List ℕ)) (coins bloc
     | inr none ↦ omega (arith, none)
   ]
 
-  module _ (share_coins : List ℕ) (honest : IsHonest session t 0 matrix share_coins coins blocks) where
+  module _ (share_coins : List ℕ) (honest : IsHonest session t (held_as 0 matrix share_coins) coins blocks) where
     -- so all servers answered, and honestly
     many : p.n ≤ count_by test all
     unfolding held_by
@@ -178,7 +180,7 @@ module _ (session : Transcript) (t : ℕ) (matrix : List (List ℕ)) (coins bloc
       ]
 
   -- and enough are such frames
-  pub records_from_all : AllHonest session t matrix coins blocks → HonestRecords session t 0 matrix [] coins blocks
+  pub records_from_all : AllHonest session t matrix coins blocks → HonestRecords session t (held_as 0 matrix []) coins blocks
   unfolding held_by
   records_from_all honest =
       let size = all_recorded honest in

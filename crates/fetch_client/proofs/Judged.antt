@@ -16,14 +16,22 @@ use Rattle.query_rounds.specs.declared.coins.TheConstants.{NUMBER_LEN}
 use Rattle.query_rounds.specs.declared.plan.FetchPlan.{FetchPlan}
 use Rattle.query_rounds.specs.Gathered.{AsksWith}
 use Rattle.query_rounds.specs.Plan.{AreBlocks, IsPlan, params_of, query_coins, query_params, with_degree}
+use Rattle.query_rounds.specs.Request.{Request}
 use Rattle.query_rounds.specs.Sent.{queries_from, session_number}
 use Rattle.query_rounds.proofs.Schemes.{coins_in_session}
 use Rattle.fetch_client.specs.Fetched.{Concludes, ConcludesWhole}
 use Rattle.fetch_client.proofs.HonestReport.{liars_named_in}
 use Rattle.fetch_client.proofs.HonestVerdicts.{finds_honest_block}
 
-module _ (p : FetchPlan) (blocks : List ℕ) (addresses : List (List ℕ)) (coins : List ℕ) (session : Transcript) (old new : World) (plan : IsPlan p) (are : AreBlocks p blocks)
-    (asked : AsksWith p blocks addresses coins session old new) (range : IsInRange session.params) (fits : All (Fits (answer_len session.params.count session.params.s)) session.records) where
+module _ (r : Request) (coins : List ℕ) (session : Transcript) (old new : World) (plan : IsPlan r.plan) (are : AreBlocks r.plan r.blocks)
+    (asked : AsksWith r coins session old new) (range : IsInRange session.params)
+    (fits : All (Fits (answer_len session.params.count session.params.s)) session.records) where
+  abbrev p : FetchPlan
+  p = r.plan
+
+  abbrev blocks : List ℕ
+  blocks = r.blocks
+
   params : session.params ≡ params_of p (length blocks) (session_number coins)
   params = asked.asked.params
 
@@ -49,7 +57,7 @@ module _ (p : FetchPlan) (blocks : List ℕ) (addresses : List (List ℕ)) (coin
   within = subst (λ (r : ℕ). All (λ b. b < r) blocks) (sym (ap (λ (q : SessionParams). q.r) params)) are.each
 
   -- the verdict has the block of honest servers
-  pub concludes : (verdict : Verdict) → IsVerdict session verdict → Concludes p blocks addresses session verdict old new
+  pub concludes : (verdict : Verdict) → IsVerdict session verdict → Concludes r session verdict old new
   concludes verdict is = record {
     coins = coins;
     asked = asked;
@@ -60,7 +68,7 @@ module _ (p : FetchPlan) (blocks : List ℕ) (addresses : List (List ℕ)) (coin
 
   -- and where there is a report beside it, that names the liars
   pub concludes_whole : (verdict : Verdict) (report : Option (List Agreement)) → IsVerdict session verdict → IsReportOn session verdict report
-      → ConcludesWhole p blocks addresses (session, verdict, report) old new
+      → ConcludesWhole r (session, verdict, report) old new
   unfolding concludes
   concludes_whole verdict report judged is = record {
     concludes = concludes verdict judged;

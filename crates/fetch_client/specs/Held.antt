@@ -22,3 +22,13 @@ share_rows tau matrix s share_coins i =
 unfoldable pub held_by : ℕ → List (List ℕ) → ℕ → List ℕ → ℕ → List (List ℕ)
 held_by zero matrix s share_coins i = matrix
 held_by (suc tau) matrix s share_coins i = share_rows (suc tau) matrix s share_coins i
+
+-- what the servers of a database hold: the matrix, whole where tau is 0, and else in shares of this degree by these coins
+pub record Holding : Type 0 where
+  pub tau : ℕ
+  pub matrix : List (List ℕ)
+  pub share_coins : List ℕ
+
+-- this matrix, with this degree of the sharing and these coins
+abbrev pub held_as : ℕ → List (List ℕ) → List ℕ → Holding
+held_as tau matrix share_coins = record { tau = tau; matrix = matrix; share_coins = share_coins }

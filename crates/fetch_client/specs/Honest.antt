@@ -19,8 +19,8 @@ use Rattle.block_decoder.specs.Verdict.{ListsAtMostOne}
 use Rattle.block_decoder.specs.declared.verdict.Verdict.{Verdict}
 use Rattle.block_decoder.specs.declared.verdict.Verdict.TheVariants.{Listed}
 use Rattle.wire_frames.specs.Turns.{in_turn}
-use Rattle.query_rounds.specs.Plan.{with_degree}
-use Rattle.fetch_client.specs.Held.{block_of, held_by}
+use Rattle.query_rounds.specs.Plan.{query_coins, with_degree}
+use Rattle.fetch_client.specs.Held.{Holding, block_of, held_as, held_by}
 use Rattle.query_rounds.specs.Sent.{vector_at}
 
 -- the blocks with these numbers, one behind another
@@ -54,17 +54,21 @@ abbrev pub AreShareCoins : SessionParams → ℕ → List ℕ → Type 0
 AreShareCoins p tau share_coins = length share_coins ≡ p.r * p.s * tau
 
 -- what server i answers to its query of degree t where it holds the matrix or, where tau isn't 0, its share of it
-abbrev pub answer_held : SessionParams → ℕ → ℕ → List (List ℕ) → List ℕ → List ℕ → List ℕ → ℕ → List ℕ
-answer_held p t tau matrix share_coins coins blocks i =
-    answer_by (with_degree t p) (held_by tau matrix p.s share_coins i) coins blocks i
+abbrev pub answer_held : SessionParams → ℕ → Holding → List ℕ → List ℕ → ℕ → List ℕ
+answer_held p t holding coins blocks i =
+    answer_by (with_degree t p) (held_by holding.tau holding.matrix p.s holding.share_coins i) coins blocks i
+
+-- as many coins as queries of degree t for these blocks take in a session
+abbrev pub AreQueryCoins : SessionParams → ℕ → List ℕ → List ℕ → Type 0
+AreQueryCoins p t blocks coins = length coins ≡ length blocks * query_coins (with_degree t p)
 
 -- at least h of a session's usable answers to queries of degree t are those of honest servers, each of which holds the matrix
--- or, where tau isn't 0, its share of degree tau by these coins
-pub record IsHonest (session : Transcript) (t tau : ℕ) (matrix : List (List ℕ)) (share_coins coins blocks : List ℕ) : Type 0 where
-  pub matrix_is : IsMatrix matrix session.params.r session.params.s
-  pub shared : AreShareCoins session.params tau share_coins
-  pub enough : session.params.h ≤ count_by (λ a. bytes_eq a.payload
-      (answer_held session.params t tau matrix share_coins coins blocks a.index)) (answers session)
+-- or, where tau isn't 0, its share of it
+pub record IsHonest (session : Transcript) (t : ℕ) (holding : Holding) (coins blocks : List ℕ) : Type 0 where
+  pub matrix_is : IsMatrix holding.matrix session.params.r session.params.s
+  pub shared : AreShareCoins session.params holding.tau holding.share_coins
+  pub enough : session.params.h
+      ≤ count_by (λ a. bytes_eq a.payload (answer_held session.params t holding coins blocks a.index)) (answers session)
 
 -- whether a server's record is this frame
 abbrev pub is_frame : List ℕ → Option (List ℕ) → Bool
@@ -75,14 +79,23 @@ is_frame frame (Some bytes) = bytes_eq bytes frame
 abbrev pub record_by : Transcript → ℕ → Option (List ℕ)
 record_by session i = slice_index_or session.records (i - 1) None
 
+-- the frame of server i where it holds the matrix or, where tau isn't 0, its share of it
+abbrev pub frame_held : SessionParams → ℕ → Holding → List ℕ → List ℕ → ℕ → List ℕ
+frame_held p t holding coins blocks i =
+    honest_frame (with_degree t p) (held_by holding.tau holding.matrix p.s holding.share_coins i) coins blocks i
+
 -- at least h of a session's records are the frames of such servers
-pub record HonestRecords (session : Transcript) (t tau : ℕ) (matrix : List (List ℕ)) (share_coins coins blocks : List ℕ) : Type 0 where
-  pub matrix_is : IsMatrix matrix session.params.r session.params.s
-  pub shared : AreShareCoins session.params tau share_coins
-  pub enough : session.params.h ≤ count_by (λ i. is_frame
-      (honest_frame (with_degree t session.params) (held_by tau matrix session.params.s share_coins i) coins blocks i)
-      (record_by session i))
+pub record HonestRecords (session : Transcript) (t : ℕ) (holding : Holding) (coins blocks : List ℕ) : Type 0 where
+  pub matrix_is : IsMatrix holding.matrix session.params.r session.params.s
+  pub shared : AreShareCoins session.params holding.tau holding.share_coins
+  pub enough : session.params.h
+      ≤ count_by (λ i. is_frame (frame_held session.params t holding coins blocks i) (record_by session i))
       (range_with_len 1 (length session.records))
+
+-- where enough records are such frames, enough answers are honest, whatever is held
+abbrev pub FramesAreUsable : Transcript → ℕ → ℕ → List ℕ → List ℕ → Type 0
+FramesAreUsable session t tau coins blocks = (matrix : List (List ℕ)) (share_coins : List ℕ)
+    → HonestRecords session t (held_as tau matrix share_coins) coins blocks → IsHonest session t (held_as tau matrix share_coins) coins blocks
 
 -- each of the session's n records is the frame of an honest server that holds the matrix
 pub record AllHonest (session : Transcript) (t : ℕ) (matrix : List (List ℕ)) (coins blocks : List ℕ) : Type 0 where
@@ -108,36 +121,36 @@ ListsAlone verdict block = verdict ≡ Listed (block ∷ [])
 -- is listed, or none. In the XOR scheme, where h is n, enough honest servers are all, and the verdict lists their block alone.
 -- The queries have degree t, and the session the degree t + tau
 pub record FindsHonestBlock (session : Transcript) (t tau : ℕ) (coins blocks : List ℕ) (verdict : Verdict) : Type 0 where
-  pub listed : (matrix : List (List ℕ)) (share_coins : List ℕ) → IsHonest session t tau matrix share_coins coins blocks
+  pub listed : (matrix : List (List ℕ)) (share_coins : List ℕ) → IsHonest session t (held_as tau matrix share_coins) coins blocks
       → ListsAmong verdict (blocks_of matrix blocks)
-  pub alone : (matrix : List (List ℕ)) (share_coins : List ℕ) → IsHonest session t tau matrix share_coins coins blocks
+  pub alone : (matrix : List (List ℕ)) (share_coins : List ℕ) → IsHonest session t (held_as tau matrix share_coins) coins blocks
       → IsClose session → ListsAlone verdict (blocks_of matrix blocks)
   pub close : session.params.h ≤ length (answers session) → IsClose session → ListsAtMostOne verdict
   pub listed_by_frames : (matrix : List (List ℕ)) (share_coins : List ℕ)
-      → HonestRecords session t tau matrix share_coins coins blocks → ListsAmong verdict (blocks_of matrix blocks)
+      → HonestRecords session t (held_as tau matrix share_coins) coins blocks → ListsAmong verdict (blocks_of matrix blocks)
   pub alone_by_frames : (matrix : List (List ℕ)) (share_coins : List ℕ)
-      → HonestRecords session t tau matrix share_coins coins blocks → IsClose session
+      → HonestRecords session t (held_as tau matrix share_coins) coins blocks → IsClose session
       → ListsAlone verdict (blocks_of matrix blocks)
   pub xor : session.params.scheme ≡ XOR → (matrix : List (List ℕ)) (share_coins : List ℕ)
-      → IsHonest session t tau matrix share_coins coins blocks → ListsAlone verdict (blocks_of matrix blocks)
+      → IsHonest session t (held_as tau matrix share_coins) coins blocks → ListsAlone verdict (blocks_of matrix blocks)
   pub xor_by_frames : session.params.scheme ≡ XOR → (matrix : List (List ℕ)) → AllHonest session t matrix coins blocks
       → ListsAlone verdict (blocks_of matrix blocks)
 
 -- there is one agreement, on the asked blocks, as one; and exactly the usable answers that aren't those of honest servers that
 -- hold the matrix, or their shares of it, are not among it
-pub record TellsLiars (session : Transcript) (t tau : ℕ) (matrix : List (List ℕ)) (share_coins coins blocks : List ℕ)
-    (agreements : List Agreement) : Type 0 where
+pub record TellsLiars (session : Transcript) (t : ℕ) (holding : Holding) (coins blocks : List ℕ) (agreements : List Agreement)
+    : Type 0 where
   pub one : Agreement
   pub alone : agreements ≡ one ∷ []
-  pub block : one.block ≡ blocks_of matrix blocks
+  pub block : one.block ≡ blocks_of holding.matrix blocks
   pub exact : (a : Answer) → Contains (answers session) a → Contains (others one.indices (answers session)) a.index
-      ↔ (a.payload ≢ answer_held session.params t tau matrix share_coins coins blocks a.index)
+      ↔ (a.payload ≢ answer_held session.params t holding coins blocks a.index)
 
 -- whatever the matrix that enough honest servers hold, or in shares of degree tau by whatever coins
 abbrev pub NamesLiars : Transcript → ℕ → ℕ → List ℕ → List ℕ → List Agreement → Type 0
 NamesLiars session t tau coins blocks agreements = (matrix : List (List ℕ)) (share_coins : List ℕ)
-    → IsHonest session t tau matrix share_coins coins blocks
-    → TellsLiars session t tau matrix share_coins coins blocks agreements
+    → IsHonest session t (held_as tau matrix share_coins) coins blocks
+    → TellsLiars session t (held_as tau matrix share_coins) coins blocks agreements
 
 -- so it is with a report beside a verdict, where 2 h > k + t for the session's degree
 abbrev pub NamesLiarsIn : Transcript → ℕ → ℕ → List ℕ → List ℕ → Option (List Agreement) → Type 0

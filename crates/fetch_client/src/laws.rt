@@ -1,11 +1,10 @@
 //! The laws of the honest servers, each as a call whose contract is the law. A call changes nothing.
 
-ghost use Rattle.std.specs.Prelude.{ℕ, List, ◌≡◌, ◌+◌, ◌*◌, ◌<◌, length, All};
+ghost use Rattle.std.specs.Prelude.{◌≡◌, ◌+◌, ◌<◌, length, All};
 ghost use Rattle.wire_frames.specs.declared.scheme.TheConstants.{XOR};
 ghost use Rattle.block_decoder.specs.Reported.{IsReportOn};
 ghost use Rattle.block_decoder.specs.Verdict.{IsVerdict};
-ghost use Rattle.fetch_client.specs.Honest.{FindsHonestBlock, HonestRecords, IsHonest, NamesLiarsIn};
-ghost use Rattle.query_rounds.specs.Plan.{query_coins, with_degree};
+ghost use Rattle.fetch_client.specs.Honest.{AreQueryCoins, FindsHonestBlock, FramesAreUsable, NamesLiarsIn};
 
 use block_decoder::{Report, Verdict};
 use wire_frames::Session;
@@ -32,7 +31,7 @@ pub fn honest_block_is_found(
     requires count { length blocks.now ≡ session.now.params.count }
     requires degree { session.now.params.t ≡ t + tau }
     requires held_whole { session.now.params.scheme ≡ XOR → tau ≡ 0 }
-    requires coins { length coins.now ≡ length blocks.now * query_coins (with_degree t session.now.params) }
+    requires coins { AreQueryCoins session.now.params t blocks.now coins.now }
     requires blocks { All (λ b. b < session.now.params.r) blocks.now }
     requires verdict { IsVerdict session.now verdict.now }
     ensures { FindsHonestBlock session.now t tau coins.now blocks.now verdict.now }
@@ -47,22 +46,22 @@ pub fn honest_block_is_found(
 /// it leaves out, which are named as liars, are exactly those whose usable answers are not what an honest server that holds
 /// the matrix, or its share, answers to the query that it was sent. In the XOR scheme there is no report.
 ///
-/// The queries are those of these coins, as for [`honest_block_is_found`].
+/// The queries are those of these coins, as for [`honest_block_is_found`]. `judged` has the verdict, and the report beside it,
+/// as [`judge_report`](block_decoder::judge_report) gives both.
 pub fn liars_are_named(
     session: &Session,
     t: u8,
     tau: u8,
     coins: &[u8],
     blocks: &[u32],
-    verdict: &Verdict,
-    report: &Option<Report>,
+    judged: &(Verdict, Option<Report>),
 )
     requires count { length blocks.now ≡ session.now.params.count }
     requires degree { session.now.params.t ≡ t + tau }
-    requires coins { length coins.now ≡ length blocks.now * query_coins (with_degree t session.now.params) }
+    requires coins { AreQueryCoins session.now.params t blocks.now coins.now }
     requires blocks { All (λ b. b < session.now.params.r) blocks.now }
-    requires report { IsReportOn session.now verdict.now report.now }
-    ensures { NamesLiarsIn session.now t tau coins.now blocks.now report.now }
+    requires report { IsReportOn session.now judged.now.0 judged.now.1 }
+    ensures { NamesLiarsIn session.now t tau coins.now blocks.now judged.now.1 }
 {
     // What holds of every session is told by its calls alone.
     session.params();
@@ -73,7 +72,5 @@ pub fn liars_are_named(
 /// matrix, or their shares of it, so many of the usable answers are honest.
 pub fn honest_frames_are_usable(session: &Session, t: u8, tau: u8, coins: &[u8], blocks: &[u32])
     requires { length blocks.now ≡ session.now.params.count }
-    ensures { (matrix : List (List ℕ)) (share_coins : List ℕ)
-        → HonestRecords session.now t tau matrix share_coins coins.now blocks.now
-        → IsHonest session.now t tau matrix share_coins coins.now blocks.now }
+    ensures { FramesAreUsable session.now t tau coins.now blocks.now }
 {}

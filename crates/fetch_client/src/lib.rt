@@ -11,8 +11,8 @@
 //! of time.
 #![tactic(auto)]
 
-mod fetch_once;
+mod fetching;
 pub mod laws;
 
-pub use fetch_once::{fetch, fetch_report};
+pub use fetching::{fetch, fetch_report};
 pub use query_rounds::{FetchFault, FetchPlan, NUMBER_LEN};

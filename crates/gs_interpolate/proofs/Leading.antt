@@ -78,6 +78,7 @@ led-same t e j s q p c g none sum =
       };
     }
 
+-- the product with x - a
 pub led-raised : (t a e j : ℕ) (s q : List (List ℕ)) → IsLed t q e j → IsRaised s q a → IsLed t s (e + 1) j
 led-raised t a e j s q g up = record {
   bytes = at;
@@ -106,9 +107,11 @@ module _ (t n : ℕ) (rows : List (List ℕ)) (wide : length rows ≤ n) (each :
         | inr l ↦ inl (cell-member n rows g j i (omega arith) ∙ ap (λ r. get_or r (i * n + g) 0) (get_or_past rows j [] l))
       ]
 
+  -- that at its own place is 1
   power_one : (g : ℕ) → g < length rows → cell (member n rows g) g 0 ≡ 1
   power_one g inside = let power = each g inside in cell-member n rows g g 0 (omega arith) ∙ ap (λ k. get_or (row rows g) k 0) (let e : 0 * n + g ≡ g = omega arith in e) ∙ power.one
 
+  -- so it is led by its power of y
   pub led-power : (g : ℕ) → g < length rows → IsLed t (member n rows g) 0 g
   led-power g inside = record {
     bytes = λ j i. elim (power_cell g j i inside) [

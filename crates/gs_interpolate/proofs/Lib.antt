@@ -4,7 +4,7 @@ pub mod Conditions
 pub mod Interpolants
 pub mod Leading
 pub mod Combinations
-pub mod Meeting
+pub mod Imposing
 pub mod Places
 pub mod Steps
 pub mod Windows

@@ -5,12 +5,11 @@ use Rattle.std.proofs.lemmas.List.Sums.{sum_by-cons}
 use Rattle.std.proofs.lemmas.List.{get_or_past}
 use Rattle.gf256.specs.Polynomial.{coef}
 use Rattle.bi_poly.specs.Rows.{row, cell}
-use Rattle.bi_poly.specs.Hasse.{HasZero}
 use Rattle.interpolation.specs.Monomials.{conditions}
 use Rattle.interpolation.specs.Interpolant.{IsInterpolant}
 use Rattle.gs_interpolate.specs.Layout.{IsLayout}
-use Rattle.gs_interpolate.specs.Family.{member}
-use Rattle.gs_interpolate.specs.Basis.{IsLight, IsBasis, IsLightest}
+use Rattle.gs_interpolate.specs.Family.{AreCoefficients}
+use Rattle.gs_interpolate.specs.Basis.{Polynomials, polynomial, weight, HaveZero, IsBasis, IsLeast, IsLight, IsLightest}
 use Rattle.gs_interpolate.proofs.Combinations.{hasse-same}
 use Rattle.gs_interpolate.proofs.Places.{cell-member}
 
@@ -30,71 +29,78 @@ one_below (x ∷ es) (n ∷ ns) e l =
           (suc r.0, omega arith, r.2)
     ]
 
-module _ (points : List (ℕ × ℕ)) (m t d n : ℕ) (ns : List ℕ) (rows : List (List ℕ)) (es : List ℕ) (q : List (List ℕ))
-    (layout : IsLayout ns (conditions (length points) m + 1) t d) (size : length rows ≡ length ns) (basis : IsBasis t d n rows es)
-    (few : sum es ≤ conditions (length points) m)
-    (zeros : All (λ p. (j : ℕ) → j < length rows → IsLight t d es j → HasZero (member n rows j) p.0 p.1 m) points)
-    (lightest : IsLightest t d n rows es q) where
+module _ (points : List (ℕ × ℕ)) (m : ℕ) (ns : List ℕ) (s : Polynomials) (q : List (List ℕ))
+    (layout : IsLayout ns (conditions (length points) m + 1) s.t s.d) (size : length s.rows ≡ length ns) (basis : IsBasis s)
+    (few : sum s.exponents ≤ conditions (length points) m)
+    (zeros : All (λ p. HaveZero s p.0 p.1 m) points) (lightest : IsLightest s q) where
   -- it is light: if all were dropped, each exponent would be the length of its row or more
-  weight : IsLight t d es lightest.place
-  weight =
+  light : IsLight s lightest.place
+  light =
       let long = basis.size in
       let all = layout.sum in
-      let r = one_below es ns (omega arith) (omega arith) in
+      let r = one_below s.exponents ns (omega (arith, long, size)) (omega (arith, few, all)) in
       let inside = r.1 in
       let below = r.2 in
       let within = layout.within r.0 inside in
-      let least = lightest.least r.0 (omega arith) in
-      omega arith
+      let least = lightest.least in
+      let no_less = least.least r.0 (omega (arith, inside, size)) in
+      omega (arith, below, within, no_less)
 
-  pub lightest_interpolates : IsInterpolant q points m t d
+  -- so it is what interpolation promises
+  pub lightest_interpolates : IsInterpolant q points m s.t s.d
   lightest_interpolates =
-      let led = basis.each lightest.place lightest.inside weight in
+      let place = lightest.place in
+      let e = get_or s.exponents place 0 in
+      let least = lightest.least in
+      let led = basis.each place least.inside light in
       let leads = led.leads in
-      let w = weight in
+      let is = lightest.is light in
+      let w = light in
       record {
-        nonzero = λ z. leads.reached (sym (lightest.is weight lightest.place (get_or es lightest.place 0)) ∙ z lightest.place (get_or es lightest.place 0));
+        nonzero = λ z. leads.reached (sym (is place e) ∙ z place e);
         weighted_degree = λ j i nonzero.
-            elim (cases_lt (get_or es lightest.place 0 + t * lightest.place) (i + t * j)) [
-              | inl later ↦ absurd (nonzero (lightest.is weight j i ∙ leads.last j i (inl later)))
-              | inr l ↦ omega arith
+            elim (cases_lt (weight s place) (i + s.t * j)) [
+              | inl later ↦ absurd (nonzero (is j i ∙ leads.last j i (inl later)))
+              | inr l ↦ omega (arith, w, l)
             ];
-        zeros = λ k p l u v h. hasse-same q (member n rows lightest.place) u v (get_or points k p).0 (get_or points k p).1 (lightest.is weight) ∙ zeros k p l lightest.place lightest.inside weight u v h;
-        rows = let all = lightest.size in let most = layout.rows in omega arith;
-        each = λ j. let each = lightest.each j in omega arith;
+        zeros = λ k p l u v h.
+            hasse-same q (polynomial s place) u v (get_or points k p).0 (get_or points k p).1 is
+            ∙ zeros k p l place least.inside light u v h;
+        rows = let all = lightest.size in let most = layout.rows in omega (arith, all, most, size);
+        each = λ j. let each = lightest.each j in omega (arith, each, w);
       }
 
 -- the rows of the polynomial with the least weight, without what is past that weight
-pub is_lightest : (t d n : ℕ) (rows : List (List ℕ)) (es : List ℕ) (q : List (List ℕ)) (place most : ℕ) → IsBasis t d n rows es → place < length rows
-    → most ≡ get_or es place 0 + t * place → ((j : ℕ) → j < length rows → get_or es place 0 + t * place ≤ get_or es j 0 + t * j)
-    → length q ≡ length rows → ((j : ℕ) → j < length rows → length (row q j) ≡ most + 1 - t * j)
-    → ((j i : ℕ) → j < length rows → i < most + 1 - t * j → get_or (row q j) i 0 ≡ get_or (row rows j) (i * n + place) 0) → IsLightest t d n rows es q
+pub is_lightest : (s : Polynomials) (q : List (List ℕ)) (place most : ℕ) → IsBasis s → IsLeast s place → most ≡ weight s place
+    → length q ≡ length s.rows
+    → ((j : ℕ) → j < length s.rows → AreCoefficients s.lanes place (most + 1 - s.t * j) (row s.rows j) (row q j)) → IsLightest s q
 unfolding cell coef
-is_lightest t d n rows es q place most basis inside weight least size long same = record {
+is_lightest s q place most basis least weight size coefficients = record {
   place = place;
-  inside = inside;
   least = least;
   is = λ light j i.
       let wide = basis.wide in
-      let some : 1 ≤ n = omega arith in
+      let inside = least.inside in
+      let some : 1 ≤ s.lanes = omega (arith, wide, inside) in
       let led = basis.each place inside light in
       let leads = led.leads in
-      elim (cases_lt j (length rows)) [
+      elim (cases_lt j (length s.rows)) [
         | inl l ↦
-            elim (cases_lt i (most + 1 - t * j)) [
-              | inl h ↦ same j i l h ∙ sym (cell-member n rows place j i some)
+            let of_row = coefficients j l in
+            elim (cases_lt i (most + 1 - s.t * j)) [
+              | inl h ↦ of_row.each i h ∙ sym (cell-member s.lanes s.rows place j i some)
               | inr h ↦
-                  let many = long j l in
-                  get_or_past (row q j) i 0 (omega arith) ∙ sym (leads.last j i (inl (omega arith)))
+                  let many = of_row.size in
+                  get_or_past (row q j) i 0 (omega (arith, many, h)) ∙ sym (leads.last j i (inl (omega (arith, weight, h))))
             ]
         | inr l ↦
-            ap (λ r. get_or r i 0) (get_or_past q j [] (omega arith))
-            ∙ sym (cell-member n rows place j i some ∙ ap (λ r. get_or r (i * n + place) 0) (get_or_past rows j [] l))
+            ap (λ r. get_or r i 0) (get_or_past q j [] (omega (arith, size, l)))
+            ∙ sym (cell-member s.lanes s.rows place j i some ∙ ap (λ r. get_or r (i * s.lanes + place) 0) (get_or_past s.rows j [] l))
       ];
   size = size;
   each = λ j.
-      elim (cases_lt j (length rows)) [
-        | inl l ↦ let many = long j l in omega arith
-        | inr l ↦ let none = ap length (get_or_past q j [] (omega arith)) in omega arith
+      elim (cases_lt j (length s.rows)) [
+        | inl l ↦ let of_row = coefficients j l in let many = of_row.size in omega (arith, many, weight)
+        | inr l ↦ let none = ap length (get_or_past q j [] (omega (arith, size, l))) in omega (arith, none)
       ];
 }

@@ -1,12 +1,11 @@
 -- The conditions of a zero at one point, one after the other.
-use Rattle.std.proofs.Common.{◌≡◌, ◌⊎◌, ℕ, zero, suc, ◌+◌, ◌-◌, ◌*◌, ◌/◌, ◌<◌, ◌≤◌, List, length, sum, refl, ap, ◌∙◌, arith, inl, inr}
+use Rattle.std.proofs.Common.{◌≡◌, ◌⊎◌, ℕ, zero, suc, ◌+◌, ◌-◌, ◌*◌, ◌/◌, ◌<◌, ◌≤◌, length, sum, refl, sym, ap, subst, ◌∙◌, arith, inl, inr}
 use Rattle.std.proofs.Math.Nat.{mul-le-mul_right}
 use Rattle.std.proofs.lemmas.Bool.{cases_lt, cases_eq}
-use Rattle.bi_poly.specs.Hasse.{hasse, HasZero}
 use Rattle.interpolation.specs.Monomials.{conditions}
-use Rattle.gs_interpolate.specs.Family.{member}
-use Rattle.gs_interpolate.specs.Basis.{IsLight, IsBasis, IsMeeting, IsPassing}
-use Rattle.gs_interpolate.proofs.Meeting.{met-size, met-basis, met-kept, met-gained, met-rise}
+use Rattle.gs_interpolate.specs.Basis.{Polynomials, with_rows, HaveZero, IsBasis, IsImposed, IsPassing}
+use Rattle.gs_interpolate.specs.declared.condition.Condition.{Condition}
+use Rattle.gs_interpolate.proofs.Imposing.{Vanish, imposed-size, imposed-basis, imposed-kept, imposed-gained, imposed-rise}
 
 -- how many orders (u, v) with u + v < m have their v below n
 unfoldable pub orders : ℕ → ℕ → ℕ
@@ -41,9 +40,11 @@ orders-twice m (suc n) l =
 twice_all : (m : ℕ) → 2 * orders m m ≡ m * (m + 1)
 twice_all m = let e = orders-twice m m (omega arith) in omega arith
 
+-- half of twice as many
 half : (x y : ℕ) → y ≡ 2 * x → y / 2 ≡ x
 half x y e = omega arith
 
+-- those of several zeros
 pub conditions-orders : (k m : ℕ) → conditions k m ≡ k * orders m m
 conditions-orders k m =
     let e = ap (λ x. k * x) (twice_all m) in
@@ -70,93 +71,105 @@ conditions-more i k m l =
     let more : (i + 1) * orders m m ≤ k * orders m m = mul-le-mul_right (orders m m) (omega arith) in
     omega (arith, e, f, g, more)
 
--- The derivatives of order (i, w) of the light polynomials at (a, b) are 0 for each w below v, and for v itself where i is below u.
-pub record IsUnder (t d n : ℕ) (rows : List (List ℕ)) (es : List ℕ) (made : List (List ℕ)) (raised : List ℕ) (a b m v u : ℕ) : Type 0 where
-  pub size : length made ≡ length rows
-  pub basis : IsBasis t d n made raised
-  pub zeros : (i w j : ℕ) → j < length rows → IsLight t d raised j → i + w < m → (w < v) ⊎ ((w ≡ v) × (i < u)) → hasse (member n made j) i w a b ≡ 0
-  pub kept : (x y k : ℕ) → ((j : ℕ) → j < length rows → IsLight t d es j → HasZero (member n rows j) x y k)
-      → (j : ℕ) → j < length rows → IsLight t d raised j → HasZero (member n made j) x y k
-  pub rise : sum raised ≤ sum es + (orders m v + u)
+-- What the polynomials s became under the conditions that come before c at its point: first those of the rows of a zero of
+-- multiplicity m before its row, and then those of its row before it.
+pub record IsUnder (s made : Polynomials) (c : Condition) (m : ℕ) : Type 0 where
+  pub alike : made ≡ with_rows s made.rows made.exponents
+  pub size : length made.rows ≡ length s.rows
+  pub basis : IsBasis made
+  pub zeros : (i w : ℕ) → i + w < m → (w < c.v) ⊎ ((w ≡ c.v) × (i < c.u)) → Vanish made i w c.a c.b
+  pub kept : (x y k : ℕ) → HaveZero s x y k → HaveZero made x y k
+  pub rise : sum made.exponents ≤ sum s.exponents + (orders m c.v + c.u)
 
 -- none yet
-pub under-none : (t d n : ℕ) (rows : List (List ℕ)) (es : List ℕ) (a b m : ℕ) → IsBasis t d n rows es → IsUnder t d n rows es rows es a b m 0 0
-under-none t d n rows es a b m h = record {
+pub under-none : (s : Polynomials) (c : Condition) (m : ℕ) → c.u ≡ 0 → c.v ≡ 0 → IsBasis s → IsUnder s s c m
+under-none s c m first row basis = record {
+  alike = refl;
   size = refl;
-  basis = h;
-  zeros = λ i w j h light l o. absurd (elim o [ inl x ↦ omega arith | inr x ↦ omega arith ]);
+  basis = basis;
+  zeros = λ i w l o. absurd (elim o [ inl x ↦ omega (arith, row, x) | inr x ↦ omega (arith, first, x.1) ]);
   kept = λ x y k z. z;
   rise = omega arith;
 }
 
 -- the exponents stay small
-pub under-room : (t d n : ℕ) (rows : List (List ℕ)) (es : List ℕ) (made : List (List ℕ)) (raised : List ℕ) (a b m v u most : ℕ)
-    → IsUnder t d n rows es made raised a b m v u → u + v < m → sum es + conditions 1 m < most → sum raised < most
-under-room t d n rows es made raised a b m v u most h l room =
+pub under-room : (s made : Polynomials) (c : Condition) (m most : ℕ) → IsUnder s made c m → c.u + c.v < m
+    → sum s.exponents + conditions 1 m < most → sum made.exponents < most
+under-room s made c m most h l room =
     let rise = h.rise in
-    let next = orders-next m v (v + 1) refl in
-    let grows = orders_le m (v + 1) m (omega arith) in
+    let next = orders-next m c.v (c.v + 1) refl in
+    let grows = orders_le m (c.v + 1) m (omega (arith, l)) in
     let all = conditions-one m in
-    omega arith
+    omega (arith, rise, next, grows, all, room, l)
 
 -- one more
-pub under-met : (t d n : ℕ) (rows : List (List ℕ)) (es : List ℕ) (mid : List (List ℕ)) (ms : List ℕ) (made : List (List ℕ)) (raised : List ℕ) (a b m v u : ℕ)
-    → IsUnder t d n rows es mid ms a b m v u → u + v < m → IsMeeting t d n mid ms made raised u v a b → IsUnder t d n rows es made raised a b m v (u + 1)
-under-met t d n rows es mid ms made raised a b m v u h l met = record {
-  size = met-size t d n mid ms made raised u v a b h.basis met ∙ h.size;
-  basis = met-basis t d n mid ms made raised u v a b h.basis met;
-  zeros = λ i w j inside light k o.
-      elim (cases_eq w v) [
-        | inl row ↦
-            elim (cases_eq i u) [
-              | inl same ↦
-                  ap (λ x. hasse (member n made j) x w a b) same ∙ ap (λ x. hasse (member n made j) u x a b) row
-                  ∙ met-gained t d n mid ms made raised u v a b h.basis met (λ c g s still e. h.zeros c v g (here g s) still (omega arith) (inr (refl, omega arith))) j (there j inside) light
-              | inr other ↦
-                  met-kept t d n mid ms made raised u v a b h.basis met i w a b
-                  (λ g s still. h.zeros i w g (here g s) still k (inr (row, elim o [ inl x ↦ absurd (omega arith) | inr x ↦ omega (arith, other) ])))
-                  (λ c g s still e. h.zeros c w g (here g s) still (omega arith) (inr (row, elim o [ inl x ↦ absurd (omega arith) | inr x ↦ omega (arith, other) ]))) j (there j inside) light
-            ]
+module _ {s mid made : Polynomials} {c : Condition} {m : ℕ} (h : IsUnder s mid c m) (l : c.u + c.v < m) (is : IsImposed mid made c) where
+  -- in the row of c the derivatives before it stay 0, and its own becomes 0
+  zeros-here : (i : ℕ) → i < c.u + 1 → i + c.v < m → Vanish made i c.v c.a c.b
+  zeros-here i next k =
+      elim (cases_eq i c.u) [
+        | inl same ↦
+            subst (λ i. Vanish made i c.v c.a c.b) (sym same)
+            (imposed-gained h.basis is (λ o e. h.zeros o c.v (omega (arith, e, l)) (inr (refl, omega (arith, e)))))
         | inr other ↦
-            let below : w < v = elim o [ inl x ↦ x | inr x ↦ absurd (other x.0) ] in
-            met-kept t d n mid ms made raised u v a b h.basis met i w a b
-            (λ g s still. h.zeros i w g (here g s) still k (inl below)) (λ c g s still e. h.zeros c w g (here g s) still (omega arith) (inl below)) j (there j inside) light
-      ];
-  kept = λ x y k z j inside light i w s.
-      met-kept t d n mid ms made raised u v a b h.basis met i w x y
-      (λ g q still. h.kept x y k z g (here g q) still i w s) (λ c g q still e. h.kept x y k z g (here g q) still c w (omega arith)) j (there j inside) light;
-  rise = let r = met-rise t d n mid ms made raised u v a b h.basis met in let s = h.rise in omega arith;
-}
-  where
-    here : (g : ℕ) → g < length mid → g < length rows
-    here g l = let size = h.size in omega arith
+            imposed-kept h.basis is i c.v c.a c.b
+            (h.zeros i c.v k (inr (refl, omega (arith, next, other))))
+            (λ o e. h.zeros o c.v (omega (arith, e, k)) (inr (refl, omega (arith, e, next))))
+      ]
 
-    there : (g : ℕ) → g < length rows → g < length mid
-    there g l = let size = h.size in omega arith
+  -- in the rows before it they stay 0
+  zeros-below : (i w : ℕ) → w < c.v → i + w < m → Vanish made i w c.a c.b
+  zeros-below i w below k =
+      imposed-kept h.basis is i w c.a c.b (h.zeros i w k (inl below)) (λ o e. h.zeros o w (omega (arith, e, k)) (inl below))
 
--- all of one v
-pub under-row : (t d n : ℕ) (rows : List (List ℕ)) (es : List ℕ) (made : List (List ℕ)) (raised : List ℕ) (a b m v u : ℕ)
-    → IsUnder t d n rows es made raised a b m v u → u ≡ m - v → IsUnder t d n rows es made raised a b m (v + 1) 0
-under-row t d n rows es made raised a b m v u h e = record {
+  -- so all conditions up to c hold
+  pub under-imposed : IsUnder s made (record c { u = c.u + 1 }) m
+  under-imposed = record {
+    alike = is.alike ∙ ap (λ g. with_rows g made.rows made.exponents) h.alike;
+    size = imposed-size h.basis is ∙ h.size;
+    basis = imposed-basis h.basis is;
+    zeros = λ i w k o.
+        elim o [
+          | inl below ↦ zeros-below i w below k
+          | inr row ↦
+              subst (λ w. Vanish made i w c.a c.b) (sym row.0)
+              (zeros-here i row.1 (let same = row.0 in omega (arith, same, k)))
+        ];
+    kept = λ x y k z j inside light i w order.
+        imposed-kept h.basis is i w x y
+        (λ g q still. h.kept x y k z g q still i w order)
+        (λ o e g q still. h.kept x y k z g q still o w (omega (arith, e, order)))
+        j inside light;
+    rise = let r = imposed-rise h.basis is in let before = h.rise in omega (arith, r, before);
+  }
+
+-- all of one row
+pub under-row : (s made : Polynomials) (c : Condition) (m : ℕ) → IsUnder s made c m → c.u ≡ m - c.v
+    → IsUnder s made (record c { u = 0; v = c.v + 1 }) m
+under-row s made c m h e = record {
+  alike = h.alike;
   size = h.size;
   basis = h.basis;
-  zeros = λ i w j inside light k o.
-      h.zeros i w j inside light k
-      (elim (cases_lt w v) [
+  zeros = λ i w k o.
+      h.zeros i w k
+      (elim (cases_lt w c.v) [
         | inl below ↦ inl below
-        | inr past ↦ let same : w ≡ v = elim o [ inl x ↦ omega arith | inr x ↦ absurd (omega arith) ] in inr (same, omega arith)
+        | inr past ↦
+            let same : w ≡ c.v = elim o [ inl x ↦ omega (arith, past, x) | inr x ↦ absurd (omega (arith, x.1)) ] in
+            inr (same, omega (arith, same, e, k))
       ]);
   kept = h.kept;
-  rise = let s = h.rise in let next = orders-next m v (v + 1) refl in omega arith;
+  rise = let s = h.rise in let next = orders-next m c.v (c.v + 1) refl in omega (arith, s, next, e);
 }
 
 -- all
-pub under-all : (t d n : ℕ) (rows : List (List ℕ)) (es : List ℕ) (made : List (List ℕ)) (raised : List ℕ) (a b m v : ℕ)
-    → IsUnder t d n rows es made raised a b m v 0 → v ≡ m → IsPassing t d n rows es made raised a b m
-under-all t d n rows es made raised a b m v h e = record {
+pub under-all : (s made : Polynomials) (c : Condition) (m : ℕ) → IsUnder s made c m → c.u ≡ 0 → c.v ≡ m
+    → IsPassing s made c.a c.b m
+under-all s made c m h none e = record {
+  alike = h.alike;
   size = h.size;
   basis = h.basis;
-  zeros = λ j inside light i w k. h.zeros i w j inside light k (inl (omega arith));
+  zeros = λ j inside light i w k. h.zeros i w k (inl (omega (arith, e, k))) j inside light;
   kept = h.kept;
-  rise = let s = h.rise in let c = conditions-one m in let same = ap (orders m) e in omega arith;
+  rise = let s = h.rise in let all = conditions-one m in let same = ap (orders m) e in omega (arith, s, all, same, none);
 }

@@ -6,7 +6,7 @@ use borrow.Rule.Slice.PartMut.{put_mid}
 use Rattle.gf256.specs.Field.{◌⊕◌, ◌⊗◌}
 use Rattle.gf256.proofs.Xor.{add_comm}
 use Rattle.gf256.proofs.FieldLaws.{mul_add, mul_one}
-use Rattle.gs_interpolate.specs.Family.{preceding, IsRowStep}
+use Rattle.gs_interpolate.specs.Family.{multiplier, preceding, AreMultiplesAdded, IsCellStep, IsRowStep}
 use Rattle.gf256.proofs.FlatRows.{row_within}
 use Rattle.gs_interpolate.proofs.Places.{part_here, part_elsewhere, part_before}
 
@@ -15,11 +15,19 @@ pub with_own_multiple : (x f carry : ℕ) → x < 256 → (x ⊕ x ⊗ f) ⊕ ca
 with_own_multiple x f carry byte =
     add_comm _ carry ∙ ap (◌⊕◌ carry) (add_comm x (x ⊗ f) ∙ sym (mul_add x f 1 ∙ ap (◌⊕◌ (x ⊗ f)) (mul_one x byte)))
 
+-- at one power of x, with the multiples added and then what was carried on to the pivot
+pub cell_step : (factors now mid before : List ℕ) (p carry : ℕ) → AreMultiplesAdded factors (get_or before p 0) mid before
+    → get_or now p 0 ≡ get_or mid p 0 ⊕ carry → ((g : ℕ) → g ≢ p → get_or now g 0 ≡ get_or mid g 0) → IsCellStep factors p carry now before
+cell_step factors now mid before p carry added pivot others = record {
+  pivot = pivot ∙ ap (λ x. x ⊕ carry) (added p);
+  others = λ g o. others g o ∙ added g;
+}
+
 -- nothing yet
-pub row_step-none : (n : ℕ) (row factors : List ℕ) (p a : ℕ) → IsRowStep n row row factors p a 0
-row_step-none n row factors p a = record {
-  pivot = λ i l. absurd (omega arith);
-  others = λ i g l m o. absurd (omega arith);
+pub row_step-none : (factors row : List ℕ) (p : ℕ) → IsRowStep factors p row row 0
+row_step-none factors row p = record {
+  pivot = λ i l. absurd (omega (arith, l));
+  others = λ i g l m o. absurd (omega (arith, l));
   rest = λ k l. refl;
 }
 
@@ -28,56 +36,104 @@ pub preceding-next : (n p : ℕ) (row : List ℕ) (i : ℕ) → preceding n p ro
 unfolding preceding
 preceding-next n p row i = ap (preceding n p row) (add-one i)
 
--- one more power of x, where the part of it was changed
-module _ (n : ℕ) (row before factors part : List ℕ) (p a carry i : ℕ) (inside : p < n) (long : length row ≡ length before) (room : i * n + n ≤ length before)
-    (done : IsRowStep n row before factors p a i) (carried : carry ≡ preceding n p before i) (size : length part ≡ n)
-    (pivot : get_or part p 0 ≡ carry ⊕ get_or (take n (drop (i * n) row)) p 0 ⊗ a)
-    (others : (g : ℕ) → g ≢ p → get_or part g 0 ≡ get_or (take n (drop (i * n) row)) g 0 ⊕ get_or (take n (drop (i * n) row)) p 0 ⊗ get_or factors g 0) where
+-- The part of a row with one power of x, in n lanes.
+abbrev pub power_part : ℕ → ℕ → List ℕ → List ℕ
+power_part n i row = take n (drop (i * n) row)
+
+-- One more power of x: in the row the powers below x ^ i took the step, and the part with x ^ i takes it too.
+pub record IsNextPower (factors row before part : List ℕ) (p carry i : ℕ) : Type 0 where
+  pub inside : p < length factors
+  pub long : length row ≡ length before
+  pub room : i * length factors + length factors ≤ length before
+  pub done : IsRowStep factors p row before i
+  pub carried : carry ≡ preceding (length factors) p before i
+  pub byte : get_or (power_part (length factors) i row) p 0 < 256
+  pub size : length part ≡ length factors
+  pub step : IsCellStep factors p carry part (power_part (length factors) i row)
+
+module _ {factors row before part : List ℕ} {p carry i : ℕ} (next : IsNextPower factors row before part p carry i) where
   -- the row is as long
-  room_now : i * n + n ≤ length row
-  room_now = omega (arith, room, long)
+  room_now : i * length factors + length factors ≤ length row
+  room_now = let room = next.room in let long = next.long in omega (arith, room, long)
 
   -- what the part held
-  held : (g : ℕ) → g < n → get_or (take n (drop (i * n) row)) g 0 ≡ get_or before (i * n + g) 0
-  held g l = part_before row (i * n) n g l ∙ done.rest (i * n + g) (omega arith)
+  held : (g : ℕ) → g < length factors → get_or (power_part (length factors) i row) g 0 ≡ get_or before (i * length factors + g) 0
+  held g l =
+      let done = next.done in
+      part_before row (i * length factors) (length factors) g l ∙ done.rest (i * length factors + g) (omega arith)
 
-  abbrev pub now : List ℕ
-  now = put_mid (i * n) n row part
+  -- what it is multiplied by
+  own : get_or part p 0 ≡ carry ⊕ get_or (power_part (length factors) i row) p 0 ⊗ multiplier factors p
+  own =
+      let step = next.step in
+      step.pivot ∙ with_own_multiple (get_or (power_part (length factors) i row) p 0) (get_or factors p 0) carry next.byte
 
   -- what is here now
-  here : (g : ℕ) → g < n → get_or now (i * n + g) 0 ≡ get_or part g 0
-  here g l = part_here row part (i * n) n g room_now size l
+  here : (g : ℕ) → g < length factors → get_or (put_mid (i * length factors) (length factors) row part) (i * length factors + g) 0 ≡ get_or part g 0
+  here g l = part_here row part (i * length factors) (length factors) g room_now next.size l
 
   -- the earlier powers
-  earlier : (k g : ℕ) → k < i → g < n → get_or now (k * n + g) 0 ≡ get_or row (k * n + g) 0
-  earlier k g l m = let fit = row_within k i n l in part_elsewhere row part (i * n) n (k * n + g) room_now size (inl (omega (arith, fit, m)))
+  earlier : (k g : ℕ) → k < i → g < length factors
+      → get_or (put_mid (i * length factors) (length factors) row part) (k * length factors + g) 0 ≡ get_or row (k * length factors + g) 0
+  earlier k g l m =
+      let n = length factors in
+      let fit = row_within k i n l in
+      part_elsewhere row part (i * n) n (k * n + g) room_now next.size (inl (omega (arith, fit, m)))
 
-  pub row_step-next : IsRowStep n now before factors p a (i + 1)
-  row_step-next = record {
-    pivot = λ k l.
-        elim (cases_lt k i) [
-          | inl m ↦ earlier k p m inside ∙ done.pivot k m
-          | inr m ↦
-              let same : i ≡ k = omega arith in
-              subst (λ k. get_or now (k * n + p) 0 ≡ preceding n p before k ⊕ get_or before (k * n + p) 0 ⊗ a) same
-              (here p inside ∙ pivot ∙ ap₂ (λ x y. x ⊕ y ⊗ a) carried (held p inside))
-        ];
-    others = λ k g l m o.
-        elim (cases_lt k i) [
-          | inl h ↦ earlier k g h m ∙ done.others k g h m o
-          | inr h ↦
-              let same : i ≡ k = omega arith in
-              subst (λ k. get_or now (k * n + g) 0 ≡ get_or before (k * n + g) 0 ⊕ get_or before (k * n + p) 0 ⊗ get_or factors g 0) same
-              (here g m ∙ others g o ∙ ap₂ (λ x y. x ⊕ y ⊗ get_or factors g 0) (held g m) (held p inside))
-        ];
-    rest = λ k l.
-        let next = add-mul i 1 n in
-        part_elsewhere row part (i * n) n k room_now size (inr (omega (arith, l, next))) ∙ done.rest k (omega (arith, l, next));
-  }
+  -- the step at one power more
+  pub row_step-next : IsRowStep factors p (put_mid (i * length factors) (length factors) row part) before (i + 1)
+  row_step-next =
+      let n = length factors in
+      let now = put_mid (i * n) n row part in
+      let done = next.done in
+      let step = next.step in
+      record {
+        pivot = λ k l.
+            elim (cases_lt k i) [
+              | inl m ↦ earlier k p m next.inside ∙ done.pivot k m
+              | inr m ↦
+                  let same : i ≡ k = omega (arith, l, m) in
+                  subst (λ k. get_or now (k * n + p) 0 ≡ preceding n p before k ⊕ get_or before (k * n + p) 0 ⊗ multiplier factors p) same
+                  (here p next.inside ∙ own ∙ ap₂ (λ x y. x ⊕ y ⊗ multiplier factors p) next.carried (held p next.inside))
+            ];
+        others = λ k g l m o.
+            elim (cases_lt k i) [
+              | inl h ↦ earlier k g h m ∙ done.others k g h m o
+              | inr h ↦
+                  let same : i ≡ k = omega (arith, l, h) in
+                  subst (λ k. get_or now (k * n + g) 0 ≡ get_or before (k * n + g) 0 ⊕ get_or before (k * n + p) 0 ⊗ get_or factors g 0) same
+                  (here g m ∙ step.others g o ∙ ap₂ (λ x y. x ⊕ y ⊗ get_or factors g 0) (held g m) (held p next.inside))
+            ];
+        rest = λ k l.
+            let more = add-mul i 1 n in
+            part_elsewhere row part (i * n) n k room_now next.size (inr (omega (arith, l, more))) ∙ done.rest k (omega (arith, l, more));
+      }
 
   -- what is carried on
-  pub carried_on : get_or (take n (drop (i * n) row)) p 0 ≡ preceding n p before (i + 1)
-  carried_on = held p inside ∙ sym (preceding-next n p before i)
+  pub carried_on : get_or (power_part (length factors) i row) p 0 ≡ preceding (length factors) p before (i + 1)
+  carried_on = held p next.inside ∙ sym (preceding-next (length factors) p before i)
+
+-- A step in one row, in n lanes, in which the pivot is multiplied by x - a.
+module _ {factors now before : List ℕ} {p count : ℕ} (n a : ℕ) (step : IsRowStep factors p now before count) (lanes : length factors ≡ n) where
+  -- the pivot
+  pub row-pivot : multiplier factors p ≡ a → (i : ℕ) → i < count
+      → get_or now (i * n + p) 0 ≡ preceding n p before i ⊕ get_or before (i * n + p) 0 ⊗ a
+  row-pivot own i l =
+      subst (λ a. get_or now (i * n + p) 0 ≡ preceding n p before i ⊕ get_or before (i * n + p) 0 ⊗ a) own
+      (subst (λ n. get_or now (i * n + p) 0 ≡ preceding n p before i ⊕ get_or before (i * n + p) 0 ⊗ multiplier factors p) lanes (step.pivot i l))
+
+-- The others, and what is past the powers of x, do not look at a.
+module _ {factors now before : List ℕ} {p count : ℕ} (n : ℕ) (step : IsRowStep factors p now before count) (lanes : length factors ≡ n) where
+  -- another
+  pub row-others : (i g : ℕ) → i < count → g < n → g ≢ p
+      → get_or now (i * n + g) 0 ≡ get_or before (i * n + g) 0 ⊕ get_or before (i * n + p) 0 ⊗ get_or factors g 0
+  row-others i g l m o =
+      subst (λ n. get_or now (i * n + g) 0 ≡ get_or before (i * n + g) 0 ⊕ get_or before (i * n + p) 0 ⊗ get_or factors g 0) lanes
+      (step.others i g l (omega (arith, m, lanes)) o)
+
+  -- past the powers
+  pub row-rest : (k : ℕ) → count * n ≤ k → get_or now k 0 ≡ get_or before k 0
+  row-rest k l = step.rest k (let same = ap (λ n. count * n) lanes in omega (arith, l, same))
 
 -- zeros alone
 pub zeros : (k j : ℕ) → get_or (replicate {A = ℕ} k 0) j 0 ≡ 0
@@ -95,18 +151,26 @@ longer row k j =
       | inr l ↦ get_or-append_right row (replicate k 0) (length row) j 0 refl l ∙ zeros k (j - length row) ∙ sym (get_or_past row j 0 l)
     ]
 
+-- nor do they change what comes before a coefficient
 preceding-longer : (n p k : ℕ) (row : List ℕ) (i : ℕ) → preceding n p (row ++ replicate k 0) i ≡ preceding n p row i
 unfolding preceding
 preceding-longer n p k row zero = refl
 preceding-longer n p k row (suc i) = longer row k (i * n + p)
 
 -- zeros at the end of the row before change nothing
-pub row_step-longer : (n : ℕ) (made before factors : List ℕ) (p a count k : ℕ) → IsRowStep n made (before ++ replicate k 0) factors p a count → IsRowStep n made before factors p a count
-row_step-longer n made before factors p a count k step = record {
-  pivot = λ i l. step.pivot i l ∙ ap₂ (λ x y. x ⊕ y ⊗ a) (preceding-longer n p k before i) (longer before k (i * n + p));
-  others = λ i g l h o. step.others i g l h o ∙ ap₂ (λ x y. x ⊕ y ⊗ get_or factors g 0) (longer before k (i * n + g)) (longer before k (i * n + p));
-  rest = λ j l. step.rest j l ∙ longer before k j;
-}
+pub row_step-longer : (factors : List ℕ) (p : ℕ) (made before : List ℕ) (count k : ℕ)
+    → IsRowStep factors p made (before ++ replicate k 0) count → IsRowStep factors p made before count
+row_step-longer factors p made before count k step =
+    let n = length factors in
+    record {
+      pivot = λ i l.
+          step.pivot i l
+          ∙ ap₂ (λ x y. x ⊕ y ⊗ multiplier factors p) (preceding-longer n p k before i) (longer before k (i * n + p));
+      others = λ i g l h o.
+          step.others i g l h o
+          ∙ ap₂ (λ x y. x ⊕ y ⊗ get_or factors g 0) (longer before k (i * n + g)) (longer before k (i * n + p));
+      rest = λ j l. step.rest j l ∙ longer before k j;
+    }
 
 -- a list that was made longer by zeros
 pub resized : (old new : List ℕ) (n len missing : ℕ) → len ≡ length old → new ≡ take n old ++ replicate (n - len) 0 → n ≡ len + missing → new ≡ old ++ replicate missing 0

@@ -1,5 +1,5 @@
 -- Horner's rule for polynomials side by side.
-use Rattle.std.proofs.Common.{◌≡◌, ℕ, zero, suc, ◌+◌, ◌-◌, ◌*◌, ◌/◌, ◌%◌, ◌<◌, ◌≤◌, List, [], ◌∷◌, ◌++◌, length, map, get_or, drop, sym, ap, ap₂, ◌∙◌, arith, inl, inr, add-mul, length-drop}
+use Rattle.std.proofs.Common.{◌≡◌, ℕ, zero, suc, ◌+◌, ◌-◌, ◌*◌, ◌/◌, ◌%◌, ◌<◌, ◌≤◌, List, [], ◌∷◌, ◌++◌, length, map, get_or, drop, refl, sym, ap, ap₂, ◌∙◌, arith, inl, inr, add-mul, length-drop}
 use Rattle.std.proofs.lemmas.Bool.{cases_lt}
 use Rattle.std.proofs.lemmas.List.{get_or-drop, get_or_past, get_or_append_left, get_or-append_right, get_or-map, length-map, drop_more}
 use Rattle.std.proofs.lemmas.Nat.{div-mul-add, mod-mul-add}
@@ -15,21 +15,19 @@ use Rattle.bi_poly.proofs.Derivatives.{taylor-derivative}
 use Rattle.bi_poly.proofs.Expansion.{derivatives-row}
 use Rattle.bi_poly.proofs.Hasse.{derivatives, hasse-derivative}
 use Rattle.gs_interpolate.specs.Family.{lane, member}
-use Rattle.gs_interpolate.specs.Window.{IsWindow}
+use Rattle.gs_interpolate.specs.Window.{AreExpanded, AreSums, IsWindow}
 use Rattle.gf256.proofs.FlatRows.{row_within}
 use Rattle.gs_interpolate.proofs.Places.{part_before, coef-lane, row-member}
-
--- the coefficients about a of the polynomials f, the first m of s polynomials side by side
-abbrev pub AreExpanded : ℕ → ℕ → ℕ → List ℕ → (ℕ → List ℕ) → Type 0
-AreExpanded s m a made f = (u g : ℕ) → u < m → g < s → get_or made (u * s + g) 0 ≡ taylor (f g) a u
 
 -- a step of Horner's rule, where c are the coefficients that come next
 module _ (s m a : ℕ) (made next first : List ℕ) (c : ℕ → ℕ) (f : ℕ → List ℕ) (size : length made ≡ m * s) (small : length first ≡ s)
     (is : (g : ℕ) → g < s → get_or first g 0 ≡ c g) (byte : (g : ℕ) → c g < 256) (done : AreExpanded s m a made f)
-    (horner : (k : ℕ) → k < length made → get_or next k 0 ≡ get_or (first ++ made) k 0 ⊕ a ⊗ get_or made k 0) where
+    (horner : AreSums a (length made) next (first ++ made) made) where
+  -- a place of the first m coefficients
   inside : (u g : ℕ) → u < m → g < s → u * s + g < length made
   inside u g l h = let fit = row_within u m s l in omega (arith, fit, h, size)
 
+  -- the polynomials have one coefficient more
   pub expanded-next : AreExpanded s m a next (λ g. c g ∷ f g)
   unfolding taylor
   expanded-next zero g l h =
@@ -119,15 +117,19 @@ hasse-values n rows g u v a b =
     ])
 
 -- so they make a window
-pub is_window : (n m a b : ℕ) (cells : List ℕ) (rows : List (List ℕ)) → length rows ≤ n → length cells ≡ m * (m * n)
-    → AreExpanded (m * n) m b cells (λ k. row_values n a k rows) → IsWindow n m cells rows a b 0
-is_window n m a b cells rows wide size done = record {
-  size = size;
-  each = λ u w g from l inside.
-      let h : g < n = omega arith in
-      let fit = row_within u m n (omega arith) in
+pub is_window : (n m a b : ℕ) (cells : List ℕ) (rows : List (List ℕ)) → length rows ≤ n
+    → AreExpanded (m * n) m b cells (λ k. row_values n a k rows)
+    → IsWindow n m a b rows (record { lanes = n; m = m; a = a; b = b; cells = cells })
+is_window n m a b cells rows wide done = record {
+  lanes = refl;
+  order = refl;
+  first = refl;
+  second = refl;
+  each = λ u w g l inside.
+      let h : g < n = omega (arith, inside, wide) in
+      let fit = row_within u m n (omega (arith, l)) in
       part_before cells (w * (m * n)) (m * n) (u * n + g) (omega (arith, fit, h))
-      ∙ done w (u * n + g) (omega arith) (omega (arith, fit, h))
+      ∙ done w (u * n + g) (omega (arith, l)) (omega (arith, fit, h))
       ∙ ap₂ (λ x y. taylor (map (λ r. taylor (lane n x r) a y) rows) b w) (mod-mul-add u n g h) (div-mul-add u n g h)
       ∙ sym (hasse-values n rows g u w a b);
 }

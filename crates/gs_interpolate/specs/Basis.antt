@@ -1,17 +1,58 @@
 -- The polynomials of Koetter's iteration (Koetter 1996): their leading monomials in the weighted order, and what the
--- iteration does to them. They stand side by side, in n lanes.
-use Rattle.std.specs.Prelude.{◌≡◌, ◌≢◌, ◌⊎◌, ℕ, suc, ◌+◌, ◌*◌, ◌%◌, ◌<◌, ◌≤◌, List, length, sum, slice_index, slice_set}
+-- iteration does to them. They stand side by side, each in a lane.
+use Rattle.std.specs.Prelude.{◌≡◌, ◌≢◌, ◌⊎◌, ℕ, suc, ◌+◌, ◌*◌, ◌<◌, ◌≤◌, List, length, min, sum, slice_index, slice_set}
 use Rattle.gf256.specs.Field.{◌⊕◌, ◌⊗◌, inverse}
 use Rattle.bi_poly.specs.Rows.{row, cell, AreBytes}
 use Rattle.bi_poly.specs.Hasse.{hasse, HasZero}
-use Rattle.gs_interpolate.specs.Family.{member}
-use Rattle.gs_interpolate.specs.Window.{window_row}
+use Rattle.gs_interpolate.specs.Family.{member, AreWhole, IsFamilyStep}
+use Rattle.gs_interpolate.specs.Window.{Derivatives, derivative}
+use Rattle.gs_interpolate.specs.declared.condition.Condition.{Condition}
+use Rattle.gs_interpolate.specs.declared.basis.TheConstants.{MOST_PLACES, MOST_LANES}
+use Rattle.quantity_limits.specs.declared.TheConstants.{MOST_DEGREE}
 use Rattle.interpolation.specs.Monomials.{conditions}
+
+-- polynomials side by side, in lanes and rows. They are weighed so that x ^ i * y ^ j weighs i + t * j, those that weigh at most
+-- d are light, and the exponent e at place j says that the polynomial at place j is led by x ^ e * y ^ j
+pub record Polynomials : Type 0 where
+  pub t : ℕ
+  pub d : ℕ
+  pub lanes : ℕ
+  pub rows : List (List ℕ)
+  pub exponents : List ℕ
+
+-- there are some, no more than lanes, each with an exponent, and all is as small as in any interpolation
+pub record IsInRange (s : Polynomials) : Type 0 where
+  pub weight : s.t ≤ MOST_DEGREE
+  pub width : s.lanes ≤ MOST_LANES
+  pub places : length s.rows ≤ MOST_PLACES
+  pub some : 0 < length s.rows
+  pub wide : length s.rows ≤ s.lanes
+  pub size : length s.exponents ≡ length s.rows
+
+-- s with other rows and exponents
+abbrev pub with_rows : Polynomials → List (List ℕ) → List ℕ → Polynomials
+with_rows s rows exponents = record s { rows = rows; exponents = exponents }
+
+-- the polynomial at place j
+abbrev pub polynomial : Polynomials → ℕ → List (List ℕ)
+polynomial s j = member s.lanes s.rows j
+
+-- its weight, that of its leading monomial
+abbrev pub weight : Polynomials → ℕ → ℕ
+weight s j = slice_index s.exponents j + s.t * j
+
+-- it weighs at most d. Those that weigh more are dropped, and nothing is said of them
+abbrev pub IsLight : Polynomials → ℕ → Type 0
+IsLight s j = weight s j ≤ s.d
 
 -- x ^ i * y ^ j stands before x ^ k * y ^ l in the (1, t)-weighted order: its weight is less, or it is the same and the
 -- degree in y is less
 abbrev pub IsBefore : ℕ → ℕ → ℕ → ℕ → ℕ → Type 0
 IsBefore t i j k l = (i + t * j < k + t * l) ⊎ ((i + t * j ≡ k + t * l) × (j < l))
+
+-- the leading monomial of the polynomial at place j stands before that of the one at place k
+abbrev pub LeadsBefore : Polynomials → ℕ → ℕ → Type 0
+LeadsBefore s j k = IsBefore s.t (slice_index s.exponents j) j (slice_index s.exponents k) k
 
 -- the leading monomial of q, the last in that order with a coefficient that is not 0, is x ^ e * y ^ j
 pub record Leads (t : ℕ) (q : List (List ℕ)) (e j : ℕ) : Type 0 where
@@ -23,28 +64,43 @@ pub record IsLed (t : ℕ) (q : List (List ℕ)) (e j : ℕ) : Type 0 where
   pub bytes : AreBytes q
   pub leads : Leads t q e j
 
--- where e at place j of es says that the polynomial at place j is led by x ^ e * y ^ j: that one weighs at most d. Those that
--- weigh more are dropped, and nothing is said of them
-abbrev pub IsLight : ℕ → ℕ → List ℕ → ℕ → Type 0
-IsLight t d es j = slice_index es j + t * j ≤ d
+-- of the polynomials, as many as there are rows, each light one is led by x ^ e * y ^ j, with its place j and its exponent e
+pub record IsBasis (s : Polynomials) : Type 0 where
+  pub size : length s.exponents ≡ length s.rows
+  pub wide : length s.rows ≤ s.lanes
+  pub whole : AreWhole s.lanes s.rows
+  pub each : (j : ℕ) → j < length s.rows → IsLight s j → IsLed s.t (polynomial s j) (slice_index s.exponents j) j
 
--- of the polynomials, as many as there are rows, that at place j is led by x ^ e * y ^ j, with e at place j of es, if it is light
-pub record IsBasis (t d n : ℕ) (rows : List (List ℕ)) (es : List ℕ) : Type 0 where
-  pub size : length es ≡ length rows
-  pub wide : length rows ≤ n
-  pub whole : (j : ℕ) → j < length rows → length (row rows j) % n ≡ 0
-  pub each : (j : ℕ) → j < length rows → IsLight t d es j → IsLed t (member n rows j) (slice_index es j) j
+-- s are the first n powers of y, weighed by t and d
+pub record ArePowersOfY (t d n : ℕ) (s : Polynomials) : Type 0 where
+  pub weight : s.t ≡ t
+  pub degree : s.d ≡ d
+  pub size : length s.rows ≡ n
+  pub basis : IsBasis s
+  pub exponents : sum s.exponents ≡ 0
 
--- from row v on, the cells of a window with m rows are derivatives of the light polynomials at (a, b): cell u of row w has
--- those of order (u, w), where u + w < m
-pub record IsLightWindow (t d n m : ℕ) (cells : List ℕ) (rows : List (List ℕ)) (es : List ℕ) (a b v : ℕ) : Type 0 where
-  pub size : length cells ≡ m * (m * n)
-  pub each : (u w g : ℕ) → v ≤ w → u + w < m → g < length rows → IsLight t d es g
-      → slice_index (window_row n m cells w) (u * n + g) ≡ hasse (member n rows g) u w a b
+-- from row v on, the cells of a window are derivatives of the light polynomials: cell u of row k has those of order (u, k),
+-- where u + k < m
+pub record IsLightWindow (s : Polynomials) (w : Derivatives) (v : ℕ) : Type 0 where
+  pub lanes : w.lanes ≡ s.lanes
+  pub each : (u k g : ℕ) → v ≤ k → u + k < w.m → g < length s.rows → IsLight s g
+      → derivative w u k g ≡ hasse (polynomial s g) u k w.a w.b
 
--- the Hasse derivatives of order (u, v) at (a, b) of the light polynomials: the condition asks that they be 0
-abbrev pub AreValues : ℕ → ℕ → ℕ → List (List ℕ) → List ℕ → List ℕ → ℕ → ℕ → ℕ → ℕ → Type 0
-AreValues t d n rows es values u v a b = (j : ℕ) → j < length rows → IsLight t d es j → slice_index values j ≡ hasse (member n rows j) u v a b
+-- the value of the polynomial at place j is the derivative that the condition asks to be 0
+abbrev pub IsValue : Polynomials → Condition → List ℕ → ℕ → Type 0
+IsValue s c values j = slice_index values j ≡ hasse (polynomial s j) c.u c.v c.a c.b
+
+-- the values of the light polynomials are those derivatives
+abbrev pub AreValues : Polynomials → Condition → List ℕ → Type 0
+AreValues s c values = (j : ℕ) → j < length s.rows → IsLight s j → IsValue s c values j
+
+-- all values are 0
+abbrev pub AreZero : List ℕ → Type 0
+AreZero values = (j : ℕ) → slice_index values j ≡ 0
+
+-- those of the light polynomials are
+abbrev pub AreZeroWhereLight : Polynomials → List ℕ → Type 0
+AreZeroWhereLight s values = (j : ℕ) → j < length s.rows → IsLight s j → slice_index values j ≡ 0
 
 -- p is the first place of the list that is not 0
 pub record IsFirstNonzero (values : List ℕ) (p : ℕ) : Type 0 where
@@ -53,16 +109,15 @@ pub record IsFirstNonzero (values : List ℕ) (p : ℕ) : Type 0 where
   pub before : (j : ℕ) → j < p → slice_index values j ≡ 0
 
 -- of the polynomials whose value is not 0, that at place p has the first leading monomial in the weighted order
-pub record IsFirstFailing (t : ℕ) (es values : List ℕ) (p : ℕ) : Type 0 where
-  pub inside : p < length values
+pub record IsFirstFailing (s : Polynomials) (values : List ℕ) (p : ℕ) : Type 0 where
+  pub inside : p < length s.rows
   pub fails : slice_index values p ≢ 0
-  pub first : (j : ℕ) → slice_index values j ≢ 0 → j ≢ p → IsBefore t (slice_index es p) p (slice_index es j) j
+  pub first : (j : ℕ) → j < length s.rows → slice_index values j ≢ 0 → j ≢ p → LeadsBefore s p j
 
 -- and it is light, so that it is the first of the light ones too
-pub record IsPivot (t d : ℕ) (es values : List ℕ) (p : ℕ) : Type 0 where
-  pub inside : p < length es
-  pub light : IsLight t d es p
-  pub first : IsFirstFailing t es values p
+pub record IsPivot (s : Polynomials) (values : List ℕ) (p : ℕ) : Type 0 where
+  pub light : IsLight s p
+  pub first : IsFirstFailing s values p
 
 -- what was `before` is now with that multiple of the pivot
 abbrev pub IsWithMultiple : List (List ℕ) → List (List ℕ) → List (List ℕ) → ℕ → Type 0
@@ -77,41 +132,69 @@ pub record IsRaised (now before : List (List ℕ)) (a : ℕ) : Type 0 where
 abbrev pub factor : List ℕ → ℕ → ℕ → ℕ
 factor values p j = slice_index values j ⊗ inverse (slice_index values p)
 
+-- how many monomials of a row a step with the pivot p can change, where y ^ 0 stands in it: past those the pivot has no
+-- coefficient, nor would it need one
+abbrev pub reach : Polynomials → ℕ → ℕ
+reach s p = min (weight s p + 1) s.d + 1
+
+-- the exponents, where that at place p rises by one
+abbrev pub raised_at : List ℕ → ℕ → List ℕ
+raised_at exponents p = slice_set exponents p (slice_index exponents p + 1)
+
+-- the rows took a step with the pivot p, whose exponent rises by one
+pub record IsStepInRows (factors : List ℕ) (p : ℕ) (s made : Polynomials) : Type 0 where
+  pub alike : made ≡ with_rows s made.rows made.exponents
+  pub exponents : made.exponents ≡ raised_at s.exponents p
+  pub rows : IsFamilyStep factors p s.t (reach s p) made.rows s.rows
+
 -- a step with the pivot p: multiples of it take the values of the other light ones away, and it is multiplied by x - a
 -- itself, if it is light then
-pub record IsStep (t d n : ℕ) (rows : List (List ℕ)) (es : List ℕ) (made : List (List ℕ)) (raised values : List ℕ) (a p : ℕ) : Type 0 where
-  pub size : length made ≡ length rows
-  pub whole : (j : ℕ) → j < length rows → length (row made j) % n ≡ 0
-  pub exponents : raised ≡ slice_set es p (slice_index es p + 1)
-  pub pivot : IsLight t d raised p → IsRaised (member n made p) (member n rows p) a
-  pub others : (j : ℕ) → j < length rows → j ≢ p → IsLight t d es j
-      → IsWithMultiple (member n made j) (member n rows j) (member n rows p) (factor values p j)
+pub record IsStep (s made : Polynomials) (values : List ℕ) (a p : ℕ) : Type 0 where
+  pub size : length made.rows ≡ length s.rows
+  pub whole : AreWhole s.lanes made.rows
+  pub exponents : made.exponents ≡ raised_at s.exponents p
+  pub pivot : IsLight made p → IsRaised (polynomial made p) (polynomial s p) a
+  pub others : (j : ℕ) → j < length s.rows → j ≢ p → IsLight s j
+      → IsWithMultiple (polynomial made j) (polynomial s j) (polynomial s p) (factor values p j)
 
--- what meeting the condition of order (u, v) at (a, b) does: nothing where the values of the light ones are 0, else a step
--- with the pivot
-abbrev pub IsMeeting : ℕ → ℕ → ℕ → List (List ℕ) → List ℕ → List (List ℕ) → List ℕ → ℕ → ℕ → ℕ → ℕ → Type 0
-IsMeeting t d n rows es made raised u v a b = (values : List ℕ) × AreValues t d n rows es values u v a b × (
-    (((j : ℕ) → IsLight t d es j → slice_index values j ≡ 0) × (made ≡ rows) × (raised ≡ es))
-    ⊎ ((p : ℕ) × IsPivot t d es values p × IsStep t d n rows es made raised values a p))
+-- nothing changes, for the values of the light polynomials are 0, or a step is taken with the pivot
+abbrev pub IsStepOrNone : Polynomials → Polynomials → List ℕ → ℕ → Type 0
+IsStepOrNone s made values a =
+    (AreZeroWhereLight s values × (made ≡ s)) ⊎ ((p : ℕ) × IsPivot s values p × IsStep s made values a p)
 
--- made are polynomials of which the light ones have a zero of multiplicity m at (a, b), and the zeros that all the light ones
--- before have; together the exponents rise by at most one for each condition
-pub record IsPassing (t d n : ℕ) (rows : List (List ℕ)) (es : List ℕ) (made : List (List ℕ)) (raised : List ℕ) (a b m : ℕ) : Type 0 where
-  pub size : length made ≡ length rows
-  pub basis : IsBasis t d n made raised
-  pub zeros : (j : ℕ) → j < length rows → IsLight t d raised j → HasZero (member n made j) a b m
-  pub kept : (x y k : ℕ) → ((j : ℕ) → j < length rows → IsLight t d es j → HasZero (member n rows j) x y k)
-      → (j : ℕ) → j < length rows → IsLight t d raised j → HasZero (member n made j) x y k
-  pub rise : sum raised ≤ sum es + conditions 1 m
+-- what imposing the condition on the polynomials makes of them
+pub record IsImposed (s made : Polynomials) (c : Condition) : Type 0 where
+  pub alike : made ≡ with_rows s made.rows made.exponents
+  pub values : List ℕ
+  pub are : AreValues s c values
+  pub step : IsStepOrNone s made values c.a
+
+-- each light polynomial has a zero of multiplicity m or more at (x, y)
+abbrev pub HaveZero : Polynomials → ℕ → ℕ → ℕ → Type 0
+HaveZero s x y m = (j : ℕ) → j < length s.rows → IsLight s j → HasZero (polynomial s j) x y m
+
+-- what becomes of the polynomials: the light ones have a zero of multiplicity m at (a, b), and the zeros that all the light ones
+-- had before; together the exponents rise by at most one for each condition
+pub record IsPassing (s made : Polynomials) (a b m : ℕ) : Type 0 where
+  pub alike : made ≡ with_rows s made.rows made.exponents
+  pub size : length made.rows ≡ length s.rows
+  pub basis : IsBasis made
+  pub zeros : HaveZero made a b m
+  pub kept : (x y k : ℕ) → HaveZero s x y k → HaveZero made x y k
+  pub rise : sum made.exponents ≤ sum s.exponents + conditions 1 m
+
+-- none weighs less than the polynomial at place p
+pub record IsLeast (s : Polynomials) (p : ℕ) : Type 0 where
+  pub inside : p < length s.rows
+  pub least : (j : ℕ) → j < length s.rows → weight s p ≤ weight s j
 
 -- q is the polynomial with the least weight, if that one is light, with no more coefficients in a row than that weight needs
-pub record IsLightest (t d n : ℕ) (rows : List (List ℕ)) (es : List ℕ) (q : List (List ℕ)) : Type 0 where
+pub record IsLightest (s : Polynomials) (q : List (List ℕ)) : Type 0 where
   pub place : ℕ
-  pub inside : place < length rows
-  pub least : (j : ℕ) → j < length rows → slice_index es place + t * place ≤ slice_index es j + t * j
-  pub is : IsLight t d es place → (j i : ℕ) → cell q j i ≡ cell (member n rows place) j i
-  pub size : length q ≡ length rows
-  pub each : (j : ℕ) → length (row q j) ≤ slice_index es place + t * place + 1
+  pub least : IsLeast s place
+  pub is : IsLight s place → (j i : ℕ) → cell q j i ≡ cell (polynomial s place) j i
+  pub size : length q ≡ length s.rows
+  pub each : (j : ℕ) → length (row q j) ≤ weight s place + 1
 
 -- row j of the powers of y: that at place j has 1 there, and the others have nothing
 pub record IsPowerRow (n : ℕ) (r : List ℕ) (j : ℕ) : Type 0 where

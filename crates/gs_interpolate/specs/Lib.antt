@@ -4,3 +4,4 @@ pub mod Tables
 pub mod Family
 pub mod Window
 pub mod Basis
+pub mod BasisInside

@@ -1,10 +1,8 @@
 //! Interpolation by linear algebra.
 
-ghost use Rattle.std.specs.Prelude.{◌≡◌, ◌≢◌, ◌⊎◌, ℕ, ◌+◌, ◌<◌, ◌≤◌, length, sum, slice_index_or, IfOk};
+ghost use Rattle.std.specs.Prelude.{◌≡◌, ◌≢◌, ℕ, ◌+◌, ◌<◌, ◌≤◌, length, sum, IfOk};
 ghost use Rattle.linear_solve.specs.Matrix.{entry};
-ghost use Rattle.gs_interpolate.specs.Layout.{IsEquation};
-ghost use Rattle.gs_interpolate.specs.Conditions.{derivative_of};
-ghost use Rattle.gs_interpolate.specs.declared.condition.Condition.{Condition};
+ghost use Rattle.gs_interpolate.specs.Layout.{AreEquations, IsCoefficient, IsEquation, KeepsBefore};
 
 use crate::basis::MOST_PLACES;
 use crate::condition::{Condition, conditions};
@@ -53,8 +51,7 @@ fn equations(
     requires rows { length lengths.now ≤ MOST_PLACES }
     ensures height { IfOk result (λ table. table.rows ≡ length conditions.now) }
     ensures width { IfOk result (λ table. table.cols ≡ unknowns) }
-    ensures equations { IfOk result (λ table. (r : ℕ) (c : Condition) → r < length conditions.now
-        → IsEquation table r lengths.now (slice_index_or conditions.now r c)) }
+    ensures equations { IfOk result (λ table. AreEquations table lengths.now conditions.now) }
 {
     let mut table = Table::new(alloc, conditions.len() as u32, unknowns)?;
     for (r, condition) in conditions.iter().enumerate() {
@@ -88,8 +85,8 @@ fn write_row(table: &mut Table, r: u32, column: u32, length: u32, j: u32, condit
     requires small { table.old.cols ≤ MOST_SIDE }
     ensures height { table.new.rows ≡ table.old.rows }
     ensures width { table.new.cols ≡ table.old.cols }
-    ensures written { (i : ℕ) → i < length → entry table.new r (column + i) ≡ derivative_of condition.now i j }
-    ensures kept { (s k : ℕ) → k < table.old.cols → (s ≢ r) ⊎ (k < column) → entry table.new s k ≡ entry table.old s k }
+    ensures written { (i : ℕ) → i < length → IsCoefficient table.new r (column + i) condition.now i j }
+    ensures kept { KeepsBefore table.new table.old r column }
 {
     for i in 0..length {
         table.set(r, column + i, condition.derivative_of(i, j));

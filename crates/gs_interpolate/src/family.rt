@@ -2,13 +2,14 @@
 //! they have at one power of x stand together in a row, one in each lane, and then those at the next power. There may be
 //! more lanes than polynomials.
 
-ghost use Rattle.std.specs.Prelude.{ℕ, ◌≡◌, ◌≢◌, ◌+◌, ◌*◌, ◌%◌, ◌<◌, ◌≤◌, length, map, slice_index, IfOk};
+ghost use Rattle.std.specs.Prelude.{ℕ, ◌≡◌, ◌≢◌, ◌+◌, ◌*◌, ◌<◌, ◌≤◌, length, slice_index, IfOk};
 ghost use Rattle.std.specs.Simd.Lanes.{chunk};
-ghost use Rattle.gf256.specs.Field.{◌⊕◌, ◌⊗◌};
-ghost use Rattle.gs_interpolate.specs.Family.{multiplier, IsRowStep, IsFamilyStep};
+ghost use Rattle.gf256.specs.Field.{◌⊕◌};
+ghost use Rattle.gs_interpolate.specs.Family.{bytes_of, AreCoefficients, AreMultiplesAdded, IsCellStep, IsFamilyStep, IsRowStep, StaysWhole};
 
 use crate::basis::MOST_PLACES;
 use gf256::rows::{Products, add_scaled_row};
+use quantity_limits::MOST_DEGREE;
 use std::alloc::{AllocError, Global};
 use std::marker::Model;
 use std::simd::prelude::*;
@@ -52,7 +53,7 @@ impl Tables {
 /// Adds `own` times the factors. Where it is 0, there is nothing to do.
 fn add_multiple(cell: &mut [u8], factors: &[u8], own: u8)
     requires { length factors.now ≡ length cell.old }
-    ensures { (g : ℕ) → slice_index cell.new g ≡ slice_index cell.old g ⊕ own ⊗ slice_index factors.now g }
+    ensures { AreMultiplesAdded factors.now own cell.new cell.old }
 {
     if own == 0 {
         return;
@@ -76,9 +77,7 @@ fn step_cell(cell: &mut [u8], factors: &[u8], p: usize, carry: u8) -> u8
     requires size { length factors.now ≡ length cell.old }
     requires inside { p < length cell.old }
     ensures own { result ≡ slice_index cell.old p }
-    ensures pivot { slice_index cell.new p ≡ (slice_index cell.old p ⊕ slice_index cell.old p ⊗ slice_index factors.now p) ⊕ carry }
-    ensures others { (g : ℕ) → g ≢ p
-        → slice_index cell.new g ≡ slice_index cell.old g ⊕ slice_index cell.old p ⊗ slice_index factors.now g }
+    ensures step { IsCellStep factors.now p carry cell.new cell.old }
 {
     let own = cell[p];
     add_multiple(cell, factors, own);
@@ -115,7 +114,7 @@ fn add_held_multiple<const VECTORS: usize>(
     requires size { length cell.old ≡ VECTORS * 16 }
     requires low { low ≡ chunk 0 16 factors.now }
     requires high { VECTORS ≡ 2 → high ≡ chunk 16 16 factors.now }
-    ensures { (g : ℕ) → slice_index cell.new g ≡ slice_index cell.old g ⊕ own ⊗ slice_index factors.now g }
+    ensures { AreMultiplesAdded factors.now own cell.new cell.old }
 {
     if own == 0 {
         return;
@@ -128,34 +127,6 @@ fn add_held_multiple<const VECTORS: usize>(
     }
     let second = u8x16::from_slice(&cell[16..]) ^ products.times(high);
     second.copy_to_slice(&mut cell[16..]);
-}
-
-/// Takes a step at one power of x, as `step_cell` does, with the factors in one vector or two.
-#[inline(always)]
-fn step_held_cell<const VECTORS: usize>(
-    cell: &mut [u8],
-    factors: &[u8],
-    low: u8x16,
-    high: u8x16,
-    p: usize,
-    carry: u8,
-    tables: &Tables,
-) -> u8
-    requires vectors { (1 ≤ VECTORS) × (VECTORS ≤ 2) }
-    requires same { length factors.now ≡ length cell.old }
-    requires size { length cell.old ≡ VECTORS * 16 }
-    requires low { low ≡ chunk 0 16 factors.now }
-    requires high { VECTORS ≡ 2 → high ≡ chunk 16 16 factors.now }
-    requires inside { p < length cell.old }
-    ensures own { result ≡ slice_index cell.old p }
-    ensures pivot { slice_index cell.new p ≡ (slice_index cell.old p ⊕ slice_index cell.old p ⊗ slice_index factors.now p) ⊕ carry }
-    ensures others { (g : ℕ) → g ≢ p
-        → slice_index cell.new g ≡ slice_index cell.old g ⊕ slice_index cell.old p ⊗ slice_index factors.now g }
-{
-    let own = cell[p];
-    add_held_multiple::<VECTORS>(cell, factors, low, high, own, tables);
-    add_carry(cell, p, carry);
-    own
 }
 
 /// Takes a step in one row of 16 or 32 lanes, as `step_row` does. The factors stay in one vector or two.
@@ -171,7 +142,7 @@ fn step_held_row<const VECTORS: usize>(
     requires lanes { length factors.now ≡ VECTORS * 16 }
     requires inside { p < length factors.now }
     requires room { count * length factors.now ≤ length row.old }
-    ensures { IsRowStep (length factors.now) row.new row.old factors.now p (multiplier factors.now p) count }
+    ensures { IsRowStep factors.now p row.new row.old count }
 {
     let lanes = factors.len();
     let low = u8x16::from_slice(&factors[0..]);
@@ -180,7 +151,10 @@ fn step_held_row<const VECTORS: usize>(
     for i in 0..count {
         let start = i * lanes;
         let cell = &mut row[start..start + lanes];
-        carry = step_held_cell::<VECTORS>(cell, factors, low, high, p, carry, tables);
+        let own = cell[p];
+        add_held_multiple::<VECTORS>(cell, factors, low, high, own, tables);
+        add_carry(cell, p, carry);
+        carry = own;
     }
 }
 
@@ -188,7 +162,7 @@ fn step_held_row<const VECTORS: usize>(
 fn step_row_of_any(row: &mut [u8], factors: &[u8], p: usize, count: usize)
     requires inside { p < length factors.now }
     requires room { count * length factors.now ≤ length row.old }
-    ensures { IsRowStep (length factors.now) row.new row.old factors.now p (multiplier factors.now p) count }
+    ensures { IsRowStep factors.now p row.new row.old count }
 {
     let lanes = factors.len();
     let mut carry = 0;
@@ -204,7 +178,7 @@ fn step_row_of_any(row: &mut [u8], factors: &[u8], p: usize, count: usize)
 pub(crate) fn step_row(row: &mut [u8], factors: &[u8], p: usize, count: usize, tables: &Tables)
     requires inside { p < length factors.now }
     requires room { count * length factors.now ≤ length row.old }
-    ensures { IsRowStep (length factors.now) row.new row.old factors.now p (multiplier factors.now p) count }
+    ensures { IsRowStep factors.now p row.new row.old count }
 {
     match factors.len() {
         16 => step_held_row::<1>(row, factors, p, count, tables),
@@ -225,9 +199,8 @@ fn step_long_row(
 ) -> Result<(), AllocError>
     requires inside { p < length factors.now }
     requires small { count * length factors.now < usize.MAX }
-    ensures step { IfOk result (λ _. IsRowStep (length factors.now) row.new.items row.old.items factors.now p
-        (multiplier factors.now p) count) }
-    ensures whole { IfOk result (λ _. length row.old.items % length factors.now ≡ 0 → length row.new.items % length factors.now ≡ 0) }
+    ensures step { IfOk result (λ _. IsRowStep factors.now p row.new.items row.old.items count) }
+    ensures whole { IfOk result (λ _. StaysWhole (length factors.now) row.new.items row.old.items) }
 {
     let room = count * factors.len();
     let missing = room.saturating_sub(row.len());
@@ -250,10 +223,10 @@ pub(crate) fn step_rows(
 ) -> Result<(), AllocError>
     requires inside { p < length factors.now }
     requires small { reach * length factors.now < usize.MAX }
-    requires weight { t ≤ 254 }
+    requires weight { t ≤ MOST_DEGREE }
     requires places { length rows.old ≤ MOST_PLACES }
-    ensures { IfOk result (λ _. IsFamilyStep (length factors.now) (map (λ r. r.items) rows.new) (map (λ r. r.items) rows.old)
-        factors.now p (multiplier factors.now p) t reach) }
+    ensures { IfOk result (λ _.
+        IsFamilyStep factors.now p t reach (bytes_of rows.new) (bytes_of rows.old)) }
 {
     for j in 0..rows.len() {
         let count = reach.saturating_sub(t as u64 * j as u64) as usize;
@@ -273,8 +246,7 @@ pub(crate) fn coefficients(
     count: usize,
 ) -> Result<Vec<u8>, AllocError>
     requires small { count * lanes + g < usize.MAX }
-    ensures size { IfOk result (λ made. length made.items ≡ count) }
-    ensures each { IfOk result (λ made. (i : ℕ) → i < count → slice_index made.items i ≡ slice_index row.now (i * lanes + g)) }
+    ensures { IfOk result (λ made. AreCoefficients lanes g count row.now made.items) }
 {
     let mut made = Vec::new(alloc);
     for i in 0..count {

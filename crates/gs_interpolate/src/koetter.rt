@@ -1,14 +1,14 @@
 //! Interpolation by Koetter's iteration.
 
 use crate::Interpolate;
-use crate::basis::{Basis, Weights};
+use crate::basis::Basis;
 use crate::family::Tables;
 use crate::layout::row_lengths;
 use bi_poly::BiPoly;
 use std::alloc::{AllocError, Global};
 
-/// Interpolation by Koetter's iteration (Koetter 1996): it goes over the conditions one after the other, and keeps
-/// polynomials that meet all so far, whose leading monomials in the weighted order have different degrees in y. Each
+/// Interpolation by Koetter's iteration (Koetter 1996): it imposes the conditions one after the other, and keeps
+/// polynomials that have all so far, whose leading monomials in the weighted order have different degrees in y. Each
 /// condition makes one of them heavier by one and no other.
 ///
 /// What weighs more than `d` never weighs less later, so it is dropped: nobody looks at it any more, and no coefficient that
@@ -36,12 +36,11 @@ impl Interpolate for Koetter {
     ) -> Result<BiPoly, AllocError> {
         let conditions = points.len() as u64 * m as u64 * (m as u64 + 1) / 2;
         let lengths = row_lengths(alloc, conditions as u32 + 1, t, d)?;
-        let mut basis = Basis::new(alloc, lengths.len())?;
+        let mut basis = Basis::new(alloc, lengths.len(), t, d)?;
         let tables = Tables::new(alloc)?;
-        let weights = Weights { t, d };
         for &(a, b) in points {
-            basis.pass(alloc, weights, a, b, m, &tables)?;
+            basis.pass(alloc, a, b, m, &tables)?;
         }
-        basis.into_lightest(alloc, weights)
+        basis.into_lightest(alloc)
     }
 }

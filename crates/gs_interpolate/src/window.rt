@@ -1,15 +1,13 @@
 //! The Hasse derivatives of polynomials side by side at one point.
 
-ghost use Rattle.std.specs.Prelude.{ℕ, ◌≡◌, ◌+◌, ◌-◌, ◌*◌, ◌++◌, ◌%◌, ◌<◌, ◌≤◌, length, map, slice_index, IfOk};
-ghost use Rattle.gf256.specs.Field.{◌⊕◌, ◌⊗◌};
-ghost use Rattle.uni_poly.specs.Taylor.{taylor};
-ghost use Rattle.bi_poly.specs.Rows.{row};
-ghost use Rattle.gs_interpolate.specs.Family.{lane, multiplier};
-ghost use Rattle.gs_interpolate.specs.Window.{window_row, IsWindow, IsWindowStep};
+ghost use Rattle.std.specs.Prelude.{ℕ, ◌≡◌, ◌+◌, ◌*◌, ◌++◌, ◌%◌, ◌<◌, ◌≤◌, length, slice_index, IfOk};
+ghost use Rattle.gs_interpolate.specs.Family.{bytes_of, lane, AreWhole};
+ghost use Rattle.gs_interpolate.specs.Window.{derivative, with_cells, AreExpanded, AreSums, IsWindow, IsWindowStep};
 
 use crate::family::{Tables, step_row};
 use gf256::rows::{Products, clear};
 use std::alloc::{AllocError, Global};
+use std::marker::Model;
 use std::mem;
 use std::simd::prelude::*;
 
@@ -17,8 +15,7 @@ use std::simd::prelude::*;
 fn set_sums(sums: &mut [u8], row: &[u8], multiplied: &[u8], a: u8)
     requires row { length row.now ≡ length sums.old }
     requires multiplied { length multiplied.now ≡ length sums.old }
-    ensures { (k : ℕ) → k < length sums.old
-        → slice_index sums.new k ≡ slice_index row.now k ⊕ a ⊗ slice_index multiplied.now k }
+    ensures { AreSums a (length sums.old) sums.new row.now multiplied.now }
 {
     let products = Products::of(a);
     let mut at = 0;
@@ -38,8 +35,7 @@ fn set_sums(sums: &mut [u8], row: &[u8], multiplied: &[u8], a: u8)
 fn horner(next: &mut [u8], sums: &[u8], first: &[u8], a: u8)
     requires same { length next.old ≡ length sums.now }
     requires room { length first.now ≤ length sums.now }
-    ensures { (k : ℕ) → k < length sums.now
-        → slice_index next.new k ≡ slice_index (first.now ++ sums.now) k ⊕ a ⊗ slice_index sums.now k }
+    ensures { AreSums a (length sums.now) next.new (first.now ++ sums.now) sums.now }
 {
     let (low, high) = next.split_at_mut(first.len());
     set_sums(low, first, &sums[..first.len()], a);
@@ -56,8 +52,7 @@ fn expand(made: &mut Vec<u8>, next: &mut Vec<u8>, row: &[u8], lanes: usize, m: u
     requires room { length next.old.items ≡ m * lanes }
     ensures size { length made.new.items ≡ m * lanes }
     ensures room { length next.new.items ≡ m * lanes }
-    ensures expanded { (u g : ℕ) → u < m → g < lanes
-        → slice_index made.new.items (u * lanes + g) ≡ taylor (lane lanes g row.now) a u }
+    ensures expanded { AreExpanded lanes m a made.new.items (λ g. lane lanes g row.now) }
 {
     clear(made);
     for i in (0..row.len() / lanes).rev() {
@@ -71,7 +66,7 @@ fn expand(made: &mut Vec<u8>, next: &mut Vec<u8>, row: &[u8], lanes: usize, m: u
 fn step_cells(cells: &mut [u8], m: usize, factors: &[u8], p: usize, v: usize, tables: &Tables)
     requires inside { p < length factors.now }
     requires size { length cells.old ≡ m * (m * length factors.now) }
-    ensures { IsWindowStep (length factors.now) m cells.new cells.old factors.now p (multiplier factors.now p) v }
+    ensures { IsWindowStep factors.now p m cells.new cells.old v }
 {
     for w in v..m {
         let size = m * factors.len();
@@ -80,13 +75,26 @@ fn step_cells(cells: &mut [u8], m: usize, factors: &[u8], p: usize, v: usize, ta
     }
 }
 
-/// The Hasse derivatives of polynomials side by side at one point: cell u of row v has those of order `(u, v)`, where
-/// `u + v < m`.
+/// The Hasse derivatives of polynomials side by side at one point `(a, b)`: cell u of row v has those of order `(u, v)`,
+/// where `u + v < m`.
 #[derive(Drop)]
 pub(crate) struct Window {
     lanes: usize,
     m: usize,
+    a: u8,
+    b: u8,
     cells: Vec<u8>,
+}
+
+impl Model for Window {
+    ghost use Rattle.std.specs.Prelude.{◌≡◌, ◌*◌, length};
+    ghost use Rattle.gs_interpolate.specs.Window.{Derivatives};
+
+    ghost Value = { Derivatives };
+
+    ghost view = { λ w. record { lanes = w.lanes; m = w.m; a = w.a; b = w.b; cells = w.cells.items } };
+
+    ghost invariant = { λ w. length w.cells.items ≡ w.m * (w.m * w.lanes) };
 }
 
 impl Window {
@@ -106,10 +114,8 @@ impl Window {
         requires wide { length rows.now ≤ lanes }
         requires terms { 1 ≤ m }
         requires few { m * (m * lanes) < usize.MAX }
-        requires whole { (j : ℕ) → j < length rows.now → length (row (map (λ r. r.items) rows.now) j) % lanes ≡ 0 }
-        ensures lanes { IfOk result (λ w. w.lanes ≡ lanes) }
-        ensures order { IfOk result (λ w. w.m ≡ m) }
-        ensures window { IfOk result (λ w. IsWindow lanes m w.cells.items (map (λ r. r.items) rows.now) a b 0) }
+        requires whole { AreWhole lanes (bytes_of rows.now) }
+        ensures { IfOk result (IsWindow lanes m a b (bytes_of rows.now)) }
     {
         let size = m * lanes;
         let mut cells = vec![in alloc; 0; m * size]?;
@@ -121,16 +127,27 @@ impl Window {
             horner(&mut next, &cells, &first, b);
             mem::swap(&mut cells, &mut next);
         }
-        Ok(Window { lanes, m, cells })
+        Ok(Window {
+            lanes,
+            m,
+            a,
+            b,
+            cells,
+        })
+    }
+
+    /// The x of the point.
+    pub(crate) fn a(&self) -> u8
+        ensures { result ≡ self.now.a }
+    {
+        self.a
     }
 
     /// The derivatives of order `(u, v)`.
     pub(crate) fn values(&self, u: usize, v: usize) -> &[u8]
-        requires order { u + v < self.now.m }
-        requires size { length self.now.cells.items ≡ self.now.m * (self.now.m * self.now.lanes) }
+        requires { u + v < self.now.m }
         ensures length { length result.now ≡ self.now.lanes }
-        ensures values { (g : ℕ) → g < self.now.lanes → slice_index result.now g
-            ≡ slice_index (window_row self.now.lanes self.now.m self.now.cells.items v) (u * self.now.lanes + g) }
+        ensures values { (g : ℕ) → g < self.now.lanes → slice_index result.now g ≡ derivative self.now u v g }
     {
         let size = self.m * self.lanes;
         let row = &self.cells[v * size..v * size + size];
@@ -141,11 +158,8 @@ impl Window {
     pub(crate) fn step(&mut self, factors: &[u8], p: usize, v: usize, tables: &Tables)
         requires lanes { length factors.now ≡ self.old.lanes }
         requires inside { p < self.old.lanes }
-        requires size { length self.old.cells.items ≡ self.old.m * (self.old.m * self.old.lanes) }
-        ensures lanes { self.new.lanes ≡ self.old.lanes }
-        ensures order { self.new.m ≡ self.old.m }
-        ensures step { IsWindowStep self.old.lanes self.old.m self.new.cells.items self.old.cells.items factors.now p
-            (multiplier factors.now p) v }
+        ensures window { self.new ≡ with_cells self.old self.new.cells }
+        ensures step { IsWindowStep factors.now p self.old.m self.new.cells self.old.cells v }
     {
         step_cells(&mut self.cells, self.m, factors, p, v, tables);
     }

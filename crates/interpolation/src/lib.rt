@@ -16,7 +16,11 @@ ghost use Rattle.interpolation.specs.Monomials.{monomials, conditions};
 ghost use Rattle.interpolation.specs.Interpolant.{IsInterpolant};
 
 use bi_poly::BiPoly;
+use quantity_limits::MOST_DEGREE;
 use std::alloc::{AllocError, Global};
+
+/// The most that the multiplicity of a zero is asked to be.
+pub const MOST_MULTIPLICITY: u32 = 255;
 
 /// The most equations that a zero of the given multiplicity at each of the points is, together.
 pub const MOST_EQUATIONS: u32 = 1 << 15;
@@ -30,9 +34,10 @@ pub trait Interpolate {
     /// points: each Hasse derivative of order `(u, v)` with `u + v < m` is 0 there. It has at most `d / t + 1` rows, of at
     /// most `d + 1` bytes each (Guruswami and Sudan 1999).
     ///
-    /// A point is `(x, y)`, and no two have the same x. `m` is from 1 to 255, `t` from 1 to 254, and `d` at most
-    /// [`MOST_WEIGHTED_DEGREE`]. A zero of multiplicity m is `m * (m + 1) / 2` equations at a point; together they are at most
-    /// [`MOST_EQUATIONS`], and fewer than the monomials `x^i * y^j` with `i + t*j <= d`, so that there is such a polynomial.
+    /// A point is `(x, y)`, and no two have the same x. `m` is from 1 to [`MOST_MULTIPLICITY`], `t` from 1 to
+    /// [`MOST_DEGREE`], and `d` at most [`MOST_WEIGHTED_DEGREE`]. A zero of multiplicity m is `m * (m + 1) / 2` equations at
+    /// a point; together they are at most [`MOST_EQUATIONS`], and fewer than the monomials `x^i * y^j` with
+    /// `i + t*j <= d`, so that there is such a polynomial.
     ///
     /// Of the five points `(01, 10)`, `(02, 10)`, `(03, 10)`, `(04, 17)` and `(05, 16)`, with `m` 1, `t` 1 and `d` 2, the
     /// product of two lines through them is one: `(y - 10) * (y - 13 - x)`.
@@ -48,8 +53,8 @@ pub trait Interpolate {
         t: u32,
         d: u32,
     ) -> Result<BiPoly, AllocError>
-        requires multiplicity { (1 ≤ m) × (m ≤ 255) }
-        requires weight { (1 ≤ t) × (t ≤ 254) }
+        requires multiplicity { (1 ≤ m) × (m ≤ MOST_MULTIPLICITY) }
+        requires weight { (1 ≤ t) × (t ≤ MOST_DEGREE) }
         requires degree { d ≤ MOST_WEIGHTED_DEGREE }
         requires distinct { AllPairs (λ p q. p.0 ≢ q.0) points.now }
         requires few { conditions (length points.now) m ≤ MOST_EQUATIONS }

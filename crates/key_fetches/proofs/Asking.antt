@@ -8,6 +8,7 @@ use Rattle.wire_frames.specs.Session.{Transcript}
 use Rattle.block_decoder.specs.declared.verdict.Verdict.{Verdict}
 use Rattle.query_rounds.specs.declared.plan.FetchPlan.{FetchPlan}
 use Rattle.query_rounds.specs.Link.{LinkAsked}
+use Rattle.query_rounds.specs.Request.{request}
 use Rattle.query_rounds.specs.Gathered.{AskedEach, AsksWith, TouchesLinks}
 use Rattle.key_search.specs.Standing.{Standing, asked_row, standing_after}
 use Rattle.key_fetches.specs.Listed.{only_block}
@@ -50,7 +51,7 @@ ask_each_none p addresses w = record { each = λ i l. refl }
 -- each link is asked once more
 pub ask_each_more : (p : FetchPlan) (addresses : List (List ℕ)) (rounds : List Round) (row : ℕ) (coins : List ℕ)
     (session : Transcript) (old mid new : World) → AskEach p addresses rounds old mid
-    → AskedEach p (row ∷ []) addresses coins p.n session mid new
+    → AskedEach (request p (row ∷ []) addresses) coins p.n session mid new
     → AskEach p addresses (rounds ++ round_of row coins session ∷ []) old new
 ask_each_more p addresses rounds row coins session old mid new asked last = record {
   each = λ i l. asked_more p (slice_index_or addresses i []) i rounds (round_of row coins session)
@@ -59,7 +60,7 @@ ask_each_more p addresses rounds row coins session old mid new asked last = reco
 
 -- what a fetch that asked every server is
 pub round_is : (p : FetchPlan) (row : ℕ) (addresses : List (List ℕ)) (coins : List ℕ) (session : Transcript) (old new : World)
-    → row < p.r → AsksWith p (row ∷ []) addresses coins session old new → IsRound p row (round_of row coins session)
+    → row < p.r → AsksWith (request p (row ∷ []) addresses) coins session old new → IsRound p row (round_of row coins session)
 round_is p row addresses coins session old new low asks = record {
   row_is = refl;
   low = low;

@@ -52,47 +52,48 @@ taken_both : (a b : List ℕ) (o : Option (List ℕ))
 taken_both a b None = refl
 taken_both a b (Some taken) = ap (λ (l : List ℕ). Some l) (append_assoc taken a b)
 
--- a link took a front of its frame, and all of it where its count stayed
+-- a link took a prefix of its frame, and all of it where its count stayed
 record TakesFrame (frame : List ℕ) (old new : Cell) : Type 0 where
-  front : List ℕ
-  is : front ≡ take (length front) frame
-  took : new.accepted ≡ option_map (λ taken. taken ++ front) old.accepted
+  prefix : List ℕ
+  is : prefix ≡ take (length prefix) frame
+  took : new.accepted ≡ option_map (λ taken. taken ++ prefix) old.accepted
   whole : (Rose old.faults new.faults → ⊥) → new.accepted ≡ option_map (λ taken. taken ++ frame) old.accepted
 
+-- a link that was asked took a prefix of its frame, and the whole of it where no call failed
 takes_frame : (address frame : List ℕ) (most : ℕ) (answer : Option (List ℕ)) (old new : Cell)
     → LinkAsked address frame most answer old new → TakesFrame frame old new
 takes_frame address frame most (Some bytes) old new asked = record {
-  front = frame;
+  prefix = frame;
   is = sym (take_all (length frame) frame (omega arith));
   took = ap (λ (c : Cell). c.accepted) asked.cell;
   whole = λ _. ap (λ (c : Cell). c.accepted) asked.cell;
 }
 takes_frame address frame most None old new asked = elim asked.how [
   | inl unopened ↦ record {
-    front = [];
+    prefix = [];
     is = refl;
     took = ap (λ (c : Cell). c.accepted) unopened ∙ taken_none old.accepted;
     whole = λ stayed. absurd (stayed (once_rose _ _ asked.rose));
   }
   | inr (inl cut) ↦ record {
-    front = take cut.n frame;
+    prefix = take cut.n frame;
     is = ap (λ (k : ℕ). take k frame) (sym (length-take-le cut.n frame (omega (arith, cut.proper))));
     took = ap (λ (c : Cell). c.accepted) cut.cell;
     whole = λ stayed. absurd (stayed (once_rose _ _ asked.rose));
   }
   | inr (inr silent) ↦ record {
-    front = frame;
+    prefix = frame;
     is = sym (take_all (length frame) frame (omega arith));
     took = ap (λ (c : Cell). c.accepted) silent.cell;
     whole = λ stayed. absurd (stayed (once_rose _ _ asked.rose));
   }
 ]
 
--- of each frame in turn a front, and all of each where the count stayed
+-- of each frame in turn a prefix, and all of each where the count stayed
 takes_frames : (p : FetchPlan) (address : List ℕ) (i : ℕ) (rounds : List Round) (old new : Cell)
     → AskedInTurn p address i rounds old new → TakesFrames (frames_to p (i + 1) rounds) old new
 takes_frames p address i [] old new asked = record {
-  fronts = [];
+  prefixes = [];
   are = tt;
   most = let same : new.faults ≡ old.faults = ap (λ (c : Cell). c.faults) asked in omega (arith, same);
   took = ap (λ (c : Cell). c.accepted) asked ∙ taken_none old.accepted;
@@ -107,11 +108,11 @@ takes_frames p address i (round ∷ rounds) old new asked =
     let counted = link_counts address frame (answer_len 1 p.s) answer old mid asked.1.0 in
     let later = counts p address i rounds mid new asked.1.1 in
     record {
-      fronts = first.front ∷ rest.fronts;
+      prefixes = first.prefix ∷ rest.prefixes;
       are = (first.is, rest.are);
       most = let most = rest.most in elim counted [ inl same ↦ omega (arith, most, same) | inr once ↦ omega (arith, most, once) ];
-      took = rest.took ∙ ap (option_map (λ taken. taken ++ concat rest.fronts)) first.took
-          ∙ taken_both first.front (concat rest.fronts) old.accepted;
+      took = rest.took ∙ ap (option_map (λ taken. taken ++ concat rest.prefixes)) first.took
+          ∙ taken_both first.prefix (concat rest.prefixes) old.accepted;
       whole = λ stayed. elim counted [
         | inl same ↦
             rest.whole (λ rose. stayed (subst (λ (k : ℕ). Rose k new.faults) same rose))

@@ -18,6 +18,7 @@ use Rattle.query_rounds.specs.declared.plan.FetchPlan.{FetchPlan}
 use Rattle.query_rounds.specs.declared.plan.FetchFault.{FetchFault}
 use Rattle.query_rounds.specs.declared.plan.FetchFault.TheVariants.{CoinsFault, CoinsEnded, Memory}
 use Rattle.query_rounds.specs.Plan.{IsPlan, need}
+use Rattle.query_rounds.specs.Request.{Request, request}
 use Rattle.port_rules.specs.Tossed.{RunsOut, Tossed}
 use Rattle.query_rounds.specs.Gathered.{AsksSome}
 use Rattle.fetch_client.specs.Fetched.{Concludes, Fetches}
@@ -26,28 +27,29 @@ use Rattle.key_search.specs.Standing.{Standing, asked_row, standing_after, stand
 use Rattle.key_search.specs.Answers.{AreRowsAsked, AreSortedByKey, IsLookUp, WasTold, row_with, rows_told, start_of}
 use Rattle.key_search.proofs.ByAnswers.{IsNextTurn-from, found-told, lost-told}
 use Rattle.key_search.proofs.LookUp.{found-from}
-use Rattle.key_fetches.specs.Listed.{Ended, first_unlisted, only_block}
+use Rattle.key_fetches.specs.KeyRequest.{KeyRequest}
+use Rattle.key_fetches.specs.Listed.{Ended, first_unlisted, only_block, unlisted_of}
 use Rattle.key_fetches.specs.Rounds.{AreJudged, AskEach, AskedInTurn, IsJudged, IsRound, ListRowsAsked, Round, TossedFor, coins_of}
 use Rattle.key_fetches.specs.LookedUp.{AskedInVain, Fetched, LookUpShort, LookUpUnfinished, LookUpUnread, LookedUp, LooksUp, at_start, standing_by_verdicts}
-use Rattle.key_fetches.proofs.Verdicts.{lost-unlisted, rows_asked, unlisted-more, unlisted_of, width-listed}
+use Rattle.key_fetches.proofs.Verdicts.{lost-unlisted, rows_asked, unlisted-more, width-listed}
 use Rattle.key_fetches.proofs.Asking.{ask_each_more, ask_each_none, judged_more, round_is, round_of}
 use Rattle.key_fetches.proofs.Coins.{ends_next, fails_next, too_few_held, tossed_next}
 use Rattle.key_fetches.proofs.Frames.{take_frames}
 
 -- so many turns were taken: the search stands by the verdicts, and the first that didn't list exactly one block is kept
-pub record InTurns (p : FetchPlan) (key : List ℕ) (addresses : List (List ℕ)) (turn : ℕ) (s : Standing) (unlisted : Option Verdict)
-    (first : Cell) (old new : World) : Type 0 where
+pub record InTurns (r : KeyRequest) (turn : ℕ) (s : Standing) (unlisted : Option Verdict) (first : Cell) (old new : World)
+    : Type 0 where
   pub rounds : List Round
   pub verdicts : List Verdict
   pub count : length rounds ≡ turn
-  pub judged : AreJudged p (at_start p key) rounds verdicts
-  pub links : AskEach p addresses rounds old new
-  pub coins : TossedFor p turn rounds first new
-  pub standing : s ≡ standing_by_verdicts p key verdicts
+  pub judged : AreJudged r.plan (at_start r.plan r.key) rounds verdicts
+  pub links : AskEach r.plan r.addresses rounds old new
+  pub coins : TossedFor r.plan turn rounds first new
+  pub standing : s ≡ standing_by_verdicts r.plan r.key verdicts
   pub unlisted_is : unlisted ≡ first_unlisted verdicts
-  pub rows_is : s.rows ≡ p.r
-  pub width_is : s.width ≡ p.s
-  pub key_is : s.key ≡ key
+  pub rows_is : s.rows ≡ r.plan.r
+  pub width_is : s.width ≡ r.plan.s
+  pub key_is : s.key ≡ r.key
   pub turn_is : s.turn ≡ turn
 
 -- no coins were taken yet
@@ -66,15 +68,15 @@ none_tossed p w =
     held (Some h) = refl
 
 -- before the first turn
-pub turns_none : (p : FetchPlan) (key : List ℕ) (addresses : List (List ℕ)) (s : Standing) (w : World) → s ≡ at_start p key
-    → InTurns p key addresses 0 s None (w.at COINS) w w
-turns_none p key addresses s w is = record {
+pub turns_none : (r : KeyRequest) (s : Standing) (w : World) → s ≡ at_start r.plan r.key
+    → InTurns r 0 s None (w.at COINS) w w
+turns_none r s w is = record {
   rounds = [];
   verdicts = [];
   count = refl;
   judged = tt;
-  links = ask_each_none p addresses w;
-  coins = none_tossed p w;
+  links = ask_each_none r.plan r.addresses w;
+  coins = none_tossed r.plan w;
   standing = is;
   unlisted_is = refl;
   rows_is = ap (λ (t : Standing). t.rows) is;
@@ -91,13 +93,26 @@ standing_more p key verdicts verdict =
     sym (fold-append standing_after (at_start p key) (map only_block verdicts) (only_block verdict ∷ []))
     ∙ ap (fold standing_after (at_start p key)) (sym (map-append only_block verdicts (verdict ∷ [])))
 
-module _ (p : FetchPlan) (key : List ℕ) (addresses : List (List ℕ)) (turn : ℕ) (s : Standing) (unlisted : Option Verdict)
-    (first : Cell) (old mid new : World) (h : InTurns p key addresses turn s unlisted first old mid) (low : asked_row s < p.r) where
+module _ (r : KeyRequest) (turn : ℕ) (s : Standing) (unlisted : Option Verdict) (first : Cell) (old mid new : World)
+    (h : InTurns r turn s unlisted first old mid) (low : asked_row s < r.plan.r) where
+  abbrev p : FetchPlan
+  p = r.plan
+
+  abbrev key : List ℕ
+  key = r.key
+
+  abbrev addresses : List (List ℕ)
+  addresses = r.addresses
+
+  -- what the fetch of this turn asks for
+  abbrev asks_for : Request
+  asks_for = request r.plan (asked_row s ∷ []) r.addresses
+
   -- one turn more
   pub turns_more : (session : Transcript) (verdict : Verdict) (next : Standing) (kept : Option Verdict)
-      → Concludes p (asked_row s ∷ []) addresses session verdict mid new
+      → Concludes asks_for session verdict mid new
       → next ≡ standing_after s (only_block verdict) → kept ≡ option_or unlisted (unlisted_of verdict)
-      → InTurns p key addresses (turn + 1) next kept first old new
+      → InTurns r (turn + 1) next kept first old new
   turns_more session verdict next kept asks is keeps =
       let round = round_of (asked_row s) asks.coins session in
       let last : IsJudged p (asked_row s) round verdict = record {
@@ -125,7 +140,7 @@ module _ (p : FetchPlan) (key : List ℕ) (addresses : List (List ℕ)) (turn : 
       }
 
   -- the fetches before, where nothing but Coins was touched after them
-  before : IsPlan p → Touches COINS mid new → Fetched p key addresses h.rounds h.verdicts old new
+  before : IsPlan p → Touches COINS mid new → Fetched r h.rounds h.verdicts old new
   before plan touch =
       let links = each_after (λ i. AskedInTurn p (slice_index_or addresses i []) i h.rounds) (link 1) p.n COINS old mid new
       (omega (arith, plan.numbers.few_servers)) (inl (omega arith)) h.links touch in
@@ -133,7 +148,7 @@ module _ (p : FetchPlan) (key : List ℕ) (addresses : List (List ℕ)) (turn : 
 
   -- a call on Coins failed
   pub ends_unread : IsPlan p → turn < turns_of p.r → FailsShort COINS (need p 1) mid new → Touches COINS mid new
-      → LookUpUnread p key addresses first old new
+      → LookUpUnread r first old new
   ends_unread plan few failed touch = record {
     rounds = h.rounds;
     verdicts = h.verdicts;
@@ -144,7 +159,7 @@ module _ (p : FetchPlan) (key : List ℕ) (addresses : List (List ℕ)) (turn : 
 
   -- Coins ended
   pub ends_short : (taken : ℕ) → IsPlan p → turn < turns_of p.r → RunsOut (need p 1) taken (mid.at COINS) (new.at COINS)
-      → Touches COINS mid new → LookUpShort p key addresses taken first old new
+      → Touches COINS mid new → LookUpShort r taken first old new
   ends_short taken plan few short touch =
       let ended = ends_next p turn taken h.rounds first mid new h.coins short in
       record {
@@ -158,7 +173,7 @@ module _ (p : FetchPlan) (key : List ℕ) (addresses : List (List ℕ)) (turn : 
 
   -- memory ran out
   pub ends_unfinished : turn ≤ turns_of p.r → turn < turns_of p.r ⊎ (new ≡ mid)
-      → (new ≡ mid) ⊎ AsksSome p (asked_row s ∷ []) addresses mid new → LookUpUnfinished p key addresses first old new
+      → (new ≡ mid) ⊎ AsksSome asks_for mid new → LookUpUnfinished r first old new
   ends_unfinished few more how = record {
     rounds = h.rounds;
     verdicts = h.verdicts;
@@ -173,15 +188,15 @@ module _ (p : FetchPlan) (key : List ℕ) (addresses : List (List ℕ)) (turn : 
     ];
   }
     where
-      stopped : new ≡ mid → Fetched p key addresses h.rounds h.verdicts old new × TossedFor p (length h.rounds) h.rounds first new
+      stopped : new ≡ mid → Fetched r h.rounds h.verdicts old new × TossedFor p (length h.rounds) h.rounds first new
       stopped same =
-          subst (λ (w : World). Fetched p key addresses h.rounds h.verdicts old w × TossedFor p (length h.rounds) h.rounds first w) (sym same) (
+          subst (λ (w : World). Fetched r h.rounds h.verdicts old w × TossedFor p (length h.rounds) h.rounds first w) (sym same) (
             record { judged = h.judged; links = h.links; frames = take_frames p addresses h.rounds old mid h.links },
             subst (λ (n : ℕ). TossedFor p n h.rounds first mid) (sym h.count) h.coins,
           )
 
-      in_vain : turn < turns_of p.r → AsksSome p (asked_row s ∷ []) addresses mid new
-          → AskedInVain p key addresses h.rounds h.verdicts first old new
+      in_vain : turn < turns_of p.r → AsksSome asks_for mid new
+          → AskedInVain r h.rounds h.verdicts first old new
       in_vain fewer asks =
           let round = round_of (asked_row s) asks.coins asks.session in
           let links = ask_each_more p addresses h.rounds (asked_row s) asks.coins asks.session old mid new h.links asks.asked.asked.links in
@@ -198,46 +213,46 @@ module _ (p : FetchPlan) (key : List ℕ) (addresses : List (List ℕ)) (turn : 
 
   -- a fetch failed
   pub ends_by_fault : (fault : FetchFault) → IsPlan p → turn < turns_of p.r
-      → Fetches p (asked_row s ∷ []) addresses (Err fault) mid new → LooksUp p key addresses (Err fault) first old new
+      → Fetches asks_for (Err fault) mid new → LooksUp r (Err fault) first old new
   ends_by_fault CoinsFault plan few fetched = ends_unread plan few fetched.0 fetched.1
   ends_by_fault (CoinsEnded taken) plan few fetched = ends_short taken plan few fetched.0 fetched.1
   ends_by_fault Memory plan few fetched = ends_unfinished (omega (arith, few)) (inl few) fetched
 
   -- the block that is told is as long as a row of the search
   pub width_told : (session : Transcript) (verdict : Verdict) → p.scheme ≡ SHAMIR
-      → Concludes p (asked_row s ∷ []) addresses session verdict mid new
+      → Concludes asks_for session verdict mid new
       → IfSome (only_block verdict) (λ block. length block ≡ s.width)
   width_told session verdict shamir asks =
       subst (λ (width : ℕ). IfSome (only_block verdict) (λ block. length block ≡ width)) (sym h.width_is)
       (width-listed p (session_number asks.coins) session verdict shamir asks.asked.asked.params asks.judged)
 
 -- nothing was done before memory ran out
-pub nothing_done : (p : FetchPlan) (key : List ℕ) (addresses : List (List ℕ)) (w : World)
-    → LookUpUnfinished p key addresses (w.at COINS) w w
-nothing_done p key addresses w =
-    let links = ask_each_none p addresses w in
+pub nothing_done : (r : KeyRequest) (w : World) → LookUpUnfinished r (w.at COINS) w w
+nothing_done r w =
+    let links = ask_each_none r.plan r.addresses w in
     record {
       rounds = [];
       verdicts = [];
       few = omega arith;
       judged = tt;
       part = inl (
-        record { judged = tt; links = links; frames = take_frames p addresses [] w w links },
-        none_tossed p w,
+        record { judged = tt; links = links; frames = take_frames r.plan r.addresses [] w w links },
+        none_tossed r.plan w,
       );
     }
 
+-- where no verdict is kept there is none
 no_verdict : (unlisted : Option Verdict) → is_some unlisted ≡ false → unlisted ≡ None
 no_verdict None is = refl
 no_verdict (Some verdict) is = cc is
 
 -- after all turns
-module _ (p : FetchPlan) (key : List ℕ) (addresses : List (List ℕ)) (turn : ℕ) (s : Standing) (unlisted : Option Verdict)
-    (first : Cell) (old new : World) (h : InTurns p key addresses turn s unlisted first old new) where
-  start_is : start_of s ≡ at_start p key
+module _ (r : KeyRequest) (turn : ℕ) (s : Standing) (unlisted : Option Verdict) (first : Cell) (old new : World)
+    (h : InTurns r turn s unlisted first old new) where
+  start_is : start_of s ≡ at_start r.plan r.key
   start_is =
       ap (λ (rows : ℕ). standing_at_start rows s.width s.key) h.rows_is
-      ∙ ap₂ (λ (width : ℕ) (k : List ℕ). standing_at_start p.r width k) h.width_is h.key_is
+      ∙ ap₂ (λ (width : ℕ) (k : List ℕ). standing_at_start r.plan.r width k) h.width_is h.key_is
 
   told : WasTold s (map only_block h.verdicts)
   told = h.standing ∙ ap (λ (t : Standing). fold standing_after t (map only_block h.verdicts)) (sym start_is)
@@ -246,28 +261,28 @@ module _ (p : FetchPlan) (key : List ℕ) (addresses : List (List ℕ)) (turn : 
   pub lost_is : s.is_lost ≡ is_some unlisted
   lost_is = lost-told s (map only_block h.verdicts) told ∙ lost-unlisted h.verdicts ∙ ap is_some (sym h.unlisted_is)
 
-  among : (rows : List (List ℕ)) → IsPlan p → turn ≡ turns_of p.r → length rows ≡ p.r → AreSortedByKey key rows
-      → ListRowsAsked rows h.rounds h.verdicts → (unlisted ≡ None) × (s.found ≡ row_with key rows)
+  among : (rows : List (List ℕ)) → IsPlan r.plan → turn ≡ turns_of r.plan.r → length rows ≡ r.plan.r → AreSortedByKey r.key rows
+      → ListRowsAsked rows h.rounds h.verdicts → (unlisted ≡ None) × (s.found ≡ row_with r.key rows)
   among rows plan all whole sorted list =
       let look : IsLookUp rows s (map only_block h.verdicts) = record {
         told_so = told;
         all = whole ∙ sym h.rows_is;
         sorted = subst (λ (k : List ℕ). AreSortedByKey k rows) (sym h.key_is) sorted;
         asked_for = subst (λ (t : Standing). AreRowsAsked rows t (map only_block h.verdicts)) (sym start_is)
-            (rows_asked p rows (at_start p key) h.rounds h.verdicts h.judged list);
+            (rows_asked r.plan rows (at_start r.plan r.key) h.rounds h.verdicts h.judged list);
       } in
       let turns : s.turn ≡ turns_of s.rows = h.turn_is ∙ all ∙ ap turns_of (sym h.rows_is) in
       let found = found-from s rows (map only_block h.verdicts) (omega (arith, h.rows_is, plan.numbers.shape.some_rows))
       (omega (arith, h.rows_is, plan.numbers.shape.few_rows)) turns look in
       (no_verdict unlisted (sym lost_is ∙ found.0), found.1 ∙ ap (λ (k : List ℕ). row_with k rows) h.key_is)
 
-  pub looked_up : IsPlan p → turn ≡ turns_of p.r → LookedUp p key addresses (record { unlisted = unlisted; found = s.found }) first old new
+  pub looked_up : IsPlan r.plan → turn ≡ turns_of r.plan.r → LookedUp r (record { unlisted = unlisted; found = s.found }) first old new
   looked_up plan all = record {
     rounds = h.rounds;
     verdicts = h.verdicts;
     turns = h.count ∙ all;
-    fetched = record { judged = h.judged; links = h.links; frames = take_frames p addresses h.rounds old new h.links };
-    coins = subst (λ (n : ℕ). TossedFor p n h.rounds first new) all h.coins;
+    fetched = record { judged = h.judged; links = h.links; frames = take_frames r.plan r.addresses h.rounds old new h.links };
+    coins = subst (λ (n : ℕ). TossedFor r.plan n h.rounds first new) all h.coins;
     ends = ap₂ (λ (u : Option Verdict) (found : Option (List ℕ)). ended u found) h.unlisted_is
         (found-told s (map only_block h.verdicts) told ∙ ap (λ (k : List ℕ). row_with k (rows_told (map only_block h.verdicts))) h.key_is);
     row = λ rows whole sorted list.

@@ -14,12 +14,8 @@ use Rattle.query_rounds.specs.declared.plan.FetchPlan.{FetchPlan}
 use Rattle.query_rounds.specs.Plan.{params_of}
 use Rattle.key_search.specs.Standing.{Standing, standing_after}
 use Rattle.key_search.specs.Answers.{AreRowsAsked}
-use Rattle.key_fetches.specs.Listed.{first_unlisted, only_block}
+use Rattle.key_fetches.specs.Listed.{first_unlisted, only_block, unlisted_of}
 use Rattle.key_fetches.specs.Rounds.{AreJudged, ListRowsAsked, Round}
-
--- the verdict, where it doesn't list exactly one block
-abbrev pub unlisted_of : Verdict → Option Verdict
-unlisted_of verdict = cond (is_none (only_block verdict)) (Some verdict) None
 
 -- the first such verdict, of one more
 pub unlisted-more : (verdicts : List Verdict) (verdict : Verdict)

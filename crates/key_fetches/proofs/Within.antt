@@ -10,20 +10,27 @@ use Rattle.query_rounds.specs.declared.plan.FetchFault.{FetchFault}
 use Rattle.query_rounds.specs.declared.plan.FetchFault.TheVariants.{CoinsFault, CoinsEnded, Memory}
 use Rattle.query_rounds.specs.Plan.{need}
 use Rattle.port_rules.specs.Tossed.{Tossed}
+use Rattle.key_fetches.specs.KeyRequest.{KeyRequest}
 use Rattle.key_fetches.specs.Listed.{Ended}
 use Rattle.key_fetches.specs.Rounds.{AskEach, AskedInTurn, Round, TossedFor, coins_of}
 use Rattle.key_fetches.specs.LookedUp.{EndsNext, FailsNext, Fetched, LookedUp, LooksUp}
 use Rattle.key_fetches.proofs.Frames.{take_frames}
 
-module _ (p : FetchPlan) (key : List ℕ) (addresses : List (List ℕ)) (first : Cell) (w v u z : World)
-    (before : (i : ℕ) → i < p.n → v.at (link 1 + i) ≡ w.at (link 1 + i))
-    (after : (i : ℕ) → i < p.n → z.at (link 1 + i) ≡ u.at (link 1 + i)) (still : z.at COINS ≡ u.at COINS) where
+module _ (r : KeyRequest) (first : Cell) (w v u z : World)
+    (before : (i : ℕ) → i < r.plan.n → v.at (link 1 + i) ≡ w.at (link 1 + i))
+    (after : (i : ℕ) → i < r.plan.n → z.at (link 1 + i) ≡ u.at (link 1 + i)) (still : z.at COINS ≡ u.at COINS) where
+  abbrev p : FetchPlan
+  p = r.plan
+
+  abbrev addresses : List (List ℕ)
+  addresses = r.addresses
+
   asked : (rounds : List Round) → AskEach p addresses rounds v u → AskEach p addresses rounds w z
   asked rounds h =
       each_within (λ i. AskedInTurn p (slice_index_or addresses i []) i rounds) (link 1) p.n w v u z before after h
 
-  fetched : (rounds : List Round) (verdicts : List Verdict) → Fetched p key addresses rounds verdicts v u
-      → Fetched p key addresses rounds verdicts w z
+  fetched : (rounds : List Round) (verdicts : List Verdict) → Fetched r rounds verdicts v u
+      → Fetched r rounds verdicts w z
   fetched rounds verdicts h =
       let links = asked rounds h.links in
       record { judged = h.judged; links = links; frames = take_frames p addresses rounds w z links }
@@ -31,7 +38,7 @@ module _ (p : FetchPlan) (key : List ℕ) (addresses : List (List ℕ)) (first :
   tossed : (count : ℕ) (rounds : List Round) → TossedFor p count rounds first u → TossedFor p count rounds first z
   tossed count rounds h = subst (λ (c : Cell). Tossed (count * need p 1) (coins_of rounds) first c) (sym still) h
 
-  looked_within : (ended : Ended) → LookedUp p key addresses ended first v u → LookedUp p key addresses ended first w z
+  looked_within : (ended : Ended) → LookedUp r ended first v u → LookedUp r ended first w z
   looked_within ended h = record {
     rounds = h.rounds;
     verdicts = h.verdicts;
@@ -43,7 +50,7 @@ module _ (p : FetchPlan) (key : List ℕ) (addresses : List (List ℕ)) (first :
   }
 
   -- whatever the look-up answers
-  pub looks_within : (r : Result Ended FetchFault) → LooksUp p key addresses r first v u → LooksUp p key addresses r first w z
+  pub looks_within : (result : Result Ended FetchFault) → LooksUp r result first v u → LooksUp r result first w z
   looks_within (Ok ended) h = looked_within ended h
   looks_within (Err CoinsFault) h = record {
     rounds = h.rounds;

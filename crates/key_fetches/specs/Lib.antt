@@ -1,3 +1,4 @@
+pub mod KeyRequest
 pub mod Listed
 pub mod Text
 pub mod Rounds

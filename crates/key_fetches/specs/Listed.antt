@@ -1,5 +1,5 @@
 -- What the verdicts of a look-up's fetches say of the row with the key.
-use Rattle.std.specs.Prelude.{◌≡◌, List, [], ◌∷◌, ℕ, map, Option, Some, None, is_none}
+use Rattle.std.specs.Prelude.{◌≡◌, List, [], ◌∷◌, ℕ, map, Option, Some, None, is_none, if◌then◌else◌}
 use Rattle.std.specs.List.{find}
 use Rattle.block_decoder.specs.declared.verdict.Verdict.{Verdict}
 use Rattle.block_decoder.specs.declared.verdict.Verdict.TheVariants.{Listed, TooFew, TooWeak, TooCostly}
@@ -19,6 +19,10 @@ only_block (Listed blocks) = only_of blocks
 only_block (TooFew k h) = None
 only_block (TooWeak k t h) = None
 only_block (TooCostly equations) = None
+
+-- the verdict, where it doesn't list exactly one block
+abbrev pub unlisted_of : Verdict → Option Verdict
+unlisted_of verdict = if is_none (only_block verdict) then Some verdict else None
 
 -- the blocks of the verdicts that list exactly one
 abbrev pub blocks_listed : List Verdict → List (List ℕ)

@@ -10,6 +10,7 @@ use Rattle.query_rounds.specs.declared.plan.FetchFault.TheVariants.{CoinsFault, 
 use Rattle.query_rounds.specs.Plan.{need}
 use Rattle.key_search.specs.Standing.{Standing, asked_row, standing_after, standing_at_start, turns_of}
 use Rattle.key_search.specs.Answers.{AreSortedByKey}
+use Rattle.key_fetches.specs.KeyRequest.{KeyRequest}
 use Rattle.key_fetches.specs.Listed.{Ended, end_among, end_by, only_block}
 use Rattle.key_fetches.specs.Rounds.{AreJudged, AskEach, IsRound, ListRowsAsked, Round, TossedFor, coins_of}
 use Rattle.key_fetches.specs.Sent.{TakeFrames}
@@ -23,24 +24,22 @@ abbrev pub standing_by_verdicts : FetchPlan → List ℕ → List Verdict → St
 standing_by_verdicts p key verdicts = fold standing_after (at_start p key) (map only_block verdicts)
 
 -- some fetches of a look-up, with their verdicts, each of which asked every server
-pub record Fetched (p : FetchPlan) (key : List ℕ) (addresses : List (List ℕ)) (rounds : List Round) (verdicts : List Verdict)
-    (old new : World) : Type 0 where
-  pub judged : AreJudged p (at_start p key) rounds verdicts
-  pub links : AskEach p addresses rounds old new
-  pub frames : TakeFrames p rounds old new
+pub record Fetched (r : KeyRequest) (rounds : List Round) (verdicts : List Verdict) (old new : World) : Type 0 where
+  pub judged : AreJudged r.plan (at_start r.plan r.key) rounds verdicts
+  pub links : AskEach r.plan r.addresses rounds old new
+  pub frames : TakeFrames r.plan rounds old new
 
 -- a fetch was made in each turn, and this is what they came to. Where the verdicts list the rows that were asked for, of
 -- rows that ascend by their keys, it is the row with the key
-pub record LookedUp (p : FetchPlan) (key : List ℕ) (addresses : List (List ℕ)) (ended : Ended) (first : Cell)
-    (old new : World) : Type 0 where
+pub record LookedUp (r : KeyRequest) (ended : Ended) (first : Cell) (old new : World) : Type 0 where
   pub rounds : List Round
   pub verdicts : List Verdict
-  pub turns : length rounds ≡ turns_of p.r
-  pub fetched : Fetched p key addresses rounds verdicts old new
-  pub coins : TossedFor p (turns_of p.r) rounds first new
-  pub ends : ended ≡ end_by key verdicts
-  pub row : (rows : List (List ℕ)) → length rows ≡ p.r → AreSortedByKey key rows → ListRowsAsked rows rounds verdicts
-      → ended ≡ end_among key rows
+  pub turns : length rounds ≡ turns_of r.plan.r
+  pub fetched : Fetched r rounds verdicts old new
+  pub coins : TossedFor r.plan (turns_of r.plan.r) rounds first new
+  pub ends : ended ≡ end_by r.key verdicts
+  pub row : (rows : List (List ℕ)) → length rows ≡ r.plan.r → AreSortedByKey r.key rows → ListRowsAsked rows rounds verdicts
+      → ended ≡ end_among r.key rows
 
 -- so many coins were taken, and then a call on the port failed, before those of one more fetch were whole
 pub record FailsNext (each : ℕ) (coins : List ℕ) (old new : Cell) : Type 0 where
@@ -57,12 +56,12 @@ pub record EndsNext (each n : ℕ) (coins : List ℕ) (old new : Cell) : Type 0 
   pub told : IfSome old.holds (λ held. (coins ≡ take (length coins) held) × (length held ≡ length coins + n))
 
 -- fewer fetches were made than there are turns, when a call on Coins failed
-pub record LookUpUnread (p : FetchPlan) (key : List ℕ) (addresses : List (List ℕ)) (first : Cell) (old new : World) : Type 0 where
+pub record LookUpUnread (r : KeyRequest) (first : Cell) (old new : World) : Type 0 where
   pub rounds : List Round
   pub verdicts : List Verdict
-  pub fewer : length rounds < turns_of p.r
-  pub fetched : Fetched p key addresses rounds verdicts old new
-  pub coins : FailsNext (need p 1) (coins_of rounds) first (new.at COINS)
+  pub fewer : length rounds < turns_of r.plan.r
+  pub fetched : Fetched r rounds verdicts old new
+  pub coins : FailsNext (need r.plan 1) (coins_of rounds) first (new.at COINS)
 
 -- how many coins there were: fewer than all turns need, and these are what the fetches left of them
 pub record TooFewHeld (p : FetchPlan) (taken : ℕ) (held : List ℕ) : Type 0 where
@@ -70,37 +69,35 @@ pub record TooFewHeld (p : FetchPlan) (taken : ℕ) (held : List ℕ) : Type 0 w
   pub rest : taken ≡ length held % need p 1
 
 -- fewer fetches were made than there are turns, when Coins ended
-pub record LookUpShort (p : FetchPlan) (key : List ℕ) (addresses : List (List ℕ)) (taken : ℕ) (first : Cell)
-    (old new : World) : Type 0 where
+pub record LookUpShort (r : KeyRequest) (taken : ℕ) (first : Cell) (old new : World) : Type 0 where
   pub rounds : List Round
   pub verdicts : List Verdict
-  pub fewer : length rounds < turns_of p.r
-  pub fetched : Fetched p key addresses rounds verdicts old new
-  pub coins : EndsNext (need p 1) taken (coins_of rounds) first (new.at COINS)
-  pub held : IfSome first.holds (TooFewHeld p taken)
+  pub fewer : length rounds < turns_of r.plan.r
+  pub fetched : Fetched r rounds verdicts old new
+  pub coins : EndsNext (need r.plan 1) taken (coins_of rounds) first (new.at COINS)
+  pub held : IfSome first.holds (TooFewHeld r.plan taken)
 
 -- one more fetch asked every server, and has no verdict
-pub record AskedInVain (p : FetchPlan) (key : List ℕ) (addresses : List (List ℕ)) (rounds : List Round)
-    (verdicts : List Verdict) (first : Cell) (old new : World) : Type 0 where
+pub record AskedInVain (r : KeyRequest) (rounds : List Round) (verdicts : List Verdict) (first : Cell) (old new : World) : Type 0 where
   pub last : Round
-  pub fewer : length rounds < turns_of p.r
-  pub asked : IsRound p (asked_row (standing_by_verdicts p key verdicts)) last
-  pub links : AskEach p addresses (rounds ++ last ∷ []) old new
-  pub frames : TakeFrames p (rounds ++ last ∷ []) old new
-  pub coins : TossedFor p (length rounds + 1) (rounds ++ last ∷ []) first new
+  pub fewer : length rounds < turns_of r.plan.r
+  pub asked : IsRound r.plan (asked_row (standing_by_verdicts r.plan r.key verdicts)) last
+  pub links : AskEach r.plan r.addresses (rounds ++ last ∷ []) old new
+  pub frames : TakeFrames r.plan (rounds ++ last ∷ []) old new
+  pub coins : TossedFor r.plan (length rounds + 1) (rounds ++ last ∷ []) first new
 
 -- memory ran out after some fetches: before a server was asked in one more, or when all were
-pub record LookUpUnfinished (p : FetchPlan) (key : List ℕ) (addresses : List (List ℕ)) (first : Cell) (old new : World) : Type 0 where
+pub record LookUpUnfinished (r : KeyRequest) (first : Cell) (old new : World) : Type 0 where
   pub rounds : List Round
   pub verdicts : List Verdict
-  pub few : length rounds ≤ turns_of p.r
-  pub judged : AreJudged p (at_start p key) rounds verdicts
-  pub part : (Fetched p key addresses rounds verdicts old new × TossedFor p (length rounds) rounds first new)
-      ⊎ AskedInVain p key addresses rounds verdicts first old new
+  pub few : length rounds ≤ turns_of r.plan.r
+  pub judged : AreJudged r.plan (at_start r.plan r.key) rounds verdicts
+  pub part : (Fetched r rounds verdicts old new × TossedFor r.plan (length rounds) rounds first new)
+      ⊎ AskedInVain r rounds verdicts first old new
 
 -- what a look-up answers, and what it did then, where Coins was this at first
-abbrev pub LooksUp : FetchPlan → List ℕ → List (List ℕ) → Result Ended FetchFault → Cell → World → World → Type 0
-LooksUp p key addresses (Ok ended) first old new = LookedUp p key addresses ended first old new
-LooksUp p key addresses (Err CoinsFault) first old new = LookUpUnread p key addresses first old new
-LooksUp p key addresses (Err (CoinsEnded taken)) first old new = LookUpShort p key addresses taken first old new
-LooksUp p key addresses (Err Memory) first old new = LookUpUnfinished p key addresses first old new
+abbrev pub LooksUp : KeyRequest → Result Ended FetchFault → Cell → World → World → Type 0
+LooksUp r (Ok ended) first old new = LookedUp r ended first old new
+LooksUp r (Err CoinsFault) first old new = LookUpUnread r first old new
+LooksUp r (Err (CoinsEnded taken)) first old new = LookUpShort r taken first old new
+LooksUp r (Err Memory) first old new = LookUpUnfinished r first old new

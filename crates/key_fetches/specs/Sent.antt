@@ -13,20 +13,20 @@ use Rattle.key_fetches.specs.Rounds.{Round, frame_in}
 abbrev pub frames_to : FetchPlan → ℕ → List Round → List (List ℕ)
 frames_to p i rounds = map (frame_in p i) rounds
 
--- of each frame a front
-abbrev pub AreFronts : List (List ℕ) → List (List ℕ) → Type 0
-AreFronts [] [] = ⊤
-AreFronts [] (frame ∷ frames) = ⊥
-AreFronts (front ∷ fronts) [] = ⊥
-AreFronts (front ∷ fronts) (frame ∷ frames) = (front ≡ take (length front) frame) × AreFronts fronts frames
+-- of each frame a prefix
+abbrev pub ArePrefixes : List (List ℕ) → List (List ℕ) → Type 0
+ArePrefixes [] [] = ⊤
+ArePrefixes [] (frame ∷ frames) = ⊥
+ArePrefixes (prefix ∷ prefixes) [] = ⊥
+ArePrefixes (prefix ∷ prefixes) (frame ∷ frames) = (prefix ≡ take (length prefix) frame) × ArePrefixes prefixes frames
 
--- a link took of the frame of each fetch in turn a front, and its count rose by no more than there were fetches; and where it
+-- a link took of the frame of each fetch in turn a prefix, and its count rose by no more than there were fetches; and where it
 -- stayed, the link took exactly these frames
 pub record TakesFrames (frames : List (List ℕ)) (old new : Cell) : Type 0 where
-  pub fronts : List (List ℕ)
-  pub are : AreFronts fronts frames
+  pub prefixes : List (List ℕ)
+  pub are : ArePrefixes prefixes frames
   pub most : RoseAtMost (length frames) old.faults new.faults
-  pub took : new.accepted ≡ option_map (λ taken. taken ++ concat fronts) old.accepted
+  pub took : new.accepted ≡ option_map (λ taken. taken ++ concat prefixes) old.accepted
   pub whole : (Rose old.faults new.faults → ⊥)
       → new.accepted ≡ option_map (λ taken. taken ++ concat frames) old.accepted
 

@@ -14,10 +14,12 @@
 //! found, or anything of time.
 #![tactic(auto)]
 
+mod key_request;
 mod looked_up;
 mod turns;
 mod write;
 
+pub use key_request::KeyRequest;
 pub use looked_up::{Ending, LookUp};
 pub use turns::look_up;
 pub use write::write_end;

@@ -27,7 +27,7 @@ fn write_found<P: Ports>(ports: &mut P, row: &[u8]) -> Result<(), Failed>
 ///
 /// # Errors
 ///
-/// `Failed` exactly where the count of Output rose; then Output took a proper front of the text.
+/// `Failed` exactly where the count of Output rose; then Output took a proper prefix of the text.
 pub fn write_end<P: Ports>(ports: &mut P, look_up: &LookUp) -> Result<(), Failed>
     ensures written { Written OUTPUT (end_text look_up.now) result (P.world ports.old) (P.world ports.new) }
     ensures others { Touches OUTPUT (P.world ports.old) (P.world ports.new) }

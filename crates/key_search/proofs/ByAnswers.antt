@@ -26,14 +26,17 @@ pub record Passes (s t : Standing) : Type 0 where
   pub turn : t.turn ≡ s.turn
   pub is_lost : t.is_lost ≡ s.is_lost
 
+-- to leave the rows above the middle one is a step of a search
 above-passes : (b : Bool) (s : Standing) → Passes s (cond b (record s { from = middle_row s + 1 }) s)
 above-passes true s = record { rows = refl; width = refl; key = refl; turn = refl; is_lost = refl }
 above-passes false s = record { rows = refl; width = refl; key = refl; turn = refl; is_lost = refl }
 
+-- so is to leave those below it
 below-passes : (b : Bool) (s : Standing) → Passes s (cond b (record s { to = middle_row s }) s)
 below-passes true s = record { rows = refl; width = refl; key = refl; turn = refl; is_lost = refl }
 below-passes false s = record { rows = refl; width = refl; key = refl; turn = refl; is_lost = refl }
 
+-- so is what a row makes of a search
 met-passes : (o : Ordering) (row : List ℕ) (s : Standing) → Passes s (standing_by o row s)
 met-passes Less row s = above-passes (nat_lt s.from s.to) s
 met-passes Equal row s = record { rows = refl; width = refl; key = refl; turn = refl; is_lost = refl }
@@ -44,14 +47,17 @@ or_none : (found : Option (List ℕ)) → found ≡ option_or found None
 or_none None = refl
 or_none (Some row) = refl
 
+-- to leave the rows above the middle one keeps the row that was found
 above-found : (b : Bool) (s : Standing) → (cond b (record s { from = middle_row s + 1 }) s).found ≡ s.found
 above-found true s = refl
 above-found false s = refl
 
+-- so does to leave those below it
 below-found : (b : Bool) (s : Standing) → (cond b (record s { to = middle_row s }) s).found ≡ s.found
 below-found true s = refl
 below-found false s = refl
 
+-- what a row makes of the row that was found
 met-found : (o : Ordering) (row : List ℕ) (s : Standing)
     → (standing_by o row s).found ≡ option_or s.found (cond (is_eq o) (Some row) None)
 met-found Less row s = above-found (nat_lt s.from s.to) s ∙ or_none s.found
@@ -65,6 +71,7 @@ told-found s row =
     met-found (key_order s.key row) row (record s { turn = s.turn + 1 })
     ∙ ap (λ (b : Bool). option_or s.found (cond b (Some row) None)) (sym (has_key-compared s.key row))
 
+-- to be told a row is a step of a search
 told-passes : (s : Standing) (row : List ℕ) → Passes (record s { turn = s.turn + 1 }) (standing_after s (Some row))
 told-passes s row = met-passes (key_order s.key row) row (record s { turn = s.turn + 1 })
 
@@ -75,6 +82,7 @@ or_or None true row rest = refl
 or_or None false row rest = refl
 or_or (Some first) b row rest = refl
 
+-- the row that was found after some answers
 fold-found : (answers : List (Option (List ℕ))) (s : Standing)
     → (fold standing_after s answers).found ≡ option_or s.found (row_with s.key (rows_told answers))
 fold-found [] s = or_none s.found
@@ -84,14 +92,17 @@ fold-found (Some row ∷ answers) s =
     ∙ ap₂ (λ (found : Option (List ℕ)) (key : List ℕ). option_or found (row_with key (rows_told answers))) (told-found s row) (told-passes s row).key
     ∙ or_or s.found (has_key s.key row) row (row_with s.key (rows_told answers))
 
+-- a test, or one that holds
 or_true : (b c : Bool) → true ≡ (b || (true || c))
 or_true true c = refl
 or_true false c = refl
 
+-- a test, or one that fails
 or_false : (b : Bool) → b ≡ (b || false)
 or_false true = refl
 or_false false = refl
 
+-- whether a row was lost after some answers
 fold-lost : (answers : List (Option (List ℕ))) (s : Standing)
     → (fold standing_after s answers).is_lost ≡ (s.is_lost || list_any is_none answers)
 fold-lost [] s = or_false s.is_lost
@@ -124,9 +135,11 @@ next-turn s None = record { rows = refl; width = refl; key = refl; turn = refl }
 next-turn s (Some row) =
     let same = told-passes s row in record { rows = same.rows; width = same.width; key = same.key; turn = same.turn }
 
+-- one answer is one turn
 pub IsNextTurn-from : (s t : Standing) (answer : Option (List ℕ)) → t ≡ standing_after s answer → IsNextTurn s t
 IsNextTurn-from s t answer is = subst (λ (u : Standing). IsNextTurn s u) (sym is) (next-turn s answer)
 
+-- an answer keeps the start of a search
 start_of-after : (s : Standing) (answer : Option (List ℕ)) → start_of (standing_after s answer) ≡ start_of s
 start_of-after s answer =
     let same = next-turn s answer in
@@ -141,6 +154,7 @@ WasTold-more s answers answer h =
     ∙ sym (fold-append standing_after (start_of s) answers (answer ∷ []))
     ∙ ap (λ (t : Standing). fold standing_after t (answers ++ answer ∷ [])) (sym (start_of-after s answer))
 
+-- what was told has one more answer at its end
 pub WasTold-from : (s t : Standing) (answers : List (Option (List ℕ))) (answer : Option (List ℕ)) → t ≡ standing_after s answer → WasTold s answers
     → WasTold t (answers ++ answer ∷ [])
 WasTold-from s t answers answer is h = subst (λ (u : Standing). WasTold u (answers ++ answer ∷ [])) (sym is) (WasTold-more s answers answer h)

@@ -40,6 +40,7 @@ key_at-less key rows i j sorted lt in_rows =
     subst (λ (x : List ℕ). slice_cmp nat_cmp x (key_at key rows j) ≡ Less) (get_or-map (take (length key)) rows i [] [] (omega arith))
     (subst (λ (y : List ℕ). slice_cmp nat_cmp (get_or (map (take (length key)) rows) i []) y ≡ Less) (get_or-map (take (length key)) rows j [] [] in_rows) less)
 
+-- a key is equal to itself
 key_at-itself : (key : List ℕ) → slice_cmp nat_cmp key key ≡ Equal
 key_at-itself key = tied_itself nat_list_cmp_total key
 
@@ -97,6 +98,7 @@ row_with-at key rows i sorted in_rows h =
     found_at (find (has_key key)) (has_key key) Some None refl (λ _ _. refl) rows i [] in_rows
     (λ k lt. false_from_ne_true (has_key key (get_or rows k [])) (λ at_k. keys-apart key rows k i sorted lt in_rows at_k h)) h
 
+-- no row begins with the key
 row_with-none : (key : List ℕ) (rows : List (List ℕ)) → ((j : ℕ) → j < length rows → has_key key (get_or rows j []) ≡ true → ⊥)
     → row_with key rows ≡ None
 row_with-none key rows none =
@@ -132,6 +134,7 @@ asked-lt s n within some = go (s.is_lost || is_some s.found) (nat_le s.to s.from
     go false true e = omega arith
     go false false e = let wide = leb-false s.to s.from (sym e) in omega arith
 
+-- where the middle row is less than the key, the rows above it lead to the row with the key
 above-leads : (rows : List (List ℕ)) (s : Standing) (k : ℕ) (b : Bool) → nat_lt s.from s.to ≡ b → Leads rows s (suc k)
     → key_order s.key (get_or rows (asked_row s) []) ≡ Less
     → Leads rows (cond b (record s { turn = s.turn + 1; from = middle_row s + 1 }) (record s { turn = s.turn + 1 })) k
@@ -161,6 +164,7 @@ above-leads rows s k false e h before =
       inside = h.inside;
     }
 
+-- where it is greater, the rows below it do
 below-leads : (rows : List (List ℕ)) (s : Standing) (k : ℕ) (b : Bool) → nat_lt s.from s.to ≡ b → Leads rows s (suc k)
     → key_order s.key (get_or rows (asked_row s) []) ≡ Greater
     → Leads rows (cond b (record s { turn = s.turn + 1; to = middle_row s }) (record s { turn = s.turn + 1 })) k
@@ -196,10 +200,12 @@ kept-found : (found : Option (List ℕ)) (new row : List ℕ) (goal : Option (Li
 kept-found None new row goal e old is = is ∙ e
 kept-found (Some x) new row goal e old is = old x refl ∙ e
 
+-- a row that is kept is some row
 kept-some : (found : Option (List ℕ)) (new : List ℕ) → option_or found (Some new) ≡ None → ⊥
 kept-some None new e = cc e
 kept-some (Some x) new e = cc e
 
+-- what the middle row makes of a search leads there
 met-leads : (rows : List (List ℕ)) (s : Standing) (k : ℕ) (o : Ordering) → key_order s.key (get_or rows (asked_row s) []) ≡ o
     → Leads rows s (suc k) → Leads rows (standing_by o (get_or rows (asked_row s) []) (record s { turn = s.turn + 1 })) k
 met-leads rows s k Less e h = above-leads rows s k (nat_lt s.from s.to) refl h e
@@ -218,6 +224,7 @@ met-leads rows s k Equal e h =
       inside = λ none. absurd (kept-some s.found row none);
     }
 
+-- so does to be told the row that was asked for
 told-leads : (rows : List (List ℕ)) (s : Standing) (k : ℕ) → Leads rows s (suc k)
     → Leads rows (standing_after s (Some (get_or rows (asked_row s) []))) k
 told-leads rows s k h = met-leads rows s k (key_order s.key (get_or rows (asked_row s) [])) refl h
@@ -232,6 +239,7 @@ fold-leads (answer ∷ answers) rows s h asked_for =
     let next = subst (λ (a : Option (List ℕ)). Leads rows (standing_after s a) (length answers)) (sym is) (told-leads rows s (length answers) h) in
     fold-leads answers rows (standing_after s answer) next asked_for.1
 
+-- at its start a search leads to the row with the key
 start-leads : (rows : List (List ℕ)) (s : Standing) → 1 ≤ s.rows → s.rows < 2 ^ 32 → length rows ≡ s.rows → AreSortedByKey s.key rows
     → Leads rows (start_of s) (turns_of s.rows)
 start-leads rows s some few all sorted = record {
@@ -253,6 +261,7 @@ none-led s rows h none =
     let one = pow-zero 2 in
     omega arith)
 
+-- after all turns it has found that row, or there is none
 found-led : (s : Standing) (rows : List (List ℕ)) (found : Option (List ℕ)) → s.found ≡ found → Leads rows s 0
     → found ≡ row_with s.key rows
 found-led s rows None is h = sym (none-led s rows h is)

@@ -1,5 +1,5 @@
 -- What a search comes to, by the rows that it was told.
-use Rattle.std.specs.Prelude.{◌≡◌, ℕ, Bool, true, false, List, [], ◌∷◌, length, map, take, nat_eq, Option, Some, None, is_none, slice_get, ⊤, fold}
+use Rattle.std.specs.Prelude.{◌≡◌, ℕ, Bool, true, false, List, [], ◌∷◌, ◌++◌, length, map, take, nat_eq, Option, Some, None, is_none, slice_get, ⊤, fold}
 use Rattle.std.specs.Cmp.Lexicographic.{slice_cmp}
 use Rattle.std.specs.List.{find, filter_map, list_any, starts_with}
 use Rattle.std.specs.List.Sorted.{IsStrictlySortedBy}
@@ -62,3 +62,25 @@ pub record IsLookUp (rows : List (List ℕ)) (s : Standing) (answers : List (Opt
   pub all : length rows ≡ s.rows
   pub sorted : AreSortedByKey s.key rows
   pub asked_for : AreRowsAsked rows (start_of s) answers
+
+-- a look-up begins among any rows, as many, that ascend by their keys
+abbrev pub BeginsLookUp : ℕ → List ℕ → Standing → Type 0
+BeginsLookUp count key s = (rows : List (List ℕ)) → length rows ≡ count → AreSortedByKey key rows → IsLookUp rows s []
+
+-- what a search was told so far has one more answer at its end
+abbrev pub IsToldMore : Standing → Option (List ℕ) → Standing → Type 0
+IsToldMore old answer new = (answers : List (Option (List ℕ))) → WasTold old answers → WasTold new (answers ++ answer ∷ [])
+
+-- so it has in a look-up, where the answer is the row that was asked for
+abbrev pub LooksUpMore : Standing → Option (List ℕ) → Standing → Type 0
+LooksUpMore old answer new = (rows : List (List ℕ)) (answers : List (Option (List ℕ))) → IsLookUp rows old answers
+    → answer ≡ slice_get rows (asked_row old) → IsLookUp rows new (answers ++ answer ∷ [])
+
+-- a search ends by what it was told alone, whatever that was
+abbrev pub EndsByAnswers : Standing → Outcome → Type 0
+EndsByAnswers s outcome = (answers : List (Option (List ℕ))) → WasTold s answers → EndsBy s.key answers outcome
+
+-- a look-up finds the row with the key among its rows, or that there is none
+abbrev pub FindsAmongRows : Standing → Outcome → Type 0
+FindsAmongRows s outcome = (rows : List (List ℕ)) (answers : List (Option (List ℕ))) → IsLookUp rows s answers
+    → Finds s.key rows outcome

@@ -1,8 +1,8 @@
 //! A search by key among rows that ascend, with a fixed number of turns.
 
-ghost use Rattle.std.specs.Prelude.{◌≡◌, ℕ, ◌-◌, ◌^◌, ◌<◌, ◌≤◌, List, [], ◌∷◌, ◌++◌, Option, length, IfOk, IfSome, option_copied, slice_get};
+ghost use Rattle.std.specs.Prelude.{◌≡◌, ◌-◌, ◌^◌, ◌<◌, ◌≤◌, [], length, IfOk, IfSome, option_copied};
 ghost use Rattle.key_search.specs.Standing.{IsNextTurn, asked_row, key_order, left_above, left_below, middle_row, standing_after, standing_at_start, standing_by, turns_of, with_found};
-ghost use Rattle.key_search.specs.Answers.{AreSortedByKey, EndsAs, EndsBy, Finds, IsLookUp, WasTold};
+ghost use Rattle.key_search.specs.Answers.{BeginsLookUp, EndsAs, EndsByAnswers, FindsAmongRows, IsToldMore, LooksUpMore, WasTold};
 
 use crate::key::Key;
 use std::alloc::{AllocError, Global};
@@ -83,8 +83,7 @@ impl Search {
         ensures standing { IfOk result (λ s. s ≡ standing_at_start rows width key) }
         ensures answers { IfOk result (λ s. WasTold s []) }
         // Among rows that ascend by their keys, a look-up begins.
-        ensures row { IfOk result (λ s. (all : List (List ℕ)) → length all ≡ rows → AreSortedByKey key all
-            → IsLookUp all s []) }
+        ensures row { IfOk result (BeginsLookUp rows key) }
     {
         let row = vec![in alloc; 0; width as usize]?;
         Ok(Search {
@@ -129,12 +128,9 @@ impl Search {
         ensures standing { self.new ≡ standing_after self.old (option_copied answer.entry) }
         ensures turn { IsNextTurn self.old self.new }
         // What was told so far has the answer at its end.
-        ensures answers { (answers : List (Option (List ℕ))) → WasTold self.old answers
-            → WasTold self.new (answers ++ option_copied answer.entry ∷ []) }
+        ensures answers { IsToldMore self.old (option_copied answer.entry) self.new }
         // The same of rows that ascend, where the answer is the one that was asked for.
-        ensures row { (rows : List (List ℕ)) (answers : List (Option (List ℕ))) → IsLookUp rows self.old answers
-            → option_copied answer.entry ≡ slice_get rows (asked_row self.old)
-            → IsLookUp rows self.new (answers ++ option_copied answer.entry ∷ []) }
+        ensures row { LooksUpMore self.old (option_copied answer.entry) self.new }
     {
         self.turn += 1;
         match answer {
@@ -149,11 +145,9 @@ impl Search {
         requires { self.now.turn ≡ turns_of self.now.rows }
         ensures standing { EndsAs self.now result }
         // By what was told alone, whatever it was.
-        ensures answers { (answers : List (Option (List ℕ))) → WasTold self.now answers
-            → EndsBy self.now.key answers result }
+        ensures answers { EndsByAnswers self.now result }
         // The row with the key, or none, where each row told is the one that was asked for, of rows that ascend.
-        ensures row { (rows : List (List ℕ)) (answers : List (Option (List ℕ))) → IsLookUp rows self.now answers
-            → Finds self.now.key rows result }
+        ensures row { FindsAmongRows self.now result }
     {
         if self.is_lost {
             Outcome::Lost

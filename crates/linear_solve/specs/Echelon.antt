@@ -32,6 +32,19 @@ pub record IsEchelon (columns : List ℕ) (rows : List (List ℕ)) (n : ℕ) : T
 abbrev pub SendToZero : List (List ℕ) → ℕ → List ℕ → Type 0
 SendToZero rows n v = (t : ℕ) → t < length rows → inner (component (row_at rows t)) v n ≡ 0
 
+-- a row with the pivots' columns cleared has the same inner product as before with each vector that the pivots' rows send to zero
+abbrev pub KeepsInner : List PivotRow → List ℕ → List ℕ → Type 0
+KeepsInner pivots new old = (v : List ℕ) → SendToZero (rows_of pivots) (length old) v
+    → inner (component new) v (length old) ≡ inner (component old) v (length old)
+
+-- v is 0 in the columns of the pivots
+abbrev pub IsClear : List PivotRow → List ℕ → Type 0
+IsClear pivots v = (t : ℕ) → t < length pivots → component v (slice_index (columns_of pivots) t) ≡ 0
+
+-- each vector that the pivots' rows send to zero is sent there by the row
+abbrev pub IsImplied : List PivotRow → List ℕ → Type 0
+IsImplied pivots row = (v : List ℕ) → SendToZero (rows_of pivots) (length row) v → inner (component row) v (length row) ≡ 0
+
 -- `new` has 1 in column c and 0 in the columns of the rows, and a vector that the rows and `new` send to zero is sent there by `old`
 pub record IsReduced (new old columns : List ℕ) (rows : List (List ℕ)) (c : ℕ) : Type 0 where
   pub long : length new ≡ length old
@@ -41,6 +54,10 @@ pub record IsReduced (new old columns : List ℕ) (rows : List (List ℕ)) (c : 
   pub stands : (v : List ℕ) → SendToZero rows (length old) v → inner (component new) v (length old) ≡ 0
       → inner (component old) v (length old) ≡ 0
 
+-- such a row, reduced by the pivots
+abbrev pub IsReducedBy : List PivotRow → List ℕ → List ℕ → ℕ → Type 0
+IsReducedBy pivots new old c = IsReduced new old (columns_of pivots) (rows_of pivots) c
+
 -- the rows after one more row was taken in: a vector that they send to zero is sent there by the rows before and by that row
 pub record IsTaken (columns : List ℕ) (rows before : List (List ℕ)) (row : List ℕ) : Type 0 where
   pub echelon : IsEchelon columns rows (length row)
@@ -48,7 +65,15 @@ pub record IsTaken (columns : List ℕ) (rows before : List (List ℕ)) (row : L
   pub sends_to_zero : (v : List ℕ) → SendToZero rows (length row) v
       → SendToZero before (length row) v × (inner (component row) v (length row) ≡ 0)
 
+-- the pivots after one more row was taken in
+abbrev pub TakesIn : List PivotRow → List PivotRow → List ℕ → Type 0
+TakesIn pivots before row = IsTaken (columns_of pivots) (rows_of pivots) (rows_of before) row
+
 -- k is in range, and none of the columns
 pub record IsFree (columns : List ℕ) (width k : ℕ) : Type 0 where
   pub inside : k < width
   pub apart : (t : ℕ) → t < length columns → slice_index columns t ≢ k
+
+-- what stands in no pivot's column stays
+abbrev pub KeepsFree : List PivotRow → List ℕ → List ℕ → Type 0
+KeepsFree pivots new old = (k : ℕ) → IsFree (columns_of pivots) (length old) k → component new k ≡ component old k

@@ -1,8 +1,8 @@
 //! Gauss's elimination, a row at a time, and the solution from the last row back to the first.
 
-ghost use Rattle.std.specs.Prelude.{ℕ, List, ◌≡◌, ◌<◌, length, slice_index, IfOk, MatchOption};
-ghost use Rattle.linear_solve.specs.Kernel.{component, inner};
-ghost use Rattle.linear_solve.specs.Echelon.{columns_of, rows_of, IsEchelon, SendToZero, IsReduced, IsTaken, IsFree};
+ghost use Rattle.std.specs.Prelude.{ℕ, ◌<◌, length, slice_index, IfOk, MatchOption};
+ghost use Rattle.linear_solve.specs.Kernel.{component};
+ghost use Rattle.linear_solve.specs.Echelon.{columns_of, rows_of, IsClear, IsEchelon, IsFree, IsImplied, IsReducedBy, KeepsFree, KeepsInner, SendToZero, TakesIn};
 
 use crate::row::{first_nonzero, inner_product, scale};
 use gf256::rows::add_scaled_row;
@@ -18,9 +18,8 @@ pub(crate) struct PivotRow {
 /// Clears the columns of the pivots in `row`, by adding multiples of theirs.
 fn clear(row: &mut [u8], pivots: &[PivotRow])
     requires { IsEchelon (columns_of pivots.now) (rows_of pivots.now) (length row.old) }
-    ensures same { (v : List ℕ) → SendToZero (rows_of pivots.now) (length row.old) v
-        → inner (component row.new) v (length row.old) ≡ inner (component row.old) v (length row.old) }
-    ensures cleared { (t : ℕ) → t < length pivots.now → component row.new (slice_index (columns_of pivots.now) t) ≡ 0 }
+    ensures same { KeepsInner pivots.now row.new row.old }
+    ensures cleared { IsClear pivots.now row.new }
 {
     for pivot in pivots {
         let factor = row[pivot.column];
@@ -32,9 +31,7 @@ fn clear(row: &mut [u8], pivots: &[PivotRow])
 /// the result. There is none where the row is a combination of theirs.
 fn reduce(row: &mut [u8], pivots: &[PivotRow]) -> Option<usize>
     requires { IsEchelon (columns_of pivots.now) (rows_of pivots.now) (length row.old) }
-    ensures { MatchOption result
-        ((v : List ℕ) → SendToZero (rows_of pivots.now) (length row.old) v → inner (component row.old) v (length row.old) ≡ 0)
-        (λ c. IsReduced row.new row.old (columns_of pivots.now) (rows_of pivots.now) c) }
+    ensures { MatchOption result (IsImplied pivots.now row.old) (IsReducedBy pivots.now row.new row.old) }
 {
     clear(row, pivots);
     let column = first_nonzero(row)?;
@@ -50,7 +47,7 @@ pub(crate) fn add_row(
     row: &[u8],
 ) -> Result<(), AllocError>
     requires { IsEchelon (columns_of pivots.old.items) (rows_of pivots.old.items) (length row.now) }
-    ensures { IfOk result (λ _. IsTaken (columns_of pivots.new.items) (rows_of pivots.new.items) (rows_of pivots.old.items) row.now) }
+    ensures { IfOk result (λ _. TakesIn pivots.new.items pivots.old.items row.now) }
 {
     let mut row = row.to_vec(alloc)?;
     if let Some(column) = reduce(&mut row, pivots) {
@@ -81,10 +78,10 @@ pub(crate) fn free_column(
 /// first, since the later rows have 0 in its column.
 pub(crate) fn solve_back(v: &mut [u8], pivots: &[PivotRow])
     requires echelon { IsEchelon (columns_of pivots.now) (rows_of pivots.now) (length v.old) }
-    requires clear { (t : ℕ) → t < length pivots.now → component v.old (slice_index (columns_of pivots.now) t) ≡ 0 }
+    requires clear { IsClear pivots.now v.old }
     ensures bytes { (k : ℕ) → component v.new k < 256 }
     ensures sent_to_zero { SendToZero (rows_of pivots.now) (length v.old) v.new }
-    ensures kept { (k : ℕ) → IsFree (columns_of pivots.now) (length v.old) k → component v.new k ≡ component v.old k }
+    ensures kept { KeepsFree pivots.now v.new v.old }
 {
     for t in (0..pivots.len()).rev() {
         let pivot = &pivots[t];

@@ -82,6 +82,7 @@ fn fetch<W: Write>(f: &mut Formatter<W>, asked: &Asked) -> fmt::Result {
         keep,
         report,
         addresses,
+        ..
     } = asked
     else {
         return Ok(());

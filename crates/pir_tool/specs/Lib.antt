@@ -3,6 +3,7 @@ pub use Rattle.commands.specs.Table
 pub use Rattle.commands.specs.Told
 pub use Rattle.commands.specs.Said
 pub use Rattle.commands.specs.Faults
+pub use Rattle.commands.specs.ReplayOrder
 pub use Rattle.commands.specs.ReplayOutcome
 pub use Rattle.commands.specs.FetchOrder
 pub use Rattle.commands.specs.FetchOutcome
@@ -22,6 +23,6 @@ pub use Rattle.commands.specs.FrontSteps
 pub use Rattle.commands.specs.FrontOutcome
 pub use Rattle.commands.specs.HonestReply
 pub use Rattle.commands.specs.HeldRow
+pub use Rattle.commands.specs.Orders
 pub use Rattle.commands.specs.Outcome
-pub use Rattle.commands.specs.SelfrunOrder
 pub use Rattle.commands.specs.SelfrunOutcome

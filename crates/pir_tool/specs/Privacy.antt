@@ -7,7 +7,7 @@ use Rattle.query_rounds.specs.Plan.{need}
 use Rattle.query_rounds.specs.Sent.{sent}
 use Rattle.key_fetches.specs.Rounds.{Round}
 use Rattle.key_fetches.specs.Sent.{frames_to}
-use Rattle.privacy_law.specs.Bijection.{AreCoins}
+use Rattle.privacy_law.specs.Bijection.{AreCoins, IsBijection}
 use Rattle.privacy_law.specs.Partner.{partner_list, partner_xor_list}
 
 -- the coins that show the coalition the same for as many other blocks: the number of the session stays, and the coins of the
@@ -15,6 +15,11 @@ use Rattle.privacy_law.specs.Partner.{partner_list, partner_xor_list}
 unfoldable pub partner_coins : FetchPlan → List ℕ → List ℕ → List ℕ → List ℕ → List ℕ
 partner_coins p coalition blocks others coins =
     take NUMBER_LEN coins ++ partner_list (drop NUMBER_LEN coins) p.t p.r coalition blocks others
+
+-- to take them maps the coins of a fetch one to one onto themselves
+abbrev pub PartnerIsBijection : FetchPlan → List ℕ → List ℕ → List ℕ → Type 0
+PartnerIsBijection p coalition blocks others =
+    IsBijection (need p (length blocks)) (λ coins. partner_coins p coalition blocks others coins)
 
 -- each member is sent the same frame, session number and all
 abbrev pub IsSentTheSame : FetchPlan → List ℕ → List ℕ → List ℕ → Type 0
@@ -26,6 +31,11 @@ IsSentTheSame p coalition blocks others = (coins : List ℕ) → AreCoins (need 
 unfoldable pub partner_coins_xor : FetchPlan → ℕ → List ℕ → List ℕ → List ℕ → List ℕ
 partner_coins_xor p left_out blocks others coins =
     take NUMBER_LEN coins ++ partner_xor_list (drop NUMBER_LEN coins) p.n p.r left_out blocks others
+
+-- to take them maps the coins of a fetch one to one onto themselves
+abbrev pub PartnerXorIsBijection : FetchPlan → ℕ → List ℕ → List ℕ → Type 0
+PartnerXorIsBijection p left_out blocks others =
+    IsBijection (need p (length blocks)) (λ coins. partner_coins_xor p left_out blocks others coins)
 
 -- each server but the one is sent the same frame, session number and all
 abbrev pub OthersAreSentTheSame : FetchPlan → ℕ → List ℕ → List ℕ → Type 0

@@ -4,8 +4,8 @@ ghost use Rattle.std.specs.Prelude.{◌≡◌, ◌≢◌, ◌<◌, ◌≤◌, �
 ghost use Rattle.wire_frames.specs.declared.scheme.TheConstants.{SHAMIR, XOR};
 ghost use Rattle.query_rounds.specs.Plan.{AreBlocks, IsPlan, need};
 ghost use Rattle.commands.specs.HonestReply.{RepliesHonestly};
-ghost use Rattle.privacy_law.specs.Bijection.{IsBijection};
-ghost use Rattle.pir_tool.specs.Privacy.{IsSentTheSame, LookUpLooksTheSame, OthersAreSentTheSame, partner_coins, partner_coins_xor};
+ghost use Rattle.pir_tool.specs.Privacy.{IsSentTheSame, LookUpLooksTheSame, OthersAreSentTheSame};
+ghost use Rattle.pir_tool.specs.Privacy.{PartnerIsBijection, PartnerXorIsBijection};
 
 use query_rounds::FetchPlan;
 
@@ -36,8 +36,7 @@ pub fn coalition_is_sent_the_same(
     requires scheme { plan.now.scheme ≡ SHAMIR }
     requires bound { length coalition.now ≤ plan.now.t }
     requires nonzero { All (λ a. a ≢ 0) coalition.now }
-    ensures bijection { IsBijection (need plan.now (length blocks.now))
-        (λ coins. partner_coins plan.now coalition.now blocks.now others.now coins) }
+    ensures bijection { PartnerIsBijection plan.now coalition.now blocks.now others.now }
     ensures same { IsSentTheSame plan.now coalition.now blocks.now others.now }
 {}
 
@@ -64,7 +63,6 @@ pub fn all_but_one_are_sent_the_same(plan: &FetchPlan, left_out: u8, blocks: &[u
     requires last { left_out ≤ plan.now.n }
     requires blocks { All (λ b. b < plan.now.r) blocks.now }
     requires other_blocks { All (λ b. b < plan.now.r) others.now }
-    ensures bijection { IsBijection (need plan.now (length blocks.now))
-        (λ coins. partner_coins_xor plan.now left_out blocks.now others.now coins) }
+    ensures bijection { PartnerXorIsBijection plan.now left_out blocks.now others.now }
     ensures same { OthersAreSentTheSame plan.now left_out blocks.now others.now }
 {}

@@ -36,6 +36,7 @@ module _ {A B : Type 0} (o : Option A) {next : A → Option B} where
   pub in_any_case : ((a : A) → next a ≡ None) → (o >>= next) ≡ None
   in_any_case none = by_value o
     where
+      -- whichever value it is
       by_value : (p : Option A) → (p >>= next) ≡ None
       by_value None = refl
       by_value (Some a) = none a
@@ -46,6 +47,7 @@ not_read {A} {B} o next r {f} {g} is same read =
     let err : WordsFault → Result B WordsFault = λ w. Err w in
     subst (IsReadAs (o >>= next)) (sym (is ∙ ap err same)) (by_fault g read)
   where
+    -- whichever fault it is
     by_fault : (g : WordsFault) → IsReadAs {A = A} o (Err g) → IsReadAs (o >>= next) (Err g)
     by_fault Usage e = not_given next (sym e)
     by_fault Memory e = tt

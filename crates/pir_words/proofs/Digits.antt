@@ -9,6 +9,7 @@ use Rattle.std.proofs.lemmas.Str.Parse.{IsDigitsTest, IsNumeralModel, numerals_b
 use Rattle.pir_words.specs.Chain.{◌>>◌}
 use Rattle.pir_words.specs.Numbers.{is_digit, number}
 
+-- the test of digits is the parser's own
 are_digits : IsDigitsTest (λ ds. list_all is_digit ds ≡ true)
 are_digits = record {
   empty = refl;
@@ -16,6 +17,7 @@ are_digits = record {
   more = λ c cs k e. and_from _ _ (and_from _ _ (le-leb 48 c k.0) (le-leb c 57 k.1)) e;
 }
 
+-- the value of digits is the parser's own
 numerals : IsNumeralModel (λ ds. list_all is_digit ds ≡ true) (digits_value 10)
 numerals = numerals_by_value _ are_digits
 
@@ -32,6 +34,7 @@ module _ {E : Type 0} where
   unfolding number
   number_parsed ds r digits h = go r (parse_digits numerals 64 ds r h digits)
     where
+      -- whichever answer it is
       go : (r : Result ℕ E) → OkIff r ((0 < length ds) × (digits_value 10 ds < 2 ^ 64)) (digits_value 10 ds) → result_ok r ≡ number ds
       go (Ok x) k = sym (cond-true _ _ _ (lt-ltb 0 (length ds) k.0.0) ∙ (cond-true _ _ _ digits ∙ (cond-true _ _ _ (lt-ltb _ (2 ^ 64) k.0.1) ∙ ap Some (sym k.1))))
       go (Err e) k = fails (nat_lt 0 (length ds)) (list_all is_digit ds) (nat_lt (digits_value 10 ds) (2 ^ 64)) _ (λ some few. k (ltb-true 0 (length ds) some, ltb-true _ (2 ^ 64) few))

@@ -16,9 +16,9 @@ use Rattle.wire_frames.specs.declared.scheme.Scheme.TheVariants.{Shamir, Xor}
 use Rattle.wire_frames.specs.declared.scheme.TheConstants.{XOR}
 use Rattle.wire_frames.specs.Scheme.{number_of}
 use Rattle.pir_words.specs.Numbers.{flag_in, limited, number, number_in}
-use Rattle.pir_words.specs.Ranges.{FitsSession, block_in, scheme_in, servers_in, sharing_in, sizes_in, workers_in}
+use Rattle.pir_words.specs.Ranges.{FitsSession, block_in, scheme_in, servers_in, sharing_in, sharing_of, sizes_in, workers_in}
 use Rattle.pir_words.specs.ReplayForm.{replay_of}
-use Rattle.pir_words.specs.FetchForm.{IsSharedFetch, addresses_in, blocks_in, fetch_of, fetch_sharing_in, tau_in, xor_sharing_in}
+use Rattle.pir_words.specs.FetchForm.{IsSharedFetch, shared_in, addresses_in, blocks_in, fetch_of, fetch_sharing_in, tau_in, xor_sharing_in}
 use Rattle.pir_words.specs.ServeForm.{serve_of}
 use Rattle.pir_words.specs.SelfrunForm.{selfrun_of}
 use Rattle.pir_words.specs.DemoForm.{demo_of}
@@ -32,6 +32,7 @@ use Rattle.pir_words.specs.Form.{InRange, are_taken, asked_by, asked_in, asked_o
 use Rattle.pir_words.specs.Command.{pir}
 use Rattle.pir_words.specs.declared.TheConstants.{LEAST_PORT, MOST_PORT, MOST_TAU}
 use Rattle.quantity_limits.specs.declared.TheConstants.{MOST_SHARDS}
+use Rattle.pir_words.specs.declared.ranges.Sizes.{Sizes}
 use Rattle.pir_words.specs.declared.ranges.Sharing.{Sharing}
 use Rattle.pir_words.specs.declared.asked.Asked.{Asked}
 use Rattle.pir_words.specs.declared.asked.Asked.TheVariants.{Replay}
@@ -47,8 +48,9 @@ xor_range n m sharing e =
     (leb-true LEAST_SERVERS n two.0, some_is _ sharing two.1)
 
 -- with which a session of the XOR scheme may be, where the database isn't shared
-xor_fits : (r s n tau : ℕ) → IsShape r s → LEAST_SERVERS ≤ n → n ≤ MOST_SERVERS → tau ≡ 0 → FitsSession XOR (n - 1 + tau) n n r s
-xor_fits r s n tau shape two few whole = record {
+xor_fits : (sizes : Sizes) (n tau : ℕ) → IsShape sizes.rows sizes.width → LEAST_SERVERS ≤ n → n ≤ MOST_SERVERS → tau ≡ 0
+    → FitsSession XOR (sharing_of (n - 1 + tau) n) n sizes
+xor_fits sizes n tau shape two few whole = record {
   scheme = inr refl;
   private = omega (arith, two, whole);
   few_private = omega (arith, two, few, whole);
@@ -60,22 +62,23 @@ xor_fits r s n tau shape two few whole = record {
   all_answer = λ e. refl;
   session = lit< tt;
   shape = shape;
-  blocks = single_count r s shape;
+  blocks = single_count sizes.rows sizes.width shape;
 }
 
 -- a session may have the sharing of a fetch
-fetch_fits : (scheme : Scheme) (n r s : ℕ) (m : List Row) (sharing : Sharing) (tau : ℕ) → IsShape r s → n ≤ MOST_SERVERS
+fetch_fits : (scheme : Scheme) (n : ℕ) (sizes : Sizes) (m : List Row) (sharing : Sharing) (tau : ℕ)
+    → IsShape sizes.rows sizes.width → n ≤ MOST_SERVERS
     → fetch_sharing_in scheme n m ≡ Some sharing → tau_in scheme sharing m ≡ Some tau
-    → IsSharedFetch (number_of scheme) r s sharing.degree tau sharing.agree n
+    → IsSharedFetch (number_of scheme) sizes sharing tau n
 unfolding fetch_sharing_in tau_in
-fetch_fits Shamir n r s m sharing tau shape few e f =
+fetch_fits Shamir n sizes m sharing tau shape few e f =
     let shares = sharing_range n m sharing e in
     let given = value_of (number (unwrap_or (first_of (codes "tau") m) (codes "0"))) _ tau f in
     let tested = test_of (nat_le given.0 MOST_TAU && nat_lt (sharing.degree + given.0) sharing.agree) _ tau given.2 in
     let less = ltb-true _ _ (and_parts (nat_le given.0 MOST_TAU) (nat_lt (sharing.degree + given.0) sharing.agree) tested.0).1 in
     let is = some_is given.0 tau tested.1 in
     record {
-      numbers = shamir_fits r s (sharing.degree + tau) sharing.agree n shape (record {
+      numbers = shamir_fits sizes (shared_in tau sharing) n shape (record {
         private = omega (arith, shares.private);
         few_private = omega (arith, less, is, shares.servers, few);
         agreement = omega (arith, less, is);
@@ -84,12 +87,12 @@ fetch_fits Shamir n r s m sharing tau shape few e f =
       private = shares.private;
       held_whole = λ two. omega (arith, two);
     }
-fetch_fits Xor n r s m sharing tau shape few e f =
+fetch_fits Xor n sizes m sharing tau shape few e f =
     let all = xor_range n m sharing e in
     let none = test_of (is_none (first_of (codes "tau") m)) _ tau f in
     let whole = sym (some_is 0 tau none.1) in
-    subst (λ (z : Sharing). IsSharedFetch XOR r s z.degree tau z.agree n) all.1 (record {
-      numbers = xor_fits r s n tau shape all.0 few whole;
+    subst (λ (z : Sharing). IsSharedFetch XOR sizes z tau n) all.1 (record {
+      numbers = xor_fits sizes n tau shape all.0 few whole;
       private = let two = all.0 in omega (arith, two);
       held_whole = λ e. whole;
     })
@@ -107,7 +110,15 @@ replay_range : (m : List Row) (asked : Asked) → replay_of m ≡ Some asked →
 unfolding replay_of
 replay_range m asked e =
     let file = value_of (first_of (codes "file") m) _ asked e in
-    subst InRange (some_is (Replay file.0 (flag_in (codes "report") m)) asked file.2) (tt {0})
+    subst InRange (some_is (Replay file.0 (flag_in (codes "report") m)) asked file.2) (record {
+      fetch = tt {0};
+      serve = tt {0};
+      selfrun = tt {0};
+      demo = tt {0};
+      lookup = tt {0};
+      split = tt {0};
+      front = tt {0};
+    })
 
 -- the values of `fetch`
 fetch_range : (m : List Row) (asked : Asked) → fetch_of m ≡ Some asked → InRange asked
@@ -121,9 +132,17 @@ fetch_range m asked e =
     let sharing = value_of (fetch_sharing_in scheme.0 n m) _ asked addresses.2 in
     let tau = value_of (tau_in scheme.0 sharing.0 m) _ asked sharing.2 in
     subst InRange (some_is _ asked tau.2) (record {
-      shared = fetch_fits scheme.0 n sizes.0.rows sizes.0.width m sharing.0 tau.0
-          (sizes_range m sizes.0 sizes.1) (addresses_range m addresses.0 addresses.1) sharing.1 tau.1;
-      together = blocks_range sizes.0 m blocks.0 blocks.1;
+      fetch = record {
+        shared = fetch_fits scheme.0 n sizes.0 m sharing.0 tau.0 (sizes_range m sizes.0 sizes.1)
+            (addresses_range m addresses.0 addresses.1) sharing.1 tau.1;
+        together = blocks_range sizes.0 m blocks.0 blocks.1;
+      };
+      serve = tt {0};
+      selfrun = tt {0};
+      demo = tt {0};
+      lookup = tt {0};
+      split = tt {0};
+      front = tt {0};
     })
 
 -- the values of `serve`
@@ -131,22 +150,30 @@ serve_range : (m : List Row) (asked : Asked) → serve_of m ≡ Some asked → I
 unfolding serve_of
 serve_range m asked e =
     let width = value_of (limited (codes "width") 1 MOST_WIDTH m) _ asked e in
-    let guests = value_of (limited (codes "conns") 1 MOST_GUESTS m) _ asked width.2 in
-    let scheme = value_of (scheme_in m) _ asked guests.2 in
+    let conns = value_of (limited (codes "conns") 1 MOST_GUESTS m) _ asked width.2 in
+    let scheme = value_of (scheme_in m) _ asked conns.2 in
     let workers = value_of (workers_in m) _ asked scheme.2 in
     let database = value_of (first_of (codes "database") m) _ asked workers.2 in
     let listen = value_of (first_of (codes "listen") m) _ asked database.2 in
     let s = limited_range _ _ _ m _ width.1 in
-    let n = limited_range _ _ _ m _ guests.1 in
+    let n = limited_range _ _ _ m _ conns.1 in
     let w = workers_range m workers.0 workers.1 in
     subst InRange (some_is _ asked listen.2) (record {
-      known = scheme_range scheme.0;
-      some_bytes = s.0;
-      few_bytes = s.1;
-      some_guests = n.0;
-      few_guests = n.1;
-      some_workers = w.0;
-      few_workers = w.1;
+      fetch = tt {0};
+      serve = record {
+        known = scheme_range scheme.0;
+        some_bytes = s.0;
+        few_bytes = s.1;
+        some_conns = n.0;
+        few_conns = n.1;
+        some_workers = w.0;
+        few_workers = w.1;
+      };
+      selfrun = tt {0};
+      demo = tt {0};
+      lookup = tt {0};
+      split = tt {0};
+      front = tt {0};
     })
 
 -- the values of `selfrun`
@@ -162,12 +189,20 @@ selfrun_range m asked e =
     let workers = value_of (workers_in m) _ asked liars.2 in
     let w = workers_range m workers.0 workers.1 in
     subst InRange (some_is _ asked workers.2) (record {
-      few_seeds = number_range _ m seed.0 seed.1;
-      numbers = shamir_fits sizes.0.rows sizes.0.width sharing.0.degree sharing.0.agree n
-          (sizes_range m sizes.0 sizes.1) (sharing_range n m sharing.0 sharing.1) (servers_range m n servers.1).1;
-      few_liars = (limited_range _ _ _ m _ liars.1).1;
-      some_workers = w.0;
-      few_workers = w.1;
+      fetch = tt {0};
+      serve = tt {0};
+      selfrun = record {
+        few_seeds = number_range _ m seed.0 seed.1;
+        numbers = shamir_fits sizes.0 sharing.0 n (sizes_range m sizes.0 sizes.1)
+            (sharing_range n m sharing.0 sharing.1) (servers_range m n servers.1).1;
+        few_liars = (limited_range _ _ _ m _ liars.1).1;
+        some_workers = w.0;
+        few_workers = w.1;
+      };
+      demo = tt {0};
+      lookup = tt {0};
+      split = tt {0};
+      front = tt {0};
     })
 
 -- the values of `demo`
@@ -183,11 +218,19 @@ demo_range m asked e =
     let sharing = value_of (sharing_in n m) _ asked servers.2 in
     let p = limited_range _ _ _ m _ port.1 in
     subst InRange (some_is _ asked sharing.2) (record {
-      some_port = p.0;
-      few_ports = p.1;
-      numbers = shamir_fits sizes.0.rows sizes.0.width sharing.0.degree sharing.0.agree n
-          (sizes_range m sizes.0 sizes.1) (sharing_range n m sharing.0 sharing.1) (servers_range m n servers.1).1;
-      block = block_range sizes.0.rows m block.0 block.1;
+      fetch = tt {0};
+      serve = tt {0};
+      selfrun = tt {0};
+      demo = record {
+        some_port = p.0;
+        few_ports = p.1;
+        numbers = shamir_fits sizes.0 sharing.0 n (sizes_range m sizes.0 sizes.1)
+            (sharing_range n m sharing.0 sharing.1) (servers_range m n servers.1).1;
+        block = block_range sizes.0.rows m block.0 block.1;
+      };
+      lookup = tt {0};
+      split = tt {0};
+      front = tt {0};
     })
 
 -- the key is not empty, and not longer than a row
@@ -202,6 +245,7 @@ key_range width m key e =
     let few = leb-true (length text.0 / 2) width short.0 in
     (omega (arith, half, some), omega (arith, half, few))
   where
+    -- a key that is read is one that is spelled
     decoded : (r : Result (List ℕ) FromHexError) → result_ok r ≡ Some key → r ≡ Ok key
     decoded (Ok bytes) is = ap Ok (some_is bytes key is)
     decoded (Err fault) is = cc
@@ -217,10 +261,18 @@ lookup_range m asked e =
     let sharing = value_of (sharing_in n m) _ asked addresses.2 in
     let size = key_range sizes.0.width m key.0 key.1 in
     subst InRange (some_is _ asked sharing.2) (record {
-      numbers = shamir_fits sizes.0.rows sizes.0.width sharing.0.degree sharing.0.agree n
-          (sizes_range m sizes.0 sizes.1) (sharing_range n m sharing.0 sharing.1) (addresses_range m addresses.0 addresses.1);
-      some_key = size.0;
-      short_key = size.1;
+      fetch = tt {0};
+      serve = tt {0};
+      selfrun = tt {0};
+      demo = tt {0};
+      lookup = record {
+        numbers = shamir_fits sizes.0 sharing.0 n (sizes_range m sizes.0 sizes.1)
+            (sharing_range n m sharing.0 sharing.1) (addresses_range m addresses.0 addresses.1);
+        some_key = size.0;
+        short_key = size.1;
+      };
+      split = tt {0};
+      front = tt {0};
     })
 
 -- the degree is at least 1, and less than the number of servers
@@ -244,11 +296,19 @@ split_range m asked e =
     let s = limited_range _ _ _ m _ width.1 in
     let u = tau_range servers.0 m tau.0 tau.1 in
     subst InRange (some_is _ asked into.2) (record {
-      some_bytes = s.0;
-      few_bytes = s.1;
-      few_servers = (servers_range m servers.0 servers.1).1;
-      some_tau = u.0;
-      few_tau = u.1;
+      fetch = tt {0};
+      serve = tt {0};
+      selfrun = tt {0};
+      demo = tt {0};
+      lookup = tt {0};
+      split = record {
+        some_bytes = s.0;
+        few_bytes = s.1;
+        few_servers = (servers_range m servers.0 servers.1).1;
+        some_tau = u.0;
+        few_tau = u.1;
+      };
+      front = tt {0};
     })
 
 -- there is one address for each shard, and no more of them than a front asks
@@ -268,20 +328,28 @@ unfolding front_of
 front_range m asked e =
     let sizes = value_of (sizes_in m) _ asked e in
     let shard = value_of (limited (codes "shard") 1 sizes.0.rows m) _ asked sizes.2 in
-    let guests = value_of (limited (codes "conns") 1 MOST_GUESTS m) _ asked shard.2 in
-    let addresses = value_of (shard_addresses_in sizes.0.rows shard.0 m) _ asked guests.2 in
+    let conns = value_of (limited (codes "conns") 1 MOST_GUESTS m) _ asked shard.2 in
+    let addresses = value_of (shard_addresses_in sizes.0.rows shard.0 m) _ asked conns.2 in
     let listen = value_of (first_of (codes "listen") m) _ asked addresses.2 in
     let k = limited_range _ _ _ m _ shard.1 in
-    let n = limited_range _ _ _ m _ guests.1 in
+    let n = limited_range _ _ _ m _ conns.1 in
     let each = shard_addresses_range _ _ m addresses.0 addresses.1 in
     subst InRange (some_is _ asked listen.2) (record {
-      shape = sizes_range m sizes.0 sizes.1;
-      some_on_each = k.0;
-      within = k.1;
-      one_for_each = each.0;
-      few_shards = each.1;
-      some_guests = n.0;
-      few_guests = n.1;
+      fetch = tt {0};
+      serve = tt {0};
+      selfrun = tt {0};
+      demo = tt {0};
+      lookup = tt {0};
+      split = tt {0};
+      front = record {
+        shape = sizes_range m sizes.0 sizes.1;
+        some_on_each = k.0;
+        within = k.1;
+        one_for_each = each.0;
+        few_shards = each.1;
+        some_conns = n.0;
+        few_conns = n.1;
+      };
     })
 
 -- the values of a command by its name
@@ -290,6 +358,7 @@ unfolding asked_by
 named_range name m asked e =
     by_name (bytes_eq name (codes "replay")) (bytes_eq name (codes "fetch")) (bytes_eq name (codes "serve")) (bytes_eq name (codes "selfrun")) (bytes_eq name (codes "demo")) (bytes_eq name (codes "lookup")) (bytes_eq name (codes "split")) (bytes_eq name (codes "front")) e
   where
+    -- whichever name it is
     by_name : (is_replay is_fetch is_serve is_selfrun is_demo is_lookup is_split is_front : Bool)
         → (if is_replay then replay_of m
         else (if is_fetch then fetch_of m

@@ -17,6 +17,7 @@ more_rows rows [] text named row e one =
     ap (λ (o : Option ℕ). o >>= (λ a. Some (a ∷ []))) one ∙ ap (λ (xs : List ℕ). Some (xs ++ row ∷ [])) (some_is [] named e)
 more_rows rows (first ∷ texts) text named row e one = by_first (row_named rows first) (rows_named rows texts) (rows_named rows (texts ++ text ∷ [])) (λ others k. more_rows rows texts text others row k one) e
   where
+    -- whichever the first is
     by_first : (f : Option ℕ) (o p : Option (List ℕ)) → ((others : List ℕ) → o ≡ Some others → p ≡ Some (others ++ row ∷ []))
         → (f >>= (λ a. o >>= (λ others. Some (a ∷ others)))) ≡ Some named → (f >>= (λ a. p >>= (λ others. Some (a ∷ others)))) ≡ Some (named ++ row ∷ [])
     by_first None o p more h = cc
@@ -32,6 +33,7 @@ no_rows rows (text ∷ texts) zero l e = ap (λ (o : Option ℕ). o >>= (λ row.
 no_rows rows (text ∷ texts) (suc i) l e =
     by_first (row_named rows text) (rows_named rows texts) (no_rows rows texts i (omega (arith, l)) e)
   where
+    -- whichever the first is
     by_first : (f : Option ℕ) (o : Option (List ℕ)) → o ≡ None → (f >>= (λ a. o >>= (λ others. Some (a ∷ others)))) ≡ None
     by_first None o none = refl
     by_first (Some a) o none = ap (λ (x : Option (List ℕ)). x >>= (λ others. Some (a ∷ others))) none

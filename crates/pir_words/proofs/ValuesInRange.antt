@@ -105,6 +105,7 @@ blocks_range sizes m blocks e =
       few_bytes = leb-true _ _ both.1;
     })
   where
+    -- the first row stands before the others
     mapped : (o : Option (List ℕ)) (first : ℕ) (all : List ℕ) → option_map (λ others. first ∷ others) o ≡ Some all → (o >>= (λ others. Some (first ∷ others))) ≡ Some all
     mapped None first all h = cc
     mapped (Some others) first all h = h
@@ -119,15 +120,15 @@ pub servers_range : (m : List Row) (n : ℕ) → servers_in m ≡ Some n → (LE
 unfolding servers_in
 servers_range m n e = limited_range _ _ _ m n e
 
--- degree t and agreement h of n servers
-pub record IsSharing (t h n : ℕ) : Type 0 where
-  pub private : 1 ≤ t
-  pub few_private : t ≤ MOST_DEGREE
-  pub agreement : t < h
-  pub servers : h ≤ n
+-- degree and agreement of n servers
+pub record IsSharing (sharing : Sharing) (n : ℕ) : Type 0 where
+  pub private : 1 ≤ sharing.degree
+  pub few_private : sharing.degree ≤ MOST_DEGREE
+  pub agreement : sharing.degree < sharing.agree
+  pub servers : sharing.agree ≤ n
 
 -- what is read is so
-pub sharing_range : (n : ℕ) (m : List Row) (sharing : Sharing) → sharing_in n m ≡ Some sharing → IsSharing sharing.degree sharing.agree n
+pub sharing_range : (n : ℕ) (m : List Row) (sharing : Sharing) → sharing_in n m ≡ Some sharing → IsSharing sharing n
 unfolding sharing_in
 sharing_range n m sharing e =
     let degree = value_of (limited (codes "degree") 1 MOST_DEGREE m) _ sharing e in
@@ -135,7 +136,7 @@ sharing_range n m sharing e =
     let tested = test_of (nat_lt degree.0 agree.0 && nat_le agree.0 n) _ sharing agree.2 in
     let both = and_parts (nat_lt degree.0 agree.0) (nat_le agree.0 n) tested.0 in
     let t = limited_range _ _ _ m _ degree.1 in
-    subst (λ (s : Sharing). IsSharing s.degree s.agree n) (some_is _ sharing tested.1) (record {
+    subst (λ (s : Sharing). IsSharing s n) (some_is _ sharing tested.1) (record {
       private = t.0;
       few_private = t.1;
       agreement = ltb-true _ _ both.0;
@@ -143,8 +144,9 @@ sharing_range n m sharing e =
     })
 
 -- with which a session of Shamir's scheme may be
-pub shamir_fits : (r s t h n : ℕ) → IsShape r s → IsSharing t h n → n ≤ MOST_SERVERS → FitsSession SHAMIR t h n r s
-shamir_fits r s t h n shape shares few = record {
+pub shamir_fits : (sizes : Sizes) (sharing : Sharing) (n : ℕ) → IsShape sizes.rows sizes.width → IsSharing sharing n
+    → n ≤ MOST_SERVERS → FitsSession SHAMIR sharing n sizes
+shamir_fits sizes sharing n shape shares few = record {
   scheme = inl refl;
   private = shares.private;
   few_private = shares.few_private;
@@ -156,7 +158,7 @@ shamir_fits r s t h n shape shares few = record {
   all_answer = λ e. omega (arith, e);
   session = lit< tt;
   shape = shape;
-  blocks = single_count r s shape;
+  blocks = single_count sizes.rows sizes.width shape;
 }
 
 -- there are as many workers as there may be

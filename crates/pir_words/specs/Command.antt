@@ -58,8 +58,8 @@ unfoldable pub serve_app : App
 serve_app =
     let database = with_option (new_app (codes "serve")) (codes "database") true in
     let width = with_option database (codes "width") true in
-    let guests = with_option width (codes "conns") true in
-    let listen = with_option guests (codes "listen") true in
+    let conns = with_option width (codes "conns") true in
+    let listen = with_option conns (codes "listen") true in
     let scheme = with_option listen (codes "scheme") false in
     with_option scheme (codes "workers") false
 
@@ -116,8 +116,8 @@ front_app =
     let rows = with_option (new_app (codes "front")) (codes "rows") true in
     let width = with_option rows (codes "width") true in
     let shard = with_option width (codes "shard") true in
-    let guests = with_option shard (codes "conns") true in
-    let listen = with_option guests (codes "listen") true in
+    let conns = with_option shard (codes "conns") true in
+    let listen = with_option conns (codes "listen") true in
     with_rule listen (operands_rule (codes "addresses"))
 
 -- `pir` with no command, whose words begin after the program's name

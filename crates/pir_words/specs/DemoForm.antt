@@ -3,7 +3,7 @@ use Rattle.std.specs.Prelude.{ℕ, ◌<◌, ◌≤◌, List, Option, Some, codes
 use Rattle.clap.specs.Words.{Row, first_of}
 use Rattle.pir_words.specs.Chain.{◌>>=◌}
 use Rattle.pir_words.specs.Numbers.{limited}
-use Rattle.pir_words.specs.Ranges.{FitsSession, block_in, coins_in, servers_in, sharing_in, sizes_in}
+use Rattle.pir_words.specs.Ranges.{FitsSession, block_in, coins_in, servers_in, sharing_in, sharing_of, sizes_in, sizes_of}
 use Rattle.wire_frames.specs.declared.scheme.TheConstants.{SHAMIR}
 use Rattle.pir_words.specs.declared.TheConstants.{LEAST_PORT, MOST_PORT}
 use Rattle.pir_words.specs.declared.ranges.Sizes.{Sizes}
@@ -24,8 +24,13 @@ demo_of m = do
       sharing.degree sharing.agree (coins_in m))
 
 -- the values of `demo` are those of a session of n servers in Shamir's scheme, the block is one of the rows, and there is a port
-pub record IsDemo (port r s b t h n : ℕ) : Type 0 where
+pub record IsDemo (port : ℕ) (sizes : Sizes) (b n : ℕ) (sharing : Sharing) : Type 0 where
   pub some_port : LEAST_PORT ≤ port
   pub few_ports : port ≤ MOST_PORT
-  pub numbers : FitsSession SHAMIR t h n r s
-  pub block : b < r
+  pub numbers : FitsSession SHAMIR sharing n sizes
+  pub block : b < sizes.rows
+
+-- where a demonstration is asked for, its values are in their ranges
+abbrev pub DemoInRange : Asked → Type 0
+DemoInRange (Demo port database r s b n t h coins) = IsDemo port (sizes_of r s) b n (sharing_of t h)
+DemoInRange asked = Unit {0}

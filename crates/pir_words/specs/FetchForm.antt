@@ -10,7 +10,7 @@ use Rattle.wire_frames.specs.declared.scheme.Scheme.TheVariants.{Shamir, Xor}
 use Rattle.wire_frames.specs.Scheme.{number_of}
 use Rattle.pir_words.specs.Chain.{◌>>=◌, ◌>>◌}
 use Rattle.pir_words.specs.Numbers.{flag_in, number}
-use Rattle.pir_words.specs.Ranges.{FitsSession, block_in, coins_in, row_named, scheme_in, sharing_in, sizes_in}
+use Rattle.pir_words.specs.Ranges.{FitsSession, block_in, coins_in, row_named, scheme_in, sharing_in, sharing_of, sizes_in, sizes_of}
 use Rattle.pir_words.specs.declared.TheConstants.{MOST_TAU}
 use Rattle.pir_words.specs.declared.ranges.Sizes.{Sizes}
 use Rattle.pir_words.specs.declared.ranges.Sharing.{Sharing}
@@ -100,14 +100,25 @@ pub record AreAtOnce (r s : ℕ) (blocks : List ℕ) : Type 0 where
   pub each : All (λ b. b < r) blocks
   pub few_bytes : length blocks * s ≤ MOST_WIDTH
 
--- the degree t of the queries and tau of the shares, and the agreement h, suit n servers and a database of r rows of s bytes:
--- t hides the block, and t + tau and h are those of a session; in the XOR scheme the database isn't shared
-pub record IsSharedFetch (scheme r s t tau h n : ℕ) : Type 0 where
-  pub numbers : FitsSession scheme (t + tau) h n r s
-  pub private : 1 ≤ t
+-- the degree of the answers to queries of one degree, where the database is shared in the degree tau, and their agreement
+abbrev pub shared_in : ℕ → Sharing → Sharing
+shared_in tau sharing = record sharing { degree = sharing.degree + tau }
+
+-- the degree of the queries and tau of the shares, and the agreement, suit n servers and the sizes of the database: the degree
+-- of the queries hides the block, and with tau it and the agreement are those of a session; in the XOR scheme the database
+-- isn't shared
+pub record IsSharedFetch (scheme : ℕ) (sizes : Sizes) (sharing : Sharing) (tau n : ℕ) : Type 0 where
+  pub numbers : FitsSession scheme (shared_in tau sharing) n sizes
+  pub private : 1 ≤ sharing.degree
   pub held_whole : scheme ≡ XOR → tau ≡ 0
 
 -- the values of `fetch` with n addresses are those of a session, and the blocks may be asked for at once
-pub record IsFetch (scheme r s : ℕ) (blocks : List ℕ) (t tau h n : ℕ) : Type 0 where
-  pub shared : IsSharedFetch scheme r s t tau h n
-  pub together : AreAtOnce r s blocks
+pub record IsFetch (scheme : ℕ) (sizes : Sizes) (blocks : List ℕ) (sharing : Sharing) (tau n : ℕ) : Type 0 where
+  pub shared : IsSharedFetch scheme sizes sharing tau n
+  pub together : AreAtOnce sizes.rows sizes.width blocks
+
+-- where a fetch is asked for, its values are in their ranges
+abbrev pub FetchInRange : Asked → Type 0
+FetchInRange (Fetch scheme r s blocks t tau h coins keep report addresses) =
+    IsFetch scheme (sizes_of r s) blocks (sharing_of t h) tau (length addresses)
+FetchInRange asked = Unit {0}

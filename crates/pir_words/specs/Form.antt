@@ -9,15 +9,14 @@ use Rattle.key_search.specs.declared.key.KeyFault.TheVariants.{NotHex, TooLong, 
 use Rattle.pir_words.specs.Chain.{◌>>=◌, ◌>>◌}
 use Rattle.pir_words.specs.Command.{pir}
 use Rattle.pir_words.specs.ReplayForm.{replay_of}
-use Rattle.pir_words.specs.FetchForm.{IsFetch, fetch_of}
-use Rattle.pir_words.specs.ServeForm.{IsServe, serve_of}
-use Rattle.pir_words.specs.SelfrunForm.{IsSelfrun, selfrun_of}
-use Rattle.pir_words.specs.DemoForm.{IsDemo, demo_of}
-use Rattle.pir_words.specs.LookUpForm.{FitsLookUp, lookup_of}
-use Rattle.pir_words.specs.SplitForm.{IsSplit, split_of}
-use Rattle.pir_words.specs.FrontForm.{IsFront, front_of}
+use Rattle.pir_words.specs.FetchForm.{FetchInRange, fetch_of}
+use Rattle.pir_words.specs.ServeForm.{ServeInRange, serve_of}
+use Rattle.pir_words.specs.SelfrunForm.{SelfrunInRange, selfrun_of}
+use Rattle.pir_words.specs.DemoForm.{DemoInRange, demo_of}
+use Rattle.pir_words.specs.LookUpForm.{LookUpInRange, lookup_of}
+use Rattle.pir_words.specs.SplitForm.{SplitInRange, split_of}
+use Rattle.pir_words.specs.FrontForm.{FrontInRange, front_of}
 use Rattle.pir_words.specs.declared.asked.Asked.{Asked}
-use Rattle.pir_words.specs.declared.asked.Asked.TheVariants.{Replay, Fetch, Serve, Selfrun, Demo, Lookup, Split, Front}
 use Rattle.pir_words.specs.declared.asked.WordsFault.{WordsFault}
 use Rattle.pir_words.specs.declared.asked.WordsFault.TheVariants.{Usage, Memory}
 
@@ -67,13 +66,11 @@ IsReadAs wanted (Err Usage) = wanted ≡ None
 IsReadAs wanted (Err Memory) = Unit {0}
 
 -- the values of a command are in their ranges
-abbrev pub InRange : Asked → Type 0
-InRange (Replay file report) = Unit {0}
-InRange (Fetch scheme r s blocks t tau h coins keep report addresses) =
-    IsFetch scheme r s blocks t tau h (length addresses)
-InRange (Serve scheme database s guests listen workers) = IsServe scheme s guests workers
-InRange (Selfrun seed r s n t h v workers slow) = IsSelfrun seed r s n t h v workers
-InRange (Demo port database r s b n t h coins) = IsDemo port r s b t h n
-InRange (Lookup r s key t h coins addresses) = FitsLookUp r s key t h (length addresses)
-InRange (Split database s n tau into coins) = IsSplit s n tau
-InRange (Front r s k guests listen addresses) = IsFront r s k guests (length addresses)
+pub record InRange (asked : Asked) : Type 0 where
+  pub fetch : FetchInRange asked
+  pub serve : ServeInRange asked
+  pub selfrun : SelfrunInRange asked
+  pub demo : DemoInRange asked
+  pub lookup : LookUpInRange asked
+  pub split : SplitInRange asked
+  pub front : FrontInRange asked

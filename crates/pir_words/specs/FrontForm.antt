@@ -24,17 +24,22 @@ unfoldable pub front_of : List Row → Option Asked
 front_of m = do
   (sizes : Sizes) ← sizes_in m
   shard ← limited (codes "shard") 1 sizes.rows m
-  guests ← limited (codes "conns") 1 MOST_GUESTS m
+  conns ← limited (codes "conns") 1 MOST_GUESTS m
   addresses ← shard_addresses_in sizes.rows shard m
   listen ← first_of (codes "listen") m
-  Some (Front sizes.rows sizes.width shard guests listen addresses)
+  Some (Front sizes.rows sizes.width shard conns listen addresses)
 
 -- the ranges of the values of `front`: r rows of s bytes, of which k lie on each shard but the last, and n addresses
-pub record IsFront (r s k guests n : ℕ) : Type 0 where
+pub record IsFront (r s k conns n : ℕ) : Type 0 where
   pub shape : IsShape r s
   pub some_on_each : 1 ≤ k
   pub within : k ≤ r
   pub one_for_each : n ≡ div_ceil r k
   pub few_shards : n ≤ MOST_SHARDS
-  pub some_guests : 1 ≤ guests
-  pub few_guests : guests ≤ MOST_GUESTS
+  pub some_conns : 1 ≤ conns
+  pub few_conns : conns ≤ MOST_GUESTS
+
+-- where a front is asked for, its values are in their ranges
+abbrev pub FrontInRange : Asked → Type 0
+FrontInRange (Front r s k conns listen addresses) = IsFront r s k conns (length addresses)
+FrontInRange asked = Unit {0}

@@ -6,7 +6,7 @@ use Rattle.hex.specs.Hex.{decode_of}
 use Rattle.key_search.specs.Spelled.{spells_bytes}
 use Rattle.wire_frames.specs.declared.scheme.TheConstants.{SHAMIR}
 use Rattle.pir_words.specs.Chain.{◌>>=◌, ◌>>◌}
-use Rattle.pir_words.specs.Ranges.{FitsSession, coins_in, sharing_in, sizes_in}
+use Rattle.pir_words.specs.Ranges.{FitsSession, coins_in, sharing_in, sharing_of, sizes_in, sizes_of}
 use Rattle.pir_words.specs.FetchForm.{addresses_in}
 use Rattle.pir_words.specs.declared.ranges.Sizes.{Sizes}
 use Rattle.pir_words.specs.declared.ranges.Sharing.{Sharing}
@@ -37,7 +37,12 @@ lookup_of m = do
 
 -- the values of `lookup` with n addresses are those of a session in Shamir's scheme, and the key has a byte or more, and
 -- no more than a row
-pub record FitsLookUp (r s : ℕ) (key : List ℕ) (t h n : ℕ) : Type 0 where
-  pub numbers : FitsSession SHAMIR t h n r s
+pub record FitsLookUp (sizes : Sizes) (key : List ℕ) (sharing : Sharing) (n : ℕ) : Type 0 where
+  pub numbers : FitsSession SHAMIR sharing n sizes
   pub some_key : 1 ≤ length key
-  pub short_key : length key ≤ s
+  pub short_key : length key ≤ sizes.width
+
+-- where a look-up is asked for, its values are in their ranges
+abbrev pub LookUpInRange : Asked → Type 0
+LookUpInRange (Lookup r s key t h coins addresses) = FitsLookUp (sizes_of r s) key (sharing_of t h) (length addresses)
+LookUpInRange asked = Unit {0}

@@ -55,20 +55,28 @@ sharing_in n m = do
   nat_lt t h && nat_le h n
   Some (record { degree = t; agree = h })
 
--- a session for one block may have these numbers, whatever its own is: degree t and agreement h of n
--- servers in a scheme, and r rows of s bytes
-abbrev pub FitsSession : ℕ → ℕ → ℕ → ℕ → ℕ → ℕ → Type 0
-FitsSession scheme t h n r s =
+-- the sizes of a database of r rows of s bytes
+abbrev pub sizes_of : ℕ → ℕ → Sizes
+sizes_of r s = record { rows = r; width = s }
+
+-- the degree t and the agreement h
+abbrev pub sharing_of : ℕ → ℕ → Sharing
+sharing_of t h = record { degree = t; agree = h }
+
+-- a session for one block may have these numbers, whatever its own is: the scheme, degree and agreement of n servers, and
+-- the sizes of a database
+abbrev pub FitsSession : ℕ → Sharing → ℕ → Sizes → Type 0
+FitsSession scheme sharing n sizes =
     IsInRange (record {
       version = SINGLE;
       scheme = scheme;
-      t = t;
-      h = h;
+      t = sharing.degree;
+      h = sharing.agree;
       n = n;
       count = 1;
       session = 0;
-      r = r;
-      s = s;
+      r = sizes.rows;
+      s = sizes.width;
     })
 
 -- the number of workers, one where it isn't given

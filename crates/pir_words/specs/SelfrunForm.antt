@@ -3,7 +3,7 @@ use Rattle.std.specs.Prelude.{ℕ, ◌^◌, ◌<◌, ◌≤◌, List, Option, So
 use Rattle.clap.specs.Words.{Row}
 use Rattle.pir_words.specs.Chain.{◌>>=◌}
 use Rattle.pir_words.specs.Numbers.{flag_in, limited, number_in}
-use Rattle.pir_words.specs.Ranges.{FitsSession, servers_in, sharing_in, sizes_in, workers_in}
+use Rattle.pir_words.specs.Ranges.{FitsSession, servers_in, sharing_in, sharing_of, sizes_in, sizes_of, workers_in}
 use Rattle.quantity_limits.specs.declared.TheConstants.{MOST_WORKERS}
 use Rattle.wire_frames.specs.declared.scheme.TheConstants.{SHAMIR}
 use Rattle.pir_words.specs.declared.ranges.Sizes.{Sizes}
@@ -23,10 +23,15 @@ selfrun_of m = do
   Some (Selfrun seed sizes.rows sizes.width servers sharing.degree sharing.agree liars workers
       (flag_in (codes "slow") m))
 
--- the values of `selfrun` are those of a session of n servers in Shamir's scheme, of which v lie
-pub record IsSelfrun (seed r s n t h v workers : ℕ) : Type 0 where
+-- the values of `selfrun` are those of a session of n servers in Shamir's scheme, of which some may lie
+pub record IsSelfrun (seed : ℕ) (sizes : Sizes) (n : ℕ) (sharing : Sharing) (liars workers : ℕ) : Type 0 where
   pub few_seeds : seed < 2 ^ 64
-  pub numbers : FitsSession SHAMIR t h n r s
-  pub few_liars : v ≤ n
+  pub numbers : FitsSession SHAMIR sharing n sizes
+  pub few_liars : liars ≤ n
   pub some_workers : 1 ≤ workers
   pub few_workers : workers ≤ MOST_WORKERS
+
+-- where `selfrun` is asked for, its values are in their ranges
+abbrev pub SelfrunInRange : Asked → Type 0
+SelfrunInRange (Selfrun seed r s n t h liars workers slow) = IsSelfrun seed (sizes_of r s) n (sharing_of t h) liars workers
+SelfrunInRange asked = Unit {0}

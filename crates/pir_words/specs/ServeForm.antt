@@ -14,19 +14,24 @@ use Rattle.pir_words.specs.declared.asked.Asked.TheVariants.{Serve}
 unfoldable pub serve_of : List Row → Option Asked
 serve_of m = do
   width ← limited (codes "width") 1 MOST_WIDTH m
-  guests ← limited (codes "conns") 1 MOST_GUESTS m
+  conns ← limited (codes "conns") 1 MOST_GUESTS m
   scheme ← scheme_in m
   workers ← workers_in m
   database ← first_of (codes "database") m
   listen ← first_of (codes "listen") m
-  Some (Serve (number_of scheme) database width guests listen workers)
+  Some (Serve (number_of scheme) database width conns listen workers)
 
 -- the ranges of the values of `serve`
-pub record IsServe (scheme s guests workers : ℕ) : Type 0 where
+pub record IsServe (scheme s conns workers : ℕ) : Type 0 where
   pub known : (scheme ≡ SHAMIR) ⊎ (scheme ≡ XOR)
   pub some_bytes : 1 ≤ s
   pub few_bytes : s ≤ MOST_WIDTH
-  pub some_guests : 1 ≤ guests
-  pub few_guests : guests ≤ MOST_GUESTS
+  pub some_conns : 1 ≤ conns
+  pub few_conns : conns ≤ MOST_GUESTS
   pub some_workers : 1 ≤ workers
   pub few_workers : workers ≤ MOST_WORKERS
+
+-- where a server is asked for, its values are in their ranges
+abbrev pub ServeInRange : Asked → Type 0
+ServeInRange (Serve scheme database s conns listen workers) = IsServe scheme s conns workers
+ServeInRange asked = Unit {0}

@@ -32,3 +32,8 @@ pub record IsSplit (s n tau : ℕ) : Type 0 where
   pub few_servers : n ≤ MOST_SERVERS
   pub some_tau : 1 ≤ tau
   pub few_tau : tau < n
+
+-- where a split is asked for, its values are in their ranges
+abbrev pub SplitInRange : Asked → Type 0
+SplitInRange (Split database s n tau into coins) = IsSplit s n tau
+SplitInRange asked = Unit {0}

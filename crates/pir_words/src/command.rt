@@ -203,6 +203,18 @@ pub fn pir_command<'a>(alloc: Global) -> Result<Command<'a>, AllocError>
 }
 
 /// The form of the command of this name.
+///
+/// | Command | Required | May be left out |
+/// |---|---|---|
+/// | `replay` | FILE | `--report` |
+/// | `fetch` | `--rows R --width S --block B --degree T --agree H`, two addresses or more | `--more B,B,..`, `--scheme shamir`, `--tau U` (0), `--coins FILE` (`/dev/urandom`), `--record FILE`, `--report` |
+/// | `fetch` | `--scheme xor --rows R --width S --block B`, two addresses or more | `--more B,B,..`, `--coins FILE` (`/dev/urandom`), `--record FILE`, `--report` |
+/// | `serve` | `--database FILE --width S --conns GUESTS --listen ADDR` | `--scheme shamir` or `--scheme xor` (`shamir`), `--workers W` (1) |
+/// | `selfrun` | `--seed SEED --rows R --width S --servers N --degree T --agree H --liars V` | `--workers W` (1), `--slow` |
+/// | `demo` | `--port P --database FILE --rows R --width S --block B --servers N --degree T --agree H` | `--coins FILE` (`/dev/urandom`) |
+/// | `lookup` | `--rows R --width S --key HEX --degree T --agree H`, two addresses or more | `--coins FILE` (`/dev/urandom`) |
+/// | `split` | `--database FILE --width S --servers N --tau U --into NAME` | `--coins FILE` (`/dev/urandom`) |
+/// | `front` | `--rows R --width S --shard K --conns GUESTS --listen ADDR`, an address for each shard | |
 pub fn form_named(name: &str) -> Option<Form<'static>> {
     for form in COMMANDS {
         if form.name == name {

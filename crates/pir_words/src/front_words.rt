@@ -7,7 +7,7 @@ ghost use Rattle.pir_words.specs.Form.{IsReadAs};
 
 use crate::MOST_SHARDS;
 use crate::asked::{Asked, WordsFault};
-use crate::ranges::{guests_at, sizes_at};
+use crate::ranges::{conns_at, sizes_at};
 use crate::text::Texts;
 use crate::values::{limited_at, owned_at, texts_at};
 use clap::ArgMatches;
@@ -43,7 +43,7 @@ pub fn read_front(alloc: Global, matches: &ArgMatches) -> Result<Asked, WordsFau
     let Some(shard) = limited_at(matches, "shard", 1, sizes.rows) else {
         return Err(WordsFault::Usage);
     };
-    let Some(guests) = guests_at(matches) else {
+    let Some(conns) = conns_at(matches) else {
         return Err(WordsFault::Usage);
     };
     let Some(addresses) = shard_addresses_at(matches, sizes.rows, shard) else {
@@ -55,7 +55,7 @@ pub fn read_front(alloc: Global, matches: &ArgMatches) -> Result<Asked, WordsFau
         rows: sizes.rows,
         width: sizes.width,
         shard,
-        conns: guests,
+        conns,
         listen,
         addresses,
     })

@@ -110,17 +110,7 @@ fn read_matches(alloc: Global, matches: &ArgMatches) -> Result<Asked, WordsFault
 
 /// The command that the words ask for. They come without the program's name.
 ///
-/// | Command | Required | May be left out |
-/// |---|---|---|
-/// | `replay` | FILE | `--report` |
-/// | `fetch` | `--rows R --width S --block B --degree T --agree H`, two addresses or more | `--more B,B,..`, `--scheme shamir`, `--tau U` (0), `--coins FILE` (`/dev/urandom`), `--record FILE`, `--report` |
-/// | `fetch` | `--scheme xor --rows R --width S --block B`, two addresses or more | `--more B,B,..`, `--coins FILE` (`/dev/urandom`), `--record FILE`, `--report` |
-/// | `serve` | `--database FILE --width S --conns GUESTS --listen ADDR` | `--scheme shamir` or `--scheme xor` (`shamir`), `--workers W` (1) |
-/// | `selfrun` | `--seed SEED --rows R --width S --servers N --degree T --agree H --liars V` | `--workers W` (1), `--slow` |
-/// | `demo` | `--port P --database FILE --rows R --width S --block B --servers N --degree T --agree H` | `--coins FILE` (`/dev/urandom`) |
-/// | `lookup` | `--rows R --width S --key HEX --degree T --agree H`, two addresses or more | `--coins FILE` (`/dev/urandom`) |
-/// | `split` | `--database FILE --width S --servers N --tau U --into NAME` | `--coins FILE` (`/dev/urandom`) |
-/// | `front` | `--rows R --width S --shard K --conns GUESTS --listen ADDR`, an address for each shard | |
+/// The table over [`form_named`] has the commands and their options.
 ///
 /// Options come in any order, each once, as `--rows 2` or `--rows=2`, and addresses may stand between them; `--slow`
 /// and `--report` take no value. What follows the word `--` is no option. A value that begins with `-` is written `--coins=-x`; `-`

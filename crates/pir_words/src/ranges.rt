@@ -35,8 +35,8 @@ pub fn width_at(matches: &ArgMatches) -> Option<u32>
     limited_at(matches, "width", 1, MOST_WIDTH)
 }
 
-/// How many guests there are.
-pub fn guests_at(matches: &ArgMatches) -> Option<u32>
+/// After how many guests a server ends.
+pub fn conns_at(matches: &ArgMatches) -> Option<u32>
     ensures { result ≡ limited (codes "conns") 1 MOST_GUESTS (given matches.now) }
 {
     limited_at(matches, "conns", 1, MOST_GUESTS)

@@ -5,7 +5,7 @@ ghost use Rattle.pir_words.specs.ServeForm.{serve_of};
 ghost use Rattle.pir_words.specs.Form.{IsReadAs};
 
 use crate::asked::{Asked, WordsFault};
-use crate::ranges::{guests_at, scheme_at, width_at, workers_at};
+use crate::ranges::{conns_at, scheme_at, width_at, workers_at};
 use crate::values::owned_at;
 use clap::ArgMatches;
 use std::alloc::Global;
@@ -18,7 +18,7 @@ pub fn read_serve(alloc: Global, matches: &ArgMatches) -> Result<Asked, WordsFau
     let Some(width) = width_at(matches) else {
         return Err(WordsFault::Usage);
     };
-    let Some(guests) = guests_at(matches) else {
+    let Some(conns) = conns_at(matches) else {
         return Err(WordsFault::Usage);
     };
     let Some(scheme) = scheme_at(matches) else {
@@ -33,7 +33,7 @@ pub fn read_serve(alloc: Global, matches: &ArgMatches) -> Result<Asked, WordsFau
         scheme: scheme.number(),
         database,
         width,
-        conns: guests,
+        conns,
         listen,
         workers,
     })

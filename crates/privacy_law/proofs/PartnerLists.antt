@@ -43,6 +43,7 @@ length-partner coins t coalition b b2 =
     let f = above (hiding coalition) in
     length-added _ t b2 f ∙ length-added coins t b f
 
+-- the partner in the XOR scheme has as many coins
 pub length-partner_xor : (coins : List ℕ) (n r left_out b b2 : ℕ) → length (partner_xor coins n r left_out b b2) ≡ length coins
 length-partner_xor coins n r left_out b b2 =
     elim (cases_eq left_out n) [
@@ -142,13 +143,16 @@ IsBijection-list t r coalition bs b2s as_many bytes nonzero =
     let same : (n : ℕ) (coins : List ℕ) → AreCoins (length bs * (r * t)) coins → AreCoins (length b2s * (r * t)) coins = λ n coins h. subst (λ (m : ℕ). AreCoins (m * (r * t)) coins) (sym as_many) h in
     record {
       inverse = λ coins. partner_list coins t r coalition b2s bs;
-      into = λ coins h. AreCoins-changed (r * t) (length bs) (λ i own. partner own t coalition (get_or bs i 0) (get_or b2s i 0)) (λ i own is. AreCoins-partner (r * t) own t coalition (get_or bs i 0) (get_or b2s i 0) bytes nonzero is) coins h;
+      into = λ coins h. AreCoins-changed (r * t) (length bs) (λ i own. partner own t coalition (get_or bs i 0) (get_or b2s i 0))
+          (λ i own is. AreCoins-partner (r * t) own t coalition (get_or bs i 0) (get_or b2s i 0) bytes nonzero is) coins h;
       back = λ coins h. subst (λ (m : ℕ). AreCoins (m * (r * t)) (partner_list coins t r coalition b2s bs)) as_many
-          (AreCoins-changed (r * t) (length b2s) (λ i own. partner own t coalition (get_or b2s i 0) (get_or bs i 0)) (λ i own is. AreCoins-partner (r * t) own t coalition (get_or b2s i 0) (get_or bs i 0) bytes nonzero is) coins (same 0 coins h));
+          (AreCoins-changed (r * t) (length b2s) (λ i own. partner own t coalition (get_or b2s i 0) (get_or bs i 0))
+          (λ i own is. AreCoins-partner (r * t) own t coalition (get_or b2s i 0) (get_or bs i 0) bytes nonzero is) coins (same 0 coins h));
       left = λ coins h. list_back coins t r coalition bs b2s h.size as_many;
       right = λ coins h. list_back coins t r coalition b2s bs (same 0 coins h).size (sym as_many);
     }
 
+-- for several blocks in the XOR scheme, to take the partner is a bijection of the coins
 pub IsBijection-xor_list : (n r left_out : ℕ) (bs b2s : List ℕ) → length b2s ≡ length bs
     → IsBijection (length bs * ((n - 1) * size_of r)) (λ coins. partner_xor_list coins n r left_out bs b2s)
 unfolding partner_xor_list
@@ -157,9 +161,11 @@ IsBijection-xor_list n r left_out bs b2s as_many =
     let same : (coins : List ℕ) → AreCoins (length bs * size) coins → AreCoins (length b2s * size) coins = λ coins h. subst (λ (m : ℕ). AreCoins (m * size) coins) (sym as_many) h in
     record {
       inverse = λ coins. partner_xor_list coins n r left_out b2s bs;
-      into = λ coins h. AreCoins-changed size (length bs) (λ i own. partner_xor own n r left_out (get_or bs i 0) (get_or b2s i 0)) (λ i own is. AreCoins-xor size own n r left_out (get_or bs i 0) (get_or b2s i 0) is) coins h;
+      into = λ coins h. AreCoins-changed size (length bs) (λ i own. partner_xor own n r left_out (get_or bs i 0) (get_or b2s i 0))
+          (λ i own is. AreCoins-xor size own n r left_out (get_or bs i 0) (get_or b2s i 0) is) coins h;
       back = λ coins h. subst (λ (m : ℕ). AreCoins (m * size) (partner_xor_list coins n r left_out b2s bs)) as_many
-          (AreCoins-changed size (length b2s) (λ i own. partner_xor own n r left_out (get_or b2s i 0) (get_or bs i 0)) (λ i own is. AreCoins-xor size own n r left_out (get_or b2s i 0) (get_or bs i 0) is) coins (same coins h));
+          (AreCoins-changed size (length b2s) (λ i own. partner_xor own n r left_out (get_or b2s i 0) (get_or bs i 0))
+          (λ i own is. AreCoins-xor size own n r left_out (get_or b2s i 0) (get_or bs i 0) is) coins (same coins h));
       left = λ coins h. xor_list_back coins n r left_out bs b2s h.size as_many;
       right = λ coins h. xor_list_back coins n r left_out b2s bs (same coins h).size (sym as_many);
     }

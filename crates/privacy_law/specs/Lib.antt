@@ -2,3 +2,4 @@ pub mod Hiding
 pub mod Pieces
 pub mod Partner
 pub mod Bijection
+pub mod Alike

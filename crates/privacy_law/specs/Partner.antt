@@ -26,6 +26,10 @@ unfoldable pub partner_list : List ℕ → ℕ → ℕ → List ℕ → List ℕ
 partner_list coins t r coalition bs b2s = in_turn (length bs) (λ i.
     partner (piece (r * t) i coins) t coalition (slice_index bs i) (slice_index b2s i))
 
+-- how many coins the bitmaps of n servers for r rows take: one for each server but the last
+abbrev pub bitmap_coins : ℕ → ℕ → ℕ
+bitmap_coins n r = (n - 1) * size_of r
+
 -- in the XOR scheme of n servers, for all of them but one: the bits of both blocks are flipped in
 -- its bitmap, unless it is the last server, who alone has a bitmap that isn't coins
 unfoldable pub partner_xor : List ℕ → ℕ → ℕ → ℕ → ℕ → ℕ → List ℕ
@@ -35,4 +39,4 @@ partner_xor coins n r left_out b b2 =
 -- and for several blocks: one after another the partner of each block's own coins
 unfoldable pub partner_xor_list : List ℕ → ℕ → ℕ → ℕ → List ℕ → List ℕ → List ℕ
 partner_xor_list coins n r left_out bs b2s = in_turn (length bs) (λ i.
-    partner_xor (piece ((n - 1) * size_of r) i coins) n r left_out (slice_index bs i) (slice_index b2s i))
+    partner_xor (piece (bitmap_coins n r) i coins) n r left_out (slice_index bs i) (slice_index b2s i))

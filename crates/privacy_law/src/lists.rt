@@ -1,10 +1,9 @@
 //! Partners of the coins for several blocks: those of each block's own coins.
-ghost use Rattle.std.specs.Prelude.{◌≡◌, ◌≢◌, ℕ, ◌-◌, ◌*◌, ◌<◌, ◌≤◌, length, slice_index, All, IfOk};
-ghost use Rattle.shamir_share.specs.Query.{query};
-ghost use Rattle.chor_xor.specs.Bitmap.{bitmap, size_of};
+
+ghost use Rattle.std.specs.Prelude.{◌≡◌, ◌≢◌, ◌*◌, ◌<◌, ◌≤◌, length, All, IfOk};
 ghost use Rattle.quantity_limits.specs.declared.TheConstants.{MOST_BLOCKS};
-ghost use Rattle.wire_frames.specs.Turns.{piece};
-ghost use Rattle.privacy_law.specs.Partner.{partner_list, partner_xor_list};
+ghost use Rattle.privacy_law.specs.Alike.{AllAreSentAlike, AllOthersAreSentAlike, asking_all};
+ghost use Rattle.privacy_law.specs.Partner.{bitmap_coins, partner_list, partner_xor_list};
 
 use crate::shamir::partner;
 use crate::xor::partner_xor;
@@ -42,9 +41,8 @@ pub fn partner_list(
     requires others { All (λ block. block < r) b2.now }
     ensures is { IfOk result (λ v.
         v.items ≡ partner_list coins.now t r coalition.now b.now b2.now) }
-    ensures queries { IfOk result (λ v. (i : ℕ) → i < length b.now
-        → All (λ a. query (piece (r * t) i v.items) t r (slice_index b2.now i) a
-        ≡ query (piece (r * t) i coins.now) t r (slice_index b.now i) a) coalition.now) }
+    ensures queries { IfOk result (λ v. AllAreSentAlike t r coalition.now
+        (asking_all v.items b2.now) (asking_all coins.now b.now)) }
     ensures length { IfOk result (λ v. length v.items ≡ length coins.now) }
     ensures own_inverse { IfOk result (λ v.
         partner_list v.items t r coalition.now b2.now b.now ≡ coins.now) }
@@ -88,13 +86,11 @@ pub fn partner_xor_list(
     requires last { left_out ≤ n }
     requires blocks { All (λ block. block < r) b.now }
     requires others { All (λ block. block < r) b2.now }
-    requires coins { length coins.now ≡ length b.now * ((n - 1) * size_of r) }
+    requires coins { length coins.now ≡ length b.now * bitmap_coins n r }
     ensures is { IfOk result (λ v.
         v.items ≡ partner_xor_list coins.now n r left_out b.now b2.now) }
-    ensures bitmaps { IfOk result (λ v. (i index : ℕ) → i < length b.now
-        → 1 ≤ index → index ≤ n → index ≢ left_out
-        → bitmap (piece ((n - 1) * size_of r) i v.items) n r (slice_index b2.now i) index
-        ≡ bitmap (piece ((n - 1) * size_of r) i coins.now) n r (slice_index b.now i) index) }
+    ensures bitmaps { IfOk result (λ v. AllOthersAreSentAlike n r left_out
+        (asking_all v.items b2.now) (asking_all coins.now b.now)) }
     ensures length { IfOk result (λ v. length v.items ≡ length coins.now) }
     ensures own_inverse { IfOk result (λ v.
         partner_xor_list v.items n r left_out b2.now b.now ≡ coins.now) }

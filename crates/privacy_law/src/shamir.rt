@@ -2,7 +2,7 @@
 
 ghost use Rattle.std.specs.Prelude.{◌≡◌, ◌≢◌, ◌+◌, ◌*◌, ◌<◌, ◌≤◌, length, map, All, IfOk};
 ghost use Rattle.gf256.specs.Field.{◌⊗◌};
-ghost use Rattle.shamir_share.specs.Query.{query};
+ghost use Rattle.privacy_law.specs.Alike.{AreSentAlike, asking};
 ghost use Rattle.privacy_law.specs.Hiding.{hiding};
 ghost use Rattle.privacy_law.specs.Partner.{added_to_row, partner};
 
@@ -44,7 +44,7 @@ pub fn partner(
     requires other { b2 < r }
     ensures is { IfOk result (λ v. v.items ≡ partner coins.now t coalition.now b b2) }
     ensures queries { IfOk result (λ v.
-        All (λ a. query v.items t r b2 a ≡ query coins.now t r b a) coalition.now) }
+        AreSentAlike t r coalition.now (asking v.items b2) (asking coins.now b)) }
     ensures length { IfOk result (λ v. length v.items ≡ length coins.now) }
     ensures own_inverse { IfOk result (λ v. partner v.items t coalition.now b2 b ≡ coins.now) }
 {

@@ -1,8 +1,9 @@
 //! Partners of coins in the XOR scheme.
 
-ghost use Rattle.std.specs.Prelude.{◌≡◌, ◌≢◌, ℕ, ◌+◌, ◌-◌, ◌*◌, ◌/◌, ◌<◌, ◌≤◌, length, IfOk};
-ghost use Rattle.chor_xor.specs.Bitmap.{bitmap, size_of, unit_byte};
-ghost use Rattle.privacy_law.specs.Partner.{partner_xor};
+ghost use Rattle.std.specs.Prelude.{◌≡◌, ◌+◌, ◌*◌, ◌/◌, ◌<◌, ◌≤◌, length, IfOk};
+ghost use Rattle.chor_xor.specs.Bitmap.{unit_byte};
+ghost use Rattle.privacy_law.specs.Alike.{OthersAreSentAlike, asking};
+ghost use Rattle.privacy_law.specs.Partner.{bitmap_coins, partner_xor};
 ghost use Rattle.privacy_law.specs.Pieces.{added};
 
 use std::alloc::{AllocError, Global};
@@ -39,10 +40,10 @@ pub fn partner_xor(
     requires last { left_out ≤ n }
     requires block { b < r }
     requires other { b2 < r }
-    requires coins { length coins.now ≡ (n - 1) * size_of r }
+    requires coins { length coins.now ≡ bitmap_coins n r }
     ensures is { IfOk result (λ v. v.items ≡ partner_xor coins.now n r left_out b b2) }
-    ensures bitmaps { IfOk result (λ v. (index : ℕ) → 1 ≤ index → index ≤ n → index ≢ left_out
-        → bitmap v.items n r b2 index ≡ bitmap coins.now n r b index) }
+    ensures bitmaps { IfOk result (λ v.
+        OthersAreSentAlike n r left_out (asking v.items b2) (asking coins.now b)) }
     ensures length { IfOk result (λ v. length v.items ≡ length coins.now) }
     ensures own_inverse { IfOk result (λ v. partner_xor v.items n r left_out b2 b ≡ coins.now) }
 {
@@ -57,7 +58,7 @@ fn exchange(coins: &mut [u8], n: u32, r: u32, left_out: u8, b: u32, b2: u32)
     requires last { left_out ≤ n }
     requires block { b < r }
     requires other { b2 < r }
-    requires coins { length coins.old ≡ (n - 1) * size_of r }
+    requires coins { length coins.old ≡ bitmap_coins n r }
     ensures { coins.new ≡ partner_xor coins.old n r left_out b b2 }
 {
     if u32::from(left_out) == n {

@@ -73,6 +73,8 @@ pub fn plain_listing(
 }
 
 impl<'a> Search<'a> {
+    ghost use Rattle.program_tests.specs.Search.{sought};
+
     /// Lists the block of each vector of polynomials that begins with those of these numbers.
     fn extend(
         &self,
@@ -84,8 +86,7 @@ impl<'a> Search<'a> {
         requires ascending { IsStrictlySortedBy (slice_cmp nat_cmp) listing.old }
         ensures kept { OnOk result (numbers.new.items ≡ numbers.old.items) }
         ensures ascending { IsStrictlySortedBy (slice_cmp nat_cmp) listing.new }
-        ensures exact { OnOk result (Gains (Continues self.now.answers self.now.width self.now.degree
-            self.now.agreement numbers.old.items) listing.old listing.new) }
+        ensures exact { OnOk result (Gains (Continues (sought self.now) numbers.old.items) listing.old listing.new) }
     {
         // Where too few answers hold in these columns, no more hold in all of them.
         if self.weight(numbers) < self.agreement {

@@ -9,15 +9,15 @@ use Rattle.port_rules.specs.Moves.{RoseOnce, Touches, took, counted}
 use Rattle.port_rules.specs.Whole.{FailsShort}
 use Rattle.port_rules.specs.Each.{TouchesRange}
 use Rattle.port_rules.proofs.Ranges.{each_as, each_before, each_more, range_still}
-use Rattle.wire_frames.specs.Header.{query_header}
-use Rattle.wire_frames.specs.Session.{Transcript}
-use Rattle.wire_frames.specs.Sizes.{answer_len}
-use Rattle.query_rounds.specs.declared.plan.FetchPlan.{FetchPlan}
-use Rattle.query_rounds.specs.Plan.{need, params_of, query_params}
-use Rattle.query_rounds.specs.Sent.{sent, header_to, payload_for, queries_from, session_number}
-use Rattle.query_rounds.specs.Link.{LinkAsked, LinkBreaks, LinkSent, LinkTaken, FailsToHand}
-use Rattle.query_rounds.specs.Rounds.{SentEach, TakenEach, TakesNext}
 use Rattle.port_rules.specs.Tossed.{Tossed}
+use Rattle.quantity_limits.specs.declared.TheConstants.{MOST_SERVERS}
+use Rattle.wire_frames.specs.Session.{Transcript}
+use Rattle.query_rounds.specs.Plan.{params_of}
+use Rattle.query_rounds.specs.Queries.{Queries, request_of}
+use Rattle.query_rounds.specs.Request.{coins_needed}
+use Rattle.query_rounds.specs.Sent.{address_at, frame_at, header_of, payload_of, queries_from, reply_len, sent, session_number}
+use Rattle.query_rounds.specs.Link.{LinkAsked, LinkBreaks, LinkSent, LinkTaken, FailsToHand}
+use Rattle.query_rounds.specs.Rounds.{SentAt, SentEach, SentTo, TakenEach, TakesNext}
 use Rattle.query_rounds.specs.Gathered.{AskedEach, AsksWith, TouchesLinks}
 use Rattle.query_rounds.proofs.Schemes.{payload_of_session}
 
@@ -65,42 +65,48 @@ asked_in_rounds address frame most false answer old mid new sent taken =
     })
 
 -- where each server was sent its query, and then the answer of each was taken, each was asked
-pub each_asked : (p : FetchPlan) (blocks : List ℕ) (addresses : List (List ℕ)) (coins : List ℕ) (n : ℕ) (reached : List Bool)
-    (session : Transcript) (w v u : World) → SentEach p blocks addresses coins n reached w v
-    → TakenEach (answer_len (length blocks) p.s) n reached session v u → AskedEach p blocks addresses coins n session w u
-each_asked p blocks addresses coins n reached session w v u first second = record {
-  each = λ i l. asked_in_rounds (slice_index_or addresses i []) (sent p blocks coins (i + 1)) (answer_len (length blocks) p.s)
+pub each_asked : (q : Queries) (n : ℕ) (reached : List Bool) (session : Transcript) (w v u : World)
+    → SentEach q n reached w v → TakenEach (reply_len (request_of q)) n reached session v u
+    → AskedEach (request_of q) q.coins n session w u
+each_asked q n reached session w v u first second = record {
+  each = λ i l. asked_in_rounds (address_at q i) (frame_at q i) (reply_len (request_of q))
       (slice_index_or reached i false) (slice_index_or session.records i None)
       (w.at (link 1 + i)) (v.at (link 1 + i)) (u.at (link 1 + i)) (first.each i l) (second.each i l);
 }
 
 -- one more server was sent its query
-pub sent_more : (p : FetchPlan) (blocks : List ℕ) (addresses : List (List ℕ)) (coins : List ℕ) (n at : ℕ) (reached : List Bool) (mark : Bool)
-    (w v u : World) → at ≡ n → at < length reached → n < 255 → SentEach p blocks addresses coins n reached w v → TouchesRange (link 1) n w v
-    → LinkSent (slice_index_or addresses n []) (sent p blocks coins (n + 1)) mark (v.at (link 1 + n)) (u.at (link 1 + n)) → Touches (link 1 + n) v u
-    → SentEach p blocks addresses coins (n + 1) (set reached at mark) w u
-sent_more p blocks addresses coins n at reached mark w v u here within few first range last touch =
-    let Sends = λ (i : ℕ) (was : Bool). LinkSent (slice_index_or addresses i []) (sent p blocks coins (i + 1)) was in
-    let marked : slice_index_or (set reached at mark) n false ≡ mark = ap (λ (k : ℕ). slice_index_or (set reached at mark) k false) (sym here) ∙ get_or-set_same reached at mark false within in
-    each_more (λ i. Sends i (slice_index_or (set reached at mark) i false)) (link 1) n w v u (omega (arith, few))
-    (each_as (λ i. Sends i (slice_index_or reached i false)) (λ i. Sends i (slice_index_or (set reached at mark) i false)) (link 1) n w v
-    (λ i l c d s. subst (λ (was : Bool). Sends i was c d) (sym (get_or-set_other reached at i mark false (λ e. omega (arith, e, here, l)))) s) first)
-    range touch (subst (λ (was : Bool). Sends n was (v.at (link 1 + n)) (u.at (link 1 + n))) (sym marked) last)
+pub sent_more : (q : Queries) (n at : ℕ) (reached : List Bool) (mark : Bool) (w v u : World) → at ≡ n → at < length reached
+    → n < MOST_SERVERS → SentEach q n reached w v → TouchesRange (link 1) n w v → SentTo q n mark v u → Touches (link 1 + n) v u
+    → SentEach q (n + 1) (set reached at mark) w u
+sent_more q n at reached mark w v u here within few first range last touch =
+    let marks = set reached at mark in
+    let marked : slice_index_or marks n false ≡ mark =
+    ap (λ (k : ℕ). slice_index_or marks k false) (sym here) ∙ get_or-set_same reached at mark false within in
+    each_more (λ i. SentAt q i (slice_index_or marks i false)) (link 1) n w v u (omega (arith, few))
+    (each_as (λ i. SentAt q i (slice_index_or reached i false)) (λ i. SentAt q i (slice_index_or marks i false)) (link 1) n w v
+    (λ i l c d s. subst (λ (was : Bool). SentAt q i was c d)
+    (sym (get_or-set_other reached at i mark false (λ e. omega (arith, e, here, l)))) s) first)
+    range touch (subst (λ (was : Bool). SentAt q n was (v.at (link 1 + n)) (u.at (link 1 + n))) (sym marked) last)
 
 -- one more server's answer was taken
-pub taken_more : (most n at : ℕ) (reached : List Bool) (was : Bool) (before after : Transcript) (w v u : World) → at ≡ n → was ≡ slice_index_or reached at false → length before.records ≡ n → n < 255
+pub taken_more : (most n at : ℕ) (reached : List Bool) (was : Bool) (before after : Transcript) (w v u : World) → at ≡ n
+    → was ≡ slice_index_or reached at false → length before.records ≡ n → n < MOST_SERVERS
     → TakenEach most n reached before w v → TouchesRange (link 1) n w v → TakesNext most was before after v u → Touches (link 1 + n) v u
     → TakenEach most (n + 1) reached after w u
 taken_more most n at reached was before after w v u here was_is count few each range next touch =
     let Takes = λ (i : ℕ) (answer : Option (List ℕ)). LinkTaken most (slice_index_or reached i false) answer in
+    let more = next.answer ∷ [] in
     let records = ap (λ (t : Transcript). t.records) next.session in
     let mark : was ≡ slice_index_or reached n false = was_is ∙ ap (λ (k : ℕ). slice_index_or reached k false) here in
     let last : slice_index_or after.records n None ≡ next.answer =
-    ap (λ (l : List (Option (List ℕ))). slice_index_or l n None) records ∙ ap (λ (k : ℕ). slice_index_or (before.records ++ next.answer ∷ []) k None) (omega (arith, count)) ∙ get_or-append-add before.records (next.answer ∷ []) 0 None in
+    ap (λ (l : List (Option (List ℕ))). slice_index_or l n None) records
+    ∙ ap (λ (k : ℕ). slice_index_or (before.records ++ more) k None) (omega (arith, count)) ∙ get_or-append-add before.records more 0 None in
     let taken = subst (λ (k : ℕ). LinkTaken most was next.answer (v.at (link 1 + k)) (u.at (link 1 + k))) count next.taken in
     each_more (λ i. Takes i (slice_index_or after.records i None)) (link 1) n w v u (omega (arith, few))
     (each_as (λ i. Takes i (slice_index_or before.records i None)) (λ i. Takes i (slice_index_or after.records i None)) (link 1) n w v
-    (λ i l c d s. subst (λ (o : Option (List ℕ)). Takes i o c d) (sym (ap (λ (rs : List (Option (List ℕ))). slice_index_or rs i None) records ∙ get_or_append_left before.records (next.answer ∷ []) None i (omega (arith, l, count)))) s) each)
+    (λ i l c d s. subst (λ (o : Option (List ℕ)). Takes i o c d)
+    (sym (ap (λ (rs : List (Option (List ℕ))). slice_index_or rs i None) records
+    ∙ get_or_append_left before.records more None i (omega (arith, l, count)))) s) each)
     range touch
     (subst (λ (o : Option (List ℕ)). Takes n o (v.at (link 1 + n)) (u.at (link 1 + n))) (sym last)
     (subst (λ (b : Bool). LinkTaken most b next.answer (v.at (link 1 + n)) (u.at (link 1 + n))) mark taken))
@@ -122,37 +128,35 @@ links_asked n w v u z touch first second = record {
 }
 
 -- the coins were taken, each server was sent its query, and then the answer of each was taken: so each was asked
-pub asks_with : (p : FetchPlan) (blocks : List ℕ) (addresses : List (List ℕ)) (coins : List ℕ) (reached marks : List Bool)
-    (session : Transcript) (size n most : ℕ) (w v u z : World) → marks ≡ reached
-    → size ≡ need p (length blocks) → n ≡ p.n → most ≡ answer_len (length blocks) p.s → link 1 + p.n ≤ PORT_COUNT
-    → session.params ≡ params_of p (length blocks) (session_number coins) → length session.records ≡ n
-    → Tossed size coins (w.at COINS) (v.at COINS) → Touches COINS w v
-    → SentEach p blocks addresses coins p.n reached v u → TouchesRange (link 1) p.n v u
+pub asks_with : (q : Queries) (reached marks : List Bool) (session : Transcript) (n most : ℕ) (w v u z : World) → marks ≡ reached
+    → n ≡ q.plan.n → most ≡ reply_len (request_of q) → link 1 + q.plan.n ≤ PORT_COUNT
+    → session.params ≡ params_of q.plan (length q.blocks) (session_number q.coins) → length session.records ≡ n
+    → Tossed (coins_needed (request_of q)) q.coins (w.at COINS) (v.at COINS) → Touches COINS w v
+    → SentEach q q.plan.n reached v u → TouchesRange (link 1) q.plan.n v u
     → TakenEach most n marks session u z → TouchesRange (link 1) n u z
-    → AsksWith p blocks addresses coins session w z
-asks_with p blocks addresses coins reached marks session size n most w v u z marks_are size_is n_is most_is fits params whole tossed touch first others second others2 =
-    let range = range_again (link 1) p.n v u z others (subst (λ (k : ℕ). TouchesRange (link 1) k u z) n_is others2) in
-    let still : z.at COINS ≡ v.at COINS = range_still (link 1) p.n COINS v z range (omega arith) (inl (omega arith)) in
-    let taken = subst (λ (m : ℕ). TakenEach m p.n reached session u z) most_is
+    → AsksWith (request_of q) q.coins session w z
+asks_with q reached marks session n most w v u z marks_are n_is most_is fits params whole tossed touch first others second others2 =
+    let r = request_of q in
+    let range = range_again (link 1) q.plan.n v u z others (subst (λ (k : ℕ). TouchesRange (link 1) k u z) n_is others2) in
+    let still : z.at COINS ≡ v.at COINS = range_still (link 1) q.plan.n COINS v z range (omega arith) (inl (omega arith)) in
+    let taken = subst (λ (m : ℕ). TakenEach m q.plan.n reached session u z) most_is
     (subst (λ (k : ℕ). TakenEach most k reached session u z) n_is
     (subst (λ (l : List Bool). TakenEach most n l session u z) marks_are second)) in
     record {
-      tossed = subst (λ (k : ℕ). Tossed k coins (w.at COINS) (z.at COINS)) size_is
-          record { size = tossed.size; bytes = tossed.bytes; cell = still ∙ tossed.cell; told = tossed.told };
+      tossed = record { size = tossed.size; bytes = tossed.bytes; cell = still ∙ tossed.cell; told = tossed.told };
       asked = record {
         params = params;
         whole = whole ∙ n_is;
         links = each_before
-            (λ i. LinkAsked (slice_index_or addresses i []) (sent p blocks coins (i + 1)) (answer_len (length blocks) p.s) (slice_index_or session.records i None))
-            (link 1) p.n COINS w v z fits (inl (omega arith)) touch
-            (each_asked p blocks addresses coins p.n reached session v u z first taken);
+            (λ i. LinkAsked (slice_index_or r.addresses i []) (sent r.plan r.blocks q.coins (i + 1)) (reply_len r) (slice_index_or session.records i None))
+            (link 1) q.plan.n COINS w v z fits (inl (omega arith)) touch (each_asked q q.plan.n reached session v u z first taken);
       };
     }
 
 -- a header and a payload are a frame; a payload doesn't depend on the session's number
-pub sent_is : (p : FetchPlan) (blocks coins : List ℕ) (i : ℕ) (header payload : List ℕ)
-    → header ≡ query_header (header_to p (length blocks) coins i)
-    → payload ≡ payload_for (query_params p 1 0) (queries_from coins) blocks i → header ++ payload ≡ sent p blocks coins i
+pub sent_is : (q : Queries) (i : ℕ) (header payload : List ℕ) → header ≡ header_of q i → payload ≡ payload_of q i
+    → header ++ payload ≡ sent q.plan q.blocks q.coins i
 unfolding sent
-sent_is p blocks coins i header payload a b =
-    ap₂ (λ (x y : List ℕ). x ++ y) a (b ∙ payload_of_session p (length blocks) (session_number coins) (queries_from coins) blocks i)
+sent_is q i header payload a b =
+    ap₂ (λ (x y : List ℕ). x ++ y) a
+    (b ∙ payload_of_session q.plan (length q.blocks) (session_number q.coins) (queries_from q.coins) q.blocks i)

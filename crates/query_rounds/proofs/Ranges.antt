@@ -9,6 +9,7 @@ use Rattle.wire_frames.specs.Limits.{IsCount, IsInRange}
 use Rattle.query_rounds.specs.declared.plan.FetchPlan.{FetchPlan}
 use Rattle.query_rounds.specs.Plan.{AreBlocks, IsPlan, params_of, version_for}
 
+-- a version says for so many blocks
 count_for : (n s : ℕ) → 1 ≤ n → n ≤ MOST_BLOCKS → n * s ≤ MOST_WIDTH → IsCount (version_for n) n s
 unfolding version_for
 count_for n s some few bytes = cond_both (n == 1) SINGLE SEVERAL (λ v. IsCount v n s)
@@ -29,6 +30,7 @@ count_for n s some few bytes = cond_both (n == 1) SINGLE SEVERAL (λ v. IsCount 
       few_bytes = bytes;
     })
 
+-- so are those of a plan for these blocks
 pub range_of : (p : FetchPlan) (blocks : List ℕ) (number : ℕ) → IsPlan p → AreBlocks p blocks → number < 2 ^ 64 → IsInRange (params_of p (length blocks) number)
 range_of p blocks number plan are below = record {
   scheme = plan.numbers.scheme;

@@ -1,4 +1,5 @@
 pub mod Plan
+pub mod Request
 pub mod Queries
 pub mod Sent
 pub mod Link

@@ -1,18 +1,24 @@
 -- What the two rounds of a fetch do: each server is sent its query, and then the answer of each is taken.
 use Rattle.std.specs.Prelude.{ℕ, ◌≡◌, ◌+◌, ◌++◌, ◌∷◌, List, [], length, Bool, false, Option, None, slice_index_or}
-use Rattle.port_rules.specs.World.{World}
+use Rattle.port_rules.specs.World.{Cell, World}
 use Rattle.port_rules.specs.Number.{link}
 use Rattle.port_rules.specs.Each.{Each}
 use Rattle.wire_frames.specs.Session.{Transcript}
-use Rattle.query_rounds.specs.declared.plan.FetchPlan.{FetchPlan}
-use Rattle.query_rounds.specs.Sent.{sent}
+use Rattle.query_rounds.specs.Queries.{Queries}
+use Rattle.query_rounds.specs.Sent.{address_at, frame_at}
 use Rattle.query_rounds.specs.Link.{LinkSent, LinkTaken}
 
--- each of the first n servers was sent its query, by its address, and it is marked whether it was reached
-abbrev pub SentEach : FetchPlan → List ℕ → List (List ℕ) → List ℕ → ℕ → List Bool → World → World → Type 0
-SentEach p blocks addresses coins n reached old new =
-    Each (λ i. LinkSent (slice_index_or addresses i []) (sent p blocks coins (i + 1)) (slice_index_or reached i false))
-    (link 1) n old new
+-- what the link to the server at a place, counted from 0, did when it was sent its query, by whether it was reached
+abbrev pub SentAt : Queries → ℕ → Bool → Cell → Cell → Type 0
+SentAt q place reached old new = LinkSent (address_at q place) (frame_at q place) reached old new
+
+-- the server at a place was sent its query
+abbrev pub SentTo : Queries → ℕ → Bool → World → World → Type 0
+SentTo q place reached old new = SentAt q place reached (old.at (link 1 + place)) (new.at (link 1 + place))
+
+-- each of the first n servers was sent its query, and it is marked whether it was reached
+abbrev pub SentEach : Queries → ℕ → List Bool → World → World → Type 0
+SentEach q n reached old new = Each (λ i. SentAt q i (slice_index_or reached i false)) (link 1) n old new
 
 -- one more server's answer was taken, if it was reached, and its record is the last
 pub record TakesNext (most : ℕ) (reached : Bool) (before after : Transcript) (old new : World) : Type 0 where

@@ -1,10 +1,11 @@
 //! All servers are asked, and what they answer is kept.
 
-ghost use Rattle.std.specs.Prelude.{◌≡◌, length, map, string_bytes, IfOk, vec_len, []};
-ghost use Rattle.wire_frames.specs.Sizes.{answer_len};
-ghost use Rattle.query_rounds.specs.Plan.{AreBlocks, IsPlan, params_of};
-ghost use Rattle.query_rounds.specs.Sent.{frame_len};
-ghost use Rattle.query_rounds.specs.Gathered.{AsksServers, FetchesTo, Gathers, TouchesLinks};
+ghost use Rattle.std.specs.Prelude.{◌≡◌, length, map, string_bytes, IfOk, vec_len};
+ghost use Rattle.query_rounds.specs.Plan.{AreBlocks, IsPlan};
+ghost use Rattle.query_rounds.specs.Queries.{request_of};
+ghost use Rattle.query_rounds.specs.Request.{request};
+ghost use Rattle.query_rounds.specs.Sent.{empty_session, frame_len, reply_len};
+ghost use Rattle.query_rounds.specs.Gathered.{AsksServers, GathersTo, TouchesLinks};
 
 use crate::plan::{FetchFault, FetchPlan};
 use crate::queries::Queries;
@@ -25,10 +26,9 @@ struct Room {
 
 /// Takes that memory.
 fn room_for(alloc: Global, queries: &Queries) -> Result<Room, AllocError>
-    ensures session { IfOk result (λ room.
-        room.session ≡ record { params = params_of queries.now.plan (length queries.now.blocks) 0; records = [] }) }
-    ensures frame { IfOk result (λ room. vec_len room.frame ≡ frame_len queries.now.plan (length queries.now.blocks)) }
-    ensures answer { IfOk result (λ room. vec_len room.answer ≡ answer_len (length queries.now.blocks) queries.now.plan.s) }
+    ensures session { IfOk result (λ room. room.session ≡ empty_session (request_of queries.now) 0) }
+    ensures frame { IfOk result (λ room. vec_len room.frame ≡ frame_len (request_of queries.now)) }
+    ensures answer { IfOk result (λ room. vec_len room.answer ≡ reply_len (request_of queries.now)) }
     ensures reached { IfOk result (λ room. vec_len room.reached ≡ queries.now.plan.n) }
 {
     Ok(Room {
@@ -47,31 +47,20 @@ fn room_for(alloc: Global, queries: &Queries) -> Result<Room, AllocError>
 /// `CoinsFault` and `CoinsEnded`, as [`gather`].
 fn ask_servers<P: Ports>(
     queries: &mut Queries,
-    addresses: &[String],
     ports: &mut P,
     room: &mut Room,
 ) -> Result<(), FetchFault>
-    requires addresses { length addresses.now ≡ queries.old.plan.n }
-    requires session { room.old.session
-        ≡ record { params = params_of queries.old.plan (length queries.old.blocks) 0; records = [] } }
-    requires frame { vec_len room.old.frame ≡ frame_len queries.old.plan (length queries.old.blocks) }
-    requires answer { vec_len room.old.answer ≡ answer_len (length queries.old.blocks) queries.old.plan.s }
+    requires session { room.old.session ≡ empty_session (request_of queries.old) 0 }
+    requires frame { vec_len room.old.frame ≡ frame_len (request_of queries.old) }
+    requires answer { vec_len room.old.answer ≡ reply_len (request_of queries.old) }
     requires reached { vec_len room.old.reached ≡ queries.old.plan.n }
-    ensures plan { queries.new.plan ≡ queries.old.plan }
-    ensures blocks { queries.new.blocks ≡ queries.old.blocks }
-    ensures asked { AsksServers queries.old.plan queries.old.blocks (map string_bytes addresses.now) result
-        queries.new.coins room.new.session (P.world ports.old) (P.world ports.new) }
+    ensures request { request_of queries.new ≡ request_of queries.old }
+    ensures asked { AsksServers queries.new result room.new.session (P.world ports.old) (P.world ports.new) }
     ensures others { TouchesLinks queries.old.plan.n (P.world ports.old) (P.world ports.new) }
 {
     queries.take_coins(ports)?;
     room.session.set_session(queries.session_number());
-    ask_all(
-        queries,
-        addresses,
-        ports,
-        &mut room.frame,
-        &mut room.reached,
-    );
+    ask_all(queries, ports, &mut room.frame, &mut room.reached);
     take_all(&room.reached, ports, &mut room.answer, &mut room.session);
     Ok(())
 }
@@ -98,19 +87,19 @@ pub fn gather<'a, P: Ports>(
     alloc: Global,
     plan: &FetchPlan,
     blocks: &'a [u32],
-    addresses: &[String],
+    addresses: &'a [String],
     ports: &mut P,
 ) -> Result<Gathered<'a>, FetchFault>
     requires plan { IsPlan plan.now }
     requires blocks { AreBlocks plan.now blocks.now }
     requires addresses { length addresses.now ≡ plan.now.n }
-    ensures gathered { FetchesTo (λ all. Gathers plan.now blocks.now (map string_bytes addresses.now) all.queries all.session)
-        plan.now blocks.now (map string_bytes addresses.now) result (P.world ports.old) (P.world ports.new) }
+    ensures gathered { GathersTo (request plan.now blocks.now (map string_bytes addresses.now)) result
+        (P.world ports.old) (P.world ports.new) }
     ensures others { TouchesLinks plan.now.n (P.world ports.old) (P.world ports.new) }
 {
-    let mut queries = Queries::with_room(alloc, plan, blocks)?;
+    let mut queries = Queries::with_room(alloc, plan, blocks, addresses)?;
     let mut room = room_for(alloc, &queries)?;
-    ask_servers(&mut queries, addresses, ports, &mut room)?;
+    ask_servers(&mut queries, ports, &mut room)?;
     let Room {
         mut frame,
         answer: _,

@@ -1,16 +1,16 @@
 //! What each server is sent.
 
-ghost use Rattle.std.specs.Prelude.{◌≡◌, ◌*◌, ◌<◌, ◌≤◌, length, IfOk};
+ghost use Rattle.std.specs.Prelude.{◌≡◌, ◌*◌, ◌<◌, ◌≤◌, length, map, string_bytes, IfOk};
 ghost use Rattle.port_rules.specs.Number.{COINS};
 ghost use Rattle.port_rules.specs.Moves.{Touches};
 ghost use Rattle.quantity_limits.specs.declared.TheConstants.{MOST_BLOCKS, MOST_SERVERS};
-ghost use Rattle.wire_frames.specs.Header.{query_header};
 ghost use Rattle.wire_frames.specs.Limits.{IsInRange};
-ghost use Rattle.wire_frames.specs.Scheme.{scheme_of, payload_len};
-ghost use Rattle.wire_frames.specs.Sizes.{answer_len};
-ghost use Rattle.query_rounds.specs.Plan.{AreBlocks, IsPlan, need, params_of, query_coins, query_params};
-ghost use Rattle.query_rounds.specs.Sent.{frame_len, header_to, payload_for, payload_to, queries_from, sent, session_number};
-ghost use Rattle.query_rounds.specs.Tossed.{TakesCoins};
+ghost use Rattle.query_rounds.specs.Plan.{AreBlocks, IsPlan, params_of, query_params};
+ghost use Rattle.query_rounds.specs.Queries.{request_of};
+ghost use Rattle.query_rounds.specs.Request.{request};
+ghost use Rattle.query_rounds.specs.Sent.{address_at, frame_len, header_of, payload_of, payload_to, queries_from};
+ghost use Rattle.query_rounds.specs.Sent.{reply_len, sent, session_number, vector_coins, vector_len};
+ghost use Rattle.query_rounds.specs.Tossed.{TakesOwnCoins};
 
 use crate::coins::{NUMBER_LEN, session_number_of, take_coins};
 use crate::plan::{FetchFault, FetchPlan};
@@ -23,22 +23,34 @@ use wire_frames::{
     FRAME_HEADER_LEN, Scheme, SessionParams, answer_len, query_len, write_query_header,
 };
 
-/// What the servers are asked: a plan, the blocks, and the coins for them, which are zeros until they are taken.
+/// What the servers are asked: a plan, the blocks, the address of each server, and the coins for them, which are zeros
+/// until they are taken.
 pub struct Queries<'a> {
     plan: FetchPlan,
     blocks: &'a [u32],
+    addresses: &'a [String],
     coins: Vec<u8>,
 }
 
 impl<'a> Model for Queries<'a> {
+    ghost use Rattle.std.specs.Prelude.{map, string_bytes};
     ghost use Rattle.query_rounds.specs.Queries.{Queries, AreQueries};
 
     ghost Value = { Queries };
 
-    ghost view = { λ q. record { plan = q.plan; blocks = q.blocks.now; coins = q.coins.items } };
+    ghost view = { λ q. record {
+      plan = q.plan;
+      blocks = q.blocks.now;
+      addresses = map string_bytes q.addresses.now;
+      coins = q.coins.items;
+    } };
 
-    ghost invariant = { λ q.
-        AreQueries (record { plan = q.plan; blocks = q.blocks.now; coins = q.coins.items }) };
+    ghost invariant = { λ q. AreQueries (record {
+      plan = q.plan;
+      blocks = q.blocks.now;
+      addresses = map string_bytes q.addresses.now;
+      coins = q.coins.items;
+    }) };
 }
 
 impl<'a> Drop for Queries<'a> {
@@ -47,6 +59,7 @@ impl<'a> Drop for Queries<'a> {
         let Queries {
             plan: _,
             blocks: _,
+            addresses: _,
             mut coins,
         } = self;
         coins.fill(0);
@@ -54,7 +67,7 @@ impl<'a> Drop for Queries<'a> {
 }
 
 impl<'a> Queries<'a> {
-    /// Room for the coins of a plan, for these blocks.
+    /// Room for the coins of a plan, for these blocks, of which the servers with these addresses are asked.
     ///
     /// # Errors
     ///
@@ -63,15 +76,17 @@ impl<'a> Queries<'a> {
         alloc: Global,
         plan: &FetchPlan,
         blocks: &'a [u32],
+        addresses: &'a [String],
     ) -> Result<Queries<'a>, AllocError>
         requires plan { IsPlan plan.now }
         requires blocks { AreBlocks plan.now blocks.now }
-        ensures plan { IfOk result (λ queries. queries.plan ≡ plan.now) }
-        ensures blocks { IfOk result (λ queries. queries.blocks ≡ blocks.now) }
+        requires addresses { length addresses.now ≡ plan.now.n }
+        ensures { IfOk result (λ q. request_of q ≡ request plan.now blocks.now (map string_bytes addresses.now)) }
     {
         Ok(Queries {
             plan: *plan,
             blocks,
+            addresses,
             coins: vec![in alloc; 0; plan.coins_len(blocks.len() as u8)]?,
         })
     }
@@ -82,10 +97,8 @@ impl<'a> Queries<'a> {
     ///
     /// `CoinsFault` and `CoinsEnded`, as [`take_coins`].
     pub(crate) fn take_coins<P: Ports>(&mut self, ports: &mut P) -> Result<(), FetchFault>
-        ensures plan { self.new.plan ≡ self.old.plan }
-        ensures blocks { self.new.blocks ≡ self.old.blocks }
-        ensures taken { TakesCoins (need self.old.plan (length self.old.blocks)) result self.new.coins
-            (P.world ports.old) (P.world ports.new) }
+        ensures request { request_of self.new ≡ request_of self.old }
+        ensures taken { TakesOwnCoins self.new result (P.world ports.old) (P.world ports.new) }
         ensures others { Touches COINS (P.world ports.old) (P.world ports.new) }
     {
         take_coins(ports, &mut self.coins)
@@ -105,6 +118,14 @@ impl<'a> Queries<'a> {
         ensures few { result ≤ MOST_SERVERS }
     {
         self.plan.n
+    }
+
+    /// The address of the server at a place, counted from 0.
+    pub(crate) fn address(&self, place: u8) -> &str
+        requires { place < self.now.plan.n }
+        ensures { result.now ≡ address_at self.now place }
+    {
+        &self.addresses[usize::from(place)]
     }
 
     /// The rows that are asked for.
@@ -142,22 +163,21 @@ impl<'a> Queries<'a> {
     /// The coins behind the number of the session.
     pub fn query_coins(&self) -> &[u8]
         ensures is { result.now ≡ queries_from self.now.coins }
-        ensures size { length (queries_from self.now.coins)
-            ≡ length self.now.blocks * query_coins (query_params self.now.plan 1 0) }
+        ensures size { length (queries_from self.now.coins) ≡ length self.now.blocks * vector_coins self.now.plan }
     {
         &self.coins[NUMBER_LEN..]
     }
 
     /// How many bytes the frame has that a server is sent.
     pub(crate) fn frame_len(&self) -> usize
-        ensures { result ≡ frame_len self.now.plan (length self.now.blocks) }
+        ensures { result ≡ frame_len (request_of self.now) }
     {
         query_len(self.plan.scheme(), self.count(), self.plan.r)
     }
 
     /// How many bytes a server answers, at most.
     pub(crate) fn answer_len(&self) -> usize
-        ensures { result ≡ answer_len (length self.now.blocks) self.now.plan.s }
+        ensures { result ≡ reply_len (request_of self.now) }
     {
         answer_len(self.count(), self.plan.s)
     }
@@ -165,8 +185,7 @@ impl<'a> Queries<'a> {
     /// Writes the header of the query to server `index`.
     fn write_header(&self, index: u8, out: &mut [u8; FRAME_HEADER_LEN])
         requires { 1 ≤ index }
-        ensures { out.new ≡ query_header
-            (header_to self.now.plan (length self.now.blocks) self.now.coins index) }
+        ensures { out.new ≡ header_of self.now index }
     {
         let params = SessionParams {
             session: self.session_number(),
@@ -181,8 +200,8 @@ impl<'a> Queries<'a> {
         requires first { 1 ≤ index }
         requires last { index ≤ self.now.plan.n }
         requires block { block < self.now.plan.r }
-        requires coins { length coins.now ≡ query_coins (query_params self.now.plan 1 0) }
-        requires room { length out.old ≡ payload_len (scheme_of self.now.plan.scheme) self.now.plan.r }
+        requires coins { length coins.now ≡ vector_coins self.now.plan }
+        requires room { length out.old ≡ vector_len self.now.plan }
         ensures { out.new ≡ payload_to (query_params self.now.plan 1 0) coins.now block index }
     {
         let FetchPlan { t, n, r, .. } = self.plan;
@@ -196,10 +215,8 @@ impl<'a> Queries<'a> {
     fn write_payload(&self, index: u8, out: &mut [u8])
         requires first { 1 ≤ index }
         requires last { index ≤ self.now.plan.n }
-        requires room { length out.old ≡ length self.now.blocks
-            * payload_len (scheme_of self.now.plan.scheme) self.now.plan.r }
-        ensures { out.new ≡ payload_for (query_params self.now.plan 1 0) (queries_from self.now.coins)
-            self.now.blocks index }
+        requires room { length out.old ≡ length self.now.blocks * vector_len self.now.plan }
+        ensures { out.new ≡ payload_of self.now index }
     {
         let coins = self.query_coins();
         let own = self.plan.query_coins();
@@ -215,7 +232,7 @@ impl<'a> Queries<'a> {
     pub(crate) fn write_frame(&self, index: u8, frame: &mut [u8])
         requires first { 1 ≤ index }
         requires last { index ≤ self.now.plan.n }
-        requires room { length frame.old ≡ frame_len self.now.plan (length self.now.blocks) }
+        requires room { length frame.old ≡ frame_len (request_of self.now) }
         ensures { frame.new ≡ sent self.now.plan self.now.blocks self.now.coins index }
     {
         let Some((header, payload)) = frame.split_first_chunk_mut() else {

@@ -1,14 +1,14 @@
 //! The two rounds in which the servers are asked: each is sent its query before the answer of any is awaited.
 
-ghost use Rattle.std.specs.Prelude.{ℕ, ◌≡◌, ◌<◌, ◌≤◌, ◌+◌, [], length, map, string_bytes};
+ghost use Rattle.std.specs.Prelude.{ℕ, ◌≡◌, ◌<◌, ◌≤◌, ◌+◌, [], length};
 ghost use Rattle.port_rules.specs.Number.{link};
 ghost use Rattle.port_rules.specs.Moves.{Touches};
 ghost use Rattle.port_rules.specs.Each.{TouchesRange};
 ghost use Rattle.quantity_limits.specs.declared.TheConstants.{MOST_SERVERS};
 ghost use Rattle.wire_frames.specs.Sizes.{answer_len};
-ghost use Rattle.query_rounds.specs.Sent.{frame_len, sent};
-ghost use Rattle.query_rounds.specs.Link.{LinkSent};
-ghost use Rattle.query_rounds.specs.Rounds.{SentEach, TakenEach, TakesNext};
+ghost use Rattle.query_rounds.specs.Queries.{request_of};
+ghost use Rattle.query_rounds.specs.Sent.{frame_len};
+ghost use Rattle.query_rounds.specs.Rounds.{SentEach, SentTo, TakenEach, TakesNext};
 
 use crate::links::{ask, take_answer};
 use crate::queries::Queries;
@@ -16,21 +16,15 @@ use port_rules::Ports;
 use wire_frames::Session;
 
 /// Asks the server at a place, counted from 0, and says whether it was reached.
-fn ask_at<P: Ports>(
-    queries: &Queries,
-    place: u8,
-    address: &str,
-    ports: &mut P,
-    frame: &mut [u8],
-) -> bool
+fn ask_at<P: Ports>(queries: &Queries, place: u8, ports: &mut P, frame: &mut [u8]) -> bool
     requires place { place < queries.now.plan.n }
-    requires few { place < 255 }
-    requires frame { length frame.old ≡ frame_len queries.now.plan (length queries.now.blocks) }
-    ensures sent { LinkSent address.now (sent queries.now.plan queries.now.blocks queries.now.coins (place + 1)) result
-        ((P.world ports.old).at (link 1 + place)) ((P.world ports.new).at (link 1 + place)) }
+    requires few { place < MOST_SERVERS }
+    requires frame { length frame.old ≡ frame_len (request_of queries.now) }
+    ensures sent { SentTo queries.now place result (P.world ports.old) (P.world ports.new) }
     ensures others { Touches (link 1 + place) (P.world ports.old) (P.world ports.new) }
 {
     queries.write_frame(place + 1, frame);
+    let address = queries.address(place);
     ask(ports, place + 1, address, frame)
 }
 
@@ -38,22 +32,18 @@ fn ask_at<P: Ports>(
 /// says of each whether its link took the whole of it.
 pub(crate) fn ask_all<P: Ports>(
     queries: &Queries,
-    addresses: &[String],
     ports: &mut P,
     frame: &mut [u8],
     reached: &mut [bool],
 )
-    requires addresses { length addresses.now ≡ queries.now.plan.n }
-    requires frame { length frame.old ≡ frame_len queries.now.plan (length queries.now.blocks) }
+    requires frame { length frame.old ≡ frame_len (request_of queries.now) }
     requires reached { length reached.old ≡ queries.now.plan.n }
-    ensures sent { SentEach queries.now.plan queries.now.blocks (map string_bytes addresses.now) queries.now.coins
-        queries.now.plan.n reached.new (P.world ports.old) (P.world ports.new) }
+    ensures sent { SentEach queries.now queries.now.plan.n reached.new (P.world ports.old) (P.world ports.new) }
     ensures others { TouchesRange (link 1) queries.now.plan.n (P.world ports.old) (P.world ports.new) }
     ensures few { queries.now.plan.n ≤ MOST_SERVERS }
 {
     'places: for place in 0..queries.servers() {
-        let address = &addresses[usize::from(place)];
-        reached[usize::from(place)] = ask_at(queries, place, address, ports, frame);
+        reached[usize::from(place)] = ask_at(queries, place, ports, frame);
     }
 }
 

@@ -73,6 +73,7 @@ least = record {
   records = None ∷ None ∷ [];
 }
 
+-- absent records fit any answer
 fits_absent : All (Fits (answer_len 1 1)) (None ∷ None ∷ [])
 fits_absent = All-push (Fits (answer_len 1 1)) (None ∷ []) None (All-push (Fits (answer_len 1 1)) [] None
     (All-nil (Fits (answer_len 1 1))) tt) tt

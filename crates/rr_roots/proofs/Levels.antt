@@ -199,5 +199,6 @@ pub appends-none_yet : (P : List ℕ → Type 0) (prefix : List ℕ) (old : List
 appends-none_yet P prefix old = appends-nothing (HoldsBelow P 0) prefix old (λ phi h. absurd (omega (arith, h.1)))
 
 -- all after the last
-pub appends-all : (P : List ℕ → Type 0) (g : ℕ) (prefix : List ℕ) (old new : List (List ℕ)) → ((phi : List ℕ) → P phi → coef phi 0 < g) → Appends (HoldsBelow P g) prefix old new → Appends P prefix old new
+pub appends-all : (P : List ℕ → Type 0) (g : ℕ) (prefix : List ℕ) (old new : List (List ℕ)) → ((phi : List ℕ) → P phi → coef phi 0 < g)
+    → Appends (HoldsBelow P g) prefix old new → Appends P prefix old new
 appends-all P g prefix old new below = appends-same (HoldsBelow P g) P prefix old new (λ phi. (λ h. h.0, λ h. (h, below phi h)))

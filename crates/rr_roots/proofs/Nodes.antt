@@ -13,8 +13,8 @@ pub counted : (start now child more : ℕ) → start ≤ now → child ≡ now +
 counted start now child more up tick rise = omega (arith, up, tick, rise)
 
 -- a root takes a step for each coefficient that is left, at this child or before it
-pub nodes-least : (left start now child more old before new : ℕ) → 0 < left → start ≤ now → child ≡ now + 1 → child ≤ more → (old < before → start + left ≤ now) → (before < new → child + (left - 1) ≤ more)
-    → old < new → start + left ≤ more
+pub nodes-least : (left start now child more old before new : ℕ) → 0 < left → start ≤ now → child ≡ now + 1 → child ≤ more
+    → (old < before → start + left ≤ now) → (before < new → child + (left - 1) ≤ more) → old < new → start + left ≤ more
 nodes-least left start now child more old before new some up tick rise earlier here found = elim (cases_lt before new) [
   | inl more_roots ↦ omega (arith, some, up, tick, here more_roots)
   | inr none ↦ omega (arith, tick, rise, earlier (omega (arith, found, none)))

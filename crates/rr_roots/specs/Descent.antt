@@ -9,6 +9,7 @@ use Rattle.bi_poly.specs.Rows.{column, IsZero, AreBytes}
 use Rattle.bi_poly.specs.Degree.{IsOrderInX, without_first}
 use Rattle.rr_roots.specs.Roots.{IsYRoot}
 use Rattle.rr_roots.specs.Values.{ArePowers, AreValues}
+use Rattle.rr_roots.specs.declared.descent.Walk.{Walk}
 
 -- phi is a y-root of q of n bytes
 pub record IsRootOfSize (q : List (List ℕ)) (n : ℕ) (phi : List ℕ) : Type 0 where
@@ -26,6 +27,15 @@ pub record Appends (P : List ℕ → Type 0) (prefix : List ℕ) (old new : List
   pub found : List (List ℕ)
   pub all : ListsAll P found
   pub appended : new ≡ old ++ map (λ phi. prefix ++ phi) found
+
+-- to the roots of the walk the y-roots of q of n bytes were appended, ascending and each after its prefix, which stays
+pub record AppendsRoots (q : List (List ℕ)) (n : ℕ) (old new : Walk) : Type 0 where
+  pub kept : new.prefix.items ≡ old.prefix.items
+  pub appends : Appends (IsRootOfSize q n) old.prefix.items (map (λ r. r.items) old.roots.items) (map (λ r. r.items) new.roots.items)
+
+-- there are more roots than before
+abbrev pub HasMoreRoots : Walk → Walk → Type 0
+HasMoreRoots new old = length old.roots.items < length new.roots.items
 
 -- the lowest column of q that isn't 0, a polynomial in y, has a degree of at most d
 abbrev pub HasLowestColumnDegreeAtMost : List (List ℕ) → ℕ → Type 0

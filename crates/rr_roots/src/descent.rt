@@ -4,10 +4,10 @@
 //! y-root `gamma + x*psi` of `q` begins with a root of `q(0, y)`, once `q` isn't divisible by x, and then psi is a y-root of
 //! `q(x, x*y + gamma)`, which is the polynomial of the child.
 
-ghost use Rattle.std.specs.Prelude.{ℕ, [], ◌∷◌, ◌++◌, ◌≡◌, ◌+◌, ◌*◌, ◌<◌, ◌≤◌, ◌↔◌, IsTrue, length, map, All, IfOk, OnOk};
+ghost use Rattle.std.specs.Prelude.{ℕ, [], ◌∷◌, ◌++◌, ◌≡◌, ◌+◌, ◌*◌, ◌≤◌, ◌↔◌, IsTrue, map, All, IfOk, OnOk};
 ghost use Rattle.bi_poly.specs.Substitution.{IsShiftedRoot};
 ghost use Rattle.rr_roots.specs.Roots.{IsYRoot};
-ghost use Rattle.rr_roots.specs.Descent.{Appends, HasLowestColumnDegreeAtMost, IsNode, IsOpened, IsRootOfSize};
+ghost use Rattle.rr_roots.specs.Descent.{AppendsRoots, HasLowestColumnDegreeAtMost, HasMoreRoots, IsNode, IsOpened};
 
 use crate::values::values_at_bytes;
 use bi_poly::BiPoly;
@@ -33,20 +33,21 @@ fn has_root_zero(q: &BiPoly) -> bool
     }
 }
 
-/// Appends `prefix` to `roots` where `q` is 0 once 0 stands for y, so that nothing need follow.
-fn keep_root(
-    alloc: Global,
-    q: &BiPoly,
-    prefix: &[u8],
-    roots: &mut Vec<Vec<u8>>,
-) -> Result<(), AllocError>
-    ensures { OnOk result (Appends (IsRootOfSize q.now 0) prefix.now
-        (map (λ r. r.items) roots.old.items) (map (λ r. r.items) roots.new.items)) }
+/// A way down the tree: the coefficients fixed on it so far, and the roots found.
+#[derive(Drop)]
+pub(crate) struct Walk {
+    pub(crate) prefix: Vec<u8>,
+    pub(crate) roots: Vec<Vec<u8>>,
+}
+
+/// Appends the prefix to the roots where `q` is 0 once 0 stands for y, so that nothing need follow.
+fn keep_root(alloc: Global, q: &BiPoly, walk: &mut Walk) -> Result<(), AllocError>
+    ensures { OnOk result (AppendsRoots q.now 0 walk.old walk.new) }
 {
     if !has_root_zero(q) {
         return Ok(());
     }
-    roots.push(Vec::from_slice(alloc, prefix)?)?;
+    walk.roots.push(Vec::from_slice(alloc, &walk.prefix)?)?;
     Ok(())
 }
 
@@ -90,46 +91,43 @@ fn child_at(
     Ok(child)
 }
 
-/// Appends to `roots` the y-roots of `q`, which must not be 0, that have `left` coefficients, in ascending order and each
-/// after `prefix`. `powers` has the powers of all bytes, a row for each row of `q`. `nodes` counts the nodes below this
-/// one: on each of the `left` levels at most as many as the degree in y of the lowest column of `q` that isn't 0, that is,
-/// of what stands before the lowest power of x.
+/// Appends to the roots of the walk the y-roots of `q`, which must not be 0, that have `left` coefficients, in ascending order
+/// and each after its prefix. `powers` has the powers of all bytes, a row for each row of `q`. `nodes` counts the nodes below
+/// this one: on each of the `left` levels at most as many as the degree in y of the lowest column of `q` that isn't 0, that
+/// is, of what stands before the lowest power of x.
 ///
 /// It calls itself to a depth of `left`, and holds one child's polynomial at a time beside its own.
 ///
 /// # Errors
 ///
 /// `AllocError` where there is no memory for these or for the roots; some roots may then be there, and coefficients left in
-/// `prefix`.
-pub fn descend<N: Ledger>(
+/// the prefix.
+pub(crate) fn descend<N: Ledger>(
     alloc: Global,
     q: BiPoly,
     powers: &[Vec<u8>],
     left: u32,
-    prefix: &mut Vec<u8>,
-    roots: &mut Vec<Vec<u8>>,
+    walk: &mut Walk,
     nodes: &mut Steps<N>,
 ) -> Result<(), AllocError>
     requires { IsNode q (map (λ r. r.items) powers.now) }
-    ensures kept { OnOk result (prefix.new.items ≡ prefix.old.items) }
-    ensures exact { OnOk result (Appends (IsRootOfSize q left) prefix.old.items
-        (map (λ r. r.items) roots.old.items) (map (λ r. r.items) roots.new.items)) }
+    ensures found { OnOk result (AppendsRoots q left walk.old walk.new) }
     ensures most { (d : ℕ) → HasLowestColumnDegreeAtMost q d → nodes.new ≤ nodes.old + left * d }
-    ensures least { OnOk result (length roots.old.items < length roots.new.items → nodes.old + left ≤ nodes.new) }
+    ensures least { OnOk result (HasMoreRoots walk.new walk.old → nodes.old + left ≤ nodes.new) }
     ensures rises { nodes.old ≤ nodes.new }
 {
     if left == 0 {
-        return keep_root(alloc, &q, prefix, roots);
+        return keep_root(alloc, &q, walk);
     }
     let node = open(alloc, q, powers)?;
     for byte in 0..256u16 {
         if node.values[byte as usize] != 0 {
             continue;
         }
-        let child = child_at(alloc, &node.q, byte as u8, prefix)?;
+        let child = child_at(alloc, &node.q, byte as u8, &mut walk.prefix)?;
         nodes.tick();
-        descend(alloc, child, powers, left - 1, prefix, roots, nodes)?;
-        prefix.pop();
+        descend(alloc, child, powers, left - 1, walk, nodes)?;
+        walk.prefix.pop();
     }
     Ok(())
 }

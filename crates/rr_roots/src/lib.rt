@@ -14,9 +14,10 @@ ghost use Rattle.std.specs.Prelude.{ℕ, ◌≡◌, ◌+◌, ◌*◌, ◌<◌, �
 ghost use Rattle.bi_poly.specs.Rows.{IsZero};
 ghost use Rattle.rr_roots.specs.Roots.{HasDegreeInYAtMost, ListsYRoots};
 
-use crate::descent::descend;
+use crate::descent::{Walk, descend};
 use crate::values::powers_of_bytes;
 use bi_poly::BiPoly;
+use quantity_limits::MOST_DEGREE;
 use std::alloc::{AllocError, Global};
 use std::sync::ledger::Ledger;
 use uni_poly::steps::Steps;
@@ -32,7 +33,7 @@ fn copy(alloc: Global, q: &BiPoly) -> Result<BiPoly, AllocError>
     Ok(BiPoly::from_rows(rows))
 }
 
-/// The y-roots of `q`, which must not be 0, of degree at most `t`, itself at most 254: the polynomials phi with
+/// The y-roots of `q`, which must not be 0, of degree at most `t`, itself at most [`MOST_DEGREE`]: the polynomials phi with
 /// `q(x, phi(x)) = 0` (Roth and Ruckenstein 2000). Each is listed once, as `t + 1` bytes, in ascending order of these. Those
 /// of `y^2 + (1 + x)*y + x` for `t` 1 are `00 01` and `01 00`.
 ///
@@ -54,16 +55,18 @@ pub fn y_roots<N: Ledger>(
     nodes: &mut Steps<N>,
 ) -> Result<Vec<Vec<u8>>, AllocError>
     requires nonzero { ¬ IsZero q.now }
-    requires degree { t ≤ 254 }
+    requires degree { t ≤ MOST_DEGREE }
     ensures exact { IfOk result (λ roots. ListsYRoots (map (λ r. r.items) roots.items) q.now t) }
     ensures most { (d : ℕ) → HasDegreeInYAtMost q.now d → nodes.new ≤ nodes.old + (t + 1) * d }
     ensures least { IfOk result (λ roots. 0 < length roots.items → nodes.old + (t + 1) ≤ nodes.new) }
     ensures rises { nodes.old ≤ nodes.new }
 {
-    let mut roots = Vec::new(alloc);
-    let mut prefix = Vec::new(alloc);
+    let mut walk = Walk {
+        prefix: Vec::new(alloc),
+        roots: Vec::new(alloc),
+    };
     let whole = copy(alloc, q)?;
     let powers = powers_of_bytes(alloc, q.rows().len())?;
-    descend(alloc, whole, &powers, t + 1, &mut prefix, &mut roots, nodes)?;
-    Ok(roots)
+    descend(alloc, whole, &powers, t + 1, &mut walk, nodes)?;
+    Ok(walk.roots)
 }

@@ -12,7 +12,7 @@ use Rattle.serve_core.specs.Terms.{query_len_for}
 use Rattle.serve_core.specs.Service.{Service, terms_of}
 use Rattle.serve_core.specs.Case.{asked_of}
 use Rattle.serve_core.specs.Reply.{answer_frame}
-use Rattle.serve_core.specs.Taking.{IsDismissal, Dismisses, IsBrokenTaking, IsQueryOf, BreaksTaking, TakesQuery, front_payload}
+use Rattle.serve_core.specs.Taking.{IsDismissal, Dismisses, IsBrokenTaking, IsQueryOf, BreaksTaking, TakesQuery, payload_in}
 use Rattle.serve_core.specs.Attended.{IsReply, Replied, IsBroken, Broke, Attends}
 use Rattle.serve_core.specs.Stages.{Gives}
 use Rattle.serve_core.specs.declared.met.Met.{Met}
@@ -28,6 +28,7 @@ refusal_is : (service : Service) (status n : ℕ) (frame bytes : List ℕ) → I
     → IsReply service (Refused status) n frame bytes
 refusal_is service status n frame bytes d = record { replies = (d.is, d.frame_is); takes = d.takes; there = d.there }
 
+-- so the guest had its reply where its query was refused
 pub replies_refused : (service : Service) (status : ℕ) (w u : World) → Dismisses (terms_of service) (Refused status) w u → Replied service (Refused status) w u
 replies_refused service status w u d = record {
   n = d.n;
@@ -56,9 +57,10 @@ broken_taking service n given bytes (inr short) = inr (record {
   size = short.size;
   reply = refusal_is service short.status n short.frame bytes short.refusal;
   proper = short.proper;
-  front_is = short.front_is;
+  prefix_is = short.prefix_is;
 })
 
+-- so its reply broke off there
 pub breaks_taking : (service : Service) (w u : World) → BreaksTaking (terms_of service) w u → Broke service w u
 breaks_taking service w u b = record {
   n = b.n;
@@ -71,12 +73,15 @@ breaks_taking service w u b = record {
 
 -- a query was taken whole, and its answer given
 module _ (service : Service) (query : QueryHeader) (slice : List ℕ) (w v : World) (takes : TakesQuery (terms_of service) query slice w v) where
+  -- how many bytes the query has
   abbrev n : ℕ
   n = query_len_for (terms_of service) query.count
 
+  -- its vectors, one behind another
   abbrev vectors : List ℕ
-  vectors = front_payload (terms_of service) query slice
+  vectors = payload_in (terms_of service) query slice
 
+  -- the frame of the answer
   abbrev frame : List ℕ
   frame = answer_frame service (query_header query) vectors
 
@@ -84,6 +89,7 @@ module _ (service : Service) (query : QueryHeader) (slice : List ℕ) (w v : Wor
   asked_is : (h : List ℕ) → IsQueryOf (terms_of service) query vectors h → query.count ≡ asked_of h
   asked_is h is = sym (blocks_in_query (query_header query) query (record { range = takes.good.range; spelled = refl })) ∙ ap blocks_in (sym is.header)
 
+  -- the frame is the reply to the bytes
   served : (h : List ℕ) → IsQueryOf (terms_of service) query vectors h → IsReply service Served n frame h
   served h is = record {
     replies = (is.good, ap₂ (answer_frame service) (sym is.header) is.vectors_are);
@@ -91,20 +97,23 @@ module _ (service : Service) (query : QueryHeader) (slice : List ℕ) (w v : Wor
     there = subst (λ k. k ≤ length h) (sym (ap (query_len_for (terms_of service)) (asked_is h is))) is.good.whole.enough;
   }
 
+  -- also where it is told what the guest holds
   told : IfSome (w.at GUEST).holds (IsReply service Served n frame)
   told = told_as (IsQueryOf (terms_of service) query vectors) (IsReply service Served n frame) (w.at GUEST).holds served takes.told
 
-  gave_front : (u : World) → FailsWithin GUEST frame v u → Broke service w u
-  gave_front u f = record {
+  -- it was given a prefix of the frame, up to a call that failed
+  gave_prefix : (u : World) → FailsWithin GUEST frame v u → Broke service w u
+  gave_prefix u f = record {
     n = n;
     given = take f.n frame;
     cell = f.cell ∙ ap (λ c. counted (u.at GUEST).faults (gave (take f.n frame) c)) takes.cell;
     rose = subst (λ k. RoseOnce k (u.at GUEST).faults) (ap (λ c. c.faults) takes.cell) f.rose;
     told = told_as (IsReply service Served n frame) (IsBroken service n (take f.n frame)) (w.at GUEST).holds
-        (λ h is. inr (record { met = Served; frame = frame; size = f.n; reply = is; proper = f.proper; front_is = refl })) told;
+        (λ h is. inr (record { met = Served; frame = frame; size = f.n; reply = is; proper = f.proper; prefix_is = refl })) told;
   }
 
+  -- and so the guest was attended to
   pub attends_answer : (met : Met) (u : World) → Gives Served frame met v u → Attends service met w u
   attends_answer met u (inl given) = subst (λ m. Attends service m w u) (sym given.0)
       (record { n = n; frame = frame; cell = given.1 ∙ ap (gave frame) takes.cell; told = told })
-  attends_answer met u (inr failed) = subst (λ m. Attends service m w u) (sym failed.0) (gave_front u failed.1)
+  attends_answer met u (inr failed) = subst (λ m. Attends service m w u) (sym failed.0) (gave_prefix u failed.1)

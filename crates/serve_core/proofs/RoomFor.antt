@@ -26,11 +26,14 @@ payload_fits terms query range shaped = mul-le-mul_right (vector_len_for terms) 
 
 -- the workers' sums for so many blocks, and the frame of the answer
 module _ (service : Service) (count : ℕ) (few : count ≤ most_blocks_for (terms_of service)) where
+  -- the rows of so many blocks are no more than those of the most
   rows_fit : count * service.database.width ≤ most_blocks_for (terms_of service) * service.database.width
   rows_fit = mul-le-mul_right service.database.width few
 
+  -- and so are the sums of the workers
   pub sums_fit : sums_len_for service count ≤ sums_len_for service (most_blocks_for (terms_of service))
   sums_fit = mul-le-mul_left service.workers rows_fit
 
+  -- and the bytes of the frame
   pub frame_fits : answer_len count service.database.width ≤ answer_len (most_blocks_for (terms_of service)) service.database.width
   frame_fits = omega (arith, rows_fit)

@@ -10,7 +10,7 @@ use Rattle.wire_frames.specs.declared.sizes.TheConstants.{FRAME_HEADER_LEN}
 use Rattle.serve_core.specs.Service.{Service, terms_of}
 use Rattle.serve_core.specs.Case.{ReplyTakes, Suits, query_len_of}
 use Rattle.serve_core.specs.Taking.{IsShort}
-use Rattle.serve_core.specs.Attended.{IsReply, Replied, IsFrontOfReply, IsBroken, Broke, Attends, HasReply, IsServed}
+use Rattle.serve_core.specs.Attended.{IsReply, Replied, IsPrefixOfReply, IsBroken, Broke, Attends, HasReply, IsServed}
 use Rattle.serve_core.specs.declared.met.Met.{Met}
 use Rattle.serve_core.specs.declared.met.Met.TheVariants.{Served, Refused, Gone, GuestFault}
 
@@ -26,17 +26,17 @@ serves_whole service met w v a = record {
       };
 }
 
--- what was given before a call failed: nothing, or a front of the reply
-front_of : (service : Service) (n : ℕ) (given bytes : List ℕ) → IsBroken service n given bytes
-    → (given ≡ []) ⊎ IsFrontOfReply service given bytes
-front_of service n given bytes (inl short) = inl short.nothing
-front_of service n given bytes (inr short) = inr (record {
+-- what was given before a call failed: nothing, or a prefix of the reply
+prefix_of : (service : Service) (n : ℕ) (given bytes : List ℕ) → IsBroken service n given bytes
+    → (given ≡ []) ⊎ IsPrefixOfReply service given bytes
+prefix_of service n given bytes (inl short) = inl short.nothing
+prefix_of service n given bytes (inr short) = inr (record {
   met = short.met;
   frame = short.frame;
   n = short.size;
   replies = short.reply.replies;
   proper = short.proper;
-  front_is = short.front_is;
+  prefix_is = short.prefix_is;
 })
 
 -- no more was taken than a header, and the payload of one that suits
@@ -44,16 +44,19 @@ pub takes_at_most : (service : Service) (n : ℕ) (given bytes : List ℕ) → I
     → (n ≤ FRAME_HEADER_LEN) ⊎ (Suits (terms_of service) bytes × (n ≤ query_len_of (terms_of service) bytes))
 takes_at_most service n given bytes (inl short) = by_short short.short
   where
+    -- not all of the query was taken
     by_short : IsShort (terms_of service) n bytes → (n ≤ FRAME_HEADER_LEN) ⊎ (Suits (terms_of service) bytes × (n ≤ query_len_of (terms_of service) bytes))
     by_short (inl fewer) = inl (omega (arith, fewer))
     by_short (inr (suits, fewer)) = inr (suits, omega (arith, fewer))
 takes_at_most service n given bytes (inr short) = by_met short.met short.reply
   where
+    -- all that the reply takes was taken
     by_met : (met : Met) → IsReply service met n short.frame bytes
         → (n ≤ FRAME_HEADER_LEN) ⊎ (Suits (terms_of service) bytes × (n ≤ query_len_of (terms_of service) bytes))
     by_met Served reply = inr (reply.replies.0.whole.suits, omega (arith, reply.takes))
     by_met (Refused status) reply = by_refusal reply.takes
       where
+        -- of a query that is refused that is the header, or the whole query
         by_refusal : ReplyTakes (terms_of service) bytes (Refused status) n
             → (n ≤ FRAME_HEADER_LEN) ⊎ (Suits (terms_of service) bytes × (n ≤ query_len_of (terms_of service) bytes))
         by_refusal (inl (refused, all)) = inl (omega (arith, all))
@@ -69,7 +72,7 @@ serves_broken service w v b = record {
       record {
         out = b.given;
         accepted = ap (λ (c : Cell). c.accepted) b.cell ∙ ap (λ (o : Option (List ℕ)). option_map (λ x. x ++ b.given) o) accepted;
-        by = inr (b.rose, front_of service b.n b.given guest broken);
+        by = inr (b.rose, prefix_of service b.n b.given guest broken);
       };
 }
 
@@ -81,7 +84,8 @@ serves_one service Gone w v a = serves_whole service Gone w v a
 serves_one service GuestFault w v a = serves_broken service w v a
 
 -- the count of Guest is as it was, or rose by one
-pub attended_once : (service : Service) (met : Met) (w v : World) → Attends service met w v → ((v.at GUEST).faults ≡ (w.at GUEST).faults) ⊎ RoseOnce (w.at GUEST).faults (v.at GUEST).faults
+pub attended_once : (service : Service) (met : Met) (w v : World) → Attends service met w v
+    → ((v.at GUEST).faults ≡ (w.at GUEST).faults) ⊎ RoseOnce (w.at GUEST).faults (v.at GUEST).faults
 attended_once service Served w v a = inl (ap (λ (c : Cell). c.faults) a.cell)
 attended_once service (Refused status) w v a = inl (ap (λ (c : Cell). c.faults) a.cell)
 attended_once service Gone w v a = inl (ap (λ (c : Cell). c.faults) a.cell)

@@ -17,7 +17,7 @@ use Rattle.wire_frames.proofs.Answering.{blocks_in_query}
 use Rattle.serve_core.specs.Terms.{payload_len_for, query_len_for}
 use Rattle.serve_core.specs.Refusal.{refusal_status}
 use Rattle.serve_core.specs.Case.{Asks, IsWholeWith, Suits, RefusedByHeader, header_of, payload, query_len_of, some_sets_unused}
-use Rattle.serve_core.specs.Taking.{IsQueryOf, IsDismissal, Dismisses, IsBrokenTaking, BreaksTaking, Takes, front_payload}
+use Rattle.serve_core.specs.Taking.{IsQueryOf, IsDismissal, Dismisses, IsBrokenTaking, BreaksTaking, Takes, payload_in}
 use Rattle.serve_core.specs.Stages.{Judges, GivesRefusal, TakesPayload, Stops, HandlesPayload}
 use Rattle.serve_core.specs.declared.terms.Terms.{Terms}
 use Rattle.serve_core.specs.declared.met.Met.TheVariants.{Refused as IsRefused, Gone as IsGone}
@@ -44,14 +44,14 @@ module _ (terms : Terms) (status n : ℕ) (frame : List ℕ) (w x u : World) (ta
   }
 
   -- up to a call that failed
-  refused_front : FailsWithin GUEST frame x u → BreaksTaking terms w u
-  refused_front f = record {
+  refused_partly : FailsWithin GUEST frame x u → BreaksTaking terms w u
+  refused_partly f = record {
     n = n;
     given = take f.n frame;
     cell = f.cell ∙ ap (λ c. counted (u.at GUEST).faults (gave (take f.n frame) c)) taken;
     rose = subst (λ k. RoseOnce k (u.at GUEST).faults) (ap (λ c. c.faults) taken) f.rose;
     told = told_by (IsBrokenTaking terms n (take f.n frame)) (w.at GUEST).holds
-        (λ h e. inr (record { status = status; frame = frame; size = f.n; refusal = is h e; proper = f.proper; front_is = refl }));
+        (λ h e. inr (record { status = status; frame = frame; size = f.n; refusal = is h e; proper = f.proper; prefix_is = refl }));
   }
 
 -- the guest failed before its header was whole
@@ -92,18 +92,23 @@ ends_first terms n before after w v size ends = record {
 module _ (terms : Terms) (before header : List ℕ) (w v : World) (size : length header ≡ FRAME_HEADER_LEN)
     (hands : Hands GUEST FRAME_HEADER_LEN before header w v) where
   module _ (h : List ℕ) (e : (w.at GUEST).holds ≡ Some h) where
+    -- the bytes that came are the first that the guest held
     came : Came FRAME_HEADER_LEN before header h
     came = subst (λ o. IfSome o (Came FRAME_HEADER_LEN before header)) e hands.told
 
+    -- so they are the header of those
     header_is : header ≡ header_of h
     header_is = sym (take_all FRAME_HEADER_LEN header (omega (arith, size))) ∙ came.bytes
 
+    -- the guest is left with those behind it
     left : (v.at GUEST).holds ≡ Some (drop FRAME_HEADER_LEN h)
     left = ap (λ c. c.holds) hands.cell ∙ ap (λ o. option_map (drop FRAME_HEADER_LEN) o) e
 
+    -- the guest asks for what the header says
     asks : (query : QueryHeader) → IsQueryHeader header query → Asks h query
     asks query is = record { whole = came.there; header = subst (λ l. IsQueryHeader l query) header_is is }
 
+    -- a header that is refused is refused by what the guest held
     refuses : (refusal : Refusal) → Judges terms header (Err refusal) → RefusedByHeader terms h (refusal_status refusal)
     refuses IsMalformed none = inl (
       refl,
@@ -123,6 +128,7 @@ module _ (terms : Terms) (before header : List ℕ) (w v : World) (size : length
       },
     ))
 
+    -- and the frame that says so is the reply
     refused : (refusal : Refusal) → Judges terms header (Err refusal)
         → IsDismissal terms (IsRefused (refusal_status refusal)) FRAME_HEADER_LEN (answer_to header (refusal_status refusal)) h
     refused refusal judged = record {
@@ -132,6 +138,7 @@ module _ (terms : Terms) (before header : List ℕ) (w v : World) (size : length
       frame_is = ap (λ l. answer_to l (refusal_status refusal)) header_is;
     }
 
+    -- one that suits suits by what the guest held
     suits : (query : QueryHeader) → Judges terms header (Ok query) → Suits terms h
     suits query judged = record { query = query; asks = asks query judged.is.is; scheme = judged.is.scheme; shape = judged.shape }
 
@@ -139,45 +146,55 @@ module _ (terms : Terms) (before header : List ℕ) (w v : World) (size : length
     count_is : (query : QueryHeader) → Judges terms header (Ok query) → query.count ≡ blocks_in (header_of h)
     count_is query judged = sym (blocks_in_query header query judged.is.is) ∙ ap blocks_in header_is
 
+    -- so many bytes has the whole query
     query_len_is : (query : QueryHeader) → Judges terms header (Ok query) → query_len_for terms query.count ≡ query_len_of terms h
     query_len_is query judged = ap (query_len_for terms) (count_is query judged)
 
   -- a refusal of the header
   module _ (refusal : Refusal) (taken : Taken) (slice : List ℕ) (u : World) (judged : Judges terms header (Err refusal)) where
+    -- the status that says why
     abbrev status : ℕ
     status = refusal_status refusal
 
-    pub takes_refusal : GivesRefusal header status taken v u → Takes terms taken slice w u
+    -- the guest was given the frame that says so
+    pub takes_refusal : GivesRefusal header refusal taken v u → Takes terms taken slice w u
     takes_refusal (inl given) = subst (λ t. Takes terms t slice w u) (sym given.0)
         (refused_whole terms status FRAME_HEADER_LEN (answer_to header status) w v u hands.cell (λ h e. refused h e refusal judged) given.1)
     takes_refusal (inr failed) = subst (λ t. Takes terms t slice w u) (sym failed.0)
-        (refused_front terms status FRAME_HEADER_LEN (answer_to header status) w v u hands.cell (λ h e. refused h e refusal judged) failed.1)
+        (refused_partly terms status FRAME_HEADER_LEN (answer_to header status) w v u hands.cell (λ h e. refused h e refusal judged) failed.1)
 
   module _ (query : QueryHeader) (judged : Judges terms header (Ok query)) where
     -- the payload was taken
     module _ (unused : Bool) (vectors : List ℕ) (x : World) (takes : TakesPayload unused terms query.count vectors v x) where
+      -- as many bytes came as the payload has
       many : length takes.before ≡ payload_len_for terms query.count
       many = takes.full ∙ takes.size
 
+      -- the stream of the guest lost those of the whole query
       all_taken : x.at GUEST ≡ took (query_len_for terms query.count) (w.at GUEST)
       all_taken = takes.hands.cell ∙ ap (took (length takes.before)) hands.cell
           ∙ took-took (length takes.before) FRAME_HEADER_LEN (w.at GUEST)
           ∙ ap (λ n. took (FRAME_HEADER_LEN + n) (w.at GUEST)) many
 
       module _ (h : List ℕ) (e : (w.at GUEST).holds ≡ Some h) where
+        -- the bytes that came are those behind the header
         second : Came (length takes.before) takes.before vectors (drop FRAME_HEADER_LEN h)
         second = subst (λ o. IfSome o (Came (length takes.before) takes.before vectors)) (left h e) takes.hands.told
 
+        -- so they are the payload
         vectors_are : vectors ≡ payload terms h
         vectors_are = sym (take_all (length takes.before) vectors (omega (arith, takes.full))) ∙ second.bytes
             ∙ ap (λ n. take n (drop FRAME_HEADER_LEN h)) (many ∙ ap (payload_len_for terms) (count_is h e query judged))
 
+        -- the guest held all that was taken
         enough_taken : query_len_for terms query.count ≤ length h
         enough_taken = omega (arith, second.there, many, length-drop FRAME_HEADER_LEN h, (came h e).there)
 
+        -- and so the whole query
         enough : query_len_of terms h ≤ length h
         enough = omega (arith, enough_taken, query_len_is h e query judged)
 
+        -- it is a whole query whose payload was judged so
         whole_with : IsWholeWith unused terms h
         whole_with = record {
           whole = record { suits = suits h e query judged; enough = enough };
@@ -187,6 +204,7 @@ module _ (terms : Terms) (before header : List ℕ) (w v : World) (size : length
 
     -- the payload sets an unused bit
     module _ (vectors : List ℕ) (x : World) (takes : TakesPayload true terms query.count vectors v x) where
+      -- the frame of that refusal is the reply
       declined : (h : List ℕ) → (w.at GUEST).holds ≡ Some h → IsDismissal terms (IsRefused 1) (query_len_for terms query.count) (answer_to header 1) h
       declined h e = record {
         is = inr (refl, whole_with true vectors x takes h e);
@@ -195,11 +213,12 @@ module _ (terms : Terms) (before header : List ℕ) (w v : World) (size : length
         frame_is = ap (λ l. answer_to l 1) (header_is h e);
       }
 
-      declines : (taken : Taken) (slice : List ℕ) (u : World) → GivesRefusal header 1 taken x u → Takes terms taken slice w u
+      -- the guest was given it
+      declines : (taken : Taken) (slice : List ℕ) (u : World) → GivesRefusal header IsMalformed taken x u → Takes terms taken slice w u
       declines taken slice u (inl given) = subst (λ t. Takes terms t slice w u) (sym given.0)
           (refused_whole terms 1 (query_len_for terms query.count) (answer_to header 1) w x u (all_taken true vectors x takes) declined given.1)
       declines taken slice u (inr failed) = subst (λ t. Takes terms t slice w u) (sym failed.0)
-          (refused_front terms 1 (query_len_for terms query.count) (answer_to header 1) w x u (all_taken true vectors x takes) declined failed.1)
+          (refused_partly terms 1 (query_len_for terms query.count) (answer_to header 1) w x u (all_taken true vectors x takes) declined failed.1)
 
     -- the guest ended before its payload was whole
     stops : (u : World) → Stops terms query.count v u → Dismisses terms IsGone w u
@@ -244,22 +263,25 @@ module _ (terms : Terms) (before header : List ℕ) (w v : World) (size : length
 
     -- what is done once the header suits
     module _ (taken : Taken) (slice : List ℕ) (u : World) (fits : payload_len_for terms query.count ≤ length slice) where
-      taken_whole : TakesPayload false terms query.count (front_payload terms query slice) v u → Takes terms (Query query) slice w u
+      -- a payload that sets no unused bit is taken, and the query with it
+      taken_whole : TakesPayload false terms query.count (payload_in terms query slice) v u → Takes terms (Query query) slice w u
       taken_whole takes = record {
         good = record { range = judged.is.is.range; scheme = judged.is.scheme; shape = judged.shape };
         fits = fits;
         trim = takes.unused_is;
-        cell = all_taken false (front_payload terms query slice) u takes;
-        told = told_by (IsQueryOf terms query (front_payload terms query slice)) (w.at GUEST).holds
+        cell = all_taken false (payload_in terms query slice) u takes;
+        told = told_by (IsQueryOf terms query (payload_in terms query slice)) (w.at GUEST).holds
             (λ h e. record {
-              good = whole_with false (front_payload terms query slice) u takes h e;
+              good = whole_with false (payload_in terms query slice) u takes h e;
               header = sym (header_is h e) ∙ judged.is.is.spelled;
-              vectors_are = vectors_are false (front_payload terms query slice) u takes h e;
+              vectors_are = vectors_are false (payload_in terms query slice) u takes h e;
             });
       }
 
-      pub takes_payload : HandlesPayload terms header query taken (front_payload terms query slice) v u → Takes terms taken slice w u
+      -- whatever is done with the payload
+      pub takes_payload : HandlesPayload terms query taken (payload_in terms query slice) v u → Takes terms taken slice w u
       takes_payload (inl whole) = subst (λ t. Takes terms t slice w u) (sym whole.0) (taken_whole whole.1)
-      takes_payload (inr (inl declined)) = declines declined.query declined.mid declined.takes taken slice u declined.gives
+      takes_payload (inr (inl declined)) = declines declined.vectors declined.mid declined.takes taken slice u
+          (subst (λ (h : List ℕ). GivesRefusal h IsMalformed taken declined.mid u) (sym judged.is.is.spelled) declined.gives)
       takes_payload (inr (inr (inl stopped))) = subst (λ t. Takes terms t slice w u) (sym stopped.0) (stops u stopped.1)
       takes_payload (inr (inr (inr broke))) = subst (λ t. Takes terms t slice w u) (sym broke.0) (breaks u broke.1)

@@ -24,23 +24,23 @@ pub record Replied (service : Service) (met : Met) (old new : World) : Type 0 wh
   pub cell : new.at GUEST ≡ gave frame (took n (old.at GUEST))
   pub told : IfSome (old.at GUEST).holds (IsReply service met n frame)
 
--- a proper front of the reply to these bytes: n bytes of its frame
-pub record IsFrontOfReply (service : Service) (front bytes : List ℕ) : Type 0 where
+-- a proper prefix of the reply to these bytes: n bytes of its frame
+pub record IsPrefixOfReply (service : Service) (prefix bytes : List ℕ) : Type 0 where
   pub met : Met
   pub frame : List ℕ
   pub n : ℕ
   pub replies : Replies service bytes met frame
   pub proper : n < length frame
-  pub front_is : front ≡ take n frame
+  pub prefix_is : prefix ≡ take n frame
 
--- giving failed: all that the reply takes was taken, and a proper front of its frame was given
+-- giving failed: all that the reply takes was taken, and a proper prefix of its frame was given
 pub record GivesShort (service : Service) (n : ℕ) (given bytes : List ℕ) : Type 0 where
   pub met : Met
   pub frame : List ℕ
   pub size : ℕ
   pub reply : IsReply service met n frame bytes
   pub proper : size < length frame
-  pub front_is : given ≡ take size frame
+  pub prefix_is : given ≡ take size frame
 
 -- what was taken and given before a call on the guest failed
 abbrev pub IsBroken : Service → ℕ → List ℕ → List ℕ → Type 0
@@ -73,7 +73,7 @@ pub record HasReply (service : Service) (guest out : List ℕ) : Type 0 where
   pub replies : Replies service guest met out
 
 -- what a guest was given, by the count of Guest as it came in and at its end: its whole reply where
--- no call on it failed, else nothing, or a front of the reply
+-- no call on it failed, else nothing, or a prefix of the reply
 abbrev pub IsServed : Service → List ℕ → List ℕ → ℕ → ℕ → Type 0
 IsServed service guest out before after = ((after ≡ before) × HasReply service guest out)
-    ⊎ (RoseOnce before after × ((out ≡ []) ⊎ IsFrontOfReply service out guest))
+    ⊎ (RoseOnce before after × ((out ≡ []) ⊎ IsPrefixOfReply service out guest))

@@ -21,9 +21,9 @@ pub record IsGood (terms : Terms) (query : QueryHeader) : Type 0 where
   pub scheme : query.scheme ≡ terms.scheme
   pub shape : IsShaped terms query
 
--- the payload of a query, at the front of a slice
-abbrev pub front_payload : Terms → QueryHeader → List ℕ → List ℕ
-front_payload terms query slice = take (payload_len_for terms query.count) slice
+-- the payload of a query, at the start of a slice
+abbrev pub payload_in : Terms → QueryHeader → List ℕ → List ℕ
+payload_in terms query slice = take (payload_len_for terms query.count) slice
 
 -- the bytes begin with the whole query that has this header and this payload, and is good
 pub record IsQueryOf (terms : Terms) (query : QueryHeader) (vectors bytes : List ℕ) : Type 0 where
@@ -31,15 +31,15 @@ pub record IsQueryOf (terms : Terms) (query : QueryHeader) (vectors bytes : List
   pub header : header_of bytes ≡ query_header query
   pub vectors_are : vectors ≡ payload terms bytes
 
--- a query was taken whole: it has this header, and its payload stands at the front of the slice
+-- a query was taken whole: it has this header, and its payload stands at the start of the slice
 pub record TakesQuery (terms : Terms) (query : QueryHeader) (slice : List ℕ) (old new : World)
     : Type 0 where
   pub good : IsGood terms query
   pub fits : payload_len_for terms query.count ≤ length slice
-  pub trim : some_sets_unused terms query.count (front_payload terms query slice) ≡ false
+  pub trim : some_sets_unused terms query.count (payload_in terms query slice) ≡ false
   pub cell : new.at GUEST ≡ took (query_len_for terms query.count) (old.at GUEST)
   pub told : IfSome (old.at GUEST).holds
-      (IsQueryOf terms query (front_payload terms query slice))
+      (IsQueryOf terms query (payload_in terms query slice))
 
 -- the bytes are those of a guest that is met so, so many of them are taken, and it is given this frame
 pub record IsDismissal (terms : Terms) (met : Met) (n : ℕ) (frame bytes : List ℕ) : Type 0 where
@@ -67,14 +67,14 @@ pub record TakesShort (terms : Terms) (n : ℕ) (given bytes : List ℕ) : Type 
   pub there : n ≤ length bytes
   pub nothing : given ≡ []
 
--- giving failed: all that the refusal takes was taken, and a proper front of its frame was given
+-- giving failed: all that the refusal takes was taken, and a proper prefix of its frame was given
 pub record RefusesShort (terms : Terms) (n : ℕ) (given bytes : List ℕ) : Type 0 where
   pub status : ℕ
   pub frame : List ℕ
   pub size : ℕ
   pub refusal : IsDismissal terms (IsRefused status) n frame bytes
   pub proper : size < length frame
-  pub front_is : given ≡ take size frame
+  pub prefix_is : given ≡ take size frame
 
 -- what was taken and given before a call on the guest failed
 abbrev pub IsBrokenTaking : Terms → ℕ → List ℕ → List ℕ → Type 0

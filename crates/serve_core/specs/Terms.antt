@@ -24,3 +24,7 @@ query_len_for terms count = query_len (scheme_of terms.scheme) count terms.rows
 -- the most blocks that it asks for: their rows have at most MOST_WIDTH bytes together
 unfoldable pub most_blocks_for : Terms → ℕ
 most_blocks_for terms = min MOST_BLOCKS (MOST_WIDTH / terms.width)
+
+-- how many bytes its payload has at most
+abbrev pub most_payload_for : Terms → ℕ
+most_payload_for terms = payload_len_for terms (most_blocks_for terms)

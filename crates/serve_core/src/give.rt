@@ -2,7 +2,6 @@
 ghost use Rattle.std.specs.Prelude.{◌<◌, length};
 ghost use Rattle.port_rules.specs.Number.{GUEST};
 ghost use Rattle.port_rules.specs.Moves.{Touches};
-ghost use Rattle.serve_core.specs.Refusal.{refusal_status};
 ghost use Rattle.serve_core.specs.Stages.{Gives, GivesRefusal};
 
 use crate::met::Met;
@@ -29,8 +28,7 @@ pub(crate) fn refuse<P: Ports>(
     header: &[u8; FRAME_HEADER_LEN],
     refusal: Refusal,
 ) -> Taken
-    ensures gives { GivesRefusal header.now (refusal_status refusal) result
-        (P.world ports.old) (P.world ports.new) }
+    ensures gives { GivesRefusal header.now refusal result (P.world ports.old) (P.world ports.new) }
     ensures others { Touches GUEST (P.world ports.old) (P.world ports.new) }
 {
     let status = refusal.status();

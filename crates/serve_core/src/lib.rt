@@ -5,7 +5,7 @@
 //! Promised is, for the bytes that a guest holds: the outcome and the frame, each refusal exactly
 //! where it belongs ([`laws::reply_is_one`]), and that no byte is taken beyond those of the query.
 //! Where a call on the guest fails, it was given nothing unless all that the reply takes was taken,
-//! and then a proper front of the frame. The desk is the same after every guest, and no memory is
+//! and then a proper prefix of the frame. The desk is the same after every guest, and no memory is
 //! taken once it is open.
 //!
 //! Not promised: that a guest ever sends or takes a byte, who it is, and anything of time, side

@@ -13,6 +13,6 @@ pub enum Met {
     /// It ended before its query was whole, and was given nothing.
     Gone,
     /// A call on it failed. It was given nothing unless all that the reply takes was taken, and
-    /// then a proper front of the reply, which may be empty.
+    /// then a proper prefix of the reply, which may be empty.
     GuestFault,
 }

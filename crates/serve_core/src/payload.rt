@@ -5,9 +5,9 @@ ghost use Rattle.port_rules.specs.Moves.{Touches};
 ghost use Rattle.quantity_limits.specs.declared.TheConstants.{MOST_BLOCKS};
 ghost use Rattle.wire_frames.specs.Turns.{piece};
 ghost use Rattle.wire_frames.specs.Scheme.{scheme_of};
-ghost use Rattle.serve_core.specs.Terms.{most_blocks_for, payload_len_for, vector_len_for};
+ghost use Rattle.serve_core.specs.Terms.{most_payload_for, payload_len_for, vector_len_for};
 ghost use Rattle.serve_core.specs.Case.{sets_unused, some_sets_unused};
-ghost use Rattle.serve_core.specs.Taking.{front_payload};
+ghost use Rattle.serve_core.specs.Taking.{payload_in};
 ghost use Rattle.serve_core.specs.Stages.{HandlesPayload, IsSuited};
 
 use crate::give::refuse;
@@ -68,7 +68,7 @@ fn take_into<P: Ports>(
 ) -> Taken
     requires suited { IsSuited terms header.now asked.now }
     requires room { length query.old ≡ payload_len_for terms asked.now.count }
-    ensures handles { HandlesPayload terms header.now asked.now result query.new
+    ensures handles { HandlesPayload terms asked.now result query.new
         (P.world ports.old) (P.world ports.new) }
     ensures others { Touches GUEST (P.world ports.old) (P.world ports.new) }
 {
@@ -87,7 +87,7 @@ fn take_into<P: Ports>(
     Taken::Query(*asked)
 }
 
-/// The same in the front of room for the most blocks that a query asks for.
+/// The same at the start of room for the most blocks that a query asks for.
 pub(crate) fn take_payload<P: Ports>(
     terms: Terms,
     header: &[u8; FRAME_HEADER_LEN],
@@ -96,12 +96,12 @@ pub(crate) fn take_payload<P: Ports>(
     ports: &mut P,
 ) -> Taken
     requires suited { IsSuited terms header.now asked.now }
-    requires room { payload_len_for terms (most_blocks_for terms) ≤ length query.old }
-    ensures handles { HandlesPayload terms header.now asked.now result
-        (front_payload terms asked.now query.new) (P.world ports.old) (P.world ports.new) }
+    requires room { most_payload_for terms ≤ length query.old }
+    ensures handles { HandlesPayload terms asked.now result (payload_in terms asked.now query.new)
+        (P.world ports.old) (P.world ports.new) }
     ensures fits { payload_len_for terms asked.now.count ≤ length query.old }
     ensures others { Touches GUEST (P.world ports.old) (P.world ports.new) }
 {
-    let front = &mut query[..terms.payload_len(asked.count)];
-    take_into(terms, header, asked, front, ports)
+    let payload = &mut query[..terms.payload_len(asked.count)];
+    take_into(terms, header, asked, payload, ports)
 }

@@ -4,7 +4,6 @@ ghost use Rattle.serve_core.specs.Room.{Fits};
 
 use crate::service::Service;
 use std::alloc::{AllocError, Global};
-use wire_frames::answer_len;
 
 /// Room for the payload of a query for the most blocks that one asks for, for the sums of each worker,
 /// and for the frame of its answer.
@@ -28,7 +27,7 @@ impl Room {
         Ok(Room {
             query: vec![in alloc; 0; service.payload_len(most)]?,
             scratch: vec![in alloc; 0; service.sums_len(most)]?,
-            frame: vec![in alloc; 0; answer_len(most, service.matrix().width())]?,
+            frame: vec![in alloc; 0; service.frame_len(most)]?,
         })
     }
 }

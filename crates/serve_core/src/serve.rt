@@ -25,7 +25,7 @@ use std::thread::Threads;
 /// all vectors or for a group of them.
 ///
 /// A guest that ends before that is gone, and is given nothing. Where a call on the guest fails, it
-/// was given nothing unless all that the reply takes was taken, and then a proper front of the
+/// was given nothing unless all that the reply takes was taken, and then a proper prefix of the
 /// reply. The desk is the same after every guest. No memory is taken.
 pub fn serve_one<R: Threads + Sync, G: Gate + Sync, P: Ports>(
     rt: &R,

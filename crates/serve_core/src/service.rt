@@ -4,12 +4,12 @@ ghost use Rattle.wire_frames.specs.declared.scheme.TheConstants.{SHAMIR, XOR};
 ghost use Rattle.wire_frames.specs.Scheme.{scheme_of};
 ghost use Rattle.quantity_limits.specs.declared.TheConstants.{MOST_BLOCKS, MOST_WORKERS};
 ghost use Rattle.serve_core.specs.Terms.{most_blocks_for, payload_len_for};
-ghost use Rattle.serve_core.specs.Service.{sums_len_for, terms_of};
+ghost use Rattle.serve_core.specs.Service.{frame_len_for, sums_len_for, terms_of};
 
 use crate::terms::Terms;
 use block_matrix::Matrix;
 use std::marker::Model;
-use wire_frames::Scheme;
+use wire_frames::{Scheme, answer_len};
 
 /// A database, the number of the scheme in which it is served, and how many workers sum the rows.
 #[derive(Drop)]
@@ -110,5 +110,12 @@ impl Service {
     {
         let row_bytes = usize::from(count) * self.matrix.width() as usize;
         usize::from(self.workers) * row_bytes
+    }
+
+    /// How many bytes the frame of an answer has for so many blocks.
+    pub(crate) fn frame_len(&self, count: u8) -> usize
+        ensures { result ≡ frame_len_for self.now count }
+    {
+        answer_len(count, self.matrix.width())
     }
 }

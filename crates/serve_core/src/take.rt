@@ -2,7 +2,7 @@
 ghost use Rattle.std.specs.Prelude.{◌≤◌, length};
 ghost use Rattle.port_rules.specs.Number.{GUEST};
 ghost use Rattle.port_rules.specs.Moves.{Touches};
-ghost use Rattle.serve_core.specs.Terms.{most_blocks_for, payload_len_for, terms_for};
+ghost use Rattle.serve_core.specs.Terms.{most_payload_for, terms_for};
 ghost use Rattle.serve_core.specs.Taking.{Takes};
 
 use crate::give::refuse;
@@ -15,7 +15,7 @@ use wire_frames::FRAME_HEADER_LEN;
 
 /// Takes the query of the guest that is in, on these terms.
 fn take_on<P: Ports>(terms: Terms, query: &mut [u8], ports: &mut P) -> Taken
-    requires room { payload_len_for terms (most_blocks_for terms) ≤ length query.old }
+    requires room { most_payload_for terms ≤ length query.old }
     ensures takes { Takes terms result query.new (P.world ports.old) (P.world ports.new) }
     ensures others { Touches GUEST (P.world ports.old) (P.world ports.new) }
 {
@@ -34,7 +34,7 @@ fn take_on<P: Ports>(terms: Terms, query: &mut [u8], ports: &mut P) -> Taken
 /// Takes the query of the guest that is in, for a database of so many rows of so many bytes, in a
 /// scheme, 1 for Shamir's sharing and 2 for the XOR scheme. It is what [`serve_one`](crate::serve_one)
 /// does before it answers: a query that it would answer is the result, its header, with its payload
-/// at the front of `query`. Where it would refuse the query, the guest is given the frame that says so.
+/// at the start of `query`. Where it would refuse the query, the guest is given the frame that says so.
 ///
 /// `query` has room for the most blocks that a query asks for: at most
 /// [`MOST_BLOCKS`](wire_frames::MOST_BLOCKS), whose rows have at most
@@ -46,8 +46,7 @@ pub fn take_query<P: Ports>(
     query: &mut [u8],
     ports: &mut P,
 ) -> Taken
-    requires room { payload_len_for (terms_for scheme rows width) (most_blocks_for (terms_for scheme rows width))
-        ≤ length query.old }
+    requires room { most_payload_for (terms_for scheme rows width) ≤ length query.old }
     ensures takes { Takes (terms_for scheme rows width) result query.new (P.world ports.old) (P.world ports.new) }
     ensures others { Touches GUEST (P.world ports.old) (P.world ports.new) }
 {

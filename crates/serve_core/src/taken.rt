@@ -13,6 +13,6 @@ pub enum Taken {
     Refused(u8),
     /// It ended before its query was whole, and was given nothing.
     Gone,
-    /// A call on it failed. It was given nothing, or a proper front of the frame of a refusal.
+    /// A call on it failed. It was given nothing, or a proper prefix of the frame of a refusal.
     GuestFault,
 }

@@ -12,7 +12,9 @@ use Rattle.gf256.specs.Product.{IsMatrix}
 use Rattle.gf256.proofs.FieldLaws.{zero_mul, one_mul}
 use Rattle.gf256.proofs.Added.{added-lanes}
 use Rattle.gf256.proofs.LaneSums.{lanes-of, lanes-sum}
+use Rattle.block_matrix.specs.Database.{Database}
 use Rattle.server_product.specs.Queries.{piece}
+use Rattle.server_product.specs.declared.four_rows.FourRows.{FourRows}
 use Rattle.server_product.specs.Blocks.{block_start, column_at, query_at, place_of}
 use Rattle.server_product.proofs.BlockSums.{lane-is, query-is, column-is, lanes-from, plus_four, place-query, place-column}
 use Rattle.chor_xor.specs.Bitmap.{bit_of, size_of}
@@ -54,32 +56,38 @@ lanes-and xs ys g h at a b = record {
 }
 
 -- four rows under the masks of one bitmap, added to one block
-pub block-put : (acc old a b c d masks xa xb xc xd sa sb sc sd base : List ℕ) (width n i v from start : ℕ)
-    → 16 ≤ width → length a ≡ width → length b ≡ width → length c ≡ width → length d ≡ width → length masks ≡ 1024 → n ≤ 16
-    → v < n → 16 * (i * n + v) + 16 ≤ length acc → from ≤ 16 * (i * n + v) → start ≡ block_start width i
+pub block-put : (acc old : List ℕ) (rows : FourRows) (masks xa xb xc xd sa sb sc sd base : List ℕ) (n i v from start : ℕ)
+    → 16 ≤ length rows.a.now → length rows.b.now ≡ length rows.a.now → length rows.c.now ≡ length rows.a.now → length rows.d.now ≡ length rows.a.now
+    → length masks ≡ 1024 → n ≤ 16
+    → v < n → 16 * (i * n + v) + 16 ≤ length acc → from ≤ 16 * (i * n + v) → start ≡ block_start (length rows.a.now) i
     → base ≡ chunk (16 * (i * n + v)) 16 acc
-    → xa ≡ chunk start 16 a → xb ≡ chunk start 16 b → xc ≡ chunk start 16 c → xd ≡ chunk start 16 d
+    → xa ≡ chunk start 16 rows.a.now → xb ≡ chunk start 16 rows.b.now → xc ≡ chunk start 16 rows.c.now → xd ≡ chunk start 16 rows.d.now
     → sa ≡ chunk (64 * v) 16 masks → sb ≡ chunk (64 * v + 16) 16 masks → sc ≡ chunk (64 * v + 32) 16 masks → sd ≡ chunk (64 * v + 48) 16 masks
-    → IsAdded acc old (masked_at a b c d masks width n) from (16 * (i * n + v))
+    → IsAdded acc old (masked_at rows masks n) from (16 * (i * n + v))
     → IsAdded (put_chunk (16 * (i * n + v)) acc (zip2 bit_xor (zip2 bit_xor (zip2 bit_xor (zip2 bit_xor
     base (zip2 bit_and xa sa)) (zip2 bit_and xb sb)) (zip2 bit_and xc sc)) (zip2 bit_and xd sd)))
-    old (masked_at a b c d masks width n) from (16 * (i * n + v) + 16)
+    old (masked_at rows masks n) from (16 * (i * n + v) + 16)
 unfolding masked_at
-block-put acc old a b c d masks xa xb xc xd sa sb sc sd base width n i v from start wide ea eb ec ed em most few room begun is_start is_base cut_a cut_b cut_c cut_d ma mb mc md done =
+block-put acc old rows masks xa xb xc xd sa sb sc sd base n i v from start wide eb ec ed em most few room begun is_start is_base cut_a cut_b cut_c cut_d ma mb mc md done =
+    let a = rows.a.now in
+    let b = rows.b.now in
+    let c = rows.c.now in
+    let d = rows.d.now in
+    let width = length a in
     let at = 16 * (i * n + v) in
     let inside : start + 16 ≤ width = omega arith in
-    let one : (row mask xs ms : List ℕ) (m : ℕ) → length row ≡ width → m + 16 ≤ 1024 → xs ≡ chunk start 16 row → ms ≡ chunk m 16 masks
+    let one : (row xs ms : List ℕ) (m : ℕ) → start + 16 ≤ length row → m + 16 ≤ 1024 → xs ≡ chunk start 16 row → ms ≡ chunk m 16 masks
     → AreLanes (zip2 bit_and xs ms) (λ p. bit_and (get_or row (start + (p - at)) 0) (get_or masks (m + (p - at)) 0)) at =
-    λ row mask xs ms m er lm cut cutm.
+    λ row xs ms m fits lm cut cutm.
     subst (λ zs. AreLanes zs (λ p. bit_and (get_or row (start + (p - at)) 0) (get_or masks (m + (p - at)) 0)) at) (sym (ap₂ (zip2 bit_and) cut cutm))
-    (lanes-and (chunk start 16 row) (chunk m 16 masks) _ _ at (lanes-from row start at (omega arith)) (lanes-from masks m at (omega arith))) in
-    let of_a = one a masks xa sa (64 * v) ea (omega arith) cut_a ma in
-    let of_b = one b masks xb sb (64 * v + 16) eb (omega arith) cut_b mb in
-    let of_c = one c masks xc sc (64 * v + 32) ec (omega arith) cut_c mc in
-    let of_d = one d masks xd sd (64 * v + 48) ed (omega arith) cut_d md in
+    (lanes-and (chunk start 16 row) (chunk m 16 masks) _ _ at (lanes-from row start at fits) (lanes-from masks m at (omega (arith, lm, em)))) in
+    let of_a = one a xa sa (64 * v) inside (omega arith) cut_a ma in
+    let of_b = one b xb sb (64 * v + 16) (omega (arith, inside, eb)) (omega arith) cut_b mb in
+    let of_c = one c xc sc (64 * v + 32) (omega (arith, inside, ec)) (omega arith) cut_c mc in
+    let of_d = one d xd sd (64 * v + 48) (omega (arith, inside, ed)) (omega arith) cut_d md in
     let of_base = subst (λ zs. AreLanes zs (λ k. get_or acc k 0) at) (sym is_base) (lanes-of acc at room) in
     let sum = lanes-sum _ _ _ _ at (lanes-sum _ _ _ _ at (lanes-sum _ _ _ _ at (lanes-sum _ _ _ _ at of_base of_a) of_b) of_c) of_d in
-    added-lanes acc old _ (masked_at a b c d masks width n) _ from at at room sum (omega arith) (omega arith) (omega arith)
+    added-lanes acc old _ (masked_at rows masks n) _ from at at room sum (omega arith) (omega arith) (omega arith)
     (λ k l m. absurd (omega (arith, l, m, begun)))
     (λ p l m h.
     let k = p - at in
@@ -100,38 +108,43 @@ block-put acc old a b c d masks xa xb xc xd sa sb sc sd base width n i v from st
     done
 
 -- four rows under their masks give what each of them gives
-pub four-asked : (bitmaps masks a b c d : List ℕ) (rows : List (List ℕ)) (width w n from quarter i s p : ℕ) → 1 ≤ n → 16 ≤ width → w ≡ width
-    → s ≡ size_of (length rows) → IsMatrix rows (length rows) width → from + 4 * quarter ≤ length rows → i < quarter
-    → p < 16 * (div_ceil width 16 * n)
-    → a ≡ slice_index_or rows (from + i) [] → b ≡ slice_index_or rows (from + quarter + i) []
-    → c ≡ slice_index_or rows (from + 2 * quarter + i) [] → d ≡ slice_index_or rows (from + 3 * quarter + i) []
+pub four-asked : (bitmaps masks : List ℕ) (four : FourRows) (m : Database) (n from quarter i s p : ℕ) → 1 ≤ n → 16 ≤ m.width
+    → length four.a.now ≡ m.width → s ≡ size_of (length m.rows) → IsMatrix m.rows (length m.rows) m.width
+    → from + 4 * quarter ≤ length m.rows → i < quarter → p < 16 * (div_ceil m.width 16 * n)
+    → four.a.now ≡ slice_index_or m.rows (from + i) [] → four.b.now ≡ slice_index_or m.rows (from + i + quarter) []
+    → four.c.now ≡ slice_index_or m.rows (from + i + 2 * quarter) [] → four.d.now ≡ slice_index_or m.rows (from + i + 3 * quarter) []
     → AreMasks masks bitmaps s n (from + i) quarter
-    → masked_at a b c d masks w n p
-    ≡ block_asked bitmaps rows width n p (from + i) ⊕ block_asked bitmaps rows width n p (from + quarter + i)
-    ⊕ block_asked bitmaps rows width n p (from + 2 * quarter + i) ⊕ block_asked bitmaps rows width n p (from + 3 * quarter + i)
+    → masked_at four masks n p
+    ≡ block_asked bitmaps m.rows m.width n p (from + i) ⊕ block_asked bitmaps m.rows m.width n p (from + quarter + i)
+    ⊕ block_asked bitmaps m.rows m.width n p (from + 2 * quarter + i) ⊕ block_asked bitmaps m.rows m.width n p (from + 3 * quarter + i)
 unfolding masked_at block_asked given bit_of
-four-asked bitmaps masks a b c d rows width w n from quarter i s p some wide ew es is within less room ea eb ec ed held =
+four-asked bitmaps masks four m n from quarter i s p some wide ew es is within less room ea eb ec ed held =
+    let rows = m.rows in
+    let width = m.width in
+    let w = length four.a.now in
     let v = query_at n p in
     let few : v < n = mod_below (p / 16) n (omega arith) in
     let k = p % 16 in
     let small : k < 16 = omega arith in
     let col = column_at width n p in
     let inside : col < width = omega arith in
-    let one : (g m : ℕ) (row : List ℕ) → g < 4 → from + i + g * quarter ≡ m → m < length rows → row ≡ slice_index_or rows m []
+    let one : (g h j : ℕ) (row : List ℕ) → g < 4 → from + i + g * quarter ≡ j → h ≡ j → j < length rows → row ≡ slice_index_or rows h []
     → bit_and (slice_index row (column_at w n p)) (slice_index masks (64 * v + 16 * g + k))
-    ≡ bit_of (piece (size_of (length rows)) bitmaps v) m ⊗ slice_index (slice_index_or rows m []) col =
-    λ g m row l e lm has.
-    let bit = bit_of (piece (size_of (length rows)) bitmaps v) m in
-    let byte : slice_index (slice_index_or rows m []) col < 256 =
-    is.bytes m [] (omega arith) col 0 (let long = is.widths m [] (omega arith) in omega (arith, long, inside)) in
-    ap₂ bit_and (ap₂ (λ xs w. slice_index xs (column_at w n p)) has ew)
-    (held v g k few l small ∙ ap₂ (λ s m. 255 * bit_of (piece s bitmaps v) m) es e)
-    ∙ masked (slice_index (slice_index_or rows m []) col) bit byte (bit_at-lt _ _) in
+    ≡ bit_of (piece (size_of (length rows)) bitmaps v) j ⊗ slice_index (slice_index_or rows j []) col =
+    λ g h j row l e same lm has.
+    let bit = bit_of (piece (size_of (length rows)) bitmaps v) j in
+    let byte : slice_index (slice_index_or rows j []) col < 256 =
+    is.bytes j [] (omega arith) col 0 (let long = is.widths j [] (omega arith) in omega (arith, long, inside)) in
+    ap₂ bit_and (ap₂ (λ xs w. slice_index xs (column_at w n p)) (has ∙ ap (λ j. slice_index_or rows j []) same) ew)
+    (held v g k few l small ∙ ap₂ (λ s j. 255 * bit_of (piece s bitmaps v) j) es e)
+    ∙ masked (slice_index (slice_index_or rows j []) col) bit byte (bit_at-lt _ _) in
     let zero_is : 64 * v + k ≡ 64 * v + 16 * 0 + k = omega arith in
     ap₂ ◌⊕◌ (ap₂ ◌⊕◌ (ap₂ ◌⊕◌
-    (ap (λ x. bit_and (slice_index a (column_at w n p)) (slice_index masks x)) zero_is ∙ one 0 (from + i) a (omega arith) (omega arith) (omega arith) ea)
-    (one 1 (from + quarter + i) b (omega arith) (omega arith) (omega arith) eb)) (one 2 (from + 2 * quarter + i) c (omega arith) (omega arith) (omega arith) ec))
-    (one 3 (from + 3 * quarter + i) d (omega arith) (omega arith) (omega arith) ed)
+    (ap (λ x. bit_and (slice_index four.a.now (column_at w n p)) (slice_index masks x)) zero_is
+    ∙ one 0 (from + i) (from + i) four.a.now (omega arith) (omega arith) refl (omega arith) ea)
+    (one 1 (from + i + quarter) (from + quarter + i) four.b.now (omega arith) (omega arith) (omega arith) (omega arith) eb))
+    (one 2 (from + i + 2 * quarter) (from + 2 * quarter + i) four.c.now (omega arith) (omega arith) (omega arith) (omega arith) ec))
+    (one 3 (from + i + 3 * quarter) (from + 3 * quarter + i) four.d.now (omega arith) (omega arith) (omega arith) (omega arith) ed)
 
 -- place p of the masks
 abbrev pub mask_at : List ℕ → ℕ → ℕ → ℕ → ℕ → ℕ

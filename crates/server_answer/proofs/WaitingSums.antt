@@ -14,11 +14,11 @@ use Rattle.gf256.proofs.Sums.{sum_to-same, sum_to-zero}
 use Rattle.server_product.proofs.Workers.{at-range}
 use Rattle.server_product.proofs.QuerySums.{put-below, put-at, put-above}
 use Rattle.server_answer.specs.Waiting.{column, no_rows, few_sum, from_waiting, waiting_at, AreRows}
-use Rattle.server_answer.specs.declared.gather.Few.{Few}
+use Rattle.server_answer.specs.declared.gather.UpToSeven.{UpToSeven}
 use Rattle.server_answer.proofs.PatternSums.{changed, own-size}
 
 -- others that wait in place of those of one pattern
-pub waiting-set : (rows : List (List ℕ)) (waiting : List Few) (i c p x : ℕ) (few : Few) → p < 256 → p < length waiting
+pub waiting-set : (rows : List (List ℕ)) (waiting : List UpToSeven) (i c p x : ℕ) (few : UpToSeven) → p < 256 → p < length waiting
     → few_sum rows c few ≡ few_sum rows c (slice_index_or waiting p no_rows) ⊕ x
     → waiting_at rows (slice_set waiting p few) i c ≡ waiting_at rows waiting i c ⊕ bit_at p i * x
 unfolding waiting_at from_waiting
@@ -30,18 +30,18 @@ waiting-set rows waiting i c p x few small inside is =
     ∙ mul_bit_add (bit_at p i) (few_sum rows c (slice_index_or waiting p no_rows)) x (bit_at-lt p i))
 
 -- in a table of the same ones each has their number
-pub same-count : (n p : ℕ) (few : Few) → few.count ≡ 0 → (slice_index_or (replicate n few) p no_rows).count ≡ 0
+pub same-count : (n p : ℕ) (few : UpToSeven) → few.count ≡ 0 → (slice_index_or (replicate n few) p no_rows).count ≡ 0
 same-count zero p few none = refl
 same-count (suc n) zero few none = none
 same-count (suc n) (suc p) few none = same-count n p few none
 
 -- none give nothing
-pub none-sum : (rows : List (List ℕ)) (c : ℕ) (few : Few) → few.count ≡ 0 → few_sum rows c few ≡ 0
+pub none-sum : (rows : List (List ℕ)) (c : ℕ) (few : UpToSeven) → few.count ≡ 0 → few_sum rows c few ≡ 0
 unfolding few_sum sum_to
 none-sum rows c few none = ap (sum_to (λ i. column rows c (slice_index few.rows i))) none
 
 -- nor do they for any pattern
-pub waiting-none : (rows : List (List ℕ)) (waiting : List Few) (i c : ℕ) → ((p : ℕ) → (slice_index_or waiting p no_rows).count ≡ 0)
+pub waiting-none : (rows : List (List ℕ)) (waiting : List UpToSeven) (i c : ℕ) → ((p : ℕ) → (slice_index_or waiting p no_rows).count ≡ 0)
     → waiting_at rows waiting i c ≡ 0
 unfolding waiting_at from_waiting
 waiting-none rows waiting i c none =
@@ -50,14 +50,14 @@ waiting-none rows waiting i c none =
     ∙ (let e : bit_at p i * 0 ≡ 0 = omega arith in e))
 
 -- and they are rows
-pub none-are : (m : ℕ) (few : Few) → few.count ≡ 0 → AreRows m few
+pub none-are : (m : ℕ) (few : UpToSeven) → few.count ≡ 0 → AreRows m few
 none-are m few none = record {
   most = omega (arith, none);
   rows = λ i l. absurd (omega (arith, l, none));
 }
 
 -- those of a pattern are rows, once others wait in place of those of one
-pub are-set : (m : ℕ) (waiting : List Few) (p : ℕ) (few : Few) → p < length waiting → AreRows m few
+pub are-set : (m : ℕ) (waiting : List UpToSeven) (p : ℕ) (few : UpToSeven) → p < length waiting → AreRows m few
     → ((q : ℕ) → q < 256 → AreRows m (slice_index_or waiting q no_rows))
     → (q : ℕ) → q < 256 → AreRows m (slice_index_or (slice_set waiting p few) q no_rows)
 are-set m waiting p few inside are before q l =
@@ -102,6 +102,10 @@ row-with numbers n j m inside small before i l =
 pub seven : (f : ℕ → ℕ) → sum_to f 7 ≡ f 0 ⊕ f 1 ⊕ f 2 ⊕ f 3 ⊕ f 4 ⊕ f 5 ⊕ f 6
 unfolding sum_to
 seven f = ap (λ s. s ⊕ f 1 ⊕ f 2 ⊕ f 3 ⊕ f 4 ⊕ f 5 ⊕ f 6) (zero_add (f 0))
+
+-- eight, by fours or one by one
+pub eight : (a b c d e f g h : ℕ) → a ⊕ b ⊕ c ⊕ d ⊕ (e ⊕ f ⊕ g ⊕ h) ≡ a ⊕ b ⊕ c ⊕ d ⊕ e ⊕ f ⊕ g ⊕ h
+eight a b c d e f g h = simp sums
 
 -- eight that are added, of which seven have waited
 pub eight-gone : (x' x w w' b s t : ℕ) → b < 2 → x' ≡ x ⊕ b * (s ⊕ t) → w' ≡ w ⊕ b * s → x' ⊕ w' ≡ x ⊕ w ⊕ b * t

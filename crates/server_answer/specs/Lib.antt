@@ -1,4 +1,5 @@
 pub mod Asked
+pub mod Group
 pub mod Masked
 pub mod Patterns
 pub mod Waiting

@@ -3,6 +3,7 @@ use Rattle.std.specs.Prelude.{◌≡◌, ℕ, List, ◌+◌, ◌*◌, ◌%◌, �
 use Rattle.gf256.specs.Field.{◌⊕◌}
 use Rattle.server_product.specs.Queries.{piece}
 use Rattle.server_product.specs.Blocks.{column_at, query_at}
+use Rattle.server_product.specs.declared.four_rows.FourRows.{FourRows}
 use Rattle.chor_xor.specs.Bitmap.{bit_of, size_of}
 use Rattle.chor_xor.specs.Chosen.{given}
 
@@ -12,12 +13,13 @@ block_asked bitmaps rows width n p j =
     given (piece (size_of (length rows)) bitmaps (query_at n p)) rows (column_at width n p) j
 
 -- what four rows give to it, by the masks of each bitmap: 16 bytes for each row
-unfoldable pub masked_at : List ℕ → List ℕ → List ℕ → List ℕ → List ℕ → ℕ → ℕ → ℕ → ℕ
-masked_at a b c d masks width n p =
-    bit_and (slice_index a (column_at width n p)) (slice_index masks (64 * query_at n p + p % 16))
-    ⊕ bit_and (slice_index b (column_at width n p)) (slice_index masks (64 * query_at n p + 16 + p % 16))
-    ⊕ bit_and (slice_index c (column_at width n p)) (slice_index masks (64 * query_at n p + 32 + p % 16))
-    ⊕ bit_and (slice_index d (column_at width n p)) (slice_index masks (64 * query_at n p + 48 + p % 16))
+unfoldable pub masked_at : FourRows → List ℕ → ℕ → ℕ → ℕ
+masked_at rows masks n p =
+    let c = column_at (length rows.a.now) n p in
+    bit_and (slice_index rows.a.now c) (slice_index masks (64 * query_at n p + p % 16))
+    ⊕ bit_and (slice_index rows.b.now c) (slice_index masks (64 * query_at n p + 16 + p % 16))
+    ⊕ bit_and (slice_index rows.c.now c) (slice_index masks (64 * query_at n p + 32 + p % 16))
+    ⊕ bit_and (slice_index rows.d.now c) (slice_index masks (64 * query_at n p + 48 + p % 16))
 
 -- the masks of the first n bitmaps, of so many bytes, for row j and for the three that follow each
 -- so many rows after the one before: all bits where a bitmap asks for the row, and else none

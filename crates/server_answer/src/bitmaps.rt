@@ -3,10 +3,11 @@
 ghost use Rattle.std.specs.Prelude.{◌≡◌, ℕ, ◌+◌, ◌*◌, ◌<◌, ◌≤◌, true, length, slice_index};
 ghost use Rattle.std.specs.Int.{div_ceil};
 ghost use Rattle.gf256.specs.Sums.{run_sum};
-ghost use Rattle.quantity_limits.specs.declared.TheConstants.{MOST_BLOCKS};
+ghost use Rattle.quantity_limits.specs.declared.TheConstants.{MOST_BLOCKS, MOST_WIDTH};
 ghost use Rattle.chor_xor.specs.Bitmap.{size_of};
 ghost use Rattle.chor_xor.specs.Chosen.{given};
-ghost use Rattle.server_answer.specs.Asked.{asked};
+ghost use Rattle.server_product.specs.RowSums.{AreSums};
+ghost use Rattle.server_answer.specs.Asked.{asked_of};
 ghost use Rattle.server_answer.specs.declared.group.TheConstants.{MOST_LANES};
 
 use crate::gather::sum_in_eights;
@@ -34,8 +35,7 @@ pub fn sum_bitmaps(matrix: &Matrix, bitmaps: &[u8], count: u8, from: u32, to: u3
     requires within { to ≤ length matrix.now.rows }
     requires bitmaps { length bitmaps.now ≡ count * size_of (length matrix.now.rows) }
     requires room { length sums.old ≡ count * matrix.now.width }
-    ensures { (p : ℕ) → p < count * matrix.now.width → slice_index sums.new p
-        ≡ run_sum (asked bitmaps.now matrix.now.rows matrix.now.width p) from to }
+    ensures { AreSums (asked_of bitmaps.now matrix.now) (count * matrix.now.width) from to sums.new }
 {
     if goes_in_sets(count, matrix.width(), to - from) {
         sum_in_sets(matrix, bitmaps, count as usize, from, to, sums);
@@ -59,8 +59,7 @@ fn sum_in_sets(matrix: &Matrix, bitmaps: &[u8], count: usize, from: u32, to: u32
     requires within { to ≤ length matrix.now.rows }
     requires bitmaps { length bitmaps.now ≡ count * size_of (length matrix.now.rows) }
     requires room { length sums.old ≡ count * matrix.now.width }
-    ensures { (p : ℕ) → p < count * matrix.now.width → slice_index sums.new p
-        ≡ run_sum (asked bitmaps.now matrix.now.rows matrix.now.width p) from to }
+    ensures { AreSums (asked_of bitmaps.now matrix.now) (count * matrix.now.width) from to sums.new }
 {
     let size = matrix.rows().div_ceil(8) as usize;
     let width = matrix.width() as usize;
@@ -81,8 +80,7 @@ fn sum_of_set(matrix: &Matrix, bitmaps: &[u8], count: usize, from: u32, to: u32,
     requires within { to ≤ length matrix.now.rows }
     requires bitmaps { length bitmaps.now ≡ count * size_of (length matrix.now.rows) }
     requires room { length sums.old ≡ count * matrix.now.width }
-    ensures { (p : ℕ) → p < count * matrix.now.width → slice_index sums.new p
-        ≡ run_sum (asked bitmaps.now matrix.now.rows matrix.now.width p) from to }
+    ensures { AreSums (asked_of bitmaps.now matrix.now) (count * matrix.now.width) from to sums.new }
 {
     if matrix.width() <= MOST_NARROW {
         sum_set(matrix, bitmaps, count, from, to, sums);
@@ -94,7 +92,7 @@ fn sum_of_set(matrix: &Matrix, bitmaps: &[u8], count: usize, from: u32, to: u32,
 /// Whether so many bitmaps go in a group where rows have so many bytes.
 fn is_group(count: u8, width: u32) -> bool
     requires some { 1 ≤ width }
-    requires few { width ≤ 65536 }
+    requires few { width ≤ MOST_WIDTH }
     ensures some { result ≡ true → 1 ≤ count }
     ensures wide { result ≡ true → 16 ≤ width }
     ensures fits { result ≡ true → count * div_ceil width 16 ≤ MOST_LANES }
@@ -109,8 +107,7 @@ fn sum_each(matrix: &Matrix, bitmaps: &[u8], count: u8, from: u32, to: u32, sums
     requires within { to ≤ length matrix.now.rows }
     requires bitmaps { length bitmaps.now ≡ count * size_of (length matrix.now.rows) }
     requires room { length sums.old ≡ count * matrix.now.width }
-    ensures { (p : ℕ) → p < count * matrix.now.width → slice_index sums.new p
-        ≡ run_sum (asked bitmaps.now matrix.now.rows matrix.now.width p) from to }
+    ensures { AreSums (asked_of bitmaps.now matrix.now) (count * matrix.now.width) from to sums.new }
 {
     let size = matrix.rows().div_ceil(8) as usize;
     let width = matrix.width() as usize;

@@ -2,25 +2,32 @@
 
 ghost use Rattle.std.specs.Prelude.{◌≡◌, ℕ, ◌+◌, ◌*◌, ◌<◌, ◌≤◌, length, slice_index};
 ghost use Rattle.std.specs.Int.{div_ceil};
-ghost use Rattle.gf256.specs.Field.{◌⊕◌};
-ghost use Rattle.gf256.specs.Sums.{run_sum};
 ghost use Rattle.quantity_limits.specs.declared.TheConstants.{MOST_ROWS};
 ghost use Rattle.chor_xor.specs.Bitmap.{size_of, bit_of};
-ghost use Rattle.server_product.specs.Queries.{piece};
-ghost use Rattle.server_answer.specs.Asked.{asked};
-ghost use Rattle.server_answer.specs.Masked.{block_asked, AreMasks};
+ghost use Rattle.server_product.specs.RowSums.{AreSums, AddsSums};
+ghost use Rattle.server_answer.specs.Asked.{asked_of};
+ghost use Rattle.server_answer.specs.Group.{AddsQuarters, group_asked, group_places};
+ghost use Rattle.server_answer.specs.Masked.{AreMasks};
 ghost use Rattle.server_answer.specs.declared.group.TheConstants.{MOST_LANES};
 
 use crate::four_rows::add_four_rows;
 use block_matrix::Matrix;
 use chor_xor::{add_chosen_rows, is_set};
 use server_product::blocks::lay_out;
-use server_product::share_of;
+use server_product::{four_apart, share_of};
 use std::simd::prelude::*;
 
 /// The most blocks of 16 sums of a group: as many as 65536 bytes have, and one more for each of 16
 /// bitmaps.
 pub const MOST_LANES: u32 = 4112;
+
+/// So many bitmaps, one after the other, and the matrix that they are for.
+#[derive(Clone, Copy, Drop)]
+pub struct Group<'a> {
+    pub matrix: &'a Matrix,
+    pub bitmaps: &'a [u8],
+    pub count: usize,
+}
 
 /// Makes `sums` the sums over the rows from `from` up to `to` for each of so many bitmaps, those of
 /// the first bitmap first. The sums are made in blocks on the stack, four rows at once, and then put
@@ -36,77 +43,61 @@ pub fn sum_group(matrix: &Matrix, bitmaps: &[u8], count: usize, from: u32, to: u
     requires within { to ≤ length matrix.now.rows }
     requires bitmaps { length bitmaps.now ≡ count * size_of (length matrix.now.rows) }
     requires room { length sums.old ≡ count * matrix.now.width }
-    ensures { (p : ℕ) → p < count * matrix.now.width → slice_index sums.new p
-        ≡ run_sum (asked bitmaps.now matrix.now.rows matrix.now.width p) from to }
+    ensures { AreSums (asked_of bitmaps.now matrix.now) (count * matrix.now.width) from to sums.new }
 {
     let mut stack = [0; 16 * MOST_LANES as usize];
     let size = 16 * (matrix.width().div_ceil(16) as usize * count);
-    sum_in_blocks(matrix, bitmaps, count, from, to, &mut stack[..size], sums);
+    let group = Group {
+        matrix,
+        bitmaps,
+        count,
+    };
+    sum_in_blocks(group, from, to, &mut stack[..size], sums);
 }
 
 /// The same with room for the sums in blocks, which begin as zeros.
-fn sum_in_blocks(
-    matrix: &Matrix,
-    bitmaps: &[u8],
-    count: usize,
-    from: u32,
-    to: u32,
-    blocks: &mut [u8],
-    sums: &mut [u8],
-)
-    requires some { 1 ≤ count }
-    requires few { count ≤ 16 }
-    requires wide { 16 ≤ matrix.now.width }
+fn sum_in_blocks(group: Group, from: u32, to: u32, blocks: &mut [u8], sums: &mut [u8])
+    requires some { 1 ≤ group.count }
+    requires few { group.count ≤ 16 }
+    requires wide { 16 ≤ group.matrix.now.width }
     requires order { from ≤ to }
-    requires within { to ≤ length matrix.now.rows }
-    requires bitmaps { length bitmaps.now ≡ count * size_of (length matrix.now.rows) }
-    requires blocks { length blocks.old ≡ 16 * (div_ceil matrix.now.width 16 * count) }
+    requires within { to ≤ length group.matrix.now.rows }
+    requires bitmaps { length group.bitmaps.now ≡ group.count * size_of (length group.matrix.now.rows) }
+    requires blocks { length blocks.old ≡ 16 * (div_ceil group.matrix.now.width 16 * group.count) }
     requires zeros { (p : ℕ) → slice_index blocks.old p ≡ 0 }
-    requires room { length sums.old ≡ count * matrix.now.width }
-    ensures { (p : ℕ) → p < count * matrix.now.width → slice_index sums.new p
-        ≡ run_sum (asked bitmaps.now matrix.now.rows matrix.now.width p) from to }
+    requires room { length sums.old ≡ group.count * group.matrix.now.width }
+    ensures { AreSums (group_asked group.entry) (group_places group.entry) from to sums.new }
 {
-    let quarter = share_of(to - from, matrix.width(), 4);
-    add_quarters(matrix, bitmaps, count, from, quarter, blocks);
-    lay_out(blocks, matrix.width() as usize, count, sums);
-    add_rest(matrix, bitmaps, count, from + 4 * quarter, to, sums);
+    let quarter = share_of(to - from, group.matrix.width(), 4);
+    add_quarters(group, from, quarter, blocks);
+    lay_out(blocks, group.matrix.width() as usize, group.count, sums);
+    add_rest(group, from + 4 * quarter, to, sums);
 }
 
 /// Adds the rows from `from` on, four times `quarter` of them, to sums in blocks: one from each
 /// quarter at once, so that the memory is read in four streams.
-fn add_quarters(
-    matrix: &Matrix,
-    bitmaps: &[u8],
-    count: usize,
-    from: u32,
-    quarter: u32,
-    sums: &mut [u8],
-)
-    requires some { 1 ≤ count }
-    requires few { count ≤ 16 }
-    requires wide { 16 ≤ matrix.now.width }
-    requires within { from + 4 * quarter ≤ length matrix.now.rows }
-    requires bitmaps { length bitmaps.now ≡ count * size_of (length matrix.now.rows) }
-    requires room { length sums.old ≡ 16 * (div_ceil matrix.now.width 16 * count) }
-    ensures { (p : ℕ) → p < length sums.old → slice_index sums.new p ≡ slice_index sums.old p
-        ⊕ run_sum (block_asked bitmaps.now matrix.now.rows matrix.now.width count p)
-        from (from + 4 * quarter) }
+fn add_quarters(group: Group, from: u32, quarter: u32, sums: &mut [u8])
+    requires some { 1 ≤ group.count }
+    requires few { group.count ≤ 16 }
+    requires wide { 16 ≤ group.matrix.now.width }
+    requires within { from + 4 * quarter ≤ length group.matrix.now.rows }
+    requires bitmaps { length group.bitmaps.now ≡ group.count * size_of (length group.matrix.now.rows) }
+    requires room { length sums.old ≡ 16 * (div_ceil group.matrix.now.width 16 * group.count) }
+    ensures { AddsQuarters group.entry from quarter sums.old sums.new }
 {
+    let Group {
+        matrix,
+        bitmaps,
+        count,
+    } = group;
     let size = matrix.rows().div_ceil(8) as usize;
     // Its contract bounds the width.
     let _width = matrix.width();
     let mut masks = [0; 1024];
     for i in 0..quarter {
         set_masks(&mut masks, bitmaps, size, count, from + i, quarter);
-        add_four_rows(
-            sums,
-            matrix.row(from + i),
-            matrix.row(from + quarter + i),
-            matrix.row(from + 2 * quarter + i),
-            matrix.row(from + 3 * quarter + i),
-            &masks,
-            count,
-        );
+        let four = four_apart(matrix, from + i, quarter);
+        add_four_rows(sums, four, &masks, count);
     }
 }
 
@@ -140,16 +131,20 @@ fn mask_of(bitmap: &[u8], j: u32) -> u8x16
 }
 
 /// Adds the rows from `from` up to `to`, which are few, for each bitmap.
-fn add_rest(matrix: &Matrix, bitmaps: &[u8], count: usize, from: u32, to: u32, sums: &mut [u8])
-    requires few { count ≤ 16 }
+fn add_rest(group: Group, from: u32, to: u32, sums: &mut [u8])
+    requires few { group.count ≤ 16 }
     requires order { from ≤ to }
-    requires within { to ≤ length matrix.now.rows }
-    requires bitmaps { length bitmaps.now ≡ count * size_of (length matrix.now.rows) }
-    requires room { length sums.old ≡ count * matrix.now.width }
-    ensures { (p : ℕ) → p < count * matrix.now.width → slice_index sums.new p
-        ≡ slice_index sums.old p
-        ⊕ run_sum (asked bitmaps.now matrix.now.rows matrix.now.width p) from to }
+    requires within { to ≤ length group.matrix.now.rows }
+    requires bitmaps { length group.bitmaps.now ≡ group.count * size_of (length group.matrix.now.rows) }
+    requires room { length sums.old ≡ group.count * group.matrix.now.width }
+    ensures { AddsSums (group_asked group.entry) (group_places group.entry) from to
+        sums.old sums.new }
 {
+    let Group {
+        matrix,
+        bitmaps,
+        count,
+    } = group;
     let size = matrix.rows().div_ceil(8) as usize;
     let width = matrix.width() as usize;
     for v in 0..count {

@@ -4,16 +4,18 @@
 //! bitmaps that ask for it; each bitmap then gets the sums of the patterns that have its bit (after
 //! Arlazarov, Dinic, Kronrod and Faradzhev 1970).
 
-ghost use Rattle.std.specs.Prelude.{◌≡◌, ℕ, ◌+◌, ◌-◌, ◌*◌, ◌<◌, ◌≤◌, length, slice_index};
-ghost use Rattle.std.specs.Int.{bit_at};
-ghost use Rattle.gf256.specs.Field.{◌⊕◌};
-ghost use Rattle.gf256.specs.Sums.{run_sum, sum_to};
+ghost use Rattle.std.specs.Prelude.{◌≡◌, ℕ, ◌*◌, ◌<◌, ◌≤◌, length, slice_index};
 ghost use Rattle.quantity_limits.specs.declared.TheConstants.{MOST_ROWS};
-ghost use Rattle.chor_xor.specs.Bitmap.{size_of, bit_of};
-ghost use Rattle.chor_xor.specs.Chosen.{given};
-ghost use Rattle.server_product.specs.Queries.{piece};
-ghost use Rattle.server_answer.specs.Asked.{asked};
-ghost use Rattle.server_answer.specs.Patterns.{from_pattern, spread_at};
+ghost use Rattle.chor_xor.specs.Bitmap.{size_of};
+ghost use Rattle.server_product.specs.RowSums.{AreSums};
+ghost use Rattle.server_answer.specs.Asked.{asked_of};
+ghost use Rattle.server_answer.specs.Patterns.{
+  IsPattern,
+  AddsToPattern,
+  AreByPattern,
+  IsSpread,
+  AreSpread,
+};
 ghost use Rattle.server_answer.specs.declared.sets.TheConstants.{MOST_NARROW};
 
 use block_matrix::Matrix;
@@ -34,8 +36,7 @@ pub fn sum_set(matrix: &Matrix, bitmaps: &[u8], count: usize, from: u32, to: u32
     requires within { to ≤ length matrix.now.rows }
     requires bitmaps { length bitmaps.now ≡ count * size_of (length matrix.now.rows) }
     requires room { length sums.old ≡ count * matrix.now.width }
-    ensures { (p : ℕ) → p < count * matrix.now.width → slice_index sums.new p
-        ≡ run_sum (asked bitmaps.now matrix.now.rows matrix.now.width p) from to }
+    ensures { AreSums (asked_of bitmaps.now matrix.now) (count * matrix.now.width) from to sums.new }
 {
     let mut stack = [0; 256 * MOST_NARROW as usize];
     let width = matrix.width() as usize;
@@ -59,9 +60,7 @@ fn add_by_pattern(
     requires bitmaps { length bitmaps.now ≡ count * size_of (length matrix.now.rows) }
     requires room { length patterns.old ≡ 256 * matrix.now.width }
     requires zeros { (p : ℕ) → slice_index patterns.old p ≡ 0 }
-    ensures { (v k : ℕ) → v < count → k < matrix.now.width
-        → spread_at patterns.new matrix.now.width (count - 1 - v) k
-        ≡ run_sum (given (piece (size_of (length matrix.now.rows)) bitmaps.now v) matrix.now.rows k) from to }
+    ensures { AreByPattern matrix.now bitmaps.now count from to patterns.new }
 {
     let size = matrix.rows().div_ceil(8) as usize;
     for j in from..to {
@@ -76,8 +75,7 @@ pub fn pattern_of(bitmaps: &[u8], size: usize, count: usize, j: u32) -> u8
     requires within { j < 8 * size }
     requires memory { size ≤ MOST_ROWS }
     requires bitmaps { length bitmaps.now ≡ count * size }
-    ensures { (v : ℕ) → v < count
-        → bit_at result (count - 1 - v) ≡ bit_of (piece size bitmaps.now v) j }
+    ensures { IsPattern result bitmaps.now size count j }
 {
     let mut pattern = 0;
     for v in 0..count {
@@ -91,8 +89,7 @@ pub fn pattern_of(bitmaps: &[u8], size: usize, count: usize, j: u32) -> u8
 #[inline(always)]
 fn add_to_pattern(patterns: &mut [u8], pattern: u8, row: &[u8])
     requires { length patterns.old ≡ 256 * length row.now }
-    ensures { (i k : ℕ) → k < length row.now → spread_at patterns.new (length row.now) i k
-        ≡ spread_at patterns.old (length row.now) i k ⊕ bit_at pattern i * slice_index row.now k }
+    ensures { AddsToPattern pattern row.now patterns.old patterns.new }
 {
     let width = row.len();
     let at = pattern as usize * width;
@@ -105,8 +102,7 @@ fn spread(patterns: &[u8], width: usize, count: usize, sums: &mut [u8])
     requires memory { width ≤ MOST_NARROW }
     requires patterns { length patterns.now ≡ 256 * width }
     requires room { length sums.old ≡ count * width }
-    ensures { (v k : ℕ) → v < count → k < width
-        → slice_index sums.new (v * width + k) ≡ spread_at patterns.now width (count - 1 - v) k }
+    ensures { AreSpread patterns.now width count sums.new }
 {
     for v in 0..count {
         let own = &mut sums[v * width..(v + 1) * width];
@@ -119,8 +115,7 @@ fn spread_to(patterns: &[u8], place: usize, sums: &mut [u8])
     requires place { place < 8 }
     requires memory { length sums.old ≤ MOST_NARROW }
     requires patterns { length patterns.now ≡ 256 * length sums.old }
-    ensures { (k : ℕ) → k < length sums.old
-        → slice_index sums.new k ≡ spread_at patterns.now (length sums.old) place k }
+    ensures { IsSpread patterns.now (length sums.old) place sums.new }
 {
     clear(sums);
     let width = sums.len();

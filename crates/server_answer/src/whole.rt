@@ -7,7 +7,7 @@ ghost use Rattle.server_product.specs.Queries.{piece};
 ghost use Rattle.quantity_limits.specs.declared.TheConstants.{MOST_BLOCKS};
 ghost use Rattle.chor_xor.specs.Bitmap.{size_of};
 ghost use Rattle.chor_xor.specs.Chosen.{chosen};
-ghost use Rattle.server_answer.specs.Asked.{asked};
+ghost use Rattle.server_answer.specs.Asked.{asked, AreAnswers};
 
 use crate::bitmaps::{places_of, sum_bitmaps};
 use block_matrix::Matrix;
@@ -40,8 +40,7 @@ pub fn answers_into<R: Threads + Sync, G: Gate + Sync>(
     requires bitmaps { length bitmaps.now ≡ count * size_of (length matrix.now.rows) }
     requires scratch { length scratch.old ≡ workers * (count * matrix.now.width) }
     requires room { length out.old ≡ count * matrix.now.width }
-    ensures { (v : ℕ) → v < count → piece matrix.now.width out.new v
-        ≡ chosen matrix.now (piece (size_of (length matrix.now.rows)) bitmaps.now v) }
+    ensures { AreAnswers matrix.now count bitmaps.now out.new }
 {
     let places = places_of(matrix, count);
     let sums = Sums {

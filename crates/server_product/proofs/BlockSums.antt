@@ -12,7 +12,10 @@ use Rattle.gf256.proofs.Added.{added-lanes}
 use Rattle.gf256.proofs.LaneSums.{lanes-of, lanes-sum, lanes-times}
 use Rattle.gf256.proofs.RunSums.{run-join}
 use Rattle.server_product.specs.Queries.{entry}
+use Rattle.block_matrix.specs.Database.{Database}
 use Rattle.server_product.specs.Blocks.{block_start, column_at, query_at, place_of, block_entry, four_at}
+use Rattle.server_product.specs.Group.{AreFactors}
+use Rattle.server_product.specs.declared.four_rows.FourRows.{FourRows}
 use Rattle.server_product.proofs.QuerySums.{run-same}
 use Rattle.server_product.proofs.RunSums.{none_yet, one_more, part_follows}
 
@@ -42,27 +45,36 @@ pub plus_four : (x a b c d : ℕ) → x ⊕ a ⊕ b ⊕ c ⊕ d ≡ x ⊕ (a ⊕
 plus_four x a b c d = simp add_assoc
 
 -- the products of four rows with the factors of one query, added to one block
-pub block-put : (acc old a b c d factors xa xb xc xd pa pb pc pd : List ℕ) (fa fb fc fd width n i v from start : ℕ)
-    → 16 ≤ width → length a ≡ width → length b ≡ width → length c ≡ width → length d ≡ width
-    → v < n → 16 * (i * n + v) + 16 ≤ length acc → from ≤ 16 * (i * n + v) → start ≡ block_start width i
-    → fa ≡ slice_index factors (4 * v) → fb ≡ slice_index factors (4 * v + 1)
-    → fc ≡ slice_index factors (4 * v + 2) → fd ≡ slice_index factors (4 * v + 3)
-    → xa ≡ chunk start 16 a → xb ≡ chunk start 16 b → xc ≡ chunk start 16 c → xd ≡ chunk start 16 d
-    → pa ≡ map (λ x. fa ⊗ x) xa → pb ≡ map (λ x. fb ⊗ x) xb → pc ≡ map (λ x. fc ⊗ x) xc → pd ≡ map (λ x. fd ⊗ x) xd
-    → IsAdded acc old (four_at a b c d factors width n) from (16 * (i * n + v))
+pub block-put : (acc old : List ℕ) (rows : FourRows) (factors xa xb xc xd pa pb pc pd : List ℕ) (n i v from start : ℕ)
+    → 16 ≤ length rows.a.now → length rows.b.now ≡ length rows.a.now → length rows.c.now ≡ length rows.a.now → length rows.d.now ≡ length rows.a.now
+    → v < n → 16 * (i * n + v) + 16 ≤ length acc → from ≤ 16 * (i * n + v) → start ≡ block_start (length rows.a.now) i
+    → xa ≡ chunk start 16 rows.a.now → xb ≡ chunk start 16 rows.b.now → xc ≡ chunk start 16 rows.c.now → xd ≡ chunk start 16 rows.d.now
+    → pa ≡ map (λ x. slice_index factors (4 * v) ⊗ x) xa → pb ≡ map (λ x. slice_index factors (4 * v + 1) ⊗ x) xb
+    → pc ≡ map (λ x. slice_index factors (4 * v + 2) ⊗ x) xc → pd ≡ map (λ x. slice_index factors (4 * v + 3) ⊗ x) xd
+    → IsAdded acc old (four_at rows factors n) from (16 * (i * n + v))
     → IsAdded (put_chunk (16 * (i * n + v)) acc (zip2 bit_xor (zip2 bit_xor (zip2 bit_xor (zip2 bit_xor
     (chunk (16 * (i * n + v)) 16 acc) pa) pb) pc) pd))
-    old (four_at a b c d factors width n) from (16 * (i * n + v) + 16)
+    old (four_at rows factors n) from (16 * (i * n + v) + 16)
 unfolding four_at
-block-put acc old a b c d factors xa xb xc xd pa pb pc pd fa fb fc fd width n i v from start wide ea eb ec ed few room begun is_start ga gb gc gd cut_a cut_b cut_c cut_d is_a is_b is_c is_d done =
+block-put acc old rows factors xa xb xc xd pa pb pc pd n i v from start wide eb ec ed few room begun is_start cut_a cut_b cut_c cut_d is_a is_b is_c is_d done =
+    let a = rows.a.now in
+    let b = rows.b.now in
+    let c = rows.c.now in
+    let d = rows.d.now in
+    let width = length a in
     let at = 16 * (i * n + v) in
+    let factor = λ (g : ℕ). slice_index factors (4 * v + g) in
     let inside : start + 16 ≤ width = omega arith in
-    let of_a = lanes-times (chunk start 16 a) pa _ fa at (is_a ∙ ap (map (λ x. fa ⊗ x)) cut_a) (lanes-from a start at (omega arith)) in
-    let of_b = lanes-times (chunk start 16 b) pb _ fb at (is_b ∙ ap (map (λ x. fb ⊗ x)) cut_b) (lanes-from b start at (omega arith)) in
-    let of_c = lanes-times (chunk start 16 c) pc _ fc at (is_c ∙ ap (map (λ x. fc ⊗ x)) cut_c) (lanes-from c start at (omega arith)) in
-    let of_d = lanes-times (chunk start 16 d) pd _ fd at (is_d ∙ ap (map (λ x. fd ⊗ x)) cut_d) (lanes-from d start at (omega arith)) in
+    let one : (row xs ps : List ℕ) (f : ℕ) → start + 16 ≤ length row → xs ≡ chunk start 16 row → ps ≡ map (λ x. f ⊗ x) xs
+    → AreLanes ps (λ p. f ⊗ get_or row (start + (p - at)) 0) at =
+    λ row xs ps f fits cut is.
+    lanes-times (chunk start 16 row) ps _ f at (is ∙ ap (map (λ x. f ⊗ x)) cut) (lanes-from row start at fits) in
+    let of_a = one a xa pa (slice_index factors (4 * v)) inside cut_a is_a in
+    let of_b = one b xb pb (factor 1) (omega (arith, inside, eb)) cut_b is_b in
+    let of_c = one c xc pc (factor 2) (omega (arith, inside, ec)) cut_c is_c in
+    let of_d = one d xd pd (factor 3) (omega (arith, inside, ed)) cut_d is_d in
     let sum = lanes-sum _ pd _ _ at (lanes-sum _ pc _ _ at (lanes-sum _ pb _ _ at (lanes-sum _ pa _ _ at (lanes-of acc at room) of_a) of_b) of_c) of_d in
-    added-lanes acc old _ (four_at a b c d factors width n) _ from at at room sum (omega arith) (omega arith) (omega arith)
+    added-lanes acc old _ (four_at rows factors n) _ from at at room sum (omega arith) (omega arith) (omega arith)
     (λ k l m. absurd (omega (arith, l, m, begun)))
     (λ p l m h.
     let k = p - at in
@@ -71,38 +83,42 @@ block-put acc old a b c d factors xa xb xc xd pa pb pc pd fa fb fc fd width n i 
     let q = query-is n i v k p few small place in
     let col = column-is n i v k p few small place width in
     let there : start + k ≡ column_at width n p = ap (λ s. s + k) is_start ∙ sym col in
-    plus_four (get_or acc p 0) (fa ⊗ get_or a (start + k) 0) (fb ⊗ get_or b (start + k) 0) (fc ⊗ get_or c (start + k) 0) (fd ⊗ get_or d (start + k) 0)
-    ∙ ap₂ ◌⊕◌ (done.after p l)
-    (ap₂ ◌⊕◌ (ap₂ ◌⊕◌ (ap₂ ◌⊕◌
-    (ap₂ ◌⊗◌ (ga ∙ ap (λ u. get_or factors (4 * u) 0) (sym q)) (ap (λ j. get_or a j 0) there))
-    (ap₂ ◌⊗◌ (gb ∙ ap (λ u. get_or factors (4 * u + 1) 0) (sym q)) (ap (λ j. get_or b j 0) there)))
-    (ap₂ ◌⊗◌ (gc ∙ ap (λ u. get_or factors (4 * u + 2) 0) (sym q)) (ap (λ j. get_or c j 0) there)))
-    (ap₂ ◌⊗◌ (gd ∙ ap (λ u. get_or factors (4 * u + 3) 0) (sym q)) (ap (λ j. get_or d j 0) there))))
+    let term : (row : List ℕ) (g : ℕ) → slice_index factors (4 * v + g) ⊗ get_or row (start + k) 0
+    ≡ slice_index factors (4 * query_at n p + g) ⊗ get_or row (column_at width n p) 0 =
+    λ row g. ap₂ ◌⊗◌ (ap (λ u. get_or factors (4 * u + g) 0) (sym q)) (ap (λ j. get_or row j 0) there) in
+    let first : slice_index factors (4 * v) ⊗ get_or a (start + k) 0 ≡ slice_index factors (4 * query_at n p) ⊗ get_or a (column_at width n p) 0 =
+    ap₂ ◌⊗◌ (ap (λ u. get_or factors (4 * u) 0) (sym q)) (ap (λ j. get_or a j 0) there) in
+    plus_four (get_or acc p 0) _ _ _ _
+    ∙ ap₂ ◌⊕◌ (done.after p l) (ap₂ ◌⊕◌ (ap₂ ◌⊕◌ (ap₂ ◌⊕◌ first (term b 1)) (term c 2)) (term d 3)))
     done
 
 -- four rows give what each of them gives
-pub four-entries : (queries factors a b c d : List ℕ) (rows : List (List ℕ)) (width w n from quarter i r p : ℕ) → 1 ≤ n → w ≡ width → r ≡ length rows
-    → a ≡ slice_index_or rows (from + i) [] → b ≡ slice_index_or rows (from + quarter + i) []
-    → c ≡ slice_index_or rows (from + 2 * quarter + i) [] → d ≡ slice_index_or rows (from + 3 * quarter + i) []
-    → ((v g : ℕ) → v < n → g < 4 → slice_index factors (4 * v + g) ≡ slice_index queries (v * r + (from + i + g * quarter)))
-    → four_at a b c d factors w n p
-    ≡ block_entry queries rows width n p (from + i) ⊕ block_entry queries rows width n p (from + quarter + i)
-    ⊕ block_entry queries rows width n p (from + 2 * quarter + i) ⊕ block_entry queries rows width n p (from + 3 * quarter + i)
+pub four-entries : (queries factors : List ℕ) (four : FourRows) (m : Database) (n from quarter i r p : ℕ)
+    → 1 ≤ n → length four.a.now ≡ m.width → r ≡ length m.rows
+    → four.a.now ≡ slice_index_or m.rows (from + i) [] → four.b.now ≡ slice_index_or m.rows (from + i + quarter) []
+    → four.c.now ≡ slice_index_or m.rows (from + i + 2 * quarter) [] → four.d.now ≡ slice_index_or m.rows (from + i + 3 * quarter) []
+    → AreFactors factors queries r n (from + i) quarter
+    → four_at four factors n p
+    ≡ block_entry queries m.rows m.width n p (from + i) ⊕ block_entry queries m.rows m.width n p (from + quarter + i)
+    ⊕ block_entry queries m.rows m.width n p (from + 2 * quarter + i) ⊕ block_entry queries m.rows m.width n p (from + 3 * quarter + i)
 unfolding four_at block_entry
-four-entries queries factors a b c d rows width w n from quarter i r p some ew er ea eb ec ed held =
+four-entries queries factors four m n from quarter i r p some ew er ea eb ec ed held =
+    let rows = m.rows in
+    let w = length four.a.now in
     let v = query_at n p in
     let few : v < n = mod_below (p / 16) n (omega arith) in
     let zero : 4 * v ≡ 4 * v + 0 = omega arith in
-    let one : (g m : ℕ) (row : List ℕ) → g < 4 → from + i + g * quarter ≡ m → row ≡ slice_index_or rows m []
+    let one : (g j k : ℕ) (row : List ℕ) → g < 4 → from + i + g * quarter ≡ k → j ≡ k → row ≡ slice_index_or rows j []
     → slice_index factors (4 * v + g) ⊗ slice_index row (column_at w n p)
-    ≡ slice_index queries (v * length rows + m) ⊗ slice_index (slice_index_or rows m []) (column_at width n p) =
-    λ g m row l e is.
-    ap₂ ◌⊗◌ (held v g few l ∙ ap₂ (λ r m. slice_index queries (v * r + m)) er e)
-    (ap₂ (λ xs w. slice_index xs (column_at w n p)) is ew) in
+    ≡ slice_index queries (v * length rows + k) ⊗ slice_index (slice_index_or rows k []) (column_at m.width n p) =
+    λ g j k row l e same is.
+    ap₂ ◌⊗◌ (held v g few l ∙ ap₂ (λ r k. slice_index queries (v * r + k)) er e)
+    (ap₂ (λ xs w. slice_index xs (column_at w n p)) (is ∙ ap (λ k. slice_index_or rows k []) same) ew) in
     ap₂ ◌⊕◌ (ap₂ ◌⊕◌ (ap₂ ◌⊕◌
-    (ap (λ x. slice_index factors x ⊗ slice_index a (column_at w n p)) zero ∙ one 0 (from + i) a (omega arith) (omega arith) ea)
-    (one 1 (from + quarter + i) b (omega arith) (omega arith) eb)) (one 2 (from + 2 * quarter + i) c (omega arith) (omega arith) ec))
-    (one 3 (from + 3 * quarter + i) d (omega arith) (omega arith) ed)
+    (ap (λ x. slice_index factors x ⊗ slice_index four.a.now (column_at w n p)) zero ∙ one 0 (from + i) (from + i) four.a.now (omega arith) (omega arith) refl ea)
+    (one 1 (from + i + quarter) (from + quarter + i) four.b.now (omega arith) (omega arith) (omega arith) eb))
+    (one 2 (from + i + 2 * quarter) (from + 2 * quarter + i) four.c.now (omega arith) (omega arith) (omega arith) ec))
+    (one 3 (from + i + 3 * quarter) (from + 3 * quarter + i) four.d.now (omega arith) (omega arith) (omega arith) ed)
 
 -- the first n terms of each of four parts, of so many terms
 abbrev pub quarters : (ℕ → ℕ) → ℕ → ℕ → ℕ → ℕ

@@ -9,11 +9,12 @@ use Rattle.server_product.specs.Runs.{term}
 use Rattle.server_product.specs.Trios.{trio_at}
 use Rattle.server_product.specs.Gathered.{few_sum, three_sum, waiting_sum, AreOf, FewAreOf, HeldAreAlike, HeldAreRows}
 use Rattle.server_product.specs.declared.gather.Three.{Three}
-use Rattle.server_product.specs.declared.gather.Few.{Few}
-use Rattle.server_product.specs.declared.gather.Few.TheVariants.{Empty}
+use Rattle.server_product.specs.declared.trios.Trio.{Trio}
+use Rattle.server_product.specs.declared.gather.UpToThree.{UpToThree}
+use Rattle.server_product.specs.declared.gather.UpToThree.TheVariants.{Empty}
 
 -- one that waits in place of another
-pub waiting-set : (q : List ℕ) (rows : List (List ℕ)) (c : ℕ) (waiting : List Few) (i : ℕ) (few : Few) → i < length waiting
+pub waiting-set : (q : List ℕ) (rows : List (List ℕ)) (c : ℕ) (waiting : List UpToThree) (i : ℕ) (few : UpToThree) → i < length waiting
     → waiting_sum q rows c (slice_set waiting i few) ≡ waiting_sum q rows c waiting ⊕ few_sum q rows c (slice_index_or waiting i Empty) ⊕ few_sum q rows c few
 unfolding waiting_sum
 waiting-set q rows c [] i few l = absurd (omega arith)
@@ -27,21 +28,22 @@ waiting-set q rows c (x ∷ xs) (suc i) few l =
       further x w y z = simp sums
 
 -- the first that wait, and those after them
-waiting_suc : (q : List ℕ) (rows : List (List ℕ)) (c : ℕ) (waiting : List Few) (i : ℕ) → i < length waiting
+waiting_suc : (q : List ℕ) (rows : List (List ℕ)) (c : ℕ) (waiting : List UpToThree) (i : ℕ) → i < length waiting
     → waiting_sum q rows c (drop i waiting) ≡ few_sum q rows c (slice_index_or waiting i Empty) ⊕ waiting_sum q rows c (drop (suc i) waiting)
 unfolding waiting_sum
 waiting_suc q rows c [] i l = absurd (omega arith)
 waiting_suc q rows c (x ∷ xs) zero l = refl
 waiting_suc q rows c (x ∷ xs) (suc i) l = waiting_suc q rows c xs i (omega arith)
 
-pub waiting-next : (q : List ℕ) (rows : List (List ℕ)) (c : ℕ) (waiting : List Few) (i : ℕ) → i < length waiting
+-- the same for the one at a place and those after it
+pub waiting-next : (q : List ℕ) (rows : List (List ℕ)) (c : ℕ) (waiting : List UpToThree) (i : ℕ) → i < length waiting
     → waiting_sum q rows c (drop i waiting) ≡ few_sum q rows c (slice_index_or waiting i Empty) ⊕ waiting_sum q rows c (drop (i + 1) waiting)
 waiting-next q rows c waiting i l =
     waiting_suc q rows c waiting i l
     ∙ ap (λ n. few_sum q rows c (slice_index_or waiting i Empty) ⊕ waiting_sum q rows c (drop n waiting)) (sym (add-one i))
 
 -- past the last none wait
-pub waiting-end : (q : List ℕ) (rows : List (List ℕ)) (c : ℕ) (waiting : List Few) (n : ℕ) → n ≡ length waiting → waiting_sum q rows c (drop n waiting) ≡ 0
+pub waiting-end : (q : List ℕ) (rows : List (List ℕ)) (c : ℕ) (waiting : List UpToThree) (n : ℕ) → n ≡ length waiting → waiting_sum q rows c (drop n waiting) ≡ 0
 unfolding waiting_sum
 waiting-end q rows c [] zero e = refl
 waiting-end q rows c [] (suc n) e = refl
@@ -63,7 +65,7 @@ none-are q f n = subst (FewAreOf q f) (sym (none_at n f)) (record {}) where
   none_at (suc n) (suc f) = none_at n f
 
 -- where a few come in that are of the factor of their place, all are of theirs
-pub set-are-of : (q : List ℕ) (waiting : List Few) (i n : ℕ) (few : Few) → i < length waiting → FewAreOf q i few
+pub set-are-of : (q : List ℕ) (waiting : List UpToThree) (i n : ℕ) (few : UpToThree) → i < length waiting → FewAreOf q i few
     → ((f : ℕ) → f < n → FewAreOf q f (slice_index_or waiting f Empty)) → (f : ℕ) → f < n → FewAreOf q f (slice_index_or (slice_set waiting i few) f Empty)
 set-are-of q waiting i n few room here before f l =
     elim (cases_lt f i) [
@@ -90,14 +92,14 @@ are-rows q None alike = record {}
 are-rows q (Some three) alike = (alike.a.0, alike.b.0, alike.c.0)
 
 -- three rows of one factor are a trio
-pub trio-is : (q : List ℕ) (rows : List (List ℕ)) (c : ℕ) (three : Three) (x y z : List ℕ) (f : ℕ)
-    → x ≡ slice_index_or rows three.a [] → y ≡ slice_index_or rows three.b [] → z ≡ slice_index_or rows three.c []
-    → f ≡ slice_index q three.a → AreOf q (slice_index q three.a) three
-    → trio_at x y z f c ≡ three_sum q rows c three
+pub trio-is : (q : List ℕ) (rows : List (List ℕ)) (c : ℕ) (three : Three) (trio : Trio)
+    → trio.a.now ≡ slice_index_or rows three.a [] → trio.b.now ≡ slice_index_or rows three.b []
+    → trio.c.now ≡ slice_index_or rows three.c [] → trio.factor ≡ slice_index q three.a
+    → AreOf q (slice_index q three.a) three → trio_at trio c ≡ three_sum q rows c three
 unfolding trio_at three_sum term
-trio-is q rows c three x y z f ex ey ez ef are =
+trio-is q rows c three trio ea eb ec ef are =
     let at = λ (row : List ℕ). slice_index row c in
-    (λ t. trio_at (ex t) (ey t) (ez t) (ef t) c)
+    ap₂ ◌⊗◌ ef (ap₂ ◌⊕◌ (ap₂ ◌⊕◌ (ap at ea) (ap at eb)) (ap at ec))
     ∙ mul_add (slice_index q three.a) (at (slice_index_or rows three.a []) ⊕ at (slice_index_or rows three.b [])) (at (slice_index_or rows three.c []))
     ∙ ap (λ s. s ⊕ slice_index q three.a ⊗ at (slice_index_or rows three.c [])) (mul_add (slice_index q three.a) (at (slice_index_or rows three.a [])) (at (slice_index_or rows three.b [])))
     ∙ ap₂ (λ fb fc. slice_index q three.a ⊗ at (slice_index_or rows three.a []) ⊕ fb ⊗ at (slice_index_or rows three.b []) ⊕ fc ⊗ at (slice_index_or rows three.c []))
@@ -125,6 +127,7 @@ beside-held x' r' x h r t e = turned ∙ ap (◌⊕◌ h) e ∙ back where
   back : h ⊕ (x ⊕ r ⊕ t) ≡ x ⊕ h ⊕ r ⊕ t
   back = simp sums
 
+-- the same where the others stand behind
 pub beside-rest : (x' h' x h r t : ℕ) → x' ⊕ h' ≡ x ⊕ h ⊕ t → x' ⊕ h' ⊕ r ≡ x ⊕ h ⊕ r ⊕ t
 beside-rest x' h' x h r t e = ap (λ s. s ⊕ r) e ∙ back where
   back : x ⊕ h ⊕ t ⊕ r ≡ x ⊕ h ⊕ r ⊕ t

@@ -7,7 +7,6 @@ use Rattle.gf256.specs.Sums.{sum_to, run_sum}
 use Rattle.gf256.specs.Product.{product_at, product}
 use Rattle.gf256.proofs.Xor.{add_zero, add_swap}
 use Rattle.gf256.proofs.RunSums.{run-none, run-next, run-join, run-all}
-use Rattle.server_product.specs.SixRows.{six_at}
 use Rattle.server_product.specs.Runs.{term}
 
 -- all rows
@@ -40,7 +39,9 @@ one_more f from n =
     let e : from + (n + 1) ≡ from + n + 1 = omega arith in
     ap (run_sum f from) e ∙ run-next f from (from + n) (omega arith)
 
-in_pairs : (a b c d e f u v w x y z : ℕ) → (a ⊕ u) ⊕ (b ⊕ v) ⊕ (c ⊕ w) ⊕ (d ⊕ x) ⊕ (e ⊕ y) ⊕ (f ⊕ z) ≡ (a ⊕ b ⊕ c ⊕ d ⊕ e ⊕ f) ⊕ (u ⊕ v ⊕ w ⊕ x ⊕ y ⊕ z)
+-- six sums of two as two sums of six
+in_pairs : (a b c d e f u v w x y z : ℕ)
+    → (a ⊕ u) ⊕ (b ⊕ v) ⊕ (c ⊕ w) ⊕ (d ⊕ x) ⊕ (e ⊕ y) ⊕ (f ⊕ z) ≡ (a ⊕ b ⊕ c ⊕ d ⊕ e ⊕ f) ⊕ (u ⊕ v ⊕ w ⊕ x ⊕ y ⊕ z)
 in_pairs a b c d e f u v w x y z =
     ap (λ s. s ⊕ (c ⊕ w) ⊕ (d ⊕ x) ⊕ (e ⊕ y) ⊕ (f ⊕ z)) (add_swap a u b v)
     ∙ ap (λ s. s ⊕ (d ⊕ x) ⊕ (e ⊕ y) ⊕ (f ⊕ z)) (add_swap (a ⊕ b) (u ⊕ v) c w)
@@ -76,17 +77,6 @@ sixths-all f from sixth =
     ∙ ap (λ s. s ⊕ P (4 * sixth) ⊕ P (5 * sixth)) (part_follows f from (3 * sixth) (4 * sixth) sixth (omega arith))
     ∙ ap (λ s. s ⊕ P (5 * sixth)) (part_follows f from (4 * sixth) (5 * sixth) sixth (omega arith))
     ∙ part_follows f from (5 * sixth) (6 * sixth) sixth (omega arith)
-
--- six rows of the matrix, each times the query's byte for it, give their terms
-pub six-terms : (q : List ℕ) (rows : List (List ℕ)) (c i j k l m n : ℕ) (ri rj rk rl rm rn : List ℕ) (fi fj fk fl fm fn : ℕ)
-    → ri ≡ slice_index_or rows i [] → rj ≡ slice_index_or rows j [] → rk ≡ slice_index_or rows k []
-    → rl ≡ slice_index_or rows l [] → rm ≡ slice_index_or rows m [] → rn ≡ slice_index_or rows n []
-    → fi ≡ slice_index q i → fj ≡ slice_index q j → fk ≡ slice_index q k → fl ≡ slice_index q l → fm ≡ slice_index q m → fn ≡ slice_index q n
-    → six_at ri rj rk rl rm rn fi fj fk fl fm fn c
-    ≡ term q rows c i ⊕ term q rows c j ⊕ term q rows c k ⊕ term q rows c l ⊕ term q rows c m ⊕ term q rows c n
-unfolding six_at term
-six-terms q rows c i j k l m n ri rj rk rl rm rn fi fj fk fl fm fn ei ej ek el em en gi gj gk gl gm gn =
-    λ t. six_at (ei t) (ej t) (ek t) (el t) (em t) (en t) (gi t) (gj t) (gk t) (gl t) (gm t) (gn t) c
 
 -- a place of the front of a list of zeros
 pub zeros-at : (n m k : ℕ) → slice_index (take n (replicate m 0)) k ≡ 0

@@ -10,34 +10,43 @@ use Rattle.gf256.proofs.FieldLaws.{mul_zero}
 use Rattle.gf256.proofs.Added.{added-none, added-lanes}
 use Rattle.gf256.proofs.LaneSums.{lanes-of, lanes-sum, lanes-times}
 use Rattle.server_product.specs.Trios.{trio_at}
+use Rattle.server_product.specs.declared.trios.Trio.{Trio}
 
 -- three rows give nothing past their ends
-pub trio-past : (a b c : List ℕ) (f n : ℕ) → length a ≡ n → length b ≡ n → length c ≡ n → (k : ℕ) → n ≤ k → trio_at a b c f k ≡ 0
+pub trio-past : (trio : Trio) (n : ℕ) → length trio.a.now ≡ n → length trio.b.now ≡ n → length trio.c.now ≡ n
+    → (k : ℕ) → n ≤ k → trio_at trio k ≡ 0
 unfolding trio_at
-trio-past a b c f n ea eb ec k l =
-    ap (◌⊗◌ f) (ap₂ ◌⊕◌ (ap₂ ◌⊕◌ (get_or_past a k 0 (omega arith)) (get_or_past b k 0 (omega arith))) (get_or_past c k 0 (omega arith)))
-    ∙ (let e : f ⊗ (0 ⊕ 0 ⊕ 0) ≡ 0 = simp (add_zero, mul_zero) in e)
+trio-past trio n ea eb ec k l =
+    ap (◌⊗◌ trio.factor)
+    (ap₂ ◌⊕◌ (ap₂ ◌⊕◌ (get_or_past trio.a.now k 0 (omega arith)) (get_or_past trio.b.now k 0 (omega arith))) (get_or_past trio.c.now k 0 (omega arith)))
+    ∙ nothing trio.factor where
+      nothing : (f : ℕ) → f ⊗ (0 ⊕ 0 ⊕ 0) ≡ 0
+      nothing f = simp (add_zero, mul_zero)
 
 -- 16 places with their products with a trio, stored where they stand
-pub trio-put : (acc a b c products : List ℕ) (f at : ℕ)
-    → at + 16 ≤ length acc → length a ≡ length acc → length b ≡ length acc → length c ≡ length acc
-    → products ≡ map (λ x. f ⊗ x) (zip2 bit_xor (zip2 bit_xor (chunk at 16 a) (chunk at 16 b)) (chunk at 16 c))
-    → IsAdded (put_chunk at acc (zip2 bit_xor (chunk at 16 acc) products)) acc (trio_at a b c f) at (at + 16)
+pub trio-put : (acc : List ℕ) (trio : Trio) (products : List ℕ) (at : ℕ) → at + 16 ≤ length acc
+    → length trio.a.now ≡ length acc → length trio.b.now ≡ length acc → length trio.c.now ≡ length acc
+    → products ≡ map (λ x. trio.factor ⊗ x) (zip2 bit_xor (zip2 bit_xor (chunk at 16 trio.a.now) (chunk at 16 trio.b.now)) (chunk at 16 trio.c.now))
+    → IsAdded (put_chunk at acc (zip2 bit_xor (chunk at 16 acc) products)) acc (trio_at trio) at (at + 16)
 unfolding trio_at
-trio-put acc a b c products f at room ea eb ec e =
+trio-put acc trio products at room ea eb ec e =
+    let a = trio.a.now in
+    let b = trio.b.now in
+    let c = trio.c.now in
     let two = lanes-sum (chunk at 16 a) (chunk at 16 b) _ _ at (lanes-of a at (omega arith)) (lanes-of b at (omega arith)) in
     let three = lanes-sum _ (chunk at 16 c) _ _ at two (lanes-of c at (omega arith)) in
-    let times = lanes-times _ products _ f at e three in
-    added-lanes acc acc (zip2 bit_xor (chunk at 16 acc) products) (trio_at a b c f) _ at at at room
+    let times = lanes-times _ products _ trio.factor at e three in
+    added-lanes acc acc (zip2 bit_xor (chunk at 16 acc) products) (trio_at trio) _ at at at room
     (lanes-sum (chunk at 16 acc) products _ _ at (lanes-of acc at room) times) (omega arith) (omega arith) (omega arith)
     (λ k l m. absurd (omega (arith, l, m)))
     (λ k l m i. refl)
-    (added-none acc (trio_at a b c f) at)
+    (added-none acc (trio_at trio) at)
 
 -- one place of a trio
-pub trio-place : (a b c : List ℕ) (f g k x : ℕ) → x ≡ g ⊗ bit_xor (bit_xor (get_or a k 0) (get_or b k 0)) (get_or c k 0) → f ≡ g → x ≡ trio_at a b c f k
+pub trio-place : (trio : Trio) (k x : ℕ)
+    → x ≡ trio.factor ⊗ bit_xor (bit_xor (get_or trio.a.now k 0) (get_or trio.b.now k 0)) (get_or trio.c.now k 0) → x ≡ trio_at trio k
 unfolding ◌⊕◌ trio_at
-trio-place a b c f g k x e same = e ∙ ap (λ y. y ⊗ bit_xor (bit_xor (get_or a k 0) (get_or b k 0)) (get_or c k 0)) (sym same)
+trio-place trio k x e = e
 
 -- `new` is `old` plus g in the first n places, and plus h in the first m, which are no more
 pub record IsLagged (new old : List ℕ) (g h : ℕ → ℕ) (n m : ℕ) : Type 0 where

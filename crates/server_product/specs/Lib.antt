@@ -1,7 +1,9 @@
+pub mod RowSums
 pub mod SixRows
 pub mod Runs
 pub mod Queries
 pub mod Blocks
+pub mod Group
 pub mod Tables
 pub mod Parts
 pub mod Trios

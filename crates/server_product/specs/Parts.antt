@@ -15,3 +15,12 @@ part f rows workers worker p =
 -- P holds of each worker from `first` on and of its part of xs, which begins with that of the first
 abbrev pub OfParts : (ℕ → List ℕ → Type 0) → ℕ → ℕ → ℕ → List ℕ → Type 0
 OfParts P first workers size xs = (i : ℕ) → first + i < workers → P (first + i) (slice_chunk xs size i)
+
+-- the task accepts each worker with a part of so many bytes
+abbrev pub Accepts : (ℕ → ℕ → Type 0) → ℕ → ℕ → Type 0
+Accepts P workers size = (worker : ℕ) → worker < workers → P worker size
+
+-- it leaves each worker's part of xs as it should
+abbrev pub LeavesAll : (ℕ → List ℕ → Type 0) → ℕ → ℕ → List ℕ → Type 0
+LeavesAll P workers size xs =
+    (worker : ℕ) → worker < workers → P worker (slice_chunk xs size worker)

@@ -1,41 +1,70 @@
 //! Four rows at once for several queries: the bytes of a row are cut into their halves once for all
 //! queries, and the sums are read and written once for the four.
 
-ghost use Rattle.std.specs.Prelude.{◌≡◌, ℕ, ◌+◌, ◌*◌, ◌<◌, ◌≤◌, length, slice_index};
+ghost use Rattle.std.specs.Prelude.{◌≡◌, ℕ, [], ◌+◌, ◌*◌, ◌<◌, ◌≤◌, length, slice_index_or};
 ghost use Rattle.std.specs.Int.{div_ceil};
-ghost use Rattle.gf256.specs.Field.{◌⊕◌};
-ghost use Rattle.gf256.specs.Rows.{IsAdded};
-ghost use Rattle.server_product.specs.Blocks.{four_at};
+ghost use Rattle.quantity_limits.specs.declared.TheConstants.{MOST_WIDTH};
+ghost use Rattle.server_product.specs.RowSums.{AddsBelow};
+ghost use Rattle.server_product.specs.Blocks.{IsAddedInBlock, four_at};
 
 use crate::blocks::start_of;
 use crate::tables::{Halves, Tables};
+use block_matrix::Matrix;
 use std::simd::prelude::*;
 
-/// Adds four rows, of one width, each times a factor, to the sums in blocks of so many queries:
-/// `factors` has four for each query.
+/// Four rows of one width.
+#[derive(Clone, Copy, Drop)]
+pub struct FourRows<'a> {
+    pub a: &'a [u8],
+    pub b: &'a [u8],
+    pub c: &'a [u8],
+    pub d: &'a [u8],
+}
+
+/// Row `j` and the three that follow each so many rows after the one before.
+#[inline(always)]
+pub fn four_apart<'a>(matrix: &'a Matrix, j: u32, apart: u32) -> FourRows<'a>
+    requires { j + 3 * apart < length matrix.now.rows }
+    ensures a { result.a.now ≡ slice_index_or matrix.now.rows j [] }
+    ensures b { result.b.now ≡ slice_index_or matrix.now.rows (j + apart) [] }
+    ensures c { result.c.now ≡ slice_index_or matrix.now.rows (j + 2 * apart) [] }
+    ensures d { result.d.now ≡ slice_index_or matrix.now.rows (j + 3 * apart) [] }
+    ensures width_a { length result.a.now ≡ matrix.now.width }
+    ensures width_b { length result.b.now ≡ matrix.now.width }
+    ensures width_c { length result.c.now ≡ matrix.now.width }
+    ensures width_d { length result.d.now ≡ matrix.now.width }
+{
+    // Its contract bounds the number of rows.
+    let _rows = matrix.rows();
+    FourRows {
+        a: matrix.row(j),
+        b: matrix.row(j + apart),
+        c: matrix.row(j + 2 * apart),
+        d: matrix.row(j + 3 * apart),
+    }
+}
+
+/// Adds four rows, each times a factor, to the sums in blocks of so many queries: `factors` has four
+/// for each query.
 pub fn add_four_rows(
     sums: &mut [u8],
-    a: &[u8],
-    b: &[u8],
-    c: &[u8],
-    d: &[u8],
+    rows: FourRows,
     factors: &[u8; 64],
     count: usize,
     tables: &Tables,
 )
-    requires wide { 16 ≤ length a.now }
-    requires b { length b.now ≡ length a.now }
-    requires c { length c.now ≡ length a.now }
-    requires d { length d.now ≡ length a.now }
+    requires wide { 16 ≤ length rows.a.now }
+    requires b { length rows.b.now ≡ length rows.a.now }
+    requires c { length rows.c.now ≡ length rows.a.now }
+    requires d { length rows.d.now ≡ length rows.a.now }
     requires some { 1 ≤ count }
     requires few { count ≤ 16 }
-    requires room { length sums.old ≡ 16 * (div_ceil (length a.now) 16 * count) }
-    requires memory { length a.now ≤ 65536 }
-    ensures { (p : ℕ) → p < length sums.old → slice_index sums.new p ≡ slice_index sums.old p
-        ⊕ four_at a.now b.now c.now d.now factors.now (length a.now) count p }
+    requires room { length sums.old ≡ 16 * (div_ceil (length rows.a.now) 16 * count) }
+    requires memory { length rows.a.now ≤ MOST_WIDTH }
+    ensures { AddsBelow (four_at rows.entry factors.now count) (length sums.old) sums.old sums.new }
 {
-    for i in 0..a.len().div_ceil(16) {
-        add_block(sums, a, b, c, d, factors, count, i, tables);
+    for i in 0..rows.a.len().div_ceil(16) {
+        add_block(sums, rows, factors, count, i, tables);
     }
 }
 
@@ -43,27 +72,23 @@ pub fn add_four_rows(
 #[inline(always)]
 fn add_block(
     sums: &mut [u8],
-    a: &[u8],
-    b: &[u8],
-    c: &[u8],
-    d: &[u8],
+    rows: FourRows,
     factors: &[u8; 64],
     count: usize,
     i: usize,
     tables: &Tables,
 )
-    requires wide { 16 ≤ length a.now }
-    requires b { length b.now ≡ length a.now }
-    requires c { length c.now ≡ length a.now }
-    requires d { length d.now ≡ length a.now }
+    requires wide { 16 ≤ length rows.a.now }
+    requires b { length rows.b.now ≡ length rows.a.now }
+    requires c { length rows.c.now ≡ length rows.a.now }
+    requires d { length rows.d.now ≡ length rows.a.now }
     requires some { 1 ≤ count }
     requires few { count ≤ 16 }
     requires memory { i < 4096 }
     requires room { 16 * (i * count + count) ≤ length sums.old }
-    ensures { IsAdded sums.new sums.old
-        (four_at a.now b.now c.now d.now factors.now (length a.now) count)
-        (16 * (i * count)) (16 * (i * count + count)) }
+    ensures { IsAddedInBlock (four_at rows.entry factors.now count) count i sums.old sums.new }
 {
+    let FourRows { a, b, c, d } = rows;
     let start = start_of(a.len(), i);
     let in_a = Halves::at(a, start);
     let in_b = Halves::at(b, start);

@@ -5,16 +5,18 @@
 //! (1976). What is left over at the end is added six rows at once.
 
 ghost use Rattle.std.specs.Prelude.{◌≡◌, ℕ, ◌<◌, ◌≤◌, List, length, replicate, slice_index, slice_index_or};
-ghost use Rattle.gf256.specs.Field.{◌⊕◌};
-ghost use Rattle.gf256.specs.Sums.{run_sum};
-ghost use Rattle.server_product.specs.Runs.{term};
+ghost use Rattle.server_product.specs.RowSums.{Adds};
+ghost use Rattle.server_product.specs.Runs.{run_term};
 ghost use Rattle.server_product.specs.Trios.{trio_at};
 ghost use Rattle.server_product.specs.Gathered.{
   three_sum,
   few_sum,
-  held_sum,
-  rest_sum,
-  waiting_sum,
+  GathersRow,
+  Holds,
+  AddsWaiting,
+  Leaves,
+  LeavesRow,
+  GiveAlike,
   AreOf,
   FewAreOf,
   HeldAreAlike,
@@ -25,7 +27,7 @@ ghost use Rattle.server_product.specs.Gathered.{
 };
 
 use crate::rows::{add_term, scaled_row};
-use crate::six_rows::add_six_rows;
+use crate::six_rows::{SixRows, add_six_rows};
 use crate::trios::{Trio, add_two_trios};
 use block_matrix::Matrix;
 
@@ -39,7 +41,7 @@ pub struct Three {
 
 /// Up to three rows, by their numbers.
 #[derive(Clone, Copy, Drop)]
-pub enum Few {
+pub enum UpToThree {
     Empty,
     One(u32),
     Two(u32, u32),
@@ -52,8 +54,7 @@ pub fn add_in_trios(matrix: &Matrix, q: &[u8], from: u32, to: u32, sums: &mut [u
     requires within { to ≤ length matrix.now.rows }
     requires query { length q.now ≡ length matrix.now.rows }
     requires room { length sums.old ≡ matrix.now.width }
-    ensures { (k : ℕ) → slice_index sums.new k
-        ≡ slice_index sums.old k ⊕ run_sum (term q.now matrix.now.rows k) from to }
+    ensures { Adds (run_term q.now matrix.now.rows from to) sums.old sums.new }
 {
     let mut waiting = none_waiting();
     let mut held = None;
@@ -64,10 +65,10 @@ pub fn add_in_trios(matrix: &Matrix, q: &[u8], from: u32, to: u32, sums: &mut [u
 }
 
 /// No rows, for each factor.
-fn none_waiting() -> [Few; 256]
-    ensures { result ≡ replicate 256 Few.Empty }
+fn none_waiting() -> [UpToThree; 256]
+    ensures { result ≡ replicate 256 UpToThree.Empty }
 {
-    [Few::Empty; 256]
+    [UpToThree::Empty; 256]
 }
 
 /// Lets row `j` wait for others of its factor. Where three wait already, they go first: they are
@@ -76,7 +77,7 @@ fn gather(
     matrix: &Matrix,
     q: &[u8],
     j: u32,
-    waiting: &mut [Few; 256],
+    waiting: &mut [UpToThree; 256],
     held: Option<Three>,
     sums: &mut [u8],
 ) -> Option<Three>
@@ -85,25 +86,21 @@ fn gather(
     requires room { length sums.old ≡ matrix.now.width }
     requires held { HeldAreAlike q.now held }
     requires waiting { (f : ℕ) → f < 256
-        → FewAreOf q.now f (slice_index_or waiting.old f Few.Empty) }
+        → FewAreOf q.now f (slice_index_or waiting.old f UpToThree.Empty) }
     ensures held { HeldAreAlike q.now result }
     ensures waiting { (f : ℕ) → f < 256
-        → FewAreOf q.now f (slice_index_or waiting.new f Few.Empty) }
-    ensures sum { (k : ℕ) →
-        slice_index sums.new k ⊕ held_sum q.now matrix.now.rows k result
-        ⊕ waiting_sum q.now matrix.now.rows k waiting.new
-        ≡ slice_index sums.old k ⊕ held_sum q.now matrix.now.rows k held
-        ⊕ waiting_sum q.now matrix.now.rows k waiting.old
-        ⊕ term q.now matrix.now.rows k j }
+        → FewAreOf q.now f (slice_index_or waiting.new f UpToThree.Empty) }
+    ensures sum { GathersRow q.now matrix.now.rows j
+        (sums.old, held, waiting.old) (sums.new, result, waiting.new) }
 {
     let factor = usize::from(q[j as usize]);
     let before = waiting[factor];
     match before {
-        Few::Empty => waiting[factor] = Few::One(j),
-        Few::One(a) => waiting[factor] = Few::Two(a, j),
-        Few::Two(a, b) => waiting[factor] = Few::All(Three { a, b, c: j }),
-        Few::All(three) => {
-            waiting[factor] = Few::One(j);
+        UpToThree::Empty => waiting[factor] = UpToThree::One(j),
+        UpToThree::One(a) => waiting[factor] = UpToThree::Two(a, j),
+        UpToThree::Two(a, b) => waiting[factor] = UpToThree::All(Three { a, b, c: j }),
+        UpToThree::All(three) => {
+            waiting[factor] = UpToThree::One(j);
             return hold(matrix, q, three, held, sums);
         }
     }
@@ -123,9 +120,7 @@ fn hold(
     requires held { HeldAreAlike q.now held }
     requires three { AreOf q.now (slice_index q.now three.a) three }
     ensures held { HeldAreAlike q.now result }
-    ensures sum { (k : ℕ) → slice_index sums.new k ⊕ held_sum q.now matrix.now.rows k result
-        ≡ slice_index sums.old k ⊕ held_sum q.now matrix.now.rows k held
-        ⊕ three_sum q.now matrix.now.rows k three }
+    ensures sum { Holds q.now matrix.now.rows three (sums.old, held) (sums.new, result) }
 {
     match held {
         None => Some(three),
@@ -144,8 +139,7 @@ fn trio_of<'a>(matrix: &'a Matrix, q: &[u8], three: Three) -> Trio<'a>
     ensures a { length result.a.now ≡ matrix.now.width }
     ensures b { length result.b.now ≡ matrix.now.width }
     ensures c { length result.c.now ≡ matrix.now.width }
-    ensures sum { (k : ℕ) → trio_at result.a.now result.b.now result.c.now result.factor k
-        ≡ three_sum q.now matrix.now.rows k three }
+    ensures sum { (k : ℕ) → trio_at result k ≡ three_sum q.now matrix.now.rows k three }
 {
     Trio {
         a: matrix.row(three.a),
@@ -158,23 +152,23 @@ fn trio_of<'a>(matrix: &'a Matrix, q: &[u8], three: Three) -> Trio<'a>
 /// Rows that are still to be added, each by itself: three, if there are some, and up to three
 /// others.
 #[derive(Clone, Copy, Drop)]
-struct Rest {
+struct UpToSix {
     three: Option<Three>,
-    few: Few,
+    few: UpToThree,
 }
 
 /// Rows that are still to be added: three of the same factor, if there are some, and the rest.
 #[derive(Clone, Copy, Drop)]
-struct Left {
+struct Leftover {
     held: Option<Three>,
-    rest: Rest,
+    rest: UpToSix,
 }
 
 /// Adds all rows that wait, and those that are held.
 fn add_waiting(
     matrix: &Matrix,
     q: &[u8],
-    waiting: &[Few; 256],
+    waiting: &[UpToThree; 256],
     held: Option<Three>,
     sums: &mut [u8],
 )
@@ -182,15 +176,14 @@ fn add_waiting(
     requires room { length sums.old ≡ matrix.now.width }
     requires held { HeldAreAlike q.now held }
     requires waiting { (f : ℕ) → f < 256
-        → FewAreOf q.now f (slice_index_or waiting.now f Few.Empty) }
-    ensures { (k : ℕ) → slice_index sums.new k ≡ slice_index sums.old k
-        ⊕ held_sum q.now matrix.now.rows k held ⊕ waiting_sum q.now matrix.now.rows k waiting.now }
+        → FewAreOf q.now f (slice_index_or waiting.now f UpToThree.Empty) }
+    ensures { AddsWaiting q.now matrix.now.rows (sums.old, held, waiting.now) sums.new }
 {
-    let mut left = Left {
+    let mut left = Leftover {
         held,
-        rest: Rest {
+        rest: UpToSix {
             three: None,
-            few: Few::Empty,
+            few: UpToThree::Empty,
         },
     };
     for factor in 0..256 {
@@ -206,10 +199,10 @@ fn add_or_leave(
     matrix: &Matrix,
     q: &[u8],
     factor: u32,
-    few: Few,
-    left: Left,
+    few: UpToThree,
+    left: Leftover,
     sums: &mut [u8],
-) -> Left
+) -> Leftover
     requires query { length q.now ≡ length matrix.now.rows }
     requires room { length sums.old ≡ matrix.now.width }
     requires few { FewAreOf q.now factor few }
@@ -217,28 +210,23 @@ fn add_or_leave(
     requires rest { RestAreRows q.now left.rest }
     ensures held { HeldAreAlike q.now result.held }
     ensures rest { RestAreRows q.now result.rest }
-    ensures sum { (k : ℕ) →
-        slice_index sums.new k ⊕ held_sum q.now matrix.now.rows k result.held
-        ⊕ rest_sum q.now matrix.now.rows k result.rest
-        ≡ slice_index sums.old k ⊕ held_sum q.now matrix.now.rows k left.held
-        ⊕ rest_sum q.now matrix.now.rows k left.rest
-        ⊕ few_sum q.now matrix.now.rows k few }
+    ensures sum { Leaves q.now matrix.now.rows few (sums.old, left) (sums.new, result) }
 {
-    let Left { held, rest } = left;
+    let Leftover { held, rest } = left;
     match few {
-        Few::Empty => left,
-        Few::One(a) => Left {
+        UpToThree::Empty => left,
+        UpToThree::One(a) => Leftover {
             held,
             rest: add_to_rest(matrix, q, rest, a, sums),
         },
-        Few::Two(a, b) => {
+        UpToThree::Two(a, b) => {
             let rest = add_to_rest(matrix, q, rest, a, sums);
-            Left {
+            Leftover {
                 held,
                 rest: add_to_rest(matrix, q, rest, b, sums),
             }
         }
-        Few::All(three) => Left {
+        UpToThree::All(three) => Leftover {
             held: hold(matrix, q, three, held, sums),
             rest,
         },
@@ -246,41 +234,38 @@ fn add_or_leave(
 }
 
 /// The three rows, where there are some.
-fn few_of(held: Option<Three>) -> Few
+fn few_of(held: Option<Three>) -> UpToThree
     ensures rows { (query : List ℕ) → HeldAreRows query held → AreRows query result }
-    ensures sum { (query : List ℕ) → (rows : List (List ℕ)) → (k : ℕ)
-        → few_sum query rows k result ≡ held_sum query rows k held }
+    ensures sum { GiveAlike result held }
 {
     match held {
-        None => Few::Empty,
-        Some(three) => Few::All(three),
+        None => UpToThree::Empty,
+        Some(three) => UpToThree::All(three),
     }
 }
 
 /// Leaves row `j` with the rest. Where three are left already, they go first.
-fn add_to_rest(matrix: &Matrix, q: &[u8], rest: Rest, j: u32, sums: &mut [u8]) -> Rest
+fn add_to_rest(matrix: &Matrix, q: &[u8], rest: UpToSix, j: u32, sums: &mut [u8]) -> UpToSix
     requires row { j < length matrix.now.rows }
     requires query { length q.now ≡ length matrix.now.rows }
     requires room { length sums.old ≡ matrix.now.width }
     requires rest { RestAreRows q.now rest }
     ensures rest { RestAreRows q.now result }
-    ensures sum { (k : ℕ) → slice_index sums.new k ⊕ rest_sum q.now matrix.now.rows k result
-        ≡ slice_index sums.old k ⊕ rest_sum q.now matrix.now.rows k rest
-        ⊕ term q.now matrix.now.rows k j }
+    ensures sum { LeavesRow q.now matrix.now.rows j (sums.old, rest) (sums.new, result) }
 {
-    let Rest { three, few } = rest;
+    let UpToSix { three, few } = rest;
     let few = match few {
-        Few::Empty => Few::One(j),
-        Few::One(a) => Few::Two(a, j),
-        Few::Two(a, b) => Few::All(Three { a, b, c: j }),
-        Few::All(full) => {
-            return Rest {
+        UpToThree::Empty => UpToThree::One(j),
+        UpToThree::One(a) => UpToThree::Two(a, j),
+        UpToThree::Two(a, b) => UpToThree::All(Three { a, b, c: j }),
+        UpToThree::All(full) => {
+            return UpToSix {
                 three: add_six(matrix, q, full, three, sums),
-                few: Few::One(j),
+                few: UpToThree::One(j),
             };
         }
     };
-    Rest { three, few }
+    UpToSix { three, few }
 }
 
 /// Adds the three rows with three others that are left, or leaves them where there are none.
@@ -296,43 +281,40 @@ fn add_six(
     requires left { HeldAreRows q.now left }
     requires three { ThreeAreRows q.now three }
     ensures left { HeldAreRows q.now result }
-    ensures sum { (k : ℕ) → slice_index sums.new k ⊕ held_sum q.now matrix.now.rows k result
-        ≡ slice_index sums.old k ⊕ held_sum q.now matrix.now.rows k left
-        ⊕ three_sum q.now matrix.now.rows k three }
+    ensures sum { Holds q.now matrix.now.rows three (sums.old, left) (sums.new, result) }
 {
     match left {
         None => Some(three),
         Some(other) => {
-            add_six_rows(
-                sums,
-                scaled_row(matrix, q, other.a),
-                scaled_row(matrix, q, other.b),
-                scaled_row(matrix, q, other.c),
-                scaled_row(matrix, q, three.a),
-                scaled_row(matrix, q, three.b),
-                scaled_row(matrix, q, three.c),
-            );
+            let six = SixRows {
+                a: scaled_row(matrix, q, other.a),
+                b: scaled_row(matrix, q, other.b),
+                c: scaled_row(matrix, q, other.c),
+                d: scaled_row(matrix, q, three.a),
+                e: scaled_row(matrix, q, three.b),
+                f: scaled_row(matrix, q, three.c),
+            };
+            add_six_rows(sums, six);
             None
         }
     }
 }
 
 /// Adds a few rows, one after the other.
-fn add_few(matrix: &Matrix, q: &[u8], few: Few, sums: &mut [u8])
+fn add_few(matrix: &Matrix, q: &[u8], few: UpToThree, sums: &mut [u8])
     requires query { length q.now ≡ length matrix.now.rows }
     requires room { length sums.old ≡ matrix.now.width }
     requires few { AreRows q.now few }
-    ensures { (k : ℕ) →
-        slice_index sums.new k ≡ slice_index sums.old k ⊕ few_sum q.now matrix.now.rows k few }
+    ensures { Adds (λ k. few_sum q.now matrix.now.rows k few) sums.old sums.new }
 {
     match few {
-        Few::Empty => {}
-        Few::One(a) => add_term(matrix, q, a, sums),
-        Few::Two(a, b) => {
+        UpToThree::Empty => {}
+        UpToThree::One(a) => add_term(matrix, q, a, sums),
+        UpToThree::Two(a, b) => {
             add_term(matrix, q, a, sums);
             add_term(matrix, q, b, sums);
         }
-        Few::All(three) => {
+        UpToThree::All(three) => {
             add_term(matrix, q, three.a, sums);
             add_term(matrix, q, three.b, sums);
             add_term(matrix, q, three.c, sums);

@@ -2,22 +2,28 @@
 
 ghost use Rattle.std.specs.Prelude.{◌≡◌, ℕ, ◌+◌, ◌*◌, ◌<◌, ◌≤◌, length, slice_index};
 ghost use Rattle.std.specs.Int.{div_ceil};
-ghost use Rattle.gf256.specs.Field.{◌⊕◌};
-ghost use Rattle.gf256.specs.Sums.{run_sum};
-ghost use Rattle.server_product.specs.Queries.{entry};
-ghost use Rattle.server_product.specs.Blocks.{block_entry};
+ghost use Rattle.server_product.specs.RowSums.{AreSums, AddsSums};
+ghost use Rattle.server_product.specs.Queries.{entry_of};
+ghost use Rattle.server_product.specs.Group.{AddsQuarters, group_entry, group_places, AreFactors};
 ghost use Rattle.quantity_limits.specs.declared.TheConstants.{MOST_ROWS};
 ghost use Rattle.server_product.specs.declared.group.TheConstants.{MOST_LANES};
 
 use crate::blocks::lay_out;
-use crate::four_rows::add_four_rows;
+use crate::four_rows::{add_four_rows, four_apart};
 use crate::sixths::{add_in_sixths, share_of};
 use crate::tables::Tables;
 use block_matrix::Matrix;
-use gf256::rows::clear;
 
 /// The most blocks of 16 sums of a group: 64 KB, which the second cache holds.
 pub const MOST_LANES: u32 = 4096;
+
+/// So many queries, one after the other, and the matrix that they are for.
+#[derive(Clone, Copy, Drop)]
+pub struct Group<'a> {
+    matrix: &'a Matrix,
+    queries: &'a [u8],
+    count: usize,
+}
 
 /// Makes `sums` the sums over the rows from `from` up to `to` for each of so many queries, those of
 /// the first query first. The sums are made in blocks on the stack, four rows at once, and then put
@@ -33,78 +39,61 @@ pub fn sum_group(matrix: &Matrix, queries: &[u8], count: usize, from: u32, to: u
     requires within { to ≤ length matrix.now.rows }
     requires queries { length queries.now ≡ count * length matrix.now.rows }
     requires room { length sums.old ≡ count * matrix.now.width }
-    ensures { (p : ℕ) → p < count * matrix.now.width → slice_index sums.new p
-        ≡ run_sum (entry queries.now matrix.now.rows matrix.now.width p) from to }
+    ensures { AreSums (entry_of queries.now matrix.now) (count * matrix.now.width) from to sums.new }
 {
     let mut stack = [0; 16 * MOST_LANES as usize];
     let size = 16 * (matrix.width().div_ceil(16) as usize * count);
-    sum_in_blocks(matrix, queries, count, from, to, &mut stack[..size], sums);
+    let group = Group {
+        matrix,
+        queries,
+        count,
+    };
+    sum_in_blocks(group, from, to, &mut stack[..size], sums);
 }
 
 /// The same with room for the sums in blocks, which begin as zeros.
-fn sum_in_blocks(
-    matrix: &Matrix,
-    queries: &[u8],
-    count: usize,
-    from: u32,
-    to: u32,
-    blocks: &mut [u8],
-    sums: &mut [u8],
-)
-    requires some { 1 ≤ count }
-    requires few { count ≤ 16 }
-    requires wide { 16 ≤ matrix.now.width }
+fn sum_in_blocks(group: Group, from: u32, to: u32, blocks: &mut [u8], sums: &mut [u8])
+    requires some { 1 ≤ group.count }
+    requires few { group.count ≤ 16 }
+    requires wide { 16 ≤ group.matrix.now.width }
     requires order { from ≤ to }
-    requires within { to ≤ length matrix.now.rows }
-    requires queries { length queries.now ≡ count * length matrix.now.rows }
-    requires blocks { length blocks.old ≡ 16 * (div_ceil matrix.now.width 16 * count) }
+    requires within { to ≤ length group.matrix.now.rows }
+    requires queries { length group.queries.now ≡ group.count * length group.matrix.now.rows }
+    requires blocks { length blocks.old ≡ 16 * (div_ceil group.matrix.now.width 16 * group.count) }
     requires zeros { (p : ℕ) → slice_index blocks.old p ≡ 0 }
-    requires room { length sums.old ≡ count * matrix.now.width }
-    ensures { (p : ℕ) → p < count * matrix.now.width → slice_index sums.new p
-        ≡ run_sum (entry queries.now matrix.now.rows matrix.now.width p) from to }
+    requires room { length sums.old ≡ group.count * group.matrix.now.width }
+    ensures { AreSums (group_entry group.entry) (group_places group.entry) from to sums.new }
 {
-    let quarter = share_of(to - from, matrix.width(), 4);
-    add_quarters(matrix, queries, count, from, quarter, blocks);
-    lay_out(blocks, matrix.width() as usize, count, sums);
-    add_rest(matrix, queries, count, from + 4 * quarter, to, sums);
+    let quarter = share_of(to - from, group.matrix.width(), 4);
+    add_quarters(group, from, quarter, blocks);
+    lay_out(blocks, group.matrix.width() as usize, group.count, sums);
+    add_rest(group, from + 4 * quarter, to, sums);
 }
 
 /// Adds the rows from `from` on, four times `quarter` of them, to sums in blocks: one from each
 /// quarter at once, so that the memory is read in four streams.
-fn add_quarters(
-    matrix: &Matrix,
-    queries: &[u8],
-    count: usize,
-    from: u32,
-    quarter: u32,
-    sums: &mut [u8],
-)
-    requires some { 1 ≤ count }
-    requires few { count ≤ 16 }
-    requires wide { 16 ≤ matrix.now.width }
-    requires within { from + 4 * quarter ≤ length matrix.now.rows }
-    requires queries { length queries.now ≡ count * length matrix.now.rows }
-    requires room { length sums.old ≡ 16 * (div_ceil matrix.now.width 16 * count) }
-    ensures { (p : ℕ) → p < length sums.old → slice_index sums.new p ≡ slice_index sums.old p
-        ⊕ run_sum (block_entry queries.now matrix.now.rows matrix.now.width count p)
-        from (from + 4 * quarter) }
+fn add_quarters(group: Group, from: u32, quarter: u32, sums: &mut [u8])
+    requires some { 1 ≤ group.count }
+    requires few { group.count ≤ 16 }
+    requires wide { 16 ≤ group.matrix.now.width }
+    requires within { from + 4 * quarter ≤ length group.matrix.now.rows }
+    requires queries { length group.queries.now ≡ group.count * length group.matrix.now.rows }
+    requires room { length sums.old ≡ 16 * (div_ceil group.matrix.now.width 16 * group.count) }
+    ensures { AddsQuarters group.entry from quarter sums.old sums.new }
 {
+    let Group {
+        matrix,
+        queries,
+        count,
+    } = group;
     let rows = matrix.rows() as usize;
     // Its contract bounds the width.
     let _width = matrix.width();
     let tables = Tables::new();
     for i in 0..quarter {
         let factors = factors_of(queries, rows, count, (from + i) as usize, quarter as usize);
-        add_four_rows(
-            sums,
-            matrix.row(from + i),
-            matrix.row(from + quarter + i),
-            matrix.row(from + 2 * quarter + i),
-            matrix.row(from + 3 * quarter + i),
-            &factors,
-            count,
-            &tables,
-        );
+        let four = four_apart(matrix, from + i, quarter);
+        add_four_rows(sums, four, &factors, count, &tables);
     }
 }
 
@@ -115,8 +104,7 @@ fn factors_of(queries: &[u8], rows: usize, count: usize, j: usize, apart: usize)
     requires within { j + 3 * apart < rows }
     requires memory { rows ≤ MOST_ROWS }
     requires queries { length queries.now ≡ count * rows }
-    ensures { (v g : ℕ) → v < count → g < 4
-        → slice_index result (4 * v + g) ≡ slice_index queries.now (v * rows + (j + g * apart)) }
+    ensures { AreFactors result queries.now rows count j apart }
 {
     let mut factors = [0; 64];
     for v in 0..count {
@@ -130,16 +118,20 @@ fn factors_of(queries: &[u8], rows: usize, count: usize, j: usize, apart: usize)
 }
 
 /// Adds the rows from `from` up to `to`, which are few, for each query.
-fn add_rest(matrix: &Matrix, queries: &[u8], count: usize, from: u32, to: u32, sums: &mut [u8])
-    requires few { count ≤ 16 }
+fn add_rest(group: Group, from: u32, to: u32, sums: &mut [u8])
+    requires few { group.count ≤ 16 }
     requires order { from ≤ to }
-    requires within { to ≤ length matrix.now.rows }
-    requires queries { length queries.now ≡ count * length matrix.now.rows }
-    requires room { length sums.old ≡ count * matrix.now.width }
-    ensures { (p : ℕ) → p < count * matrix.now.width → slice_index sums.new p
-        ≡ slice_index sums.old p
-        ⊕ run_sum (entry queries.now matrix.now.rows matrix.now.width p) from to }
+    requires within { to ≤ length group.matrix.now.rows }
+    requires queries { length group.queries.now ≡ group.count * length group.matrix.now.rows }
+    requires room { length sums.old ≡ group.count * group.matrix.now.width }
+    ensures { AddsSums (group_entry group.entry) (group_places group.entry) from to
+        sums.old sums.new }
 {
+    let Group {
+        matrix,
+        queries,
+        count,
+    } = group;
     let rows = matrix.rows() as usize;
     let width = matrix.width() as usize;
     for v in 0..count {

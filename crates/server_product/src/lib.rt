@@ -5,7 +5,7 @@
 //! number of workers from 1 to 16; it is the product that [`plain_into`] computes byte by byte.
 //! [`products_into`] gives this product for each of up to 16 queries. [`mul_add_row`] adds one row
 //! times one byte. No call takes memory, and none can fail. [`blocks`], [`run_on_parts`],
-//! [`rows_of`], [`share_of`] and [`lanes_of`] serve the XOR scheme's answers too.
+//! [`rows_of`], [`share_of`], [`four_apart`] and [`lanes_of`] serve the XOR scheme's answers too.
 //!
 //! Not promised: that each worker passes the gate, which is tested, that the workers run at the same
 //! time, that the database is read once for a group of queries, as it is, or anything of time. Each
@@ -29,6 +29,7 @@ mod tables;
 mod trios;
 mod whole;
 
+pub use four_rows::{FourRows, four_apart};
 pub use gate::{Gate, OpenGate};
 pub use parts::{Task, rows_of, run_on_parts};
 pub use plain::plain_into;

@@ -2,9 +2,8 @@
 
 ghost use Rattle.std.specs.Prelude.{◌≡◌, ℕ, List, ◌+◌, ◌*◌, ◌<◌, ◌≤◌, length};
 ghost use Rattle.std.specs.Thread.{IsSync};
-ghost use Rattle.std.specs.Fork.{slice_chunk};
 ghost use Rattle.quantity_limits.specs.declared.TheConstants.{MOST_ROWS, MOST_WORKERS};
-ghost use Rattle.server_product.specs.Parts.{first_row, OfParts};
+ghost use Rattle.server_product.specs.Parts.{first_row, Accepts, LeavesAll, OfParts};
 
 use std::thread::{Threads, join_mut};
 
@@ -34,8 +33,8 @@ pub fn run_on_parts<R: Threads + Sync, T: Task + Sync>(
 )
     requires some { 1 ≤ workers }
     requires parts { length parts.old ≡ workers * size }
-    requires accepts { (worker : ℕ) → worker < workers → T.accepts task.now worker size }
-    ensures { (worker : ℕ) → worker < workers → T.leaves task.now worker (slice_chunk parts.new size worker) }
+    requires accepts { Accepts (T.accepts task.now) workers size }
+    ensures { LeavesAll (T.leaves task.now) workers size parts.new }
 {
     run_from(rt, task, 0, workers, size, parts);
 }
@@ -52,14 +51,14 @@ fn run_from<R: Threads + Sync, T: Task + Sync>(
 )
     requires first { first < workers }
     requires parts { length parts.old + first * size ≡ workers * size }
-    requires accepts { (worker : ℕ) → worker < workers → T.accepts task.now worker size }
+    requires accepts { Accepts (T.accepts task.now) workers size }
     ensures { OfParts (T.leaves task.now) first workers size parts.new }
 {
     if first + 1 == workers {
         return task.run(first, parts);
     }
     let (own, others) = parts.split_at_mut(size);
-    run_both(rt, task, first, workers, size, own, others);
+    run_both(rt, task, first, workers, own, others);
 }
 
 /// Runs it for the worker `first` on a new thread, and for those after it.
@@ -69,18 +68,18 @@ fn run_both<R: Threads + Sync, T: Task + Sync>(
     task: &T,
     first: u8,
     workers: u8,
-    size: usize,
     own: &mut [u8],
     others: &mut [u8],
 )
     requires more { first + 1 < workers }
     requires own { T.accepts task.now first (length own.old) }
-    requires others { length others.old + (first + 1) * size ≡ workers * size }
-    requires accepts { (worker : ℕ) → worker < workers → T.accepts task.now worker size }
+    requires others { length others.old + (first + 1) * length own.old ≡ workers * length own.old }
+    requires accepts { Accepts (T.accepts task.now) workers (length own.old) }
     ensures own { T.leaves task.now first own.new }
-    ensures others { OfParts (T.leaves task.now) (first + 1) workers size others.new }
+    ensures others { OfParts (T.leaves task.now) (first + 1) workers (length own.old) others.new }
 {
     let next = first + 1;
+    let size = own.len();
     let mut front = ||
         requires { IsSync T.row × T.accepts task.now first (length own.now) }
         ensures { T.leaves task.entry.now first own.exit.now }
@@ -88,7 +87,7 @@ fn run_both<R: Threads + Sync, T: Task + Sync>(
     let mut back = ||
         requires { IsSync R.row × IsSync T.row × (next < workers)
             × (length others.now + next * size ≡ workers * size)
-            × ((worker : ℕ) → worker < workers → T.accepts task.now worker size) }
+            × Accepts (T.accepts task.now) workers size }
         ensures { OfParts (T.leaves task.entry.now) next workers size others.exit.now }
     { run_from(rt, task, next, workers, size, others) };
     join_mut(rt, &mut front, &mut back);

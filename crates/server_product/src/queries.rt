@@ -1,10 +1,10 @@
 //! The sums over a run of rows for several queries.
 
-ghost use Rattle.std.specs.Prelude.{◌≡◌, ℕ, ◌+◌, ◌*◌, ◌<◌, ◌≤◌, length, slice_index};
+ghost use Rattle.std.specs.Prelude.{◌≡◌, ◌+◌, ◌*◌, ◌<◌, ◌≤◌, length};
 ghost use Rattle.std.specs.Int.{div_ceil};
-ghost use Rattle.gf256.specs.Sums.{run_sum};
-ghost use Rattle.server_product.specs.Queries.{entry};
-ghost use Rattle.quantity_limits.specs.declared.TheConstants.{MOST_BLOCKS};
+ghost use Rattle.server_product.specs.RowSums.{AreSums};
+ghost use Rattle.server_product.specs.Queries.{entry_of};
+ghost use Rattle.quantity_limits.specs.declared.TheConstants.{MOST_BLOCKS, MOST_WIDTH};
 ghost use Rattle.server_product.specs.declared.group.TheConstants.{MOST_LANES};
 
 use crate::group::{MOST_LANES, sum_group};
@@ -27,8 +27,7 @@ pub fn sum_queries(matrix: &Matrix, queries: &[u8], count: u8, from: u32, to: u3
     requires within { to ≤ length matrix.now.rows }
     requires queries { length queries.now ≡ count * length matrix.now.rows }
     requires room { length sums.old ≡ count * matrix.now.width }
-    ensures { (p : ℕ) → p < count * matrix.now.width → slice_index sums.new p
-        ≡ run_sum (entry queries.now matrix.now.rows matrix.now.width p) from to }
+    ensures { AreSums (entry_of queries.now matrix.now) (count * matrix.now.width) from to sums.new }
 {
     let rows = matrix.rows() as usize;
     let width = matrix.width() as usize;
@@ -47,7 +46,7 @@ pub fn sum_queries(matrix: &Matrix, queries: &[u8], count: u8, from: u32, to: u3
 /// How many queries go in a group where rows have so many bytes: where they have fewer than 16, one.
 fn group_of(width: u32) -> u32
     requires some { 1 ≤ width }
-    requires few { width ≤ 65536 }
+    requires few { width ≤ MOST_WIDTH }
     ensures some { 1 ≤ result }
     ensures fits { result * div_ceil width 16 ≤ MOST_LANES }
     ensures wide { 1 < result → 16 ≤ width }
@@ -69,8 +68,7 @@ fn sum_some(matrix: &Matrix, queries: &[u8], count: usize, from: u32, to: u32, s
     requires within { to ≤ length matrix.now.rows }
     requires queries { length queries.now ≡ count * length matrix.now.rows }
     requires room { length sums.old ≡ count * matrix.now.width }
-    ensures { (p : ℕ) → p < count * matrix.now.width → slice_index sums.new p
-        ≡ run_sum (entry queries.now matrix.now.rows matrix.now.width p) from to }
+    ensures { AreSums (entry_of queries.now matrix.now) (count * matrix.now.width) from to sums.new }
 {
     if count == 1 {
         sum_rows(matrix, queries, from, to, sums);

@@ -2,7 +2,9 @@
 
 ghost use Rattle.std.specs.Prelude.{◌≡◌, ℕ, [], ◌<◌, length, slice_index, slice_index_or};
 ghost use Rattle.gf256.specs.Field.{◌⊕◌, ◌⊗◌};
+ghost use Rattle.server_product.specs.RowSums.{Adds};
 ghost use Rattle.server_product.specs.Runs.{term};
+ghost use Rattle.server_product.specs.SixRows.{scaled_at};
 
 use block_matrix::Matrix;
 use gf256::rows::add_scaled_row;
@@ -19,9 +21,8 @@ pub struct Scaled<'a> {
 pub fn scaled_row<'a>(matrix: &'a Matrix, q: &[u8], j: u32) -> Scaled<'a>
     requires within { j < length matrix.now.rows }
     requires query { length q.now ≡ length matrix.now.rows }
-    ensures row { result.row.now ≡ slice_index_or matrix.now.rows j [] }
     ensures size { length result.row.now ≡ matrix.now.width }
-    ensures factor { result.factor ≡ slice_index q.now j }
+    ensures term { (k : ℕ) → scaled_at result k ≡ term q.now matrix.now.rows k j }
 {
     Scaled {
         row: matrix.row(j),
@@ -43,8 +44,7 @@ pub fn add_term(matrix: &Matrix, q: &[u8], j: u32, sums: &mut [u8])
     requires within { j < length matrix.now.rows }
     requires query { length q.now ≡ length matrix.now.rows }
     requires room { length sums.old ≡ matrix.now.width }
-    ensures { (k : ℕ) →
-        slice_index sums.new k ≡ slice_index sums.old k ⊕ term q.now matrix.now.rows k j }
+    ensures { Adds (λ k. term q.now matrix.now.rows k j) sums.old sums.new }
 {
     mul_add_row(sums, matrix.row(j), q[j as usize]);
 }

@@ -1,98 +1,125 @@
 //! Six rows at once, each times a factor of its own, so that the sums are read and written once for
 //! the six.
 
-ghost use Rattle.std.specs.Prelude.{◌≡◌, ℕ, ◌+◌, ◌<◌, ◌≤◌, length, slice_index};
-ghost use Rattle.gf256.specs.Field.{◌⊕◌, ◌⊗◌};
-ghost use Rattle.gf256.specs.Rows.{multiple, AreLanes};
-ghost use Rattle.server_product.specs.SixRows.{six_at};
+ghost use Rattle.std.specs.Prelude.{◌≡◌, ◌+◌, ◌≤◌, length};
+ghost use Rattle.gf256.specs.Rows.{AreLanes};
+ghost use Rattle.server_product.specs.RowSums.{Adds};
+ghost use Rattle.server_product.specs.SixRows.{scaled_at, six_at, AreProductsOf};
 
 use crate::rows::Scaled;
+use crate::trios::lanes_of;
 use gf256::mul;
 use gf256::rows::Products;
 use std::simd::prelude::*;
 
+/// Six rows, each with the factor that it is multiplied by.
+#[derive(Clone, Copy, Drop)]
+pub struct SixRows<'a> {
+    pub a: Scaled<'a>,
+    pub b: Scaled<'a>,
+    pub c: Scaled<'a>,
+    pub d: Scaled<'a>,
+    pub e: Scaled<'a>,
+    pub f: Scaled<'a>,
+}
+
+/// The products of the factor of each of six rows.
+#[derive(Drop)]
+pub struct SixProducts {
+    a: Products,
+    b: Products,
+    c: Products,
+    d: Products,
+    e: Products,
+    f: Products,
+}
+
+/// Those of these rows.
+#[inline(always)]
+fn products_of(six: SixRows) -> SixProducts
+    ensures { AreProductsOf result six.entry }
+{
+    SixProducts {
+        a: Products::of(six.a.factor),
+        b: Products::of(six.b.factor),
+        c: Products::of(six.c.factor),
+        d: Products::of(six.d.factor),
+        e: Products::of(six.e.factor),
+        f: Products::of(six.f.factor),
+    }
+}
+
 /// The products of 16 bytes of the row from place `at` on.
 #[inline(always)]
-fn products_at(row: &[u8], products: &Products, at: usize) -> u8x16
-    requires { at + 16 ≤ length row.now }
-    ensures { AreLanes result (multiple row.now products.now) at }
+fn products_at(scaled: Scaled, products: &Products, at: usize) -> u8x16
+    requires factor { products.now ≡ scaled.factor }
+    requires within { at + 16 ≤ length scaled.row.now }
+    ensures { AreLanes result (scaled_at scaled.entry) at }
 {
-    products.times(u8x16::from_slice(&row[at..]))
+    products.times(lanes_of(scaled.row, at))
+}
+
+/// The sums of the products of 16 bytes of each row from place `at` on.
+#[inline(always)]
+fn six_lanes(six: SixRows, products: &SixProducts, at: usize) -> u8x16
+    requires products { AreProductsOf products.now six }
+    requires a { at + 16 ≤ length six.a.row.now }
+    requires b { at + 16 ≤ length six.b.row.now }
+    requires c { at + 16 ≤ length six.c.row.now }
+    requires d { at + 16 ≤ length six.d.row.now }
+    requires e { at + 16 ≤ length six.e.row.now }
+    requires f { at + 16 ≤ length six.f.row.now }
+    ensures { AreLanes result (six_at six.entry) at }
+{
+    products_at(six.a, &products.a, at)
+        ^ products_at(six.b, &products.b, at)
+        ^ products_at(six.c, &products.c, at)
+        ^ products_at(six.d, &products.d, at)
+        ^ products_at(six.e, &products.e, at)
+        ^ products_at(six.f, &products.f, at)
 }
 
 /// Adds the six rows, each times its factor, to `acc`: each is as long. Where the last places are
 /// fewer than 16, the last 16 are added at once: some of them are done before, so their sums are
 /// taken from what stood there at first.
-pub fn add_six_rows(
-    acc: &mut [u8],
-    a: Scaled,
-    b: Scaled,
-    c: Scaled,
-    d: Scaled,
-    e: Scaled,
-    f: Scaled,
-)
-    requires a { length a.row.now ≡ length acc.old }
-    requires b { length b.row.now ≡ length acc.old }
-    requires c { length c.row.now ≡ length acc.old }
-    requires d { length d.row.now ≡ length acc.old }
-    requires e { length e.row.now ≡ length acc.old }
-    requires f { length f.row.now ≡ length acc.old }
-    ensures { (k : ℕ) → slice_index acc.new k ≡ slice_index acc.old k
-        ⊕ six_at a.entry.row.now b.entry.row.now c.entry.row.now
-        d.entry.row.now e.entry.row.now f.entry.row.now
-        a.entry.factor b.entry.factor c.entry.factor
-        d.entry.factor e.entry.factor f.entry.factor k }
+pub fn add_six_rows(acc: &mut [u8], six: SixRows)
+    requires a { length six.a.row.now ≡ length acc.old }
+    requires b { length six.b.row.now ≡ length acc.old }
+    requires c { length six.c.row.now ≡ length acc.old }
+    requires d { length six.d.row.now ≡ length acc.old }
+    requires e { length six.e.row.now ≡ length acc.old }
+    requires f { length six.f.row.now ≡ length acc.old }
+    ensures { Adds (six_at six.entry) acc.old acc.new }
 {
     if acc.len() < 16 {
-        return add_six_short(acc, a, b, c, d, e, f);
+        return add_six_short(acc, six);
     }
-    let by_a = Products::of(a.factor);
-    let by_b = Products::of(b.factor);
-    let by_c = Products::of(c.factor);
-    let by_d = Products::of(d.factor);
-    let by_e = Products::of(e.factor);
-    let by_f = Products::of(f.factor);
+    let products = products_of(six);
     let last = acc.len() - 16;
     let end = u8x16::from_slice(&acc[last..]);
     let mut at = 0;
     'lanes: while at <= last {
-        let sum = u8x16::from_slice(&acc[at..])
-            ^ products_at(a.row, &by_a, at)
-            ^ products_at(b.row, &by_b, at)
-            ^ products_at(c.row, &by_c, at)
-            ^ products_at(d.row, &by_d, at)
-            ^ products_at(e.row, &by_e, at)
-            ^ products_at(f.row, &by_f, at);
+        let sum = u8x16::from_slice(&acc[at..]) ^ six_lanes(six, &products, at);
         sum.copy_to_slice(&mut acc[at..]);
         at += 16;
     }
     if at < acc.len() {
-        let sum = end
-            ^ products_at(a.row, &by_a, last)
-            ^ products_at(b.row, &by_b, last)
-            ^ products_at(c.row, &by_c, last)
-            ^ products_at(d.row, &by_d, last)
-            ^ products_at(e.row, &by_e, last)
-            ^ products_at(f.row, &by_f, last);
+        let sum = end ^ six_lanes(six, &products, last);
         sum.copy_to_slice(&mut acc[last..]);
     }
 }
 
 /// The same for rows of fewer than 16 bytes.
-fn add_six_short(acc: &mut [u8], a: Scaled, b: Scaled, c: Scaled, d: Scaled, e: Scaled, f: Scaled)
-    requires a { length a.row.now ≡ length acc.old }
-    requires b { length b.row.now ≡ length acc.old }
-    requires c { length c.row.now ≡ length acc.old }
-    requires d { length d.row.now ≡ length acc.old }
-    requires e { length e.row.now ≡ length acc.old }
-    requires f { length f.row.now ≡ length acc.old }
-    ensures { (k : ℕ) → slice_index acc.new k ≡ slice_index acc.old k
-        ⊕ six_at a.entry.row.now b.entry.row.now c.entry.row.now
-        d.entry.row.now e.entry.row.now f.entry.row.now
-        a.entry.factor b.entry.factor c.entry.factor
-        d.entry.factor e.entry.factor f.entry.factor k }
+fn add_six_short(acc: &mut [u8], six: SixRows)
+    requires a { length six.a.row.now ≡ length acc.old }
+    requires b { length six.b.row.now ≡ length acc.old }
+    requires c { length six.c.row.now ≡ length acc.old }
+    requires d { length six.d.row.now ≡ length acc.old }
+    requires e { length six.e.row.now ≡ length acc.old }
+    requires f { length six.f.row.now ≡ length acc.old }
+    ensures { Adds (six_at six.entry) acc.old acc.new }
 {
+    let SixRows { a, b, c, d, e, f } = six;
     for i in 0..acc.len() {
         acc[i] ^= mul(a.factor, a.row[i])
             ^ mul(b.factor, b.row[i])

@@ -1,12 +1,11 @@
 //! The sum over a run of rows, in six streams.
 
-ghost use Rattle.std.specs.Prelude.{◌≡◌, ℕ, ◌+◌, ◌*◌, ◌<◌, ◌≤◌, length, slice_index};
-ghost use Rattle.gf256.specs.Field.{◌⊕◌};
-ghost use Rattle.gf256.specs.Sums.{run_sum};
-ghost use Rattle.server_product.specs.Runs.{term};
+ghost use Rattle.std.specs.Prelude.{◌≡◌, ◌+◌, ◌*◌, ◌≤◌, length};
+ghost use Rattle.server_product.specs.RowSums.{Adds};
+ghost use Rattle.server_product.specs.Runs.{run_term};
 
 use crate::rows::{add_term, scaled_row};
-use crate::six_rows::add_six_rows;
+use crate::six_rows::{SixRows, add_six_rows};
 use block_matrix::Matrix;
 
 /// The bytes of a page of memory.
@@ -18,8 +17,7 @@ pub fn add_in_sixths(matrix: &Matrix, q: &[u8], from: u32, to: u32, sums: &mut [
     requires within { to ≤ length matrix.now.rows }
     requires query { length q.now ≡ length matrix.now.rows }
     requires room { length sums.old ≡ matrix.now.width }
-    ensures { (k : ℕ) → slice_index sums.new k
-        ≡ slice_index sums.old k ⊕ run_sum (term q.now matrix.now.rows k) from to }
+    ensures { Adds (run_term q.now matrix.now.rows from to) sums.old sums.new }
 {
     let sixth = share_of(to - from, matrix.width(), 6);
     add_sixths(matrix, q, from, sixth, sums);
@@ -65,20 +63,19 @@ fn add_sixths(matrix: &Matrix, q: &[u8], from: u32, sixth: u32, sums: &mut [u8])
     requires within { from + 6 * sixth ≤ length matrix.now.rows }
     requires query { length q.now ≡ length matrix.now.rows }
     requires room { length sums.old ≡ matrix.now.width }
-    ensures { (k : ℕ) → slice_index sums.new k
-        ≡ slice_index sums.old k ⊕ run_sum (term q.now matrix.now.rows k) from (from + 6 * sixth) }
+    ensures { Adds (run_term q.now matrix.now.rows from (from + 6 * sixth)) sums.old sums.new }
 {
     // Its contract bounds the number of rows.
     let _rows = matrix.rows();
     for i in 0..sixth {
-        add_six_rows(
-            sums,
-            scaled_row(matrix, q, from + i),
-            scaled_row(matrix, q, from + sixth + i),
-            scaled_row(matrix, q, from + 2 * sixth + i),
-            scaled_row(matrix, q, from + 3 * sixth + i),
-            scaled_row(matrix, q, from + 4 * sixth + i),
-            scaled_row(matrix, q, from + 5 * sixth + i),
-        );
+        let six = SixRows {
+            a: scaled_row(matrix, q, from + i),
+            b: scaled_row(matrix, q, from + sixth + i),
+            c: scaled_row(matrix, q, from + 2 * sixth + i),
+            d: scaled_row(matrix, q, from + 3 * sixth + i),
+            e: scaled_row(matrix, q, from + 4 * sixth + i),
+            f: scaled_row(matrix, q, from + 5 * sixth + i),
+        };
+        add_six_rows(sums, six);
     }
 }

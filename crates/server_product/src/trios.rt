@@ -5,7 +5,7 @@ ghost use Rattle.std.specs.Prelude.{◌≡◌, ℕ, ◌+◌, ◌≤◌, length, 
 ghost use Rattle.std.specs.Simd.Lanes.{chunk};
 ghost use Rattle.gf256.specs.Field.{◌⊕◌, ◌⊗◌};
 ghost use Rattle.gf256.specs.Rows.{IsAdded};
-ghost use Rattle.server_product.specs.Trios.{trio_at};
+ghost use Rattle.server_product.specs.Trios.{trio_at, AddsTrios};
 
 use gf256::mul;
 use gf256::rows::Products;
@@ -38,9 +38,9 @@ fn add_lanes(acc: &mut [u8], trio: Trio, products: &Products, at: usize)
     requires a { length trio.a.now ≡ length acc.old }
     requires b { length trio.b.now ≡ length acc.old }
     requires c { length trio.c.now ≡ length acc.old }
+    requires factor { products.now ≡ trio.factor }
     requires within { at + 16 ≤ length acc.old }
-    ensures { IsAdded acc.new acc.old
-        (trio_at trio.entry.a.now trio.entry.b.now trio.entry.c.now products.now) at (at + 16) }
+    ensures { IsAdded acc.new acc.old (trio_at trio.entry) at (at + 16) }
 {
     let rows = lanes_of(trio.a, at) ^ lanes_of(trio.b, at) ^ lanes_of(trio.c, at);
     let sum = u8x16::from_slice(&acc[at..]) ^ products.times(rows);
@@ -55,8 +55,7 @@ fn add_places(acc: &mut [u8], trio: Trio, products: &Products, from: usize, to: 
     requires factor { products.now ≡ trio.factor }
     requires order { from ≤ to }
     requires within { to ≤ length acc.old }
-    ensures { IsAdded acc.new acc.old
-        (trio_at trio.entry.a.now trio.entry.b.now trio.entry.c.now products.now) from to }
+    ensures { IsAdded acc.new acc.old (trio_at trio.entry) from to }
 {
     let mut at = from;
     'lanes: while to - at >= 16 {
@@ -78,9 +77,7 @@ pub fn add_two_trios(acc: &mut [u8], first: Trio, second: Trio)
     requires second_a { length second.a.now ≡ length acc.old }
     requires second_b { length second.b.now ≡ length acc.old }
     requires second_c { length second.c.now ≡ length acc.old }
-    ensures { (k : ℕ) → slice_index acc.new k ≡ slice_index acc.old k
-        ⊕ trio_at first.entry.a.now first.entry.b.now first.entry.c.now first.entry.factor k
-        ⊕ trio_at second.entry.a.now second.entry.b.now second.entry.c.now second.entry.factor k }
+    ensures { AddsTrios first.entry second.entry acc.old acc.new }
 {
     let by_first = Products::of(first.factor);
     let by_second = Products::of(second.factor);

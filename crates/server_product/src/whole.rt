@@ -5,7 +5,7 @@ ghost use Rattle.gf256.specs.Field.{◌⊕◌};
 ghost use Rattle.quantity_limits.specs.declared.TheConstants.{MOST_WORKERS};
 ghost use Rattle.gf256.specs.Product.{product};
 ghost use Rattle.server_product.specs.Parts.{part};
-ghost use Rattle.server_product.specs.Queries.{piece, entry};
+ghost use Rattle.server_product.specs.Queries.{AreProducts, entry};
 ghost use Rattle.quantity_limits.specs.declared.TheConstants.{MOST_BLOCKS};
 
 use crate::gate::Gate;
@@ -64,8 +64,7 @@ pub fn products_into<R: Threads + Sync, G: Gate + Sync>(
     requires queries { length queries.now ≡ count * length matrix.now.rows }
     requires scratch { length scratch.old ≡ workers * (count * matrix.now.width) }
     requires room { length out.old ≡ count * matrix.now.width }
-    ensures { (v : ℕ) → v < count → piece matrix.now.width out.new v
-        ≡ product matrix.now.rows matrix.now.width (piece (length matrix.now.rows) queries.now v) }
+    ensures { AreProducts matrix.now count queries.now out.new }
 {
     let places = places_of(matrix, count);
     let sums = Sums {

@@ -23,6 +23,7 @@ pub record HasValues (rows : List ℕ) (t e a : ℕ) (values : List ℕ) : Type 
   pub size : length values ≡ 4
   pub at : (k : ℕ) → k < 4 → get_or values k 0 ≡ a ⊗ val (drop e (row_coins rows t k)) a
 
+-- none are worked off yet
 pub values_none : (rows : List ℕ) (t a : ℕ) → length rows ≡ 4 * t → HasValues rows t t a (0 ∷ 0 ∷ 0 ∷ 0 ∷ [])
 values_none rows t a long = record { size = refl; at = at }
   where

@@ -18,18 +18,22 @@ use Rattle.shamir_share.proofs.Rows.{coin_at, length-row_coins}
 abbrev Holds : ℕ → ℕ → Type 0
 Holds width size = all_below (λ p. nat_eq (get_or PLACES ((width - 2) * 16 + p) 0) (sorted_place width (p / 16 + 1) (p % 16))) size ≡ true
 
+-- those of the width 2
 holds_2 : Holds 2 32
 unfolding all_below
 holds_2 = refl
 
+-- of the width 4
 holds_4 : Holds 4 64
 unfolding all_below
 holds_4 = refl
 
+-- of the width 8
 holds_8 : Holds 8 128
 unfolding all_below
 holds_8 = refl
 
+-- and of the width 16
 holds_16 : Holds 16 256
 unfolding all_below
 holds_16 = refl
@@ -49,6 +53,7 @@ row_of width n size holds is least most some few = record {
       ∙ ap₂ (sorted_place width) q (r ∙ sym (zero-add k));
 }
 
+-- the same for each width
 pub places_are : (width n : ℕ) → IsWidth width → 1 ≤ n → n ≤ width → AreLanes (chunk ((width + n - 3) * 16) 16 PLACES) (sorted_place width n) 0
 places_are width n (inl e) some few = row_of width n 32 (subst (λ w. Holds w 32) (sym e) holds_2) (omega (arith, e)) (omega (arith, e)) (omega (arith, e)) some few
 places_are width n (inr (inl e)) some few = row_of width n 64 (subst (λ w. Holds w 64) (sym e) holds_4) (omega (arith, e)) (omega (arith, e)) (omega (arith, e)) some few
@@ -63,23 +68,30 @@ record Stands (width u k : ℕ) : Type 0 where
   column : (16 * u + k) % width ≡ k % width
   few : u * (16 / width) + k / width < 16
 
+-- so it stands, for each width
 stands : (width u k : ℕ) → IsWidth width → u + 1 ≤ width → k < 16 → Stands width u k
 stands width u k (inl e) lu l =
-    subst (λ w. Stands w u k) (sym e) (let m : u + 1 ≤ 2 = omega (arith, lu, e) in record { whole = omega arith; below = omega arith; row = omega arith; column = omega arith; few = omega (arith, m, l) })
+    subst (λ w. Stands w u k) (sym e) (let m : u + 1 ≤ 2 = omega (arith, lu, e) in
+    record { whole = omega arith; below = omega arith; row = omega arith; column = omega arith; few = omega (arith, m, l) })
 stands width u k (inr (inl e)) lu l =
-    subst (λ w. Stands w u k) (sym e) (let m : u + 1 ≤ 4 = omega (arith, lu, e) in record { whole = omega arith; below = omega arith; row = omega arith; column = omega arith; few = omega (arith, m, l) })
+    subst (λ w. Stands w u k) (sym e) (let m : u + 1 ≤ 4 = omega (arith, lu, e) in
+    record { whole = omega arith; below = omega arith; row = omega arith; column = omega arith; few = omega (arith, m, l) })
 stands width u k (inr (inr (inl e))) lu l =
-    subst (λ w. Stands w u k) (sym e) (let m : u + 1 ≤ 8 = omega (arith, lu, e) in record { whole = omega arith; below = omega arith; row = omega arith; column = omega arith; few = omega (arith, m, l) })
+    subst (λ w. Stands w u k) (sym e) (let m : u + 1 ≤ 8 = omega (arith, lu, e) in
+    record { whole = omega arith; below = omega arith; row = omega arith; column = omega arith; few = omega (arith, m, l) })
 stands width u k (inr (inr (inr e))) lu l =
-    subst (λ w. Stands w u k) (sym e) (let m : u + 1 ≤ 16 = omega (arith, lu, e) in record { whole = omega arith; below = omega arith; row = omega arith; column = omega arith; few = omega (arith, m, l) })
+    subst (λ w. Stands w u k) (sym e) (let m : u + 1 ≤ 16 = omega (arith, lu, e) in
+    record { whole = omega arith; below = omega arith; row = omega arith; column = omega arith; few = omega (arith, m, l) })
 
 -- a coin has a place among 16, and where there is none it is 128
 place_of_coin : (width n k : ℕ) → k % width < n → place width n k ≡ k / width * n + k % width
 place_of_coin width n k l = ap (λ b. if b then k / width * n + k % width else 128) (lt-ltb (k % width) n l)
 
+-- which is where there is none
 place_of_none : (width n k : ℕ) → n ≤ k % width → place width n k ≡ 128
 place_of_none width n k h = ap (λ b. if b then k / width * n + k % width else 128) (le-ltb (k % width) n h)
 
+-- its place is among the first 16
 place_below : (width n k : ℕ) → n ≤ width → k / width * width + k % width ≡ k → k < 16 → k / width * n + k % width < 16
 place_below width n k few whole l = let h = mul-le-mul_left (k / width) few in omega (arith, h, whole, l)
 
@@ -88,6 +100,7 @@ may_take : (p : ℕ) → (p < 16) ⊎ (p ≡ 128) → T (leb 128 p || ltb p 16)
 may_take p (inl l) = subst (λ b. T (b || ltb p 16)) (sym (lt-leb 128 p (omega (arith, l)))) (subst T (sym (lt-ltb p 16 l)) tt)
 may_take p (inr e) = subst (λ q. T (leb 128 q || ltb q 16)) (sym e) tt
 
+-- each place is one of these
 place_may : (width n k : ℕ) → IsWidth width → n ≤ width → k < 16 → (place width n k < 16) ⊎ (place width n k ≡ 128)
 place_may width n k is few l =
     elim (cases_lt (k % width) n) [

@@ -5,6 +5,7 @@ use Rattle.gf256.specs.Polynomial.{val}
 use Rattle.gf256.specs.Rows.{AreLanes}
 use Rattle.gf256.specs.Sums.{sum_to}
 use Rattle.shamir_share.specs.Query.{row_coins}
+use Rattle.shamir_share.specs.declared.cells.Cells.{Cells}
 
 -- how many lanes a row may fill
 abbrev pub IsWidth : ℕ → Type 0
@@ -37,6 +38,14 @@ pub record AreCells (rows : List ℕ) (t from width apart : ℕ) (places : List 
   pub sorted : AreLanes places (sorted_place width (min (t - from) width)) 0
   pub whole : 16 * t ≤ length rows
   pub room : (width - 1) * apart + from + 16 ≤ length rows
+
+-- the same, as the cells say
+abbrev pub AreCellsOf : List ℕ → Cells → Type 0
+AreCellsOf rows cells = AreCells rows cells.t cells.from cells.width cells.apart cells.places
+
+-- lane j of rows that are read as the cells say
+abbrev pub padded_by : List ℕ → Cells → ℕ → ℕ
+padded_by rows cells = padded rows cells.t cells.from cells.width
 
 -- the value at a of the polynomial whose coefficients are the n numbers from `n * k` on
 unfoldable pub part : (ℕ → ℕ) → ℕ → ℕ → ℕ → ℕ

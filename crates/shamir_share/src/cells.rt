@@ -7,7 +7,7 @@
 
 ghost use Rattle.std.specs.Prelude.{◌≡◌, ◌+◌, ◌*◌, ◌≤◌, length};
 ghost use Rattle.gf256.specs.Rows.{AreLanes};
-ghost use Rattle.shamir_share.specs.Lanes.{AreCells, even_first, joined, padded, paired, part};
+ghost use Rattle.shamir_share.specs.Lanes.{AreCellsOf, even_first, joined, padded_by, paired, part};
 
 use crate::places::sixteen_at;
 use crate::products::ProductTable;
@@ -29,10 +29,9 @@ impl Cells {
     /// 16 lanes, those with number `u`, the even ones of them before the odd ones.
     #[inline(always)]
     fn unit(&self, rows: &[u8], u: usize) -> u8x16
-        requires cells { AreCells rows.now self.now.t self.now.from self.now.width self.now.apart self.now.places }
+        requires cells { AreCellsOf rows.now self.now }
         requires within { u + 1 ≤ self.now.width }
-        ensures { AreLanes result
-            (λ i. padded rows.now self.now.t self.now.from self.now.width (16 * u + even_first i)) 0 }
+        ensures { AreLanes result (λ i. padded_by rows.now self.now (16 * u + even_first i)) 0 }
     {
         sixteen_at(rows, u * self.apart + self.from).swizzle_dyn_within::<16>(self.places)
     }
@@ -40,11 +39,9 @@ impl Cells {
     /// The values of pairs of lanes: 16 of them, from that of lane `16 * u` on.
     #[inline(always)]
     pub fn twos(&self, rows: &[u8], products: &ProductTable, u: usize) -> u8x16
-        requires cells { AreCells rows.now self.now.t self.now.from self.now.width self.now.apart self.now.places }
+        requires cells { AreCellsOf rows.now self.now }
         requires within { u + 2 ≤ self.now.width }
-        ensures { AreLanes result
-            (part (padded rows.now self.now.t self.now.from self.now.width) 2 products.now)
-            (8 * u) }
+        ensures { AreLanes result (part (padded_by rows.now self.now) 2 products.now) (8 * u) }
     {
         join(products.first(), self.unit(rows, u), self.unit(rows, u + 1))
     }
@@ -52,11 +49,9 @@ impl Cells {
     /// The values of four lanes each, of which there are 16, from that of lane `16 * u` on.
     #[inline(always)]
     pub fn fours(&self, rows: &[u8], products: &ProductTable, u: usize) -> u8x16
-        requires cells { AreCells rows.now self.now.t self.now.from self.now.width self.now.apart self.now.places }
+        requires cells { AreCellsOf rows.now self.now }
         requires within { u + 4 ≤ self.now.width }
-        ensures { AreLanes result
-            (part (padded rows.now self.now.t self.now.from self.now.width) 4 products.now)
-            (4 * u) }
+        ensures { AreLanes result (part (padded_by rows.now self.now) 4 products.now) (4 * u) }
     {
         pair(
             products.second(),
@@ -68,11 +63,9 @@ impl Cells {
     /// The values of eight lanes each, of which there are 16, from that of lane `16 * u` on.
     #[inline(always)]
     pub fn eights(&self, rows: &[u8], products: &ProductTable, u: usize) -> u8x16
-        requires cells { AreCells rows.now self.now.t self.now.from self.now.width self.now.apart self.now.places }
+        requires cells { AreCellsOf rows.now self.now }
         requires within { u + 8 ≤ self.now.width }
-        ensures { AreLanes result
-            (part (padded rows.now self.now.t self.now.from self.now.width) 8 products.now)
-            (2 * u) }
+        ensures { AreLanes result (part (padded_by rows.now self.now) 8 products.now) (2 * u) }
     {
         pair(
             products.fourth(),
@@ -84,11 +77,9 @@ impl Cells {
     /// The values of sixteen lanes each, of which there are 16.
     #[inline(always)]
     pub fn sixteens(&self, rows: &[u8], products: &ProductTable) -> u8x16
-        requires cells { AreCells rows.now self.now.t self.now.from self.now.width self.now.apart self.now.places }
+        requires cells { AreCellsOf rows.now self.now }
         requires within { 16 ≤ self.now.width }
-        ensures { AreLanes result
-            (part (padded rows.now self.now.t self.now.from self.now.width) 16 products.now)
-            0 }
+        ensures { AreLanes result (part (padded_by rows.now self.now) 16 products.now) 0 }
     {
         pair(
             products.eighth(),

@@ -5,11 +5,12 @@ use Rattle.quantity_limits.specs.declared.TheConstants.{MOST_SHARDS}
 use Rattle.port_rules.specs.World.{Cell, World}
 use Rattle.port_rules.specs.Number.{GUEST, link}
 use Rattle.port_rules.specs.Moves.{RoseOnce, Touches}
-use Rattle.wire_frames.specs.declared.header.QueryHeader.{QueryHeader}
 use Rattle.shard_front.specs.declared.spread.Spread.{Spread}
 use Rattle.shard_front.specs.declared.relayed.Relayed.{Relayed}
 use Rattle.shard_front.specs.declared.relayed.Relayed.TheVariants.{Served, Refused, Gone, GuestFault, ShardLost}
 use Rattle.shard_front.specs.Spread.{shards}
+use Rattle.shard_front.specs.RelayedQuery.{relayed_over}
+use Rattle.shard_front.specs.Parts.{Part, part_at}
 use Rattle.shard_front.specs.Shard.{ShardAnswers, ShardIsLost}
 use Rattle.shard_front.specs.Fronted.{Fronts, Relays}
 
@@ -18,7 +19,8 @@ abbrev pub OnceAtMost : ℕ → ℕ → Type 0
 OnceAtMost before after = (after ≡ before) ⊎ RoseOnce before after
 
 -- the count of Guest
-pub guest_once : (spread : Spread) (addresses : List (List ℕ)) (met : Relayed) (w u : World) → Fronts spread addresses met w u → OnceAtMost (w.at GUEST).faults (u.at GUEST).faults
+pub guest_once : (spread : Spread) (addresses : List (List ℕ)) (met : Relayed) (w u : World) → Fronts spread addresses met w u
+    → OnceAtMost (w.at GUEST).faults (u.at GUEST).faults
 guest_once spread addresses Served w u f = inl (ap (λ (c : Cell). c.faults) f.cell)
 guest_once spread addresses (ShardLost number) w u f = inl (ap (λ (c : Cell). c.faults) f.cell)
 guest_once spread addresses (Refused status) w u f = inl (ap (λ (c : Cell). c.faults) f.0.cell)
@@ -26,30 +28,35 @@ guest_once spread addresses Gone w u f = inl (ap (λ (c : Cell). c.faults) f.0.c
 guest_once spread addresses GuestFault w u (inl broke) = inr broke.0.rose
 guest_once spread addresses GuestFault w u (inr broke) = inr broke.rose
 
--- the count of the link to a shard that answered, or is lost
-answered_still : (spread : Spread) (query : QueryHeader) (vectors : List ℕ) (i : ℕ) (address payload : List ℕ) (c d : Cell) → ShardAnswers spread query vectors i address payload c d → d.faults ≡ c.faults
-answered_still spread query vectors i address payload c d a = ap (λ (x : Cell). x.faults) a.answered.cell
+-- the count of the link to a shard that answered
+answered_still : (part : Part) (payload : List ℕ) (c d : Cell) → ShardAnswers part payload c d → d.faults ≡ c.faults
+answered_still part payload c d a = ap (λ (x : Cell). x.faults) a.answered.cell
 
-lost_once : (spread : Spread) (query : QueryHeader) (vectors : List ℕ) (i : ℕ) (address : List ℕ) (c d : Cell) → ShardIsLost spread query vectors i address c d → OnceAtMost c.faults d.faults
-lost_once spread query vectors i address c d (inl broke) = inr broke.rose
-lost_once spread query vectors i address c d (inr bad) = inl (ap (λ (x : Cell). x.faults) bad.answered.cell)
+-- and of that to one that is lost
+lost_once : (part : Part) (c d : Cell) → ShardIsLost part c d → OnceAtMost c.faults d.faults
+lost_once part c d (inl broke) = inr broke.rose
+lost_once part c d (inr bad) = inl (ap (λ (x : Cell). x.faults) bad.answered.cell)
 
 module _ (spread : Spread) (addresses : List (List ℕ)) (w u : World) (few : shards spread ≤ MOST_SHARDS) (i : ℕ) (there : i < shards spread) where
   -- the count of each link, where the shards were asked
   relays_once : (met : Relayed) (n : ℕ) (frame : List ℕ) → Relays spread addresses met n frame w u → OnceAtMost (w.at (link 1 + i)).faults (u.at (link 1 + i)).faults
-  relays_once Served n frame r = inl (answered_still spread r.query r.vectors i _ _ (w.at (link 1 + i)) (u.at (link 1 + i)) (r.asked.answer.each.each i there))
+  relays_once Served n frame r =
+      let part = part_at (relayed_over spread addresses r.query r.vectors) i in
+      inl (answered_still part _ (w.at (link 1 + i)) (u.at (link 1 + i)) (r.asked.answer.each.each i there))
   relays_once (ShardLost number) n frame r =
       let lost = r.asked.0 in
+      let part = part_at (relayed_over spread addresses r.query r.vectors) in
       let place = lost.place in
       let number_is = lost.number_is in
       elim (cases_eq i place) [
         | inl same ↦
             subst (λ (k : ℕ). OnceAtMost (w.at (link 1 + k)).faults (u.at (link 1 + k)).faults) (sym same)
-            (lost_once spread r.query r.vectors place _ (w.at (link 1 + place)) (u.at (link 1 + place)) lost.lost)
+            (lost_once (part place) (w.at (link 1 + place)) (u.at (link 1 + place)) lost.lost)
         | inr other ↦ elim (cases_lt i place) [
-          | inl low ↦ inl (answered_still spread r.query r.vectors i _ _ (w.at (link 1 + i)) (u.at (link 1 + i)) (lost.before.each.each i low))
+          | inl low ↦ inl (answered_still (part i) _ (w.at (link 1 + i)) (u.at (link 1 + i)) (lost.before.each.each i low))
           | inr high ↦
-              inl (ap (λ (c : Cell). c.faults) (r.others.others (link 1 + i) (omega (arith, few, there)) (λ e. omega (arith, e)) (λ from below. other (omega (arith, below, high, number_is)))))
+              inl (ap (λ (c : Cell). c.faults)
+              (r.others.others (link 1 + i) (omega (arith, few, there)) (λ e. omega (arith, e)) (λ from below. other (omega (arith, below, high, number_is)))))
         ]
       ]
   relays_once (Refused status) n frame r = absurd r.asked

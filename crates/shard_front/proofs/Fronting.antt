@@ -10,11 +10,13 @@ use Rattle.port_rules.proofs.Ranges.{each_after, each_before}
 use Rattle.wire_frames.specs.declared.header.QueryHeader.{QueryHeader}
 use Rattle.wire_frames.specs.Header.{answer_header}
 use Rattle.serve_core.specs.Terms.{query_len_for}
-use Rattle.serve_core.specs.Taking.{TakesQuery, front_payload}
+use Rattle.serve_core.specs.Taking.{TakesQuery}
 use Rattle.shard_front.specs.declared.spread.Spread.{Spread}
 use Rattle.shard_front.specs.declared.relayed.Relayed.{Relayed}
 use Rattle.shard_front.specs.declared.relayed.Relayed.TheVariants.{Served, Refused, Gone, GuestFault, ShardLost}
 use Rattle.shard_front.specs.Spread.{IsSpread, shards, terms_of}
+use Rattle.shard_front.specs.RelayedQuery.{RelayedQuery, taken_from}
+use Rattle.shard_front.specs.Parts.{part_at}
 use Rattle.shard_front.specs.Shard.{ShardAnswers, ShardIsLost}
 use Rattle.shard_front.specs.Asked.{Asks, AllAnswer, FirstAnswer, SumsFirst, asked_for}
 use Rattle.shard_front.specs.Stages.{Gives, RelaysQuery}
@@ -22,35 +24,37 @@ use Rattle.shard_front.specs.Fronted.{BreaksRelay, Fronts, IsRelayed, Relays, To
 use Rattle.shard_front.proofs.Summing.{combined_is}
 
 -- all shards answered, and the frame has their sum behind the header
-pub all_answer : (spread : Spread) (query : QueryHeader) (vectors : List ℕ) (addresses : List (List ℕ)) (frame header sum : List ℕ) (w v : World)
-    → frame ≡ header ++ sum → header ≡ answer_header query 0 → length sum ≡ query.count * spread.width
-    → SumsFirst spread query vectors addresses (shards spread) sum w v → AllAnswer spread query vectors addresses frame w v
-all_answer spread query vectors addresses frame header sum w v is front long s = record {
+pub all_answer : (relay : RelayedQuery) (frame header sum : List ℕ) (w v : World)
+    → frame ≡ header ++ sum → header ≡ answer_header relay.header 0 → length sum ≡ relay.header.count * relay.spread.width
+    → SumsFirst relay (shards relay.spread) sum w v → AllAnswer relay frame w v
+all_answer relay frame header sum w v is start long s = record {
   payloads = s.payloads;
   answer = s.answer;
-  frame_is = is ∙ ap (λ (l : List ℕ). l ++ sum) front
-      ∙ ap (λ (l : List ℕ). answer_header query 0 ++ l) (combined_is (query.count * spread.width) s.payloads sum long s.sum_is);
+  frame_is = is ∙ ap (λ (l : List ℕ). l ++ sum) start
+      ∙ ap (λ (l : List ℕ). answer_header relay.header 0 ++ l)
+      (combined_is (relay.header.count * relay.spread.width) s.payloads sum long s.sum_is);
 }
 
-module _ (spread : Spread) (is : IsSpread spread) (query : QueryHeader) (vectors : List ℕ) (addresses : List (List ℕ)) where
+module _ (relay : RelayedQuery) (is : IsSpread relay.spread) where
   -- what the first shards answered stays, whatever was done to the guest before and after
-  first_between : (n : ℕ) (payloads : List (List ℕ)) (w v x u : World) → n ≤ shards spread → Touches GUEST w v → Touches GUEST x u
-      → FirstAnswer spread query vectors addresses n payloads v x → FirstAnswer spread query vectors addresses n payloads w u
+  first_between : (n : ℕ) (payloads : List (List ℕ)) (w v x u : World) → n ≤ shards relay.spread → Touches GUEST w v → Touches GUEST x u
+      → FirstAnswer relay n payloads v x → FirstAnswer relay n payloads w u
   first_between n payloads w v x u few before after a =
       let few_shards = is.few in
       let fits : link 1 + n ≤ PORT_COUNT = omega arith in
-      let R : ℕ → Cell → Cell → Type 0 = λ i. ShardAnswers spread query vectors i (get_or addresses i []) (get_or payloads i []) in
+      let R : ℕ → Cell → Cell → Type 0 = λ i. ShardAnswers (part_at relay i) (get_or payloads i []) in
       record {
         count = a.count;
         each = each_after R (link 1) n GUEST w x u fits (inl (omega arith))
             (each_before R (link 1) n GUEST w v x fits (inl (omega arith)) before a.each) after;
       }
 
+  -- and so does what all of them did
   asks_between : (met : Relayed) (frame : List ℕ) (w v x u : World) → Touches GUEST w v → Touches GUEST x u
-      → Asks spread query vectors addresses met frame v x → Asks spread query vectors addresses met frame w u
+      → Asks relay met frame v x → Asks relay met frame w u
   asks_between Served frame w v x u before after a = record {
     payloads = a.payloads;
-    answer = first_between (shards spread) a.payloads w v x u (omega arith) before after a.answer;
+    answer = first_between (shards relay.spread) a.payloads w v x u (omega arith) before after a.answer;
     frame_is = a.frame_is;
   }
   asks_between (ShardLost number) frame w v x u before after (a, frame_is) =
@@ -66,8 +70,8 @@ module _ (spread : Spread) (is : IsSpread spread) (query : QueryHeader) (vectors
           there = a.there;
           payloads = a.payloads;
           before = first_between a.place a.payloads w v x u (omega arith) before after a.before;
-          lost = subst (λ (c : Cell). ShardIsLost spread query vectors a.place (get_or addresses a.place []) c (u.at port)) old
-              (subst (λ (d : Cell). ShardIsLost spread query vectors a.place (get_or addresses a.place []) (v.at port) d) (sym new) a.lost);
+          lost = subst (λ (c : Cell). ShardIsLost (part_at relay a.place) c (u.at port)) old
+              (subst (λ (d : Cell). ShardIsLost (part_at relay a.place) (v.at port) d) (sym new) a.lost);
         },
         frame_is,
       )
@@ -86,21 +90,24 @@ touches_between n w v x u before links after = record {
 -- a query was taken, and what the shards make of it was given to the guest
 module _ (spread : Spread) (is : IsSpread spread) (query : QueryHeader) (slice : List ℕ) (addresses : List (List ℕ)) (w v u : World)
     (takes : TakesQuery (terms_of spread) query slice w v) (taken : Touches GUEST w v) (result : Relayed)
-    (r : RelaysQuery spread query (front_payload (terms_of spread) query slice) addresses result v u) where
-  abbrev vectors : List ℕ
-  vectors = front_payload (terms_of spread) query slice
+    (r : RelaysQuery (taken_from spread addresses query slice) result v u) where
+  -- the query that was taken, as it is relayed
+  abbrev relay : RelayedQuery
+  relay = taken_from spread addresses query slice
 
+  -- how many bytes it has
   abbrev n : ℕ
   n = query_len_for (terms_of spread) query.count
 
+  -- the shards were asked for it
   relays : Relays spread addresses r.met n r.frame w u
   relays = record {
     query = query;
-    vectors = vectors;
+    vectors = relay.vectors;
     good = takes.good;
     size = refl;
     told = takes.told;
-    asked = asks_between spread is query vectors addresses r.met r.frame w v r.mid u taken r.others r.asked;
+    asked = asks_between relay is r.met r.frame w v r.mid u taken r.others r.asked;
     others = touches_between (asked_for spread r.met) w v r.mid u taken r.links r.others;
   }
 
@@ -108,11 +115,13 @@ module _ (spread : Spread) (is : IsSpread spread) (query : QueryHeader) (slice :
   guest_is : r.mid.at GUEST ≡ took n (w.at GUEST)
   guest_is = r.links.others GUEST (omega arith) (λ low high. omega (arith, low)) ∙ takes.cell
 
+  -- the guest was given the whole frame
   whole : u.at GUEST ≡ gave r.frame (r.mid.at GUEST) → IsRelayed spread addresses r.met w u
   whole given = record { n = n; frame = r.frame; relays = relays; cell = given ∙ ap (gave r.frame) guest_is }
 
-  front : FailsWithin GUEST r.frame r.mid u → BreaksRelay spread addresses w u
-  front f = record {
+  -- or a prefix of it
+  partly : FailsWithin GUEST r.frame r.mid u → BreaksRelay spread addresses w u
+  partly f = record {
     met = r.met;
     n = n;
     frame = r.frame;
@@ -124,16 +133,18 @@ module _ (spread : Spread) (is : IsSpread spread) (query : QueryHeader) (slice :
   }
 
   -- only a query that was asked of shards is met so
-  by_met : (met : Relayed) → Asks spread query vectors addresses met r.frame v r.mid → IsRelayed spread addresses met w u → Fronts spread addresses met w u
+  by_met : (met : Relayed) → Asks relay met r.frame v r.mid → IsRelayed spread addresses met w u → Fronts spread addresses met w u
   by_met Served a relayed = relayed
   by_met (ShardLost number) a relayed = relayed
   by_met (Refused status) a relayed = absurd a
   by_met Gone a relayed = absurd a
   by_met GuestFault a relayed = absurd a
 
+  -- and so the guest was met
   pub fronts_query : Fronts spread addresses result w u
   fronts_query = by_result r.gives
     where
+      -- the whole frame was given, or a prefix of it
       by_result : Gives r.met r.frame result r.mid u → Fronts spread addresses result w u
       by_result (inl given) = subst (λ (m : Relayed). Fronts spread addresses m w u) (sym given.0) (by_met r.met r.asked (whole given.1))
-      by_result (inr failed) = subst (λ (m : Relayed). Fronts spread addresses m w u) (sym failed.0) (inr (front failed.1))
+      by_result (inr failed) = subst (λ (m : Relayed). Fronts spread addresses m w u) (sym failed.0) (inr (partly failed.1))

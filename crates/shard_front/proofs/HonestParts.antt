@@ -1,5 +1,6 @@
 -- What an honest server replies to a good query, and to the part of one for its shard.
-use Rattle.std.proofs.Common.{◌≡◌, ◌∙◌, ℕ, zero, suc, ◌+◌, ◌*◌, ◌<◌, ◌≤◌, ◌||◌, Bool, false, List, ◌++◌, length, take, drop, Some, refl, sym, ap, ap₂, subst, arith, length-append, length-drop}
+use Rattle.std.proofs.Common.{◌≡◌, ◌∙◌, ℕ, zero, suc, ◌+◌, ◌*◌, ◌<◌, ◌≤◌, ◌||◌, Bool, false, List, ◌++◌, length, take, drop, Some}
+use Rattle.std.proofs.Common.{refl, sym, ap, ap₂, subst, arith, length-append, length-drop}
 use Rattle.std.proofs.Math.Seq.{drop-append_seam, take-append_seam}
 use Rattle.std.proofs.lemmas.List.{length-take-le, take_all}
 use Rattle.gf256.specs.Product.{product}
@@ -56,6 +57,7 @@ module _ (spread : Spread) (rows : List (List ℕ)) (query : QueryHeader) (range
   abbrev pub products : List ℕ
   products = in_turn query.count (λ v. product rows spread.width (piece (length rows) v vectors))
 
+  -- its answers are these
   answers_are : answers (server_of spread rows) (blocks_in (query_header query)) vectors ≡ products
   unfolding scheme_of
   answers_are = ap (λ (n : ℕ). in_turn n (λ v. product rows spread.width (piece (length rows) v vectors)))
@@ -74,24 +76,31 @@ module _ (spread : Spread) (rows : List (List ℕ)) (query : QueryHeader) (range
 -- the part of a good query for the shard at place i
 module _ (spread : Spread) (is : IsSpread spread) (matrix : List (List ℕ)) (rows : length matrix ≡ spread.rows) (query : QueryHeader)
     (good : IsGood (terms_of spread) query) (vectors : List ℕ) (long : length vectors ≡ query.count * spread.rows) (i : ℕ) (there : i < shards spread) where
+  -- the rows of the shard
   abbrev own : List (List ℕ)
   own = rows_at spread i matrix
 
+  -- the header of the part
   abbrev header : QueryHeader
   header = header_to spread query i
 
+  -- its bytes
   abbrev part : List ℕ
   part = part_for spread query vectors i
 
+  -- its payload
   abbrev slices : List ℕ
   slices = slices_for spread i query.count vectors
 
+  -- so many rows are the shard's own
   own_rows : length own ≡ rows_in spread i
   own_rows = length-rows_at spread is matrix rows i there
 
+  -- the header of the part is one of a query
   range : IsQuery header
   range = header_range spread is i there query good
 
+  -- a slice has a byte for each of its rows
   length-slice : (v : ℕ) → v < query.count → length (slice_at spread i vectors v) ≡ rows_in spread i
   length-slice v few =
       let fits = piece_fits v query.count spread.rows few in
@@ -100,24 +109,30 @@ module _ (spread : Spread) (is : IsSpread spread) (matrix : List (List ℕ)) (ro
       length-take-le (rows_in spread i) (drop (i * spread.shard) (piece spread.rows v vectors))
       (omega (arith, within, vector, length-drop (i * spread.shard) (piece spread.rows v vectors)))
 
+  -- so many bytes has the payload of the part
   length-slices : length slices ≡ query.count * rows_in spread i
   length-slices = length-in_turn query.count (rows_in spread i) (slice_at spread i vectors) length-slice
 
-  front : header_of part ≡ query_header header
+  -- it begins with the header
+  begins : header_of part ≡ query_header header
   unfolding part_for
-  front = take-append_seam (query_header header) slices
+  begins = take-append_seam (query_header header) slices
 
+  -- and ends with the slices
   rest : drop FRAME_HEADER_LEN part ≡ slices
   unfolding part_for
   rest = drop-append_seam (query_header header) slices
 
+  -- so many bytes has the part
   size : length part ≡ FRAME_HEADER_LEN + query.count * rows_in spread i
   unfolding part_for
   size = length-append (query_header header) slices ∙ ap (λ (n : ℕ). FRAME_HEADER_LEN + n) length-slices
 
+  -- it asks for as many blocks as the query
   asked : asked_of part ≡ query.count
-  asked = ap blocks_in front ∙ blocks_in_query (query_header header) header (record { range = range; spelled = refl })
+  asked = ap blocks_in begins ∙ blocks_in_query (query_header header) header (record { range = range; spelled = refl })
 
+  -- so many bytes does its payload take
   vectors_take : asked_of part * length own ≡ query.count * rows_in spread i
   vectors_take = ap₂ (λ (n m : ℕ). n * m) asked own_rows
 
@@ -129,7 +144,7 @@ module _ (spread : Spread) (is : IsSpread spread) (matrix : List (List ℕ)) (ro
       whole = record {
         suits = record {
           query = header;
-          asks = record { whole = omega (arith, size); header = record { range = range; spelled = front } };
+          asks = record { whole = omega (arith, size); header = record { range = range; spelled = begins } };
           scheme = good.scheme;
           shape = record { rows = sym own_rows; width = good.shape.width };
         };
@@ -137,7 +152,7 @@ module _ (spread : Spread) (is : IsSpread spread) (matrix : List (List ℕ)) (ro
       };
       unused_is = none_unused (length own) spread.width (asked_of part) (payload (served_by (server_of spread own)) part);
     };
-    header = front;
+    header = begins;
     vectors_are = sym (ap₂ take vectors_take rest ∙ take_all (query.count * rows_in spread i) slices (omega (arith, length-slices)));
   }
 
@@ -145,15 +160,18 @@ module _ (spread : Spread) (is : IsSpread spread) (matrix : List (List ℕ)) (ro
   abbrev pub honest_payload : List ℕ
   honest_payload = payload_of spread is matrix rows query.count vectors i
 
+  -- its answers are the products of the slices
   products_are : products spread own header range slices part asks ≡ honest_payload
   products_are = in_turn-same query.count _ _ (λ v few.
       ap (product own spread.width) (ap (λ (n : ℕ). piece n v slices) own_rows
       ∙ piece-in_turn query.count (rows_in spread i) v (slice_at spread i vectors) length-slice few))
 
+  -- and that is its reply
   pub part_replies : Replies (server_of spread own) part IsServed (answer_header header 0 ++ honest_payload)
   part_replies = subst (λ (l : List ℕ). Replies (server_of spread own) part IsServed (answer_header header 0 ++ l)) products_are
       (replies_products spread own header range slices part asks)
 
+  -- which has a byte for each column of each block
   length-honest : length honest_payload ≡ query.count * spread.width
   length-honest = length-in_turn query.count spread.width (λ v. product own spread.width (slice_at spread i vectors v))
       (λ v few. length-product own spread.width (slice_at spread i vectors v))
@@ -165,7 +183,8 @@ module _ (spread : Spread) (is : IsSpread spread) (matrix : List (List ℕ)) (ro
       let frame = answer_header header 0 ++ honest_payload in
       let is : b.frame ≡ frame = (one_reply (server_of spread own) part b.met IsServed b.frame frame b.replies part_replies).1 in
       let wide = good.shape.width in
-      let long_frame : length frame ≡ answer_len query.count spread.width = length-append (answer_header header 0) honest_payload ∙ ap (λ (n : ℕ). FRAME_HEADER_LEN + n) length-honest in
+      let long_frame : length frame ≡ answer_len query.count spread.width
+      = length-append (answer_header header 0) honest_payload ∙ ap (λ (n : ℕ). FRAME_HEADER_LEN + n) length-honest in
       let begins : take (answer_len query.count spread.width) bytes ≡ frame = ap (λ (n : ℕ). take n bytes) (sym long_frame ∙ ap length (sym is)) ∙ b.begins ∙ is in
       ap (λ (l : List ℕ). usable l header) begins
       ∙ usable_frame honest_payload header (length-honest ∙ ap (λ (n : ℕ). query.count * n) (sym wide))

@@ -19,7 +19,7 @@ use Rattle.shard_front.specs.declared.spread.Spread.{Spread}
 use Rattle.shard_front.specs.declared.relayed.Relayed.{Relayed}
 use Rattle.shard_front.specs.declared.relayed.Relayed.TheVariants.{Served, Refused, Gone, GuestFault, ShardLost}
 use Rattle.shard_front.specs.Spread.{IsSpread, shards, terms_of}
-use Rattle.shard_front.specs.Relay.{Counts, FrontsTold, GivesRelay, IsRelay, Links, RelaysLoss, RelaysSum, payload_at, payload_from}
+use Rattle.shard_front.specs.Relay.{Counts, FrontsTold, GivesRelay, IsRelay, Links, RelaysLoss, RelaysSum, Visit, payload_at, payload_from, visit_of}
 use Rattle.shard_front.specs.Honest.{AreHonest, HonestTold, IsReplyOf, server_of}
 use Rattle.shard_front.proofs.HonestParts.{honest_payload, honest_usable, length-vectors, replies_products}
 use Rattle.shard_front.proofs.ShardProducts.{combined_products, whole}
@@ -28,6 +28,7 @@ use Rattle.shard_front.proofs.ShardProducts.{combined_products, whole}
 same_some : (a b : List ℕ) → Some a ≡ Some b → a ≡ b
 same_some a b e = cc
 
+-- a payload that is there isn't lost
 some_or_none : (a : List ℕ) (o : Option (List ℕ)) → o ≡ Some a → o ≡ None → ⊥
 some_or_none a None e f = absurd (cc)
 some_or_none a (Some b) e f = absurd (cc)
@@ -49,6 +50,7 @@ module _ (spread : Spread) (is : IsSpread spread) (matrix : List (List ℕ)) (is
     asks_one : IsQueryOf (served_by (server_of spread matrix)) query vectors guest
     asks_one = subst (λ (t : Terms). IsQueryOf t query vectors guest) same_terms asks
 
+    -- its vectors are whole
     long : length vectors ≡ query.count * spread.rows
     long = length-vectors spread matrix query good.range vectors guest asks_one ∙ ap (λ (n : ℕ). query.count * n) is_matrix.rows
 
@@ -64,7 +66,8 @@ module _ (spread : Spread) (is : IsSpread spread) (matrix : List (List ℕ)) (is
   of_sum frame r =
       let rows = is_matrix.rows in
       let asks = asks_one r.query r.vectors r.good r.asks in
-      let each : (i : ℕ) → i < shards spread → get_or r.payloads i [] ≡ _ = λ i there. same_some _ _ (sym (r.give.each i there) ∙ gives_honest r.query r.vectors r.good r.asks i there) in
+      let each : (i : ℕ) → i < shards spread → get_or r.payloads i [] ≡ _
+      = λ i there. same_some _ _ (sym (r.give.each i there) ∙ gives_honest r.query r.vectors r.good r.asks i there) in
       let sum = combined_products spread is matrix rows r.query.count r.vectors r.payloads r.give.count each in
       let wide : whole spread is matrix rows r.query.count r.vectors ≡ in_turn r.query.count (λ v. product matrix spread.width (piece (length matrix) v r.vectors)) =
       ap (λ (n : ℕ). in_turn r.query.count (λ v. product matrix spread.width (piece n v r.vectors))) (sym rows) in
@@ -80,6 +83,7 @@ module _ (spread : Spread) (is : IsSpread spread) (matrix : List (List ℕ)) (is
   of_loss : (number : ℕ) (frame : List ℕ) → RelaysLoss spread guest links number frame → ⊥
   of_loss number frame r = some_or_none _ _ (gives_honest r.query r.vectors r.good r.asks r.place r.there) r.lost
 
+  -- and so the guest is met as by the server of all rows
   pub relay_is_reply : (met : Relayed) (frame : List ℕ) → IsRelay spread guest links met frame → IsReplyOf (server_of spread matrix) guest met frame
   relay_is_reply Served frame r = of_sum frame r
   relay_is_reply (ShardLost number) frame r = absurd (of_loss number frame r)
@@ -96,13 +100,13 @@ module _ (spread : Spread) (is : IsSpread spread) (matrix : List (List ℕ)) (is
   relay_is_reply GuestFault frame r = absurd r
 
 -- the guest was given the whole frame, unless the count of Guest rose
-gave_whole : (spread : Spread) (guest : List ℕ) (links : Links) (met : Relayed) (out : List ℕ) (before after : ℕ)
-    → (Counts true before after → ⊥) → GivesRelay spread guest links met out before after → IsRelay spread guest links met out
-gave_whole spread guest links Served out before after none g = g.1
-gave_whole spread guest links (ShardLost number) out before after none g = g.1
-gave_whole spread guest links (Refused status) out before after none g = g.1
-gave_whole spread guest links Gone out before after none g = g.1
-gave_whole spread guest links GuestFault out before after none g = absurd (none g.0)
+gave_whole : (spread : Spread) (links : Links) (met : Relayed) (visit : Visit) → (Counts true visit.before visit.after → ⊥)
+    → GivesRelay spread links met visit → IsRelay spread visit.guest links met visit.out
+gave_whole spread links Served visit none g = g.1
+gave_whole spread links (ShardLost number) visit none g = g.1
+gave_whole spread links (Refused status) visit none g = g.1
+gave_whole spread links Gone visit none g = g.1
+gave_whole spread links GuestFault visit none g = absurd (none g.0)
 
 -- by what is told
 pub honest_told : (spread : Spread) (met : Relayed) (w u : World) → IsSpread spread → FrontsTold spread met w u → HonestTold spread met w u
@@ -114,5 +118,5 @@ honest_told spread met w u is told matrix guest held before is_matrix holds acce
       accepted = t.accepted;
       honest = λ honest. relay_is_reply spread is matrix is_matrix guest of
           (λ i there. not_failed (t.failed i) (w.at (link 1 + i)).faults (u.at (link 1 + i)).faults (λ once. none.links i there (once_rose _ _ once)) (t.links.failed i there))
-          honest met t.out (gave_whole spread guest of met t.out (w.at GUEST).faults (u.at GUEST).faults (λ once. none.guest (once_rose _ _ once)) t.gives);
+          honest met t.out (gave_whole spread of met (visit_of guest t.out w u) (λ once. none.guest (once_rose _ _ once)) t.gives);
     }

@@ -25,7 +25,8 @@ breaks_reading address frame most p old mid v u is_open given failed =
     }
 
 -- the link was opened, and then a call failed before it took the whole frame
-pub breaks_giving : (address frame : List ℕ) (most p : ℕ) (old : Cell) (v u : World) → v.at p ≡ named address old → FailsWithin p frame v u → LinkBreaks address frame most old (u.at p)
+pub breaks_giving : (address frame : List ℕ) (most p : ℕ) (old : Cell) (v u : World) → v.at p ≡ named address old
+    → FailsWithin p frame v u → LinkBreaks address frame most old (u.at p)
 breaks_giving address frame most p old v u is_open failed = record {
   how = inr (inl record {
     n = failed.n;
@@ -36,11 +37,15 @@ breaks_giving address frame most p old v u is_open failed = record {
 }
 
 -- the link was opened and took the whole frame, and then so many bytes came
-module _ (address frame before after : List ℕ) (p : ℕ) (old mid : Cell) (v u : World) (is_open : mid ≡ named address old) (given : v.at p ≡ gave frame mid) (size : length after ≡ length before) where
+module _ (address frame before after : List ℕ) (p : ℕ) (old mid : Cell) (v u : World) (is_open : mid ≡ named address old)
+    (given : v.at p ≡ gave frame mid) (size : length after ≡ length before) where
+  -- the link was opened, and took the frame
   ready : v.at p ≡ gave frame (named address old)
   ready = given ∙ ap (gave frame) is_open
 
-  came : (n : ℕ) → n ≤ length before → u.at p ≡ took n (v.at p) → IfSome old.holds (λ held. take n after ≡ take (length before) held) → LinkAnswers address frame (length before) (take n after) old (u.at p)
+  -- then these bytes came, the first that it held
+  came : (n : ℕ) → n ≤ length before → u.at p ≡ took n (v.at p)
+      → IfSome old.holds (λ held. take n after ≡ take (length before) held) → LinkAnswers address frame (length before) (take n after) old (u.at p)
   came n few cell told =
       let long = length-take-le n after (omega (arith, few, size)) in
       record {
@@ -63,6 +68,7 @@ module _ (address frame before after : List ℕ) (p : ℕ) (old mid : Cell) (v u
       let all = subst (λ (c : Cell). IfSome c.holds (λ held. length held ≡ n)) ready ends.all in
       came n (omega (arith, ends.fewer)) ends.hands.cell (both old.holds told all)
     where
+      -- all that the link held came
       both : (o : Option (List ℕ)) → IfSome o (Came n before after) → IfSome o (λ held. length held ≡ n) → IfSome o (λ held. take n after ≡ take (length before) held)
       both None a b = tt
       both (Some held) a b = a.bytes ∙ take_all n held (omega (arith, b)) ∙ sym (take_all (length before) held (omega (arith, b, ends.fewer)))

@@ -1,27 +1,27 @@
 -- What a query takes has its place in the room.
 use Rattle.std.proofs.Common.{◌≡◌, ℕ, ◌*◌, ◌≤◌, refl, arith}
-use Rattle.std.proofs.Math.Nat.{mul-le-mul_right}
-use Rattle.wire_frames.specs.declared.header.QueryHeader.{QueryHeader}
-use Rattle.wire_frames.specs.declared.scheme.Scheme.TheVariants.{Shamir}
+use Rattle.std.proofs.Math.Nat.{mul-le-mul_left, mul-le-mul_right}
 use Rattle.wire_frames.specs.Scheme.{scheme_of}
-use Rattle.wire_frames.specs.Sizes.{answer_len, query_len}
+use Rattle.wire_frames.specs.Sizes.{answer_len}
 use Rattle.serve_core.specs.Terms.{most_blocks_for, payload_len_for}
-use Rattle.serve_core.specs.Taking.{IsGood}
-use Rattle.serve_core.proofs.RoomFor.{few_blocks}
 use Rattle.shard_front.specs.declared.spread.Spread.{Spread}
-use Rattle.shard_front.specs.Spread.{terms_of}
+use Rattle.shard_front.specs.Spread.{rows_in, terms_of}
+use Rattle.shard_front.specs.Parts.{part_len}
+use Rattle.shard_front.specs.Room.{most_answer_for, most_part_for}
 
 -- a vector has a byte for each row
 pub vectors_len : (spread : Spread) (count : ℕ) → payload_len_for (terms_of spread) count ≡ count * spread.rows
 unfolding scheme_of
 vectors_len spread count = refl
 
-module _ (spread : Spread) (query : QueryHeader) (good : IsGood (terms_of spread) query) where
-  few : query.count ≤ most_blocks_for (terms_of spread)
-  few = few_blocks (terms_of spread) query good.range good.shape
-
-  pub answer_fits : answer_len query.count spread.width ≤ answer_len (most_blocks_for (terms_of spread)) spread.width
+-- a query for so many blocks
+module _ (spread : Spread) (count : ℕ) (few : count ≤ most_blocks_for (terms_of spread)) where
+  -- has an answer for which there is room
+  pub answer_fits : answer_len count spread.width ≤ most_answer_for spread
   answer_fits = omega (arith, mul-le-mul_right spread.width few)
 
-  pub part_fits : query_len Shamir query.count spread.shard ≤ query_len Shamir (most_blocks_for (terms_of spread)) spread.shard
-  part_fits = omega (arith, mul-le-mul_right spread.shard few)
+  -- and so has the part of it for any shard
+  pub part_fits : (i : ℕ) → part_len spread count i ≤ most_part_for spread
+  part_fits i =
+      let rows : rows_in spread i ≤ spread.shard = omega arith in
+      omega (arith, mul-le-mul_left count rows, mul-le-mul_right spread.shard few)

@@ -23,6 +23,7 @@ pub length-product : (rows : List (List ℕ)) (width : ℕ) (vector : List ℕ) 
 unfolding product
 length-product rows width vector = length-map-range_with_len (product_at vector rows) 0 width
 
+-- a column of a product
 at_product : (rows : List (List ℕ)) (width : ℕ) (vector : List ℕ) (c : ℕ) → c < width → get_or (product rows width vector) c 0 ≡ product_at vector rows c
 unfolding product
 at_product rows width vector c l = get_or-map-range_with_len (product_at vector rows) 0 width c c 0 l (omega arith)
@@ -112,13 +113,16 @@ module _ (spread : Spread) (is : IsSpread spread) where
 
       -- payloads of honest shards
       module _ (payloads : List (List ℕ)) (many : length payloads ≡ shards spread) (each : (i : ℕ) → i < shards spread → get_or payloads i [] ≡ payload_of i) where
+        -- their sum
         abbrev sum : List ℕ
         sum = combined (count * spread.width) payloads
 
+        -- it has a byte for each column of each block
         length-sum : length sum ≡ count * spread.width
         unfolding combined
         length-sum = length-map-range_with_len (combined_at payloads) 0 (count * spread.width)
 
+        -- a byte of the sum is one of the product with all rows
         at_sum : (v c : ℕ) → v < count → c < spread.width
             → combined_at payloads (v * spread.width + c) ≡ product_at (piece spread.rows v vectors) matrix c
         unfolding combined_at
@@ -130,6 +134,7 @@ module _ (spread : Spread) (is : IsSpread spread) where
             (λ i there. ap (λ (p : List ℕ). get_or p place 0) (each i there) ∙ at_payload i v c few l)
             ∙ sym (product_splits (piece spread.rows v vectors) c)
 
+        -- the same of the piece of the sum for a block
         at_both : (v c : ℕ) → v < count → c < spread.width
             → get_or (piece spread.width v sum) c 0 ≡ get_or (product matrix spread.width (piece spread.rows v vectors)) c 0
         unfolding combined
@@ -141,6 +146,7 @@ module _ (spread : Spread) (is : IsSpread spread) where
             ∙ get_or-map-range_with_len (combined_at payloads) 0 (count * spread.width) place place 0 (omega (arith, fits, step, l)) (omega arith)
             ∙ at_sum v c few l ∙ sym (at_product matrix spread.width (piece spread.rows v vectors) c l)
 
+        -- so that piece is the product with all rows
         piece_is : (v : ℕ) → v < count → piece spread.width v sum ≡ product matrix spread.width (piece spread.rows v vectors)
         piece_is v few =
             let fits = piece_fits v count spread.width few in

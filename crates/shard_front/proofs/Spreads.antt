@@ -21,6 +21,7 @@ module _ (spread : Spread) (is : IsSpread spread) (i : ℕ) (there : i < shards 
   pub some_rows : 1 ≤ rows_in spread i
   some_rows = omega (arith, starts_within, is.some)
 
+  -- and no more than are left
   pub rows_within : first_row spread i + rows_in spread i ≤ spread.rows
   rows_within = omega (arith, starts_within)
 

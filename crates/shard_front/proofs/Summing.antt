@@ -13,9 +13,9 @@ use Rattle.port_rules.specs.Each.{Each}
 use Rattle.port_rules.proofs.Ranges.{each_as, each_more, each_none, range_more, range_none, range_still}
 use Rattle.chor_xor.specs.Chosen.{combined, combined_at}
 use Rattle.chor_xor.proofs.ChosenSums.{combined_at-push}
-use Rattle.wire_frames.specs.declared.header.QueryHeader.{QueryHeader}
-use Rattle.shard_front.specs.declared.spread.Spread.{Spread}
 use Rattle.shard_front.specs.Spread.{shards}
+use Rattle.shard_front.specs.RelayedQuery.{RelayedQuery}
+use Rattle.shard_front.specs.Parts.{part_at}
 use Rattle.shard_front.specs.Shard.{AddsPayload, ShardAnswers, ShardIsLost}
 use Rattle.shard_front.specs.Asked.{FirstLost, SumsFirst}
 
@@ -32,12 +32,13 @@ combined_is width payloads sum long each =
     ext_get_or 0 sum _ (long ∙ sym (length-map-range_with_len (combined_at payloads) 0 width))
     (λ k l. each k ∙ sym (get_or-map-range_with_len (combined_at payloads) 0 width k k 0 (omega (arith, l, long)) (omega arith)))
 
-module _ (spread : Spread) (query : QueryHeader) (vectors : List ℕ) (addresses : List (List ℕ)) where
+module _ (relay : RelayedQuery) where
+  -- a shard answered, with the payload at its place
   abbrev Answers : List (List ℕ) → ℕ → Cell → Cell → Type 0
-  Answers payloads i old new = ShardAnswers spread query vectors i (get_or addresses i []) (get_or payloads i []) old new
+  Answers payloads i old new = ShardAnswers (part_at relay i) (get_or payloads i []) old new
 
   -- before the first shard
-  pub sums_none : (sum : List ℕ) (w : World) → ((k : ℕ) → get_or sum k 0 ≡ 0) → SumsFirst spread query vectors addresses 0 sum w w
+  pub sums_none : (sum : List ℕ) (w : World) → ((k : ℕ) → get_or sum k 0 ≡ 0) → SumsFirst relay 0 sum w w
   sums_none sum w zeros = record {
     payloads = [];
     answer = record { count = refl; each = each_none (Answers []) (link 1) w w };
@@ -46,21 +47,19 @@ module _ (spread : Spread) (query : QueryHeader) (vectors : List ℕ) (addresses
   }
 
   -- one shard more
-  pub sums_more : (n : ℕ) (before after address : List ℕ) (w v u : World) → link 1 + n < PORT_COUNT → address ≡ get_or addresses n []
-      → SumsFirst spread query vectors addresses n before w v
-      → AddsPayload spread query vectors n address before after (v.at (link 1 + n)) (u.at (link 1 + n)) → Touches (link 1 + n) v u
-      → SumsFirst spread query vectors addresses (n + 1) after w u
-  sums_more n before after address w v u fits at s adds touch =
+  pub sums_more : (n : ℕ) (before after : List ℕ) (w v u : World) → link 1 + n < PORT_COUNT → SumsFirst relay n before w v
+      → AddsPayload (part_at relay n) before after (v.at (link 1 + n)) (u.at (link 1 + n)) → Touches (link 1 + n) v u
+      → SumsFirst relay (n + 1) after w u
+  sums_more n before after w v u fits s adds touch =
       let all = s.payloads ++ adds.payload ∷ [] in
       let count = s.answer.count in
       let kept : Each (Answers all) (link 1) n w v =
       each_as (Answers s.payloads) (Answers all) (link 1) n w v
-      (λ i l c d a. subst (λ (p : List ℕ). ShardAnswers spread query vectors i (get_or addresses i []) p c d)
+      (λ i l c d a. subst (λ (p : List ℕ). ShardAnswers (part_at relay i) p c d)
       (sym (get_or_append_left s.payloads (adds.payload ∷ []) [] i (omega (arith, l, count)))) a) s.answer.each in
       let here : adds.payload ≡ get_or all n [] = sym (get_or-append_seam s.payloads adds.payload [] []) ∙ ap (λ (k : ℕ). get_or all k []) count in
       let last : Answers all n (v.at (link 1 + n)) (u.at (link 1 + n)) =
-      subst (λ (p : List ℕ). ShardAnswers spread query vectors n (get_or addresses n []) p (v.at (link 1 + n)) (u.at (link 1 + n))) here
-      (subst (λ (a : List ℕ). ShardAnswers spread query vectors n a adds.payload (v.at (link 1 + n)) (u.at (link 1 + n))) at adds.answers) in
+      subst (λ (p : List ℕ). ShardAnswers (part_at relay n) p (v.at (link 1 + n)) (u.at (link 1 + n))) here adds.answers in
       record {
         payloads = all;
         answer = record {
@@ -72,11 +71,10 @@ module _ (spread : Spread) (query : QueryHeader) (vectors : List ℕ) (addresses
       }
 
   -- and the next one is lost
-  pub lost_next : (n number : ℕ) (sum address : List ℕ) (w v u : World) → link 1 + n < PORT_COUNT → n < shards spread → number ≡ n + 1
-      → address ≡ get_or addresses n [] → SumsFirst spread query vectors addresses n sum w v
-      → ShardIsLost spread query vectors n address (v.at (link 1 + n)) (u.at (link 1 + n)) → Touches (link 1 + n) v u
-      → FirstLost spread query vectors addresses number w u
-  lost_next n number sum address w v u fits there is at s lost touch =
+  pub lost_next : (n number : ℕ) (sum : List ℕ) (w v u : World) → link 1 + n < PORT_COUNT → n < shards relay.spread → number ≡ n + 1
+      → SumsFirst relay n sum w v → ShardIsLost (part_at relay n) (v.at (link 1 + n)) (u.at (link 1 + n)) → Touches (link 1 + n) v u
+      → FirstLost relay number w u
+  lost_next n number sum w v u fits there is s lost touch =
       let still : v.at (link 1 + n) ≡ w.at (link 1 + n) = range_still (link 1) n (link 1 + n) w v s.others fits (inr (omega arith)) in
       record {
         place = n;
@@ -90,6 +88,5 @@ module _ (spread : Spread) (query : QueryHeader) (vectors : List ℕ) (addresses
                 (sym (touch.others (link 1 + i) (omega (arith, l, fits)) (λ e. omega (arith, l, e)))) (s.answer.each.each i l);
           };
         };
-        lost = subst (λ (c : Cell). ShardIsLost spread query vectors n (get_or addresses n []) c (u.at (link 1 + n))) still
-            (subst (λ (a : List ℕ). ShardIsLost spread query vectors n a (v.at (link 1 + n)) (u.at (link 1 + n))) at lost);
+        lost = subst (λ (c : Cell). ShardIsLost (part_at relay n) c (u.at (link 1 + n))) still lost;
       }

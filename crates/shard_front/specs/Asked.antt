@@ -10,47 +10,43 @@ use Rattle.shard_front.specs.declared.spread.Spread.{Spread}
 use Rattle.shard_front.specs.declared.relayed.Relayed.{Relayed}
 use Rattle.shard_front.specs.declared.relayed.Relayed.TheVariants.{Served, Refused, Gone, GuestFault, ShardLost}
 use Rattle.shard_front.specs.Spread.{shards}
+use Rattle.shard_front.specs.RelayedQuery.{RelayedQuery}
+use Rattle.shard_front.specs.Parts.{part_at}
 use Rattle.shard_front.specs.Shard.{ShardAnswers, ShardIsLost}
 
 -- each of the first n shards was asked, by its address, and answered: these are their payloads
-pub record FirstAnswer (spread : Spread) (query : QueryHeader) (vectors : List ℕ) (addresses : List (List ℕ)) (n : ℕ)
-    (payloads : List (List ℕ)) (old new : World) : Type 0 where
+pub record FirstAnswer (relay : RelayedQuery) (n : ℕ) (payloads : List (List ℕ)) (old new : World) : Type 0 where
   pub count : length payloads ≡ n
-  pub each : Each (λ i. ShardAnswers spread query vectors i (slice_index_or addresses i []) (slice_index_or payloads i []))
-      (link 1) n old new
+  pub each : Each (λ i. ShardAnswers (part_at relay i) (slice_index_or payloads i [])) (link 1) n old new
 
 -- the first n shards answered, their payloads have this sum so far, and no link behind theirs was touched
-pub record SumsFirst (spread : Spread) (query : QueryHeader) (vectors : List ℕ) (addresses : List (List ℕ)) (n : ℕ)
-    (sum : List ℕ) (old new : World) : Type 0 where
+pub record SumsFirst (relay : RelayedQuery) (n : ℕ) (sum : List ℕ) (old new : World) : Type 0 where
   pub payloads : List (List ℕ)
-  pub answer : FirstAnswer spread query vectors addresses n payloads old new
+  pub answer : FirstAnswer relay n payloads old new
   pub sum_is : (k : ℕ) → slice_index sum k ≡ combined_at payloads k
   pub others : TouchesRange (link 1) n old new
 
 -- all shards were asked, and answered, and the frame for the guest has the sum of their payloads
-pub record AllAnswer (spread : Spread) (query : QueryHeader) (vectors : List ℕ) (addresses : List (List ℕ))
-    (frame : List ℕ) (old new : World) : Type 0 where
+pub record AllAnswer (relay : RelayedQuery) (frame : List ℕ) (old new : World) : Type 0 where
   pub payloads : List (List ℕ)
-  pub answer : FirstAnswer spread query vectors addresses (shards spread) payloads old new
-  pub frame_is : frame ≡ answer_header query 0 ++ combined (query.count * spread.width) payloads
+  pub answer : FirstAnswer relay (shards relay.spread) payloads old new
+  pub frame_is : frame
+      ≡ answer_header relay.header 0 ++ combined (relay.header.count * relay.spread.width) payloads
 
 -- the shard with this number is the first that is lost: those before it answered
-pub record FirstLost (spread : Spread) (query : QueryHeader) (vectors : List ℕ) (addresses : List (List ℕ))
-    (number : ℕ) (old new : World) : Type 0 where
+pub record FirstLost (relay : RelayedQuery) (number : ℕ) (old new : World) : Type 0 where
   pub place : ℕ
   pub number_is : number ≡ place + 1
-  pub there : place < shards spread
+  pub there : place < shards relay.spread
   pub payloads : List (List ℕ)
-  pub before : FirstAnswer spread query vectors addresses place payloads old new
-  pub lost : ShardIsLost spread query vectors place (slice_index_or addresses place [])
-      (old.at (link 1 + place)) (new.at (link 1 + place))
+  pub before : FirstAnswer relay place payloads old new
+  pub lost : ShardIsLost (part_at relay place) (old.at (link 1 + place)) (new.at (link 1 + place))
 
 -- what asking the shards does, by the number of the lost one, if one is: none behind it is asked
-abbrev pub AsksShards : Spread → QueryHeader → List ℕ → List (List ℕ) → Option ℕ → List ℕ → World → World → Type 0
-AsksShards spread query vectors addresses None sum old new =
-    SumsFirst spread query vectors addresses (shards spread) sum old new
-AsksShards spread query vectors addresses (Some number) sum old new =
-    FirstLost spread query vectors addresses number old new × TouchesRange (link 1) number old new
+abbrev pub AsksShards : RelayedQuery → Option ℕ → List ℕ → World → World → Type 0
+AsksShards relay None sum old new = SumsFirst relay (shards relay.spread) sum old new
+AsksShards relay (Some number) sum old new =
+    FirstLost relay number old new × TouchesRange (link 1) number old new
 
 -- the status of the frame that names a lost shard
 abbrev pub lost_status : ℕ
@@ -61,13 +57,13 @@ abbrev pub lost_frame : QueryHeader → ℕ → List ℕ
 lost_frame query number = answer_header query lost_status ++ number ∷ []
 
 -- what the shards make of a query: what its guest is met with, and the frame for it
-abbrev pub Asks : Spread → QueryHeader → List ℕ → List (List ℕ) → Relayed → List ℕ → World → World → Type 0
-Asks spread query vectors addresses Served frame old new = AllAnswer spread query vectors addresses frame old new
-Asks spread query vectors addresses (ShardLost number) frame old new =
-    FirstLost spread query vectors addresses number old new × (frame ≡ lost_frame query number)
-Asks spread query vectors addresses (Refused status) frame old new = ⊥
-Asks spread query vectors addresses Gone frame old new = ⊥
-Asks spread query vectors addresses GuestFault frame old new = ⊥
+abbrev pub Asks : RelayedQuery → Relayed → List ℕ → World → World → Type 0
+Asks relay Served frame old new = AllAnswer relay frame old new
+Asks relay (ShardLost number) frame old new =
+    FirstLost relay number old new × (frame ≡ lost_frame relay.header number)
+Asks relay (Refused status) frame old new = ⊥
+Asks relay Gone frame old new = ⊥
+Asks relay GuestFault frame old new = ⊥
 
 -- how many shards were asked, by what the guest is met with
 abbrev pub asked_for : Spread → Relayed → ℕ

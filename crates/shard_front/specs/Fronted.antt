@@ -12,6 +12,7 @@ use Rattle.shard_front.specs.declared.spread.Spread.{Spread}
 use Rattle.shard_front.specs.declared.relayed.Relayed.{Relayed}
 use Rattle.shard_front.specs.declared.relayed.Relayed.TheVariants.{Served, Refused, Gone, GuestFault, ShardLost}
 use Rattle.shard_front.specs.Spread.{terms_of}
+use Rattle.shard_front.specs.RelayedQuery.{relayed_over}
 use Rattle.shard_front.specs.Asked.{Asks, asked_for}
 
 -- Guest and the first n links alone are touched
@@ -27,7 +28,7 @@ pub record Relays (spread : Spread) (addresses : List (List ℕ)) (met : Relayed
   pub good : IsGood (terms_of spread) query
   pub size : n ≡ query_len_for (terms_of spread) query.count
   pub told : IfSome (old.at GUEST).holds (IsQueryOf (terms_of spread) query vectors)
-  pub asked : Asks spread query vectors addresses met frame old new
+  pub asked : Asks (relayed_over spread addresses query vectors) met frame old new
   pub others : TouchesFirst (asked_for spread met) old new
 
 -- the guest was given the whole frame
@@ -37,7 +38,7 @@ pub record IsRelayed (spread : Spread) (addresses : List (List ℕ)) (met : Rela
   pub relays : Relays spread addresses met n frame old new
   pub cell : new.at GUEST ≡ gave frame (took n (old.at GUEST))
 
--- a call on the guest failed when it was given a proper front of the frame
+-- a call on the guest failed when it was given a proper prefix of the frame
 pub record BreaksRelay (spread : Spread) (addresses : List (List ℕ)) (old new : World) : Type 0 where
   pub met : Relayed
   pub n : ℕ

@@ -1,4 +1,5 @@
 pub mod Spread
+pub mod RelayedQuery
 pub mod Parts
 pub mod Link
 pub mod Shard

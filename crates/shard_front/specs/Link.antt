@@ -14,7 +14,7 @@ pub record LinkAnswers (address frame : List ℕ) (most : ℕ) (bytes : List ℕ
 abbrev pub FailsToOpen : Cell → Cell → Type 0
 FailsToOpen old new = new ≡ counted new.faults old
 
--- the link was opened once, took a proper front of the frame, and handed out nothing; and then a call failed
+-- the link was opened once, took a proper prefix of the frame, and handed out nothing; and then a call failed
 pub record FailsToTake (address frame : List ℕ) (old new : Cell) : Type 0 where
   pub n : ℕ
   pub proper : n < length frame

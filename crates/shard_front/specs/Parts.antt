@@ -1,12 +1,13 @@
 -- What each shard is asked of a query.
-use Rattle.std.specs.Prelude.{ℕ, List, ◌++◌, take, drop}
+use Rattle.std.specs.Prelude.{ℕ, List, [], ◌++◌, take, drop, slice_index_or}
 use Rattle.wire_frames.specs.declared.header.QueryHeader.{QueryHeader}
 use Rattle.wire_frames.specs.declared.scheme.Scheme.TheVariants.{Shamir}
 use Rattle.wire_frames.specs.Header.{query_header}
-use Rattle.wire_frames.specs.Sizes.{query_len}
+use Rattle.wire_frames.specs.Sizes.{answer_len, query_len}
 use Rattle.wire_frames.specs.Turns.{in_turn, piece}
 use Rattle.shard_front.specs.declared.spread.Spread.{Spread}
 use Rattle.shard_front.specs.Spread.{first_row, rows_in}
+use Rattle.shard_front.specs.RelayedQuery.{RelayedQuery}
 
 -- the header of the query to the shard at place i: the guest's, for the rows of the shard
 abbrev pub header_to : Spread → QueryHeader → ℕ → QueryHeader
@@ -32,3 +33,33 @@ part_len spread count i = query_len Shamir count (rows_in spread i)
 unfoldable pub part_for : Spread → QueryHeader → List ℕ → ℕ → List ℕ
 part_for spread query vectors i =
     query_header (header_to spread query i) ++ slices_for spread i query.count vectors
+
+-- the part of a query for one shard: the place of the shard, counted from 0, and the address at which it stands
+pub record Part : Type 0 where
+  pub spread : Spread
+  pub query : QueryHeader
+  pub vectors : List ℕ
+  pub place : ℕ
+  pub address : List ℕ
+
+-- the part of a query that is relayed, for the shard at place i
+abbrev pub part_at : RelayedQuery → ℕ → Part
+part_at relay i = record {
+  spread = relay.spread;
+  query = relay.header;
+  vectors = relay.vectors;
+  place = i;
+  address = slice_index_or relay.addresses i [];
+}
+
+-- the header of a part
+abbrev pub part_header : Part → QueryHeader
+part_header part = header_to part.spread part.query part.place
+
+-- its bytes
+abbrev pub part_frame : Part → List ℕ
+part_frame part = part_for part.spread part.query part.vectors part.place
+
+-- how many bytes a whole answer to it has
+abbrev pub part_answer_len : Part → ℕ
+part_answer_len part = answer_len part.query.count part.spread.width

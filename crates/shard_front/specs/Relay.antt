@@ -87,22 +87,34 @@ pub record HasRelay (spread : Spread) (guest : List ℕ) (links : Links) (out : 
   pub met : Relayed
   pub relay : IsRelay spread guest links met out
 
--- a proper front of the frame: n bytes of it
-pub record IsFrontOfRelay (spread : Spread) (guest : List ℕ) (links : Links) (front : List ℕ) : Type 0 where
+-- a proper prefix of the frame: n bytes of it
+pub record IsPrefixOfRelay (spread : Spread) (guest : List ℕ) (links : Links) (prefix : List ℕ) : Type 0 where
   pub met : Relayed
   pub frame : List ℕ
   pub n : ℕ
   pub relay : IsRelay spread guest links met frame
   pub proper : n < length frame
-  pub front_is : front ≡ take n frame
+  pub prefix_is : prefix ≡ take n frame
+
+-- the visit of a guest: its bytes, what it was given, and the count of Guest as it came in and at its end
+pub record Visit : Type 0 where
+  pub guest : List ℕ
+  pub out : List ℕ
+  pub before : ℕ
+  pub after : ℕ
 
 -- what a guest was given, by what it was met with: the whole frame for that, and the count of Guest stayed; or nothing or a
--- proper front of a frame, and it rose
-abbrev pub GivesRelay : Spread → List ℕ → Links → Relayed → List ℕ → ℕ → ℕ → Type 0
-GivesRelay spread guest links GuestFault out before after =
-    RoseOnce before after × ((out ≡ []) ⊎ IsFrontOfRelay spread guest links out)
-GivesRelay spread guest links met out before after =
-    (after ≡ before) × IsRelay spread guest links met out
+-- proper prefix of a frame, and it rose
+abbrev pub GivesRelay : Spread → Links → Relayed → Visit → Type 0
+GivesRelay spread links GuestFault visit = RoseOnce visit.before visit.after
+    × ((visit.out ≡ []) ⊎ IsPrefixOfRelay spread visit.guest links visit.out)
+GivesRelay spread links met visit =
+    (visit.after ≡ visit.before) × IsRelay spread visit.guest links met visit.out
+
+-- the visit of a guest that came in at one world, had these bytes and was given some, and ended at another
+abbrev pub visit_of : List ℕ → List ℕ → World → World → Visit
+visit_of guest out old new =
+    record { guest = guest; out = out; before = (old.at GUEST).faults; after = (new.at GUEST).faults }
 
 -- what was done with a guest with these bytes, where the links hold these
 pub record FrontsBytes (spread : Spread) (guest : List ℕ) (held : ℕ → List ℕ) (before : List ℕ) (met : Relayed) (old new : World)
@@ -111,7 +123,7 @@ pub record FrontsBytes (spread : Spread) (guest : List ℕ) (held : ℕ → List
   pub out : List ℕ
   pub links : AreLinks spread (record { held = held; failed = failed }) old new
   pub accepted : (new.at GUEST).accepted ≡ Some (before ++ out)
-  pub gives : GivesRelay spread guest (record { held = held; failed = failed }) met out (old.at GUEST).faults (new.at GUEST).faults
+  pub gives : GivesRelay spread (record { held = held; failed = failed }) met (visit_of guest out old new)
 
 -- the same, where that is told
 abbrev pub FrontsTold : Spread → Relayed → World → World → Type 0

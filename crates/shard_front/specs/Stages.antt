@@ -5,25 +5,23 @@ use Rattle.port_rules.specs.Number.{GUEST, link}
 use Rattle.port_rules.specs.Moves.{Touches, gave}
 use Rattle.port_rules.specs.Each.{TouchesRange}
 use Rattle.port_rules.specs.Whole.{FailsWithin}
-use Rattle.wire_frames.specs.declared.header.QueryHeader.{QueryHeader}
-use Rattle.shard_front.specs.declared.spread.Spread.{Spread}
 use Rattle.shard_front.specs.declared.relayed.Relayed.{Relayed}
 use Rattle.shard_front.specs.declared.relayed.Relayed.TheVariants.{GuestFault}
+use Rattle.shard_front.specs.RelayedQuery.{RelayedQuery}
 use Rattle.shard_front.specs.Asked.{Asks, asked_for}
 
 -- the guest was given the frame, and is met with `met`; or a call failed when it had taken a proper
--- front of the frame
+-- prefix of the frame
 abbrev pub Gives : Relayed → List ℕ → Relayed → World → World → Type 0
 Gives met frame result old new = ((result ≡ met) × (new.at GUEST ≡ gave frame (old.at GUEST)))
     ⊎ ((result ≡ GuestFault) × FailsWithin GUEST frame old new)
 
 -- the shards were asked for a query, and what they make of it was given to the guest
-pub record RelaysQuery (spread : Spread) (query : QueryHeader) (vectors : List ℕ) (addresses : List (List ℕ))
-    (result : Relayed) (old new : World) : Type 0 where
+pub record RelaysQuery (relay : RelayedQuery) (result : Relayed) (old new : World) : Type 0 where
   pub met : Relayed
   pub frame : List ℕ
   pub mid : World
-  pub asked : Asks spread query vectors addresses met frame old mid
-  pub links : TouchesRange (link 1) (asked_for spread met) old mid
+  pub asked : Asks relay met frame old mid
+  pub links : TouchesRange (link 1) (asked_for relay.spread met) old mid
   pub gives : Gives met frame result mid new
   pub others : Touches GUEST mid new

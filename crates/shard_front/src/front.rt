@@ -5,9 +5,9 @@ ghost use Rattle.shard_front.specs.Fronted.{Fronts};
 ghost use Rattle.shard_front.specs.Relay.{FrontsTold};
 ghost use Rattle.shard_front.specs.Honest.{HonestTold};
 
-use crate::meet::front_within;
 use crate::relayed::Relayed;
 use crate::room::Room;
+use crate::serve::serve_within;
 use crate::spread::Spread;
 use port_rules::Ports;
 use std::alloc::{AllocError, Global};
@@ -59,8 +59,8 @@ impl Front {
         Ok(Front { spread, room })
     }
 
-    /// Meets the guest that is in.
-    pub(crate) fn meet<P: Ports>(&mut self, addresses: &[String], ports: &mut P) -> Relayed
+    /// Serves the guest that is in.
+    pub(crate) fn serve<P: Ports>(&mut self, addresses: &[String], ports: &mut P) -> Relayed
         requires { length addresses.now ≡ shards self.old }
         ensures fronts { Fronts self.old (map string_bytes addresses.now) result
             (P.world ports.old) (P.world ports.new) }
@@ -68,6 +68,6 @@ impl Front {
         ensures honest { HonestTold self.old result (P.world ports.old) (P.world ports.new) }
         ensures kept { self.new ≡ self.old }
     {
-        front_within(self.spread, &mut self.room, addresses, ports)
+        serve_within(self.spread, &mut self.room, addresses, ports)
     }
 }

@@ -1,27 +1,10 @@
 //! What each shard is asked of a query.
 ghost use Rattle.std.specs.Prelude.{◌≡◌, ◌*◌, ◌<◌, ◌≤◌, length};
 ghost use Rattle.quantity_limits.specs.declared.TheConstants.{MOST_BLOCKS};
-ghost use Rattle.wire_frames.specs.Limits.{IsQuery};
-ghost use Rattle.serve_core.specs.Taking.{IsGood};
-ghost use Rattle.shard_front.specs.Spread.{IsSpread, rows_in, shards, terms_of};
-ghost use Rattle.shard_front.specs.Parts.{header_to, part_for, part_len, slice_for, slices_for};
+ghost use Rattle.shard_front.specs.Spread.{IsSpread, rows_in, shards};
+ghost use Rattle.shard_front.specs.Parts.{slice_for, slices_for};
 
 use crate::spread::Spread;
-use wire_frames::{QueryHeader, write_query_header};
-
-/// The header of the query to a shard.
-pub(crate) fn header_to(spread: Spread, asked: &QueryHeader, place: u8) -> QueryHeader
-    requires spread { IsSpread spread }
-    requires good { IsGood (terms_of spread) asked.now }
-    requires there { place < shards spread }
-    ensures is { result ≡ header_to spread asked.now place }
-    ensures range { IsQuery result }
-{
-    QueryHeader {
-        r: spread.rows_in(place),
-        ..*asked
-    }
-}
 
 /// Writes the slice of a vector for a shard.
 fn write_slice(spread: Spread, place: u8, vector: &[u8], out: &mut [u8])
@@ -37,7 +20,7 @@ fn write_slice(spread: Spread, place: u8, vector: &[u8], out: &mut [u8])
 }
 
 /// Writes the slices of the vectors of a payload for a shard.
-fn write_slices(spread: Spread, place: u8, count: u8, vectors: &[u8], out: &mut [u8])
+pub(crate) fn write_slices(spread: Spread, place: u8, count: u8, vectors: &[u8], out: &mut [u8])
     requires spread { IsSpread spread }
     requires there { place < shards spread }
     requires few { count ≤ MOST_BLOCKS }
@@ -52,26 +35,4 @@ fn write_slices(spread: Spread, place: u8, count: u8, vectors: &[u8], out: &mut 
         let slice = &mut out[v * size..(v + 1) * size];
         write_slice(spread, place, vector, slice);
     }
-}
-
-/// Writes the query to a shard.
-pub(crate) fn write_part(
-    spread: Spread,
-    asked: &QueryHeader,
-    vectors: &[u8],
-    place: u8,
-    part: &mut [u8],
-)
-    requires spread { IsSpread spread }
-    requires good { IsGood (terms_of spread) asked.now }
-    requires there { place < shards spread }
-    requires vectors { length vectors.now ≡ asked.now.count * spread.rows }
-    requires room { length part.old ≡ part_len spread asked.now.count place }
-    ensures { part.new ≡ part_for spread asked.now vectors.now place }
-{
-    let Some((header, slices)) = part.split_first_chunk_mut() else {
-        unreachable!()
-    };
-    write_query_header(&header_to(spread, asked, place), header);
-    write_slices(spread, place, asked.count, vectors, slices);
 }

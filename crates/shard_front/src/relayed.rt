@@ -12,7 +12,7 @@ pub enum Relayed {
     Refused(u8),
     /// It ended before its query was whole, and was given nothing. No shard was asked.
     Gone,
-    /// A call on it failed. It was given a proper front of its frame, which may be empty.
+    /// A call on it failed. It was given a proper prefix of its frame, which may be empty.
     GuestFault,
     /// The shard with this number, counted from 1, is lost: it is the first whose link failed, or whose
     /// answer isn't usable. The frame of status 4, with that number behind it, was given whole. No later

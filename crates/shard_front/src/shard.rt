@@ -1,19 +1,18 @@
 //! Asks one shard, and adds its answer to the sum.
-ghost use Rattle.std.specs.Prelude.{◌≡◌, ◌+◌, ◌*◌, ◌<◌, ◌≤◌, length};
+ghost use Rattle.std.specs.Prelude.{◌≡◌, ◌+◌, ◌*◌, ◌<◌, length};
 ghost use Rattle.port_rules.specs.Number.{link};
 ghost use Rattle.port_rules.specs.Moves.{Touches};
-ghost use Rattle.wire_frames.specs.Sizes.{answer_len};
-ghost use Rattle.serve_core.specs.Taking.{IsGood};
-ghost use Rattle.shard_front.specs.Spread.{IsSpread, shards, terms_of};
-ghost use Rattle.shard_front.specs.Parts.{part_len};
+ghost use Rattle.shard_front.specs.Spread.{shards};
+ghost use Rattle.shard_front.specs.Parts.{part_at};
+ghost use Rattle.shard_front.specs.Room.{FitsShard, most_answer_for, most_part_for};
 ghost use Rattle.shard_front.specs.Shard.{AddsUsable, AsksShard};
 
 use crate::links::ask;
-use crate::parts::{header_to, write_part};
-use crate::spread::Spread;
+use crate::query::RelayedQuery;
+use crate::room::ShardRoom;
 use chor_xor::combine_into;
 use port_rules::Ports;
-use wire_frames::{QueryHeader, Scheme, query_len, usable_answer};
+use wire_frames::{QueryHeader, Scheme, answer_len, query_len, usable_answer};
 
 /// Adds the payload to the sum, where the bytes are a usable answer to the query with this header, and says
 /// whether they are.
@@ -31,34 +30,51 @@ fn add_payload(bytes: &[u8], header: &QueryHeader, sum: &mut [u8]) -> bool
 }
 
 /// Asks the shard at a place, counted from 0, for its part of a query, and adds the payload of its answer to
-/// the sum. It says whether it answered. `part` has room for its part, and `answer` is as long as its answer.
-pub(crate) fn add_shard<P: Ports>(
-    spread: Spread,
-    asked: &QueryHeader,
-    vectors: &[u8],
+/// the sum. It says whether it answered. There is room for the part and for the answer.
+fn ask_part<P: Ports>(
+    relay: &RelayedQuery,
     place: u8,
-    address: &str,
     part: &mut [u8],
     answer: &mut [u8],
     sum: &mut [u8],
     ports: &mut P,
 ) -> bool
-    requires spread { IsSpread spread }
-    requires good { IsGood (terms_of spread) asked.now }
-    requires vectors { length vectors.now ≡ asked.now.count * spread.rows }
-    requires there { place < shards spread }
-    requires part { part_len spread asked.now.count place ≤ length part.old }
-    requires answer { length answer.old ≡ answer_len asked.now.count spread.width }
-    requires sum { length sum.old ≡ asked.now.count * spread.width }
-    ensures asks { AsksShard spread asked.now vectors.now place address.now result sum.old sum.new
+    requires there { place < shards relay.now.spread }
+    requires part { length part.old ≡ most_part_for relay.now.spread }
+    requires answer { length answer.old ≡ most_answer_for relay.now.spread }
+    requires sum { length sum.old ≡ relay.now.header.count * relay.now.spread.width }
+    ensures asks { AsksShard (part_at relay.now place) result sum.old sum.new
         ((P.world ports.old).at (link 1 + place)) ((P.world ports.new).at (link 1 + place)) }
     ensures others { Touches (link 1 + place) (P.world ports.old) (P.world ports.new) }
 {
-    let header = header_to(spread, asked, place);
+    let header = relay.header_to(place);
     let part = &mut part[..query_len(Scheme::Shamir, header.count, header.r)];
-    write_part(spread, asked, vectors, place, part);
+    relay.write_part(place, part);
+    let answer = &mut answer[..answer_len(header.count, header.s)];
+    let address = relay.address(place);
     match ask(ports, place + 1, address, part, answer) {
         Some(came) => add_payload(&answer[..came], &header, sum),
         None => false,
     }
+}
+
+/// The same with the room for one shard.
+pub(crate) fn add_shard<P: Ports>(
+    relay: &RelayedQuery,
+    place: u8,
+    room: &mut ShardRoom,
+    sum: &mut [u8],
+    ports: &mut P,
+) -> bool
+    requires there { place < shards relay.now.spread }
+    requires fits { FitsShard relay.now.spread room.old }
+    requires sum { length sum.old ≡ relay.now.header.count * relay.now.spread.width }
+    ensures fits { FitsShard relay.now.spread room.new }
+    ensures asks { AsksShard (part_at relay.now place) result sum.old sum.new
+        ((P.world ports.old).at (link 1 + place)) ((P.world ports.new).at (link 1 + place)) }
+    ensures others { Touches (link 1 + place) (P.world ports.old) (P.world ports.new) }
+{
+    let part = room.part.as_mut_slice();
+    let answer = room.answer.as_mut_slice();
+    ask_part(relay, place, part, answer, sum, ports)
 }

@@ -12,10 +12,12 @@ use Rattle.uni_poly.proofs.Series.{times}
 use Rattle.uni_poly.proofs.Products.{coef-product_times, val-product}
 use Rattle.uni_poly.proofs.Combination.{combined, length-combined, bytes-combined, coef-combined, val-combined}
 
+-- the product of two polynomials of degrees t and tau has t + tau + 1 coefficients
 length-product : (p q : List ℕ) (t tau : ℕ) → length p ≡ t + 1 → length q ≡ tau + 1 → length (product p q) ≡ t + tau + 1
 unfolding product
 length-product p q t tau long deep = length-map-range_with_len (product_coef p q) 0 (length p + length q - 1) ∙ omega (arith, long, deep)
 
+-- its constant is the product of the constants
 constant-product : (p q : List ℕ) → coef (product p q) 0 ≡ coef p 0 ⊗ coef q 0
 unfolding times
 constant-product p q = coef-product_times p q 0

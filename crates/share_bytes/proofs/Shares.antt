@@ -30,10 +30,12 @@ pub shares_none : (bytes coins : List ℕ) (tau a : ℕ) → [] ≡ first_shares
 unfolding first_shares
 shares_none bytes coins tau a = refl
 
+-- byte i of the first shares
 shares_at : (bytes coins : List ℕ) (tau n a i : ℕ) → i < n → get_or (first_shares bytes coins tau n a) i 0 ≡ val (position_polynomial bytes coins tau i) a
 unfolding first_shares
 shares_at bytes coins tau n a i lt = get_or-map-range_with_len (λ i. val (position_polynomial bytes coins tau i) a) 0 n i i 0 lt (omega arith)
 
+-- how many the first shares are
 length-shares : (bytes coins : List ℕ) (tau n a : ℕ) → length (first_shares bytes coins tau n a) ≡ n
 unfolding first_shares
 length-shares bytes coins tau n a = length-map-range_with_len _ 0 n
@@ -67,6 +69,7 @@ unfolding position_polynomial
 position_of_slice bytes coins tau m n j lt =
     ap₂ (λ b p. b ∷ p) (get_or-take (m + n - m) _ j 0 (omega arith) ∙ get_or-drop m bytes j 0) (row_of_slice coins tau m n j lt)
 
+-- a slice of n bytes has n bytes
 pub length-slice : (xs : List ℕ) (m n : ℕ) → m + n ≤ length xs → length (slice_range xs m (m + n)) ≡ n
 length-slice xs m n enough = length-take (m + n - m) (drop m xs) ∙ omega (arith, length-drop m xs)
 
@@ -99,7 +102,7 @@ shares_more bytes coins tau m n a enough =
           ∙ sym (shares_at bytes coins tau (m + n) a i (omega arith))
     ])
 
--- the shares of the first positions are the front of the share
+-- the shares of the first positions are a prefix of the share
 pub first_shares_are : (bytes coins : List ℕ) (tau n a : ℕ) → n ≤ length bytes → first_shares bytes coins tau n a ≡ take n (share bytes coins tau a)
 first_shares_are bytes coins tau n a few =
     let whole = share bytes coins tau a in

@@ -1,10 +1,8 @@
 //! The law of a shared database, as a call whose contract is the law. The call does nothing when it
 //! runs.
 
-ghost use Rattle.std.specs.Prelude.{◌≡◌, ◌≢◌, ℕ, List, ◌*◌, ◌≤◌, length, All};
-ghost use Rattle.privacy_law.specs.Bijection.{AreCoins, IsBijection};
-ghost use Rattle.share_bytes.specs.Share.{share};
-ghost use Rattle.share_db.specs.Partner.{partner_db};
+ghost use Rattle.std.specs.Prelude.{◌≡◌, ◌≢◌, ◌≤◌, length, All};
+ghost use Rattle.share_db.specs.Partner.{PartnerIsAlike, PartnerIsBijection};
 
 /// A coalition of at most `tau` servers can't read the database: for any two databases of one size
 /// a bijection of the coins makes the share that each member holds of the one that which it holds
@@ -13,9 +11,6 @@ pub fn coalition_reads_no_database(tau: u32, from: &[u8], to: &[u8], coalition: 
     requires shape { length to.now ≡ length from.now }
     requires bound { length coalition.now ≤ tau }
     requires nonzero { All (λ a. a ≢ 0) coalition.now }
-    ensures bijection { IsBijection (length from.now * tau)
-        (λ coins. partner_db coins from.now to.now tau coalition.now) }
-    ensures same_shares { (coins : List ℕ) → AreCoins (length from.now * tau) coins
-        → All (λ a. share to.now (partner_db coins from.now to.now tau coalition.now) tau a
-        ≡ share from.now coins tau a) coalition.now }
+    ensures bijection { PartnerIsBijection from.now to.now tau coalition.now }
+    ensures same_shares { PartnerIsAlike from.now to.now tau coalition.now }
 {}

@@ -2,8 +2,7 @@
 
 ghost use Rattle.std.specs.Prelude.{◌≡◌, ◌≢◌, ◌*◌, ◌≤◌, length, All, IfOk};
 ghost use Rattle.gf256.specs.Rows.{IsAdded};
-ghost use Rattle.share_bytes.specs.Share.{share};
-ghost use Rattle.share_db.specs.Partner.{difference, partner_db};
+ghost use Rattle.share_db.specs.Partner.{HoldAlike, difference, partner_db};
 
 use privacy_law::hiding;
 use std::alloc::{AllocError, Global};
@@ -41,8 +40,7 @@ pub fn partner_db(
     requires bound { length coalition.now ≤ tau }
     requires nonzero { All (λ a. a ≢ 0) coalition.now }
     ensures is { IfOk result (λ v. v.items ≡ partner_db coins.now from.now to.now tau coalition.now) }
-    ensures shares { IfOk result (λ v.
-        All (λ a. share to.now v.items tau a ≡ share from.now coins.now tau a) coalition.now) }
+    ensures shares { IfOk result (λ v. HoldAlike tau coalition.now from.now coins.now to.now v.items) }
     ensures length { IfOk result (λ v. length v.items ≡ length coins.now) }
     ensures own_inverse { IfOk result (λ v.
         partner_db v.items to.now from.now tau coalition.now ≡ coins.now) }

@@ -5,18 +5,25 @@ use Rattle.port_rules.specs.Number.{COINS, DATABASE, share_file}
 use Rattle.port_rules.specs.Moves.{Touches, named}
 use Rattle.port_rules.specs.Tossed.{Tossed}
 use Rattle.port_rules.proofs.Ranges.{each_before}
-use Rattle.share_bytes.specs.Share.{share}
+use Rattle.share_files.specs.Sharing.{share_of}
 use Rattle.share_files.specs.SplitPlan.{SplitPlan, share_names}
-use Rattle.share_files.specs.Splits.{IsShared, SharesEach, SplitsWhole, SplitsPart, Tosses}
+use Rattle.share_files.specs.Splits.{IsShared, SharesEach, SplitsWhole, SplitsPart, Tosses, sharing_by}
 use Rattle.share_files.proofs.Shares.{length-share_names, unwritten_before}
 
 -- something was done to Database, and then the database was split
 module _ (p : SplitPlan) (bytes : List ℕ) (w v u : World) (few : p.servers < 256) (touch : Touches DATABASE w v) where
+  -- the coins that were taken count from before
   tosses_before : (coins : List ℕ) → Tosses p bytes coins v u → Tosses p bytes coins w u
-  tosses_before coins t = subst (λ (c : Cell). Tossed (length bytes * p.tau) coins (named p.coins c) (u.at COINS)) (touch.others COINS (lit< tt) (λ e. omega (arith, e))) t
+  tosses_before coins t =
+      subst (λ (c : Cell). Tossed (length bytes * p.tau) coins (named p.coins c) (u.at COINS))
+      (touch.others COINS (lit< tt) (λ e. omega (arith, e))) t
 
-  each_shared : (coins : List ℕ) (n : ℕ) → n < 256 → SharesEach (share_names p.into p.servers) bytes coins p.tau n v u → SharesEach (share_names p.into p.servers) bytes coins p.tau n w u
-  each_shared coins n lt e = each_before (IsShared (share_names p.into p.servers) bytes coins p.tau) (share_file 1) n DATABASE w v u (omega (arith, lt)) (inl (omega arith)) touch e
+  -- the shares that are written stay so
+  each_shared : (coins : List ℕ) (n : ℕ) → n < 256 → SharesEach (share_names p.into p.servers) (sharing_by p bytes coins) n v u
+      → SharesEach (share_names p.into p.servers) (sharing_by p bytes coins) n w u
+  each_shared coins n lt e =
+      each_before (IsShared (share_names p.into p.servers) (sharing_by p bytes coins)) (share_file 1) n DATABASE w v u
+      (omega (arith, lt)) (inl (omega arith)) touch e
 
   -- each share is in its file
   pub whole_before : SplitsWhole p bytes v u → SplitsWhole p bytes w u
@@ -28,7 +35,9 @@ module _ (p : SplitPlan) (bytes : List ℕ) (w v u : World) (few : p.servers < 2
       let names = share_names p.into p.servers in
       let part = s.shares in
       let size = length-share_names p.into p.servers in
-      let still : (i : ℕ) → i < length names → v.at (share_file 1 + i) ≡ w.at (share_file 1 + i) = λ i lt. touch.others (share_file 1 + i) (omega (arith, lt, size, few)) (λ e. omega (arith, e)) in
+      let still : (i : ℕ) → i < length names → v.at (share_file 1 + i) ≡ w.at (share_file 1 + i)
+      = λ i lt. touch.others (share_file 1 + i) (omega (arith, lt, size, few)) (λ e. omega (arith, e)) in
+      let next = slice_index_or names part.done [] in
       record {
         coins = s.coins;
         tossed = tosses_before s.coins s.tossed;
@@ -36,7 +45,8 @@ module _ (p : SplitPlan) (bytes : List ℕ) (w v u : World) (few : p.servers < 2
           done = part.done;
           fewer = part.fewer;
           whole = each_shared s.coins part.done (omega (arith, part.fewer, size, few)) part.whole;
-          cut = unwritten_before (share_file 1 + part.done) (slice_index_or names part.done []) (share bytes s.coins p.tau (part.done + 1)) w v u (still part.done part.fewer) part.cut;
+          cut = unwritten_before (share_file 1 + part.done) next (share_of (sharing_by p bytes s.coins) (part.done + 1)) w v u
+              (still part.done part.fewer) part.cut;
           later = λ i after lt. part.later i after lt ∙ still i lt;
         };
       }

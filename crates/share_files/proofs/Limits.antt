@@ -44,7 +44,8 @@ length-cells width read m some is =
     ∙ whole
 
 -- the database isn't too big to be shared
-pub holds_few : (width tau : ℕ) (m : Database) (old new : Cell) → 0 < width → Holds width m old new → length m.rows * m.width ≤ shared_limit width tau → HoldsFew width tau m old new
+pub holds_few : (width tau : ℕ) (m : Database) (old new : Cell) → 0 < width → Holds width m old new
+    → length m.rows * m.width ≤ shared_limit width tau → HoldsFew width tau m old new
 holds_few width tau m old new some holds few =
     let same = row_bytes width holds.read m holds.file.is in
     let fits = fits_rows (length holds.read) width some in
@@ -56,7 +57,8 @@ told_more most read None more all = tt
 told_more most read (Some h) more all = subst (λ (l : List ℕ). most < length l) all more
 
 -- the database is too big to be shared
-pub holds_too_many : (width tau : ℕ) (m : Database) (old new : Cell) → 0 < width → Holds width m old new → shared_limit width tau < length m.rows * m.width → HoldsTooMany width tau old new
+pub holds_too_many : (width tau : ℕ) (m : Database) (old new : Cell) → 0 < width → Holds width m old new
+    → shared_limit width tau < length m.rows * m.width → HoldsTooMany width tau old new
 unfolding shared_limit
 holds_too_many width tau m old new some holds more =
     let same = row_bytes width holds.read m holds.file.is in

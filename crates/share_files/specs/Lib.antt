@@ -1,3 +1,4 @@
 pub mod SplitPlan
 pub mod Limit
+pub mod Sharing
 pub mod Splits

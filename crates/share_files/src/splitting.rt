@@ -1,20 +1,19 @@
 //! One splitting.
 
-ghost use Rattle.std.specs.Prelude.{◌≡◌, ◌≢◌, ◌+◌, ◌*◌, ◌<◌, ◌≤◌, length, map, string_bytes, OnOk, OnErr};
+ghost use Rattle.std.specs.Prelude.{◌≡◌, ◌≢◌, ◌*◌, ◌<◌, ◌≤◌, length, map, string_bytes, OnOk, OnErr};
 ghost use Rattle.std.specs.List.{concat};
 ghost use Rattle.port_rules.specs.Number.{share_file};
-ghost use Rattle.port_rules.specs.Moves.{Touches, gave, named};
-ghost use Rattle.port_rules.specs.Each.{TouchesRange};
-ghost use Rattle.port_rules.specs.Whole.{FailsWithin};
-ghost use Rattle.port_rules.specs.Files.{Unwritten};
-ghost use Rattle.share_bytes.specs.Share.{share};
+ghost use Rattle.port_rules.specs.Moves.{Touches};
+ghost use Rattle.quantity_limits.specs.declared.TheConstants.{MOST_SERVERS};
 ghost use Rattle.share_files.specs.SplitPlan.{share_names};
-ghost use Rattle.share_files.specs.Splits.{Splits, TouchesShares, WritesShares};
+ghost use Rattle.share_files.specs.Sharing.{CutsShare, GivesShare, LeavesShare, WritesShare};
+ghost use Rattle.share_files.specs.Splits.{Splits, TouchesFiles, TouchesShares, WritesShares};
 
 use crate::coins::take_coins;
 use crate::fault::SplitFault;
 use crate::names::names_of_shares;
 use crate::plan::SplitPlan;
+use crate::sharing::Sharing;
 use block_matrix::Matrix;
 use port_rules::{Failed, Port, Ports, write_all};
 use share_bytes::share_into;
@@ -29,25 +28,22 @@ const PIECE: usize = 1 << 16;
 ///
 /// # Errors
 ///
-/// `Failed` if a call on the file failed; it took a proper front of the share.
+/// `Failed` if a call on the file failed; it took a proper prefix of the share.
 fn give_share<P: Ports>(
-    ports: &mut P,
+    sharing: &Sharing,
     index: u8,
-    bytes: &[u8],
-    coins: &[u8],
-    tau: u8,
     room: &mut [u8],
+    ports: &mut P,
 ) -> Result<(), Failed>
     requires index { index ≢ 0 }
-    requires degree { (1 ≤ tau) × (tau ≤ 254) }
-    requires coins { length coins.now ≡ length bytes.now * tau }
     requires room { 0 < length room.old }
-    ensures ok { OnOk result ((P.world ports.new).at (share_file index)
-        ≡ gave (share bytes.now coins.now tau index) ((P.world ports.old).at (share_file index))) }
-    ensures failed { OnErr result
-        (FailsWithin (share_file index) (share bytes.now coins.now tau index) (P.world ports.old) (P.world ports.new)) }
+    ensures ok { OnOk result (GivesShare sharing.now index (P.world ports.old) (P.world ports.new)) }
+    ensures failed { OnErr result (CutsShare sharing.now index (P.world ports.old) (P.world ports.new)) }
     ensures others { Touches (share_file index) (P.world ports.old) (P.world ports.new) }
 {
+    let bytes = sharing.bytes;
+    let coins = sharing.coins;
+    let tau = sharing.tau;
     let each = usize::from(tau);
     let mut at = 0;
     'pieces: while at < bytes.len() {
@@ -72,29 +68,26 @@ fn give_share<P: Ports>(
 ///
 /// `Failed` if a call on the file failed.
 fn write_share<P: Ports>(
-    ports: &mut P,
+    sharing: &Sharing,
     index: u8,
     name: &str,
-    bytes: &[u8],
-    coins: &[u8],
-    tau: u8,
     room: &mut [u8],
+    ports: &mut P,
 ) -> Result<(), Failed>
-    requires some { 0 < length bytes.now }
     requires index { index ≢ 0 }
-    requires degree { (1 ≤ tau) × (tau ≤ 254) }
-    requires coins { length coins.now ≡ length bytes.now * tau }
     requires room { 0 < length room.old }
-    ensures ok { OnOk result ((P.world ports.new).at (share_file index)
-        ≡ gave (share bytes.now coins.now tau index) (named name.now ((P.world ports.old).at (share_file index)))) }
-    ensures failed { OnErr result (Unwritten (share_file index) name.now
-        (share bytes.now coins.now tau index) (P.world ports.old) (P.world ports.new)) }
+    ensures ok { OnOk result (WritesShare sharing.now index name.now
+        (P.world ports.old) (P.world ports.new)) }
+    ensures failed { OnErr result (LeavesShare sharing.now index name.now
+        (P.world ports.old) (P.world ports.new)) }
     ensures others { Touches (share_file index) (P.world ports.old) (P.world ports.new) }
 {
+    // A share has a byte at least, since what is shared has.
+    let _ = &sharing.bytes;
     let Ok(()) = ports.open(Port::Share(index), name) else {
         return Err(Failed);
     };
-    give_share(ports, index, bytes, coins, tau, room)
+    give_share(sharing, index, room, ports)
 }
 
 /// Writes the share of each server to its file, one after the other.
@@ -103,26 +96,21 @@ fn write_share<P: Ports>(
 ///
 /// `Failed` if a call on a file failed.
 fn write_shares<P: Ports>(
-    bytes: &[u8],
-    coins: &[u8],
-    tau: u8,
+    sharing: &Sharing,
     names: &[String],
-    ports: &mut P,
     room: &mut [u8],
+    ports: &mut P,
 ) -> Result<(), Failed>
-    requires some { 0 < length bytes.now }
-    requires few { length names.now < 256 }
-    requires degree { (1 ≤ tau) × (tau ≤ 254) }
-    requires coins { length coins.now ≡ length bytes.now * tau }
+    requires few { length names.now ≤ MOST_SERVERS }
     requires room { 0 < length room.old }
-    ensures written { WritesShares (map string_bytes names.now) bytes.now coins.now tau result
+    ensures written { WritesShares (map string_bytes names.now) sharing.now result
         (P.world ports.old) (P.world ports.new) }
-    ensures others { TouchesRange (share_file 1) (length names.now) (P.world ports.old) (P.world ports.new) }
+    ensures others { TouchesFiles (length names.now) (P.world ports.old) (P.world ports.new) }
 {
     let mut index = 0u8;
     'shares: for name in names {
         index += 1;
-        let Ok(()) = write_share(ports, index, name, bytes, coins, tau, room) else {
+        let Ok(()) = write_share(sharing, index, name, room, ports) else {
             return Err(Failed);
         };
     }
@@ -151,7 +139,12 @@ fn split_bytes<P: Ports>(
     ensures others { TouchesShares plan.now.servers (P.world ports.old) (P.world ports.new) }
 {
     take_coins(ports, plan.coins, coins)?;
-    match write_shares(bytes, coins, plan.tau, names, ports, room) {
+    let sharing = Sharing {
+        bytes,
+        coins,
+        tau: plan.tau,
+    };
+    match write_shares(&sharing, names, room, ports) {
         Ok(()) => Ok(()),
         Err(Failed) => Err(SplitFault::ShareFault),
     }
@@ -165,7 +158,7 @@ fn split_bytes<P: Ports>(
 ///
 /// `Memory` for want of memory, and then nothing was touched; `CoinsFault` only where the count of Coins rose, and
 /// `CoinsEnded` exactly where it has fewer coins, with their number, and then no file was opened; `ShareFault` only where
-/// the count of a share's file rose: the files before it are whole, it has a front of its share, and later ones were left
+/// the count of a share's file rose: the files before it are whole, it has a prefix of its share, and later ones were left
 /// alone.
 pub fn split<P: Ports>(
     alloc: Global,

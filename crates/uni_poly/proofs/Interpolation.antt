@@ -10,10 +10,13 @@ use Rattle.uni_poly.proofs.Values.{val_lt}
 use Rattle.uni_poly.proofs.Addition.{val-scaled_sum}
 
 -- the value at x after a multiple of q was added that makes up for what p misses there
-pub met : (s p q : List ℕ) (f x y i : ℕ) → IsScaledSum s p q f → length q ≤ length p → x < 256 → y < 256 → val q x ⊗ i ≡ 1 → f ≡ (y ⊕ val p x) ⊗ i → val s x ≡ y
-met s p q f x y i h l kx ky e g =
+pub through : (s p q : List ℕ) (f x y i : ℕ) → IsScaledSum s p q f → length q ≤ length p → x < 256 → y < 256
+    → val q x ⊗ i ≡ 1 → f ≡ (y ⊕ val p x) ⊗ i → val s x ≡ y
+through s p q f x y i h l kx ky e g =
     val-scaled_sum s p q f x h l
-    ∙ ap (◌⊕◌ (val p x)) (ap (λ z. z ⊗ val q x) g ∙ mul_assoc _ _ _ ∙ ap (◌⊗◌ (y ⊕ val p x)) (mul_comm i (val q x) ∙ e) ∙ mul_one _ (add_lt y _ ky (val_lt p x)))
+    ∙ ap (◌⊕◌ (val p x))
+    (ap (λ z. z ⊗ val q x) g ∙ mul_assoc _ _ _ ∙ ap (◌⊗◌ (y ⊕ val p x)) (mul_comm i (val q x) ∙ e)
+    ∙ mul_one _ (add_lt y _ ky (val_lt p x)))
     ∙ simp sums
 
 -- where q is 0 the value stays

@@ -98,11 +98,11 @@ pub fn add_scaled(acc: &mut [u8], p: &[u8], factor: u8)
 
 /// Adds a multiple of `basis`, which is not 0 at `x`, to `made`, so that its value at `x` becomes
 /// `y`. Where `basis` is 0, the value stays.
-fn meet(made: &mut [u8], basis: &[u8], x: u8, y: u8)
+fn pass_through(made: &mut [u8], basis: &[u8], x: u8, y: u8)
     requires room { length basis.now ≤ length made.old }
     requires apart { val basis.now x ≢ 0 }
     ensures bytes { IsBytes made.new }
-    ensures met { val made.new x ≡ y }
+    ensures through { val made.new x ≡ y }
     ensures kept { (a : ℕ) → val basis.now a ≡ 0 → val made.new a ≡ val made.old a }
 {
     let missing = gf256::add(y, eval(made, x));
@@ -124,7 +124,7 @@ pub fn interpolate(alloc: Global, xs: &[u8], ys: &[u8]) -> Result<Vec<u8>, Alloc
     let mut made = vec![in alloc; 0; xs.len()]?;
     let mut basis = vec![in alloc; 1]?;
     for i in 0..xs.len() {
-        meet(&mut made, &basis, xs[i], ys[i]);
+        pass_through(&mut made, &basis, xs[i], ys[i]);
         basis = mul_by_linear(alloc, &basis, xs[i])?;
     }
     Ok(made)

@@ -7,6 +7,7 @@ use Rattle.column_lists.proofs.OnOne.{lists_one}
 use Rattle.std.proofs.lemmas.Result.{IfOk-from_err, IfOk-weaker}
 use Rattle.column_lists.proofs.column_list.Goals as goal
 
+-- there are more points than the degree
 first_enough : (t h k : ℕ) → t < h → h ≤ k → t < k
 first_enough t h k less l = omega (arith, less, l)
 

@@ -20,15 +20,19 @@ kept_some [] new test e some =
     absurd (omega (arith, none, same, some))
 kept_some (x ∷ old) new test e some = omega arith
 
+-- there is a point
 some_points : (t h k : ℕ) → t < h → h ≤ k → 1 ≤ k
 some_points t h k less l = omega (arith, less, l)
 
+-- no more agree than there are servers
 few_points : (h k : ℕ) → h ≤ k → k ≤ 255 → h ≤ 255
 few_points h k l few = omega (arith, l, few)
 
+-- their number fits
 points_fit : (k : ℕ) → k ≤ 255 → Fits w32 k
 points_fit k few = omega (arith, few)
 
+-- the degree is smaller than their number
 small_degree : (t h k : ℕ) → t < h → h ≤ k → k ≤ 255 → t ≤ 254
 small_degree t h k less l few = omega (arith, less, l, few)
 

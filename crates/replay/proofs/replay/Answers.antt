@@ -57,7 +57,8 @@ returns-clause-nodes g c =
 pub returns-in_err-judge-clause-replayed : goal.returns-in_err-judge-clause-replayed
 returns-in_err-judge-clause-replayed g c =
     let fault = err_from_is_err_and c.from_residual-in_err-judge.result c.from_residual-in_err-judge.ensures.1 in
-    no_verdict Judged c.in_ok-session.session (g.P.Ports.world c.args.ports.now) (g.P.Ports.world c.read_session.new.ports) c.from_residual-in_err-judge.result fault.0 fault.1 fault.2 c.in_ok-session.ensures.read
+    no_verdict Judged c.in_ok-session.session (g.P.Ports.world c.args.ports.now)
+    (g.P.Ports.world c.read_session.new.ports) c.from_residual-in_err-judge.result fault.0 fault.1 fault.2 c.in_ok-session.ensures.read
 
 pub returns-in_err-judge-clause-others : goal.returns-in_err-judge-clause-others
 returns-in_err-judge-clause-others g c = c.in_ok-session.ensures.others

@@ -60,7 +60,8 @@ returns-clause-nodes g c =
 pub returns-in_err-verdict-clause-replayed : goal.returns-in_err-verdict-clause-replayed
 returns-in_err-verdict-clause-replayed g c =
     let fault = err_from_is_err_and c.from_residual-in_err-verdict.result c.from_residual-in_err-verdict.ensures.1 in
-    no_verdict JudgedWhole c.in_ok-session.session (g.P.Ports.world c.args.ports.now) (g.P.Ports.world c.read_session.new.ports) c.from_residual-in_err-verdict.result fault.0 fault.1 fault.2 c.in_ok-session.ensures.read
+    no_verdict JudgedWhole c.in_ok-session.session (g.P.Ports.world c.args.ports.now)
+    (g.P.Ports.world c.read_session.new.ports) c.from_residual-in_err-verdict.result fault.0 fault.1 fault.2 c.in_ok-session.ensures.read
 
 pub returns-in_err-verdict-clause-others : goal.returns-in_err-verdict-clause-others
 returns-in_err-verdict-clause-others g c = c.in_ok-session.ensures.others

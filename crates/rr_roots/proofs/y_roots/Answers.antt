@@ -10,6 +10,7 @@ use Rattle.rr_roots.proofs.Children.{lowest_degree}
 use Rattle.rr_roots.proofs.Levels.{listed}
 use Rattle.rr_roots.proofs.y_roots.Goals as goal
 
+-- what is as much is at most as much
 same_size : (a b : ℕ) → a ≡ b → a ≤ b
 same_size a b same = omega (arith, same)
 
@@ -19,11 +20,14 @@ returns-in_err-descend-clause-most g c = λ d h.
 
 pub returns-clause-exact : goal.returns-clause-exact
 returns-clause-exact g c =
-    let new = map (λ r. r.items) c.descend.new.roots.items in
-    listed c.args.q.now c.args.t new
-    (subst (λ old. Appends (IsRootOfSize c.args.q.now (c.args.t + 1)) [] old new) (ap (map (λ r. r.items)) c.new-roots.ensures.items)
-    (subst (λ prefix. Appends (IsRootOfSize c.args.q.now (c.args.t + 1)) prefix (map (λ r. r.items) c.new-roots.result.items) new) c.new-prefix.ensures.items
-    (subst (λ q. Appends (IsRootOfSize q (c.args.t + 1)) c.new-prefix.result.items (map (λ r. r.items) c.new-roots.result.items) new) c.in_ok-whole.ensures c.in_ok-descend.ensures.exact)))
+    let new = map (λ r. r.items) c.descend.new.walk.roots.items in
+    let q = c.args.q.now in
+    let found = c.in_ok-descend.ensures.found in
+    listed q c.args.t new
+    (subst (λ old. Appends (IsRootOfSize q (c.args.t + 1)) [] old new) (ap (map (λ r. r.items)) c.new-2.ensures.items)
+    (subst (λ prefix. Appends (IsRootOfSize q (c.args.t + 1)) prefix (map (λ r. r.items) c.new-2.result.items) new) c.new.ensures.items
+    (subst (λ q. Appends (IsRootOfSize q (c.args.t + 1)) c.new.result.items (map (λ r. r.items) c.new-2.result.items) new) c.in_ok-whole.ensures
+    found.appends)))
 
 pub returns-clause-most : goal.returns-clause-most
 returns-clause-most g c = λ d h.
@@ -67,7 +71,7 @@ returns-in_err-descend-clause-least g c = IfOk-from_err c.from_residual-in_err-d
 
 pub returns-clause-least : goal.returns-clause-least
 returns-clause-least g c = λ some.
-    c.in_ok-descend.ensures.least (subst (λ n. n < length c.descend.new.roots.items) (sym (ap length c.new-roots.ensures.items)) some)
+    c.in_ok-descend.ensures.least (subst (λ n. n < length c.descend.new.walk.roots.items) (sym (ap length c.new-2.ensures.items)) some)
 
 pub descend-requires : goal.descend-requires
 descend-requires g c =

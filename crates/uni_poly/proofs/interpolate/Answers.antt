@@ -27,8 +27,8 @@ loop-i-init c = record {
   hits = λ k l. absurd (none_before k l);
 }
 
-pub meet-requires : goal.meet-requires
-meet-requires c =
+pub pass_through-requires : goal.pass_through-requires
+pass_through-requires c =
     let i = c.loop-i.i in
     let xs = c.args.xs.now in
     let basis = c.deref.ensures.value ∙ c.loop-i.invariant.basis in
@@ -44,21 +44,21 @@ loop-i-preserved c =
     let i = c.loop-i.i in
     let xs = c.args.xs.now in
     let x = get_or xs i 0 in
-    let same_length : length c.meet.new.made ≡ c.loop-i.made.len = c.meet.auto.made ∙ c.deref_mut.ensures.len in
-    let made : take c.loop-i.made.len (c.meet.new.made ++ drop (length c.meet.new.made) c.loop-i.made.items) ≡ c.meet.new.made =
-    take_at c.meet.new.made _ c.loop-i.made.len same_length in
+    let same_length : length c.pass_through.new.made ≡ c.loop-i.made.len = c.pass_through.auto.made ∙ c.deref_mut.ensures.len in
+    let made : take c.loop-i.made.len (c.pass_through.new.made ++ drop (length c.pass_through.new.made) c.loop-i.made.items) ≡ c.pass_through.new.made =
+    take_at c.pass_through.new.made _ c.loop-i.made.len same_length in
     record {
       long = ap length made ∙ same_length ∙ c.loop-i.made.ok.0 ∙ c.loop-i.invariant.long;
-      bytes = subst IsBytes (sym made) c.meet.ensures.bytes;
+      bytes = subst IsBytes (sym made) c.pass_through.ensures.bytes;
       basis = c.in_ok-basis-2.ensures ∙ ap (λ q. product q (linear x)) (c.deref-in-loop-i.ensures.value ∙ c.loop-i.invariant.basis) ∙ vanishing_more xs i c.loop-i-test.true;
       hits = below_more _ _
           (λ k l.
           let a = get_or xs k 0 in
           ap (λ q. val q a) made
-          ∙ c.meet.ensures.kept a (ap (λ q. val q a) (c.deref.ensures.value ∙ c.loop-i.invariant.basis) ∙ vanishing_take-before xs i k l (le_of_lt c.loop-i-test.true))
+          ∙ c.pass_through.ensures.kept a (ap (λ q. val q a) (c.deref.ensures.value ∙ c.loop-i.invariant.basis) ∙ vanishing_take-before xs i k l (le_of_lt c.loop-i-test.true))
           ∙ ap (λ q. val q a) c.deref_mut.ensures.value
           ∙ c.loop-i.invariant.hits k l)
-          (ap (λ q. val q x) made ∙ c.meet.ensures.met);
+          (ap (λ q. val q x) made ∙ c.pass_through.ensures.through);
     }
 
 through : goal.returns-clause-through

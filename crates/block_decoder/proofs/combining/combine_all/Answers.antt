@@ -19,7 +19,8 @@ pub combine_into-requires : goal.combine_into-requires
 combine_into-requires c =
     let session = c.args.session.now in
     let next : ℕ = c.loop-place.place + 1 in
-    size_if_some (get_or session.records (next - 1) None) c.in-Some.payload.now (asked session.params next) (sym c.in-Some.ensures) ∙ sym c.loop-place.invariant.size ∙ sym (ap length c.deref_mut.ensures.value)
+    size_if_some (get_or session.records (next - 1) None) c.in-Some.payload.now (asked session.params next) (sym c.in-Some.ensures)
+    ∙ sym c.loop-place.invariant.size ∙ sym (ap length c.deref_mut.ensures.value)
 
 pub loop-place-preserved : goal.loop-place-preserved
 loop-place-preserved c =
@@ -49,7 +50,8 @@ returns-then-k-params c =
     let n = ap (λ (p : SessionParams). p.n) c.params-params.ensures.value in
     let h = ap (λ (p : SessionParams). p.h) c.params-params.ensures.value in
     let end : c.loop-place.place + 1 ≡ c.args.session.now.params.n + 1 = omega (arith, n) in
-    let done = combined_all c.args.session.now c.loop-place.sum.items c.loop-place.k c.requires (subst (HasCombined c.args.session.now c.loop-place.sum.items c.loop-place.k) end c.loop-place.invariant) in
+    let done = combined_all c.args.session.now c.loop-place.sum.items c.loop-place.k c.requires
+    (subst (HasCombined c.args.session.now c.loop-place.sum.items c.loop-place.k) end c.loop-place.invariant) in
     let k = done.0 in
     (c.from.ensures ∙ k, c.from-then-k-params.ensures ∙ h, omega (arith, n, k))
 
@@ -57,7 +59,8 @@ pub returns : goal.returns
 returns c =
     let n = ap (λ (p : SessionParams). p.n) c.params-params.ensures.value in
     let end : c.loop-place.place + 1 ≡ c.args.session.now.params.n + 1 = omega (arith, n) in
-    let done = combined_all c.args.session.now c.loop-place.sum.items c.loop-place.k c.requires (subst (HasCombined c.args.session.now c.loop-place.sum.items c.loop-place.k) end c.loop-place.invariant) in
+    let done = combined_all c.args.session.now c.loop-place.sum.items c.loop-place.k c.requires
+    (subst (HasCombined c.args.session.now c.loop-place.sum.items c.loop-place.k) end c.loop-place.invariant) in
     let k = done.0 in
     (omega (arith, n, k), c.in_ok-of_one.ensures ∙ ap (λ (block : List ℕ). block ∷ []) done.1)
 

@@ -1,4 +1,4 @@
-use Rattle.std.proofs.Common.{◌≢◌, ◌+◌, ◌*◌, ◌<◌, ◌≤◌, ℕ, List, All, length, IfOk, sym, subst, ap, ◌∙◌, arith, le_refl}
+use Rattle.std.proofs.Common.{◌≢◌, ◌+◌, ◌*◌, ◌<◌, ◌≤◌, ℕ, List, All, AllPairs, length, IfOk, sym, subst, ap, ◌∙◌, arith, le_refl}
 use Rattle.std.proofs.lemmas.Result.{IfOk-weaker, IfOk-from_err}
 use Rattle.uni_poly.proofs.Coefficients.{bytes_from_get_or}
 use Rattle.wire_frames.specs.Answer.{Answer}
@@ -14,34 +14,31 @@ use Rattle.block_decoder.proofs.Reported.{listed-reported}
 use Rattle.std.proofs.Math.Nat.{le-add_right}
 use Rattle.block_decoder.proofs.decoder.report.Goals as goal
 
-pub find_agreements-requires-clause-columns : goal.find_agreements-requires-clause-columns
-find_agreements-requires-clause-columns g c =
-    subst (HasColumns c.args.s) (sym (c.in_ok-answers.ensures ∙ c.new.ensures)) (columns-answers_of c.args.s c.args.indices.now c.args.bytes.now c.requires.ascending c.requires.fit
-    (bytes_from_get_or c.args.indices.now (λ k. (c.type_inv.indices k).fits)) (bytes_from_get_or c.args.bytes.now (λ k. (c.type_inv.bytes k).fits)))
-
-pub find_agreements-requires-clause-nonzero : goal.find_agreements-requires-clause-nonzero
-find_agreements-requires-clause-nonzero g c =
-    subst (All (λ (a : Answer). a.index ≢ 0)) (sym (c.in_ok-answers.ensures ∙ c.new.ensures)) (indices-answers_of (λ i. i ≢ 0) c.args.s c.args.indices.now c.args.bytes.now c.requires.nonzero)
-
-pub find_agreements-requires-clause-few : goal.find_agreements-requires-clause-few
-find_agreements-requires-clause-few g c =
-    let n = ap length (c.in_ok-answers.ensures ∙ c.new.ensures) ∙ length-answers_of c.args.s c.args.indices.now c.args.bytes.now in
-    omega (arith, n, c.requires.few)
-
-pub find_agreements-requires-clause-agreement : goal.find_agreements-requires-clause-agreement
-find_agreements-requires-clause-agreement g c =
-    let n = ap length (c.in_ok-answers.ensures ∙ c.new.ensures) ∙ length-answers_of c.args.s c.args.indices.now c.args.bytes.now in
-    omega (arith, n, c.requires.enough)
-
-pub find_agreements-requires-clause-strong : goal.find_agreements-requires-clause-strong
-find_agreements-requires-clause-strong g c =
-    let n = ap length (c.in_ok-answers.ensures ∙ c.new.ensures) ∙ length-answers_of c.args.s c.args.indices.now c.args.bytes.now in
-    subst (λ (k : ℕ). k * c.args.t < c.args.h * c.args.h) (sym n) c.requires.strong
-
-pub find_agreements-requires-clause-cheap : goal.find_agreements-requires-clause-cheap
-find_agreements-requires-clause-cheap g c =
-    let n = ap length (c.in_ok-answers.ensures ∙ c.new.ensures) ∙ length-answers_of c.args.s c.args.indices.now c.args.bytes.now in
-    subst (λ (k : ℕ). cost k c.args.t c.args.h ≤ MOST_COST) (sym n) c.requires.cheap
+pub invariant_of-narrowing : goal.invariant_of-narrowing
+invariant_of-narrowing g c =
+    let indices = c.args.indices.now in
+    let bytes = c.args.bytes.now in
+    let answers = answers_of c.args.s indices bytes in
+    let is = c.in_ok-answers.ensures ∙ c.new.ensures in
+    let n = ap length is ∙ length-answers_of c.args.s indices bytes in
+    let columns = columns-answers_of c.args.s indices bytes c.requires.ascending c.requires.fit
+    (bytes_from_get_or indices (λ k. (c.type_inv.indices k).fits)) (bytes_from_get_or bytes (λ k. (c.type_inv.bytes k).fits)) in
+    let nonzero = indices-answers_of (λ i. i ≢ 0) c.args.s indices bytes c.requires.nonzero in
+    let width = c.requires.width in
+    record {
+      columns = subst (HasColumns c.args.s) (sym is) columns;
+      some = omega (arith, width);
+      enough = omega (arith, n, c.requires.enough);
+      listed = record {
+        different = subst (AllPairs (λ (a b : Answer). a.index ≢ b.index)) (sym is) columns.different;
+        nonzero = subst (All (λ (a : Answer). a.index ≢ 0)) (sym is) nonzero;
+        few = omega (arith, n, c.requires.few);
+        some = c.requires.agreement.0;
+        redundant = c.requires.agreement.1;
+        strong = subst (λ (k : ℕ). k * c.args.t < c.args.h * c.args.h) (sym n) c.requires.strong;
+        cheap = subst (λ (k : ℕ). cost k c.args.t c.args.h ≤ MOST_COST) (sym n) c.requires.cheap;
+      };
+    }
 
 pub returns-clause-report : goal.returns-clause-report
 returns-clause-report g c =
@@ -119,9 +116,3 @@ returns-in_err-answers-clause-found g c = IfOk-from_err c.from_residual.result _
 
 pub returns-in_err-answers-clause-few : goal.returns-in_err-answers-clause-few
 returns-in_err-answers-clause-few g c = IfOk-from_err c.from_residual.result _ c.from_residual.ensures.0
-
-pub find_agreements-requires-clause-redundant : goal.find_agreements-requires-clause-redundant
-find_agreements-requires-clause-redundant g c = c.requires.agreement
-
-pub find_agreements-requires-clause-some : goal.find_agreements-requires-clause-some
-find_agreements-requires-clause-some g c = c.requires.width

@@ -5,14 +5,17 @@ use Rattle.wire_frames.specs.Answer.{block_len}
 use Rattle.wire_frames.specs.Limits.{IsInRange}
 use Rattle.wire_frames.proofs.Schemes.{number_of_xor, number_of_shamir}
 use Rattle.block_decoder.specs.Agreed.{HasColumns}
+use Rattle.block_decoder.specs.Decoding.{counters}
 use Rattle.block_decoder.proofs.Judged.{combined, judged, unjudged}
 use Rattle.block_decoder.proofs.judging.judge_with.Goals as goal
 
 -- ---- what decide_among requires
 
+-- what is no more than a number is no more than a greater one
 at_most : {a b c : ℕ} → a ≤ b → b ≤ c → a ≤ c
 at_most l m = omega (arith, l, m)
 
+-- and numbers that are equal compare alike
 less_than : {t u h i : ℕ} → t ≡ u → h ≡ i → u < i → t < h
 less_than a b l = omega (arith, a, b, l)
 
@@ -52,21 +55,21 @@ returns-in_ok-usable-in-Shamir g c =
     let session = c.args.session.now in
     let params = c.params-params.ensures.value in
     judged c.args.wanted session c.in_ok-usable-in-Shamir.usable c.block_len.result c.from.result c.from-in-Shamir.result c.decide_among.result
-    c.args.cols.now c.decide_among.new.cols c.args.nodes.now c.decide_among.new.nodes
+    (counters c.args.cols.now c.args.nodes.now) (counters c.decide_among.new.cols c.decide_among.new.nodes)
     (λ two. number_of_shamir c.params-params.result.scheme (sym c.of.ensures ∙ c.in-Shamir.is) (ap (λ (p : SessionParams). p.scheme) params ∙ two))
     c.in_ok-usable-in-Shamir.ensures.answers (c.block_len.ensures.is ∙ ap block_len params) (c.from.ensures ∙ ap (λ (p : SessionParams). p.t) params)
     (c.from-in-Shamir.ensures ∙ ap (λ (p : SessionParams). p.h) params) c.decide_among.ensures
 
 pub returns-in_err-usable-in-Shamir : goal.returns-in_err-usable-in-Shamir
 returns-in_err-usable-in-Shamir g c =
-    unjudged c.args.wanted c.args.session.now c.from_residual.result c.args.cols.now c.args.nodes.now (λ P. IfOk-from_err c.from_residual.result P c.from_residual.ensures.0)
+    unjudged c.args.wanted c.args.session.now c.from_residual.result (counters c.args.cols.now c.args.nodes.now) (λ P. IfOk-from_err c.from_residual.result P c.from_residual.ensures.0)
 
 pub returns-in_err-combine_all-in-Xor : goal.returns-in_err-combine_all-in-Xor
 returns-in_err-combine_all-in-Xor g c =
     let failed = c.from_residual-in_err-combine_all-in-Xor in
-    unjudged c.args.wanted c.args.session.now failed.result c.args.cols.now c.args.nodes.now (λ P. IfOk-from_err failed.result P failed.ensures.0)
+    unjudged c.args.wanted c.args.session.now failed.result (counters c.args.cols.now c.args.nodes.now) (λ P. IfOk-from_err failed.result P failed.ensures.0)
 
 pub returns-in_ok-combine_all-in-Xor : goal.returns-in_ok-combine_all-in-Xor
 returns-in_ok-combine_all-in-Xor g c =
     let xor = sym (ap (λ (p : SessionParams). p.scheme) c.params-params.ensures.value) ∙ number_of_xor c.params-params.result.scheme (sym c.of.ensures ∙ c.in-Xor.is) in
-    combined c.args.wanted c.args.session.now c.in_ok-combine_all-in-Xor.field-0 c.args.cols.now c.args.nodes.now xor c.in_ok-combine_all-in-Xor.ensures
+    combined c.args.wanted c.args.session.now c.in_ok-combine_all-in-Xor.field-0 (counters c.args.cols.now c.args.nodes.now) xor c.in_ok-combine_all-in-Xor.ensures

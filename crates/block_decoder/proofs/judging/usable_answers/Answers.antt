@@ -39,7 +39,8 @@ pub returns-clause-columns : goal.returns-clause-columns
 returns-clause-columns c =
     let session = c.args.session.now in
     subst (HasColumns (block_len session.params)) (sym (returns-clause-answers c))
-    (columns-answers session (omega (arith, c.record_count.ensures.few, c.params-place-end.ensures.range)) (bytes_from_fits (answer_len session.params.count session.params.s) session.records c.record_count.ensures.fits))
+    (columns-answers session (omega (arith, c.record_count.ensures.few, c.params-place-end.ensures.range))
+    (bytes_from_fits (answer_len session.params.count session.params.s) session.records c.record_count.ensures.fits))
 
 pub returns-clause-nonzero : goal.returns-clause-nonzero
 returns-clause-nonzero c =

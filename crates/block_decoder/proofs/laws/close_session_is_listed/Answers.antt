@@ -9,5 +9,6 @@ returns c =
     let session = c.args.session.now in
     let range = c.params.ensures.range in
     let servers = range.few_servers in
-    let columns = columns-answers session (omega (arith, c.record_count.ensures.few, servers)) (bytes_from_fits (answer_len session.params.count session.params.s) session.records c.record_count.ensures.fits) in
+    let columns = columns-answers session (omega (arith, c.record_count.ensures.few, servers))
+    (bytes_from_fits (answer_len session.params.count session.params.s) session.records c.record_count.ensures.fits) in
     close_verdict_is_listed session c.args.verdict.now range columns c.record_count.ensures.few c.requires.enough c.requires.close c.requires.verdict

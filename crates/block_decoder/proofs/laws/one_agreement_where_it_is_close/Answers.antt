@@ -12,5 +12,6 @@ returns c =
     let indices = c.args.indices.now in
     let bytes = c.args.bytes.now in
     let n = length-answers_of s indices bytes in
-    let columns = columns-answers_of s indices bytes c.requires.ascending c.requires.fit (bytes_from_get_or indices (λ k. (c.type_inv.indices k).fits)) (bytes_from_get_or bytes (λ k. (c.type_inv.bytes k).fits)) in
+    let columns = columns-answers_of s indices bytes c.requires.ascending c.requires.fit
+    (bytes_from_get_or indices (λ k. (c.type_inv.indices k).fits)) (bytes_from_get_or bytes (λ k. (c.type_inv.bytes k).fits)) in
     reported_alone (answers_of s indices bytes) s c.args.t c.args.h c.args.report.now columns (omega (arith, n, c.requires.close)) c.requires.report

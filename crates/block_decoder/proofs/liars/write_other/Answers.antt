@@ -12,7 +12,8 @@ pub returns-then-is_other-clause-written : goal.returns-then-is_other-clause-wri
 returns-then-is_other-clause-written g c =
     let one = with_answer c.args.index (payload_of c.args.session.now c.args.index) [] in
     let is = words-one c.args.indices.now c.args.index one true (rw c.if-is_other.true at c.is_other.ensures) in
-    subst (λ (text : List ℕ). Written OUTPUT text c.write_number.result (g.P.Ports.world c.args.ports.now) (g.P.Ports.world c.write_number.new.ports)) (sym is) (rw c.from.ensures at c.write_number.ensures.written)
+    subst (λ (text : List ℕ). Written OUTPUT text c.write_number.result (g.P.Ports.world c.args.ports.now)
+    (g.P.Ports.world c.write_number.new.ports)) (sym is) (rw c.from.ensures at c.write_number.ensures.written)
 
 pub returns-clause-written : goal.returns-clause-written
 returns-clause-written g c =

@@ -1,8 +1,7 @@
 use borrow.Rule.Slice.PartMut.{post_of}
-use Rattle.std.proofs.Common.{◌≡◌, ◌+◌, ◌-◌, ◌≤◌, ◌++◌, ◌∙◌, ℕ, List, [], length, map, take, drop, IfOk, sym, ap, subst, arith, length-append, length-drop}
+use Rattle.std.proofs.Common.{◌≡◌, ◌+◌, ◌-◌, ◌≤◌, ◌++◌, ◌∙◌, ℕ, List, [], length, take, drop, IfOk, sym, ap, subst, arith, length-append, length-drop}
 use Rattle.std.proofs.lemmas.List.{length-take-le, take_all, take_at, drop_at, drop_all, append-nil}
-use Rattle.column_runs.specs.Run.{IsRun}
-use Rattle.wire_frames.specs.Answer.{Answer}
+use Rattle.block_decoder.specs.Narrowing.{IsRunOf}
 use Rattle.block_decoder.proofs.narrowing.decode.Goals as goal
 
 -- all places from one on
@@ -19,6 +18,7 @@ replaced column block out l =
     let rest : post_of column (length block - column) block ≡ [] = drop_all (length block - column) (drop column block) (omega (arith, size)) in
     ap (λ (rest : List ℕ). take column block ++ (out ++ rest)) rest ∙ ap (λ (part : List ℕ). take column block ++ part) (append-nil out)
 
+-- it is as long as it was
 replaced-size : (column : ℕ) (block out : List ℕ) → column ≤ length block → length out ≡ length (take (length block - column) (drop column block)) → length (take column block ++ out) ≡ length block
 replaced-size column block out l size =
     let both = length-append (take column block) out in
@@ -46,12 +46,17 @@ decode_into-requires-clause-widths g c =
     omega (arith, wide, part)
 
 pub returns-clause-size : goal.returns-clause-size
-returns-clause-size g c = ap length (replaced c.args.column c.args.block.now c.decode_into.new.out c.requires.column) ∙ replaced-size c.args.column c.args.block.now c.decode_into.new.out c.requires.column c.decode_into.auto.out
+returns-clause-size g c =
+    ap length (replaced c.args.column c.args.block.now c.decode_into.new.out c.requires.column)
+    ∙ replaced-size c.args.column c.args.block.now c.decode_into.new.out c.requires.column c.decode_into.auto.out
 
 pub returns-clause-kept : goal.returns-clause-kept
-returns-clause-kept g c = ap (take c.args.column) (replaced c.args.column c.args.block.now c.decode_into.new.out c.requires.column) ∙ take_at (take c.args.column c.args.block.now) c.decode_into.new.out c.args.column (length-take-le c.args.column c.args.block.now c.requires.column)
+returns-clause-kept g c =
+    ap (take c.args.column) (replaced c.args.column c.args.block.now c.decode_into.new.out c.requires.column)
+    ∙ take_at (take c.args.column c.args.block.now) c.decode_into.new.out c.args.column (length-take-le c.args.column c.args.block.now c.requires.column)
 
 pub returns-clause-run : goal.returns-clause-run
 returns-clause-run g c =
-    let rest = ap (drop c.args.column) (replaced c.args.column c.args.block.now c.decode_into.new.out c.requires.column) ∙ drop_at (take c.args.column c.args.block.now) c.decode_into.new.out c.args.column (length-take-le c.args.column c.args.block.now c.requires.column) in
-    subst (λ (out : List ℕ). IfOk c.decode_into.result (IsRun (map (λ (a : Answer). a.index) c.args.kept.now) (map (λ (a : Answer). a.payload) c.args.kept.now) c.args.t c.args.column out)) (sym rest) c.decode_into.ensures.run
+    let rest = ap (drop c.args.column) (replaced c.args.column c.args.block.now c.decode_into.new.out c.requires.column)
+    ∙ drop_at (take c.args.column c.args.block.now) c.decode_into.new.out c.args.column (length-take-le c.args.column c.args.block.now c.requires.column) in
+    subst (λ (out : List ℕ). IfOk c.decode_into.result (IsRunOf c.args.kept.now c.args.t c.args.column out)) (sym rest) c.decode_into.ensures.run

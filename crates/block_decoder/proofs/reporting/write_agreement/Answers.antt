@@ -26,9 +26,12 @@ returns-in_err-write_indices-clause-written g c =
     let p = err_from_is_err_and c.from_residual-in_err-write_indices.result c.from_residual-in_err-write_indices.ensures.1 in
     let block = ap encode_lower c.block.ensures in
     let numbers = ap (flat_map number_word) c.indices.ensures in
-    let rest = written_cut 1 (encode_lower c.block.result.now) (flat_map number_word c.indices.result.now) (10 ∷ []) (g.P.Ports.world c.write_all.new.ports) (g.P.Ports.world c.write_hex.new.ports) (g.P.Ports.world c.write_indices.new.ports)
+    let rest = written_cut 1 (encode_lower c.block.result.now) (flat_map number_word c.indices.result.now) (10 ∷ [])
+    (g.P.Ports.world c.write_all.new.ports) (g.P.Ports.world c.write_hex.new.ports) (g.P.Ports.world c.write_indices.new.ports)
     c.in_ok-write_hex.ensures.written c.in_err-write_indices.ensures.written in
-    rw (p.1, ← block, ← numbers) (fails_next 1 (codes "agree ") (encode_lower c.block.result.now ++ (flat_map number_word c.indices.result.now ++ 10 ∷ [])) (g.P.Ports.world c.args.ports.now) (g.P.Ports.world c.write_all.new.ports) (g.P.Ports.world c.write_indices.new.ports) c.in_ok-write_all.ensures.ok rest)
+    rw (p.1, ← block, ← numbers) (fails_next 1 (codes "agree ")
+    (encode_lower c.block.result.now ++ (flat_map number_word c.indices.result.now ++ 10 ∷ [])) (g.P.Ports.world c.args.ports.now)
+    (g.P.Ports.world c.write_all.new.ports) (g.P.Ports.world c.write_indices.new.ports) c.in_ok-write_all.ensures.ok rest)
 
 pub returns-clause-written : goal.returns-clause-written
 unfolding agree_line line_of
@@ -56,4 +59,7 @@ pub returns-in_err-write_indices-clause-others : goal.returns-in_err-write_indic
 returns-in_err-write_indices-clause-others g c = touches_more _ _ _ _ (touches_more _ _ _ _ c.in_ok-write_all.ensures.others c.in_ok-write_hex.ensures.others) c.in_err-write_indices.ensures.others
 
 pub returns-clause-others : goal.returns-clause-others
-returns-clause-others g c = touches_more _ _ _ _ (touches_more _ _ _ _ (touches_more _ _ _ _ c.in_ok-write_all.ensures.others c.in_ok-write_hex.ensures.others) c.in_ok-write_indices.ensures.others) c.write_all-2.ensures.others
+returns-clause-others g c =
+    touches_more _ _ _ _ (touches_more _ _ _ _
+    (touches_more _ _ _ _ c.in_ok-write_all.ensures.others c.in_ok-write_hex.ensures.others)
+    c.in_ok-write_indices.ensures.others) c.write_all-2.ensures.others

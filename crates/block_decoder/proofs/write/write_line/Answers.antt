@@ -22,9 +22,13 @@ pub returns-clause-written : goal.returns-clause-written
 unfolding line_of
 returns-clause-written g c =
     let numbers = flat_map number_word c.args.numbers.now in
-    let end = written_both 1 (10 ∷ []) c.write_all-2.result (g.P.Ports.world c.write_numbers.new.ports) (g.P.Ports.world c.write_all-2.new.ports) c.write_all-2.ensures.ok c.write_all-2.ensures.failed in
-    let rest = written_next 1 numbers (10 ∷ []) c.write_all-2.result (g.P.Ports.world c.write_all.new.ports) (g.P.Ports.world c.write_numbers.new.ports) (g.P.Ports.world c.write_all-2.new.ports) c.in_ok-write_numbers.ensures.written end in
-    rw (← c.as_bytes.ensures.value) (written_next 1 c.as_bytes.result.now (numbers ++ 10 ∷ []) c.write_all-2.result _ (g.P.Ports.world c.write_all.new.ports) (g.P.Ports.world c.write_all-2.new.ports) c.in_ok-write_all.ensures.ok rest)
+    let end = written_both 1 (10 ∷ []) c.write_all-2.result (g.P.Ports.world c.write_numbers.new.ports)
+    (g.P.Ports.world c.write_all-2.new.ports) c.write_all-2.ensures.ok c.write_all-2.ensures.failed in
+    let rest = written_next 1 numbers (10 ∷ []) c.write_all-2.result (g.P.Ports.world c.write_all.new.ports)
+    (g.P.Ports.world c.write_numbers.new.ports) (g.P.Ports.world c.write_all-2.new.ports) c.in_ok-write_numbers.ensures.written end in
+    rw (← c.as_bytes.ensures.value)
+    (written_next 1 c.as_bytes.result.now (numbers ++ 10 ∷ []) c.write_all-2.result _ (g.P.Ports.world c.write_all.new.ports)
+    (g.P.Ports.world c.write_all-2.new.ports) c.in_ok-write_all.ensures.ok rest)
 
 pub returns-in_err-write_all-clause-others : goal.returns-in_err-write_all-clause-others
 returns-in_err-write_all-clause-others g c = c.in_err-write_all.ensures.others

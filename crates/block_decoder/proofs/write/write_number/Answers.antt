@@ -10,7 +10,8 @@ unfolding number_word
 returns-clause-written g c =
     rw (← c.format-text.ensures.text) (rw (← c.as_bytes.ensures.value) (
     written_next 1 (32 ∷ []) c.as_bytes.result.now c.write_all-2.result _ (g.P.Ports.world c.write_all.new.ports) (g.P.Ports.world c.write_all-2.new.ports) c.in_ok-write_all.ensures.ok
-    (written_both 1 c.as_bytes.result.now c.write_all-2.result (g.P.Ports.world c.write_all.new.ports) (g.P.Ports.world c.write_all-2.new.ports) c.write_all-2.ensures.ok c.write_all-2.ensures.failed)))
+    (written_both 1 c.as_bytes.result.now c.write_all-2.result (g.P.Ports.world c.write_all.new.ports)
+    (g.P.Ports.world c.write_all-2.new.ports) c.write_all-2.ensures.ok c.write_all-2.ensures.failed)))
 
 pub returns-in_err-write_all-clause-written : goal.returns-in_err-write_all-clause-written
 unfolding number_word

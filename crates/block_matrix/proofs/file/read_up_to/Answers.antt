@@ -75,7 +75,9 @@ pieces-preserved g c =
     let all = whole_again c.lengthen.new.bytes.len after c.lengthen.new.bytes.items (c.fill_rest.auto.bytes ∙ c.deref_mut.ensures.len) (sym c.lengthen.new.bytes.ok.0) in
     record {
       few = omega (arith, c.in_ok-lengthen.ensures.within, c.lengthen.new.bytes.ok.0);
-      so_far = subst (λ (l : List ℕ). Reads DATABASE l (g.P.Ports.world c.args.ports.now) u) (sym all) (reads_full _ read before after _ v u kept still c.fill_rest.auto.bytes c.pieces.invariant.so_far hands refl);
+      so_far =
+          subst (λ (l : List ℕ). Reads DATABASE l (g.P.Ports.world c.args.ports.now) u) (sym all)
+          (reads_full _ read before after _ v u kept still c.fill_rest.auto.bytes c.pieces.invariant.so_far hands refl);
       others = touches_more _ _ _ _ c.pieces.invariant.others c.fill_rest.ensures.others;
     }
 
@@ -94,7 +96,8 @@ returns-in-Ended-clause-read g c =
     let first : take (length read + c.in-Ended.n) after ≡ c.front.result.items =
     sym (c.front.ensures ∙ ap (take (c.len-filled.result + c.in-Ended.n)) all ∙ ap (λ (k : ℕ). take (k + c.in-Ended.n) after) filled) in
     subst (λ (l : List ℕ). ReadsUpTo c.args.most l (g.P.Ports.world c.args.ports.now) u) first
-    (reads_ended c.args.most c.in-Ended.n read before after _ v u kept still c.fill_rest.auto.bytes (omega (arith, c.deref_mut.ensures.len, c.lengthen.new.bytes.ok.0, c.in_ok-lengthen.ensures.within)) c.pieces.invariant.so_far ends)
+    (reads_ended c.args.most c.in-Ended.n read before after _ v u kept still c.fill_rest.auto.bytes
+    (omega (arith, c.deref_mut.ensures.len, c.lengthen.new.bytes.ok.0, c.in_ok-lengthen.ensures.within)) c.pieces.invariant.so_far ends)
 
 pub returns-in-Failed-clause-read : goal.returns-in-Failed-clause-read
 returns-in-Failed-clause-read g c =

@@ -15,6 +15,7 @@ record Begin (from to : ℕ) : Type 0 where
   third : from + 2 * ((to - from) / 4) ≤ to
   fourth : from + 3 * ((to - from) / 4) ≤ to
 
+-- so they do
 begin : (from to : ℕ) → from ≤ to → Begin from to
 begin from to order = record { second = omega (arith, order); third = omega (arith, order); fourth = omega (arith, order) }
 
@@ -22,9 +23,11 @@ begin from to order = record { second = omega (arith, order); third = omega (ari
 within : (k to rows len : ℕ) → k ≤ to → to ≤ rows → len ≡ size_of rows → k ≤ 8 * len
 within k to rows len here all size = omega (arith, here, all, size)
 
+-- a row's number is small
 few : (k to rows told : ℕ) → k ≤ to → to ≤ rows → told ≡ rows → told ≤ MOST_ROWS → k ≤ MOST_ROWS
 few k to rows told here all is most = omega (arith, here, all, is, most)
 
+-- the row behind it is no further than the end
 next : (k end : ℕ) → k < end → k + 1 ≤ end
 next k end below = omega (arith, below)
 
@@ -32,9 +35,11 @@ next k end below = omega (arith, below)
 there : (k end to rows : ℕ) → k < end → end ≤ to → to ≤ rows → k < rows
 there k end to rows below here all = omega (arith, below, here, all)
 
+-- each quarter ends where the next begins or later
 steps : (from quarter : ℕ) → (from + quarter ≤ from + 2 * quarter) × (from + 2 * quarter ≤ from + 3 * quarter)
 steps from quarter = (omega arith, omega arith)
 
+-- as the first does
 start_le : (from quarter : ℕ) → from ≤ from + quarter
 start_le from quarter = omega arith
 

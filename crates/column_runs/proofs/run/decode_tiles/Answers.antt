@@ -9,7 +9,7 @@ length-part : (out : List ℕ) (done size : ℕ) → done + size ≤ length out 
 length-part out done size room = let rest = length-drop done out in length-take-le size (drop done out) (omega (arith, rest, room))
 
 pub decode_tile-columns-requires-clause-room : goal.decode_tile-columns-requires-clause-room
-decode_tile-columns-requires-clause-room g c =
+decode_tile-columns-requires-clause-room c =
     let done = c.tiles.done in
     let part = done + c.min-size.result - done in
     let least = c.min-size.ensures in
@@ -21,7 +21,7 @@ decode_tile-columns-requires-clause-room g c =
     (λ k d l. let room = c.requires.room k d l in omega (arith, room, size, least, sums))
 
 pub tiles-preserved : goal.tiles-preserved
-tiles-preserved g c =
+tiles-preserved c =
     let rows = map (λ (row : Bor (List ℕ)). row.now) c.args.rows.now in
     let others = map (λ (f : Vec ℕ Global). f.items) c.args.factors.now.others.items in
     let zero = c.args.factors.now.zero.items in
@@ -41,11 +41,10 @@ tiles-preserved g c =
       constants =
           constants_more c.tiles.out new done part room size rows c.args.from others zero c.decode_tile-columns.result tile c.tiles.invariant.constants;
       sizes = λ i. c.decode_tile-columns.ensures.sizes i ∙ c.tiles.invariant.sizes i;
-      counted = omega arith;
     }
 
-pub returns-then-columns-size-clause-tile : goal.returns-then-columns-size-clause-tile
-returns-then-columns-size-clause-tile g c =
+pub returns-then-columns-size : goal.returns-then-columns-size
+returns-then-columns-size c =
     let rows = map (λ (row : Bor (List ℕ)). row.now) c.args.rows.now in
     let others = map (λ (f : Vec ℕ Global). f.items) c.args.factors.now.others.items in
     let done = c.tiles.done in
@@ -60,17 +59,16 @@ returns-then-columns-size-clause-tile g c =
     c.decode_tile-columns.result c.decode_tile-columns.ensures.tile (omega (arith, less)) c.tiles.invariant.follow c.tiles.invariant.constants
 
 pub tiles-init : goal.tiles-init
-tiles-init g c =
+tiles-init c =
     record {
       within = omega arith;
       follow = λ i none. absurd (omega (arith, none));
       constants = λ i none. absurd (omega (arith, none));
       sizes = λ i. refl;
-      counted = omega arith;
     }
 
-pub returns-clause-tile : goal.returns-clause-tile
-returns-clause-tile g c =
+pub returns : goal.returns
+returns c =
     record {
       within = omega (arith, c.tiles.invariant.within, c.tiles.auto.out);
       follow = c.tiles.invariant.follow;
@@ -79,7 +77,7 @@ returns-clause-tile g c =
     }
 
 pub decode_tile-columns-requires-clause-widths : goal.decode_tile-columns-requires-clause-widths
-decode_tile-columns-requires-clause-widths g c =
+decode_tile-columns-requires-clause-widths c =
     let done = c.tiles.done in
     let part = done + c.min-size.result - done in
     let size = length-part c.tiles.out done part (omega (arith, c.min-size.ensures, c.tiles.invariant.within, c.tiles.auto.out)) in
@@ -88,41 +86,35 @@ decode_tile-columns-requires-clause-widths g c =
     omega (arith, wide, size, c.min-size.ensures, c.tiles.invariant.within, c.tiles.auto.out)
 
 pub decode_tile-columns-requires-clause-sums : goal.decode_tile-columns-requires-clause-sums
-decode_tile-columns-requires-clause-sums g c =
+decode_tile-columns-requires-clause-sums c =
     let done = c.tiles.done in
     let part = done + c.min-size.result - done in
     let size = length-part c.tiles.out done part (omega (arith, c.min-size.ensures, c.tiles.invariant.within, c.tiles.auto.out)) in
     omega (arith, size, c.min-size.ensures, c.tiles.auto.sums)
 
 pub decode_tile-columns-requires-clause-rows : goal.decode_tile-columns-requires-clause-rows
-decode_tile-columns-requires-clause-rows g c = c.requires.rows
+decode_tile-columns-requires-clause-rows c = c.requires.rows
 
 pub decode_tile-columns-requires-clause-factors : goal.decode_tile-columns-requires-clause-factors
-decode_tile-columns-requires-clause-factors g c = c.requires.factors
+decode_tile-columns-requires-clause-factors c = c.requires.factors
 
 pub decode_tile-columns-requires-clause-count : goal.decode_tile-columns-requires-clause-count
-decode_tile-columns-requires-clause-count g c = c.tiles.auto.differences ∙ c.requires.count
+decode_tile-columns-requires-clause-count c = c.tiles.auto.differences ∙ c.requires.count
 
 pub tiles-smaller : goal.tiles-smaller
-tiles-smaller g c = omega (arith, c.if-columns-size.false, c.min-size.ensures, c.requires.some, c.tiles.auto.sums, c.tiles.auto.out, c.tiles-test.true)
-
-pub returns-clause-cols : goal.returns-clause-cols
-returns-clause-cols g c = c.tiles.invariant.counted
-
-pub returns-then-columns-size-clause-cols : goal.returns-then-columns-size-clause-cols
-returns-then-columns-size-clause-cols g c = omega arith
+tiles-smaller c = omega (arith, c.if-columns-size.false, c.min-size.ensures, c.requires.some, c.tiles.auto.sums, c.tiles.auto.out, c.tiles-test.true)
 
 pub overflow_sub-out : goal.overflow_sub-out
-overflow_sub-out g c = omega (arith, c.tiles-test.true)
+overflow_sub-out c = omega (arith, c.tiles-test.true)
 
 pub overflow_add-tile : goal.overflow_add-tile
-overflow_add-tile g c = omega (arith, c.min-size.ensures, c.tiles.invariant.within, c.tiles.auto.out, c.requires.memory)
+overflow_add-tile c = omega (arith, c.min-size.ensures, c.tiles.invariant.within, c.tiles.auto.out, c.requires.memory)
 
 pub overflow_add-from : goal.overflow_add-from
-overflow_add-from g c = omega (arith, c.tiles.invariant.within, c.requires.memory)
+overflow_add-from c = omega (arith, c.tiles.invariant.within, c.requires.memory)
 
 pub overflow_add-done : goal.overflow_add-done
-overflow_add-done g c =
+overflow_add-done c =
     let done = c.tiles.done in
     let part = done + c.min-size.result - done in
     let room : done + part ≤ length c.tiles.out = omega (arith, c.min-size.ensures, c.tiles.invariant.within, c.tiles.auto.out) in
@@ -130,7 +122,7 @@ overflow_add-done g c =
     omega (arith, c.decode_tile-columns.ensures.tile.within, size, room, c.tiles.auto.out, c.requires.memory)
 
 pub slice_bounds-tile-start : goal.slice_bounds-tile-start
-slice_bounds-tile-start g c = omega arith
+slice_bounds-tile-start c = omega arith
 
 pub slice_bounds-tile-end : goal.slice_bounds-tile-end
-slice_bounds-tile-end g c = omega (arith, c.min-size.ensures, c.tiles.invariant.within, c.tiles.auto.out)
+slice_bounds-tile-end c = omega (arith, c.min-size.ensures, c.tiles.invariant.within, c.tiles.auto.out)

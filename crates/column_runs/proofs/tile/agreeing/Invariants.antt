@@ -1,5 +1,6 @@
-use Rattle.std.proofs.Common.{◌≤◌, ◌<◌, ℕ, length, map}
-use Rattle.column_runs.specs.Tile.{Agree}
+use Rattle.std.proofs.Common.{◌≤◌, ◌<◌, ℕ, length}
+use Rattle.column_runs.specs.Rows.{lists_of, rows_of}
+use Rattle.column_runs.specs.Tile.{tile, Agree}
 use Rattle.column_runs.proofs.tile.agreeing.Given as goal
 
 -- in so many columns the rows so far agree, and in the next one they don't
@@ -7,7 +8,7 @@ abbrev pub invariant-loop-k : goal.invariant-loop-k
 invariant-loop-k l = record {
   within : l.columns ≤ length l.first;
   agree : (c : ℕ) → c < l.columns
-      → Agree (map (λ row. row.now) l.rows) l.from l.first (map (λ d. d.items) l.differences) (map (λ f. f.items) l.others) c l.k;
+      → Agree (rows_of l.rows) (tile l.from l.first (lists_of l.differences)) (lists_of l.others) c l.k;
   differ : l.columns < length l.first
-      → ¬ Agree (map (λ row. row.now) l.rows) l.from l.first (map (λ d. d.items) l.differences) (map (λ f. f.items) l.others) l.columns l.k;
+      → ¬ Agree (rows_of l.rows) (tile l.from l.first (lists_of l.differences)) (lists_of l.others) l.columns l.k;
 }

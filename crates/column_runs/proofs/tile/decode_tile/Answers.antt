@@ -1,6 +1,6 @@
 use Rattle.std.proofs.Common.{◌≡◌, ◌+◌, ◌≤◌, ◌<◌, ℕ, List, [], Bor, Vec, Global, length, map, get_or, take, drop, All, sym, ap, subst, ◌∙◌, arith, get_or-take, get_or-drop, length-drop}
 use Rattle.std.proofs.lemmas.List.{length-take-le}
-use Rattle.column_runs.specs.Tile.{with_differences, Agree}
+use Rattle.column_runs.specs.Tile.{with_differences, tile, Agree}
 use Rattle.column_runs.proofs.ColumnPoints.{length-rows}
 use Rattle.column_runs.proofs.DifferenceRows.{items_at, length-items, room_kept}
 use Rattle.column_runs.proofs.TileColumns.{is_tile}
@@ -52,7 +52,7 @@ returns-clause-tile c =
     let held = length-items c.subtract.new.differences ∙ c.subtract.auto.differences ∙ c.requires.count in
     let list = c.deref.ensures.value in
     let factors = c.deref-2.ensures.value in
-    let Agrees = λ (vs : List (Vec ℕ Global)) (k : ℕ). Agree rows from first ds (map (λ (f : Vec ℕ Global). f.items) vs) k (length vs) in
+    let Agrees = λ (vs : List (Vec ℕ Global)) (k : ℕ). Agree rows (tile from first ds) (map (λ (f : Vec ℕ Global). f.items) vs) k (length vs) in
     is_tile rows from first ds c.subtract.ensures.each
     (λ k l. get_or-take n row k 0 (omega (arith, l, size)) ∙ ap (λ r. get_or r k 0) c.row_from.ensures ∙ get_or-drop from (get_or rows 0 []) k 0)
     lists
@@ -60,10 +60,10 @@ returns-clause-tile c =
     let m : k < length others = omega (arith, l, many) in
     ap length (sym (items_at others k c.args.factors.now.zero m)) ∙ c.requires.factors k c.args.factors.now.zero m ∙ sym held)
     zero c.extend.new.sums c.agreeing-columns.result (sym held) (c.extend.auto.sums ∙ sym size) c.agreeing-columns.ensures.within
-    (λ k l. subst (λ n. Agree rows from first ds lists k n) (sym many) (subst (λ vs. Agrees vs k) list (c.agreeing-columns.ensures.agree k l)))
+    (λ k l. subst (λ n. Agree rows (tile from first ds) lists k n) (sym many) (subst (λ vs. Agrees vs k) list (c.agreeing-columns.ensures.agree k l)))
     (λ l agree.
     c.agreeing-columns.ensures.differ l
-    (subst (λ vs. Agrees vs c.agreeing-columns.result) (sym list) (subst (λ n. Agree rows from first ds lists c.agreeing-columns.result n) many agree)))
+    (subst (λ vs. Agrees vs c.agreeing-columns.result) (sym list) (subst (λ n. Agree rows (tile from first ds) lists c.agreeing-columns.result n) many agree)))
     (λ k l. c.extend.ensures k l ∙ ap (λ f. with_differences f ds (get_or first k 0) k) factors)
 
 pub subtract-requires-clause-widths : goal.subtract-requires-clause-widths

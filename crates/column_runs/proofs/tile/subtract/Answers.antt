@@ -82,12 +82,14 @@ pub set_difference-requires-clause-same : goal.set_difference-requires-clause-sa
 set_difference-requires-clause-same c =
     let rows = map (λ (row : Bor (List ℕ)). row.now) c.args.rows.now in
     let there : c.loop-i.i + 1 < length rows = omega (arith, length-rows c.args.rows.now, c.requires.rows, c.loop-i.auto.differences, c.loop-i-test.true) in
-    let size = length-take-le (length c.args.first.now) c.row_from.result.now (length-part rows (c.loop-i.i + 1) c.args.from (length c.args.first.now) c.row_from.result.now there c.requires.widths c.row_from.ensures) in
+    let size = length-take-le (length c.args.first.now) c.row_from.result.now
+    (length-part rows (c.loop-i.i + 1) c.args.from (length c.args.first.now) c.row_from.result.now there c.requires.widths c.row_from.ensures) in
     size
 
 pub slice_bounds-row-end : goal.slice_bounds-row-end
 slice_bounds-row-end c =
     let rows = map (λ (row : Bor (List ℕ)). row.now) c.args.rows.now in
     let there : c.loop-i.i + 1 < length rows = omega (arith, length-rows c.args.rows.now, c.requires.rows, c.loop-i.auto.differences, c.loop-i-test.true) in
-    let size = length-take-le (length c.args.first.now) c.row_from.result.now (length-part rows (c.loop-i.i + 1) c.args.from (length c.args.first.now) c.row_from.result.now there c.requires.widths c.row_from.ensures) in
+    let size = length-take-le (length c.args.first.now) c.row_from.result.now
+    (length-part rows (c.loop-i.i + 1) c.args.from (length c.args.first.now) c.row_from.result.now there c.requires.widths c.row_from.ensures) in
     sym size

@@ -4,7 +4,8 @@ use Rattle.std.proofs.lemmas.Result.{IfOk-from_err}
 use Rattle.commands.proofs.demo_command.strings_of.Goals as goal
 
 -- one more was made of the next
-one_more : {X T : Type 0} (f : X → List ℕ) (h : T → List ℕ) (xs ys : List X) (x : X) (ts : List T) (i : ℕ) (d : T) → ys ≡ xs ++ x ∷ [] → map f xs ≡ map h (take i ts) → f x ≡ h (get_or ts i d) → i < length ts
+one_more : {X T : Type 0} (f : X → List ℕ) (h : T → List ℕ) (xs ys : List X) (x : X) (ts : List T) (i : ℕ) (d : T)
+    → ys ≡ xs ++ x ∷ [] → map f xs ≡ map h (take i ts) → f x ≡ h (get_or ts i d) → i < length ts
     → map f ys ≡ map h (take (i + 1) ts)
 one_more f h xs ys x ts i d is same last lt = ap (map f) is ∙ map-append f xs (x ∷ [])
     ∙ ap (λ l. l ++ f x ∷ []) same ∙ ap (λ y. map h (take i ts) ++ y ∷ []) last

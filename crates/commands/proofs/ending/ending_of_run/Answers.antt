@@ -6,14 +6,7 @@ returns g c = record {
     refuses = c.run-status.ensures.words;
     outcome = c.run-status.ensures.outcome;
     headline = c.run-status.ensures.headline;
-    replay = c.run-status.ensures.replay;
-    fetch = c.run-status.ensures.fetch;
-    serve = c.run-status.ensures.serve;
-    selfrun = c.run-status.ensures.selfrun;
-    demo = c.run-status.ensures.demo;
-    lookup = c.run-status.ensures.lookup;
-    split = c.run-status.ensures.split;
-    front = c.run-status.ensures.front;
+    promise = c.run-status.ensures.promise;
   };
   code = c.ending_of.ensures.code;
   line = c.ending_of.ensures.line;

@@ -9,7 +9,7 @@ use Rattle.commands.proofs.fetch_command.fetch_block.Goals as goal
 pub report_session-requires-clause-report : goal.report_session-requires-clause-report
 report_session-requires-clause-report g c =
     let fetched = rw (← c.order.view_is) at c.in-Ok-fetch_once.ensures.fetched in
-    report_of_fetch _ _ _ _ _ _ _ _ _ c.order.invariant.0 fetched
+    report_of_fetch _ _ _ _ _ _ _ c.order.invariant.0 fetched
 
 pub returns-in-Ok-fetch_once-clause-ends : goal.returns-in-Ok-fetch_once-clause-ends
 returns-in-Ok-fetch_once-clause-ends g c =
@@ -19,7 +19,7 @@ returns-in-Ok-fetch_once-clause-ends g c =
     (ends_with_report _ _ _ _ _ _ _ _ _ c.order.invariant.0 c.order.invariant.1 c.in-Ok.ensures.ok c.open.ensures.others fetched links c.report_session.ensures.reports c.report_session.ensures.others)
 
 pub report_session-requires-clause-all : goal.report_session-requires-clause-all
-report_session-requires-clause-all g c = whole_of_fetch _ _ _ _ _ _ _ _ _ c.in-Ok-fetch_once.ensures.fetched
+report_session-requires-clause-all g c = whole_of_fetch _ _ _ _ _ _ _ c.in-Ok-fetch_once.ensures.fetched
 
 pub returns-in_default-clause-ends : goal.returns-in_default-clause-ends
 returns-in_default-clause-ends g c = ends_unopened _ _ _ c.in_default.ensures.failed c.open.ensures.others

@@ -5,6 +5,7 @@ use Rattle.block_decoder.specs.Report.{Agreement}
 use Rattle.block_decoder.specs.declared.verdict.Verdict.{Verdict}
 use Rattle.query_rounds.specs.declared.plan.FetchFault.{FetchFault}
 use Rattle.query_rounds.specs.Gathered.{FetchesTo, TouchesLinks}
+use Rattle.query_rounds.specs.Request.{request}
 use Rattle.commands.specs.FetchOrder.{FetchOrder}
 use Rattle.commands.specs.FetchOutcome.{ConcludesBeside, FetchesBeside}
 use Rattle.commands.proofs.Fetching.{fetches_plain, fetches_whole}
@@ -13,23 +14,23 @@ use Rattle.commands.proofs.fetch_command.fetch_counted.Goals as goal
 pub returns-then-order-clause-fetched : goal.returns-then-order-clause-fetched
 returns-then-order-clause-fetched g c =
     let o = c.order.inside in
-    let addresses = map string_bytes o.addresses.now in
+    let r = request o.plan o.blocks.now (map string_bytes o.addresses.now) in
     let old = g.P.Ports.world c.args.ports.now in
     let new = g.P.Ports.world c.fetch_report.new.ports in
     subst (λ (v : FetchOrder). FetchesBeside v c.fetch_report.result old new) c.order.view_is
-    (subst (λ (b : Bool). FetchesTo (ConcludesBeside b o.plan o.blocks.now addresses) o.plan o.blocks.now addresses c.fetch_report.result old new) (sym c.if-order.true)
-    (fetches_whole _ _ _ _ _ _ c.fetch_report.ensures.fetched))
+    (subst (λ (b : Bool). FetchesTo (ConcludesBeside b r) r c.fetch_report.result old new) (sym c.if-order.true)
+    (fetches_whole r _ _ _ c.fetch_report.ensures.fetched))
 
 pub returns-else-order-clause-fetched : goal.returns-else-order-clause-fetched
 returns-else-order-clause-fetched g c =
     let o = c.order.inside in
-    let addresses = map string_bytes o.addresses.now in
+    let r = request o.plan o.blocks.now (map string_bytes o.addresses.now) in
     let old = g.P.Ports.world c.args.ports.now in
     let new = g.P.Ports.world c.fetch.new.ports in
     subst (λ (v : FetchOrder). FetchesBeside v c.without_report.result old new) c.order.view_is
-    (subst (λ (b : Bool). FetchesTo (ConcludesBeside b o.plan o.blocks.now addresses) o.plan o.blocks.now addresses c.without_report.result old new) (sym c.if-order.false)
-    (subst (λ (r : Result (Transcript × Verdict × Option (List Agreement)) FetchFault). FetchesTo (ConcludesBeside false o.plan o.blocks.now addresses) o.plan o.blocks.now addresses r old new) (sym c.without_report.ensures)
-    (fetches_plain _ _ _ _ _ _ c.fetch.ensures.fetched)))
+    (subst (λ (b : Bool). FetchesTo (ConcludesBeside b r) r c.without_report.result old new) (sym c.if-order.false)
+    (subst (λ (a : Result (Transcript × Verdict × Option (List Agreement)) FetchFault). FetchesTo (ConcludesBeside false r) r a old new) (sym c.without_report.ensures)
+    (fetches_plain r _ _ _ c.fetch.ensures.fetched)))
 
 pub fetch_report-requires-clause-plan : goal.fetch_report-requires-clause-plan
 fetch_report-requires-clause-plan g c = c.order.invariant.0

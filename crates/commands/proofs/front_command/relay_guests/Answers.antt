@@ -39,19 +39,19 @@ guests-preserved g c =
 pub returns-in_default-clause-failed : goal.returns-in_default-clause-failed
 returns-in_default-clause-failed g c =
     let i = c.guests.invariant in
-    front_dry _ _ c.args.guests c.guests.counter (g.P.Ports.world c.args.ports.now) (g.P.Ports.world c.guests.ports) (g.P.Ports.world c.next_guest.new.self) (omega arith) i.door i.guests i.turns c.in_default.ensures.failed c.in_default.ensures.others
+    front_dry _ _ c.args.conns c.guests.counter (g.P.Ports.world c.args.ports.now) (g.P.Ports.world c.guests.ports) (g.P.Ports.world c.next_guest.new.self) (omega arith) i.door i.guests i.turns c.in_default.ensures.failed c.in_default.ensures.others
 
 pub returns-in_default-clause-others : goal.returns-in_default-clause-others
 returns-in_default-clause-others g c = front_dry_touch (shards c.args.front.now) (g.P.Ports.world c.args.ports.now) (g.P.Ports.world c.guests.ports) (g.P.Ports.world c.next_guest.new.self) c.guests.invariant.others c.in_default.ensures.others
 
 pub returns-clause-turns : goal.returns-clause-turns
 returns-clause-turns g c =
-    let all : c.guests.counter ≡ c.args.guests = omega arith in
+    let all : c.guests.counter ≡ c.args.conns = omega arith in
     subst (λ (n : ℕ). FrontsInTurn c.args.front.now (map string_bytes c.args.addresses.now) n (g.P.Ports.world c.args.ports.now) (g.P.Ports.world c.guests.ports)) all c.guests.invariant.turns
 
 pub returns-clause-guests : goal.returns-clause-guests
 returns-clause-guests g c =
-    let all : c.guests.counter ≡ c.args.guests = omega arith in
+    let all : c.guests.counter ≡ c.args.conns = omega arith in
     subst (λ (n : ℕ). FrontsGuests c.args.front.now n (g.P.Ports.world c.args.ports.now) (g.P.Ports.world c.guests.ports)) all c.guests.invariant.guests
 
 pub returns-clause-door : goal.returns-clause-door

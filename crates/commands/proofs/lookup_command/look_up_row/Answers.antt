@@ -4,7 +4,7 @@ use Rattle.port_rules.specs.Number.{COINS, OUTPUT}
 use Rattle.key_fetches.specs.LookedUp.{LooksUp}
 use Rattle.commands.specs.Faults.{of_fetch}
 use Rattle.commands.specs.LookUpOrder.{LookUpOrder}
-use Rattle.commands.specs.LookUpOutcome.{LookUpEnds}
+use Rattle.commands.specs.LookUpOutcome.{LookUpEnds, key_request_by}
 use Rattle.commands.specs.declared.status.Status.{Status}
 use Rattle.commands.proofs.LookingUp.{ends_with_end, ends_with_fault}
 use Rattle.commands.proofs.lookup_command.look_up_row.Goals as goal
@@ -19,7 +19,7 @@ returns-in-Ok-look_up_once-clause-ends g c =
 pub returns-in-Err-clause-ends : goal.returns-in-Err-clause-ends
 returns-in-Err-clause-ends g c =
     let opened = g.P.Ports.world c.open.new.self in
-    let looked = subst (λ (o : LookUpOrder). LooksUp o.plan o.key o.addresses (Err c.in-Err.fault) (opened.at COINS) opened
+    let looked = subst (λ (o : LookUpOrder). LooksUp (key_request_by o) (Err c.in-Err.fault) (opened.at COINS) opened
     (g.P.Ports.world c.look_up_once.new.ports)) (sym c.order.view_is) c.in-Err.ensures.looked in
     let links = rw (← c.order.view_is) at c.look_up_once.ensures.others in
     let old = g.P.Ports.world c.args.ports.now in

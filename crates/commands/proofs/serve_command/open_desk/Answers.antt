@@ -24,7 +24,7 @@ returns-in_err-matrix-clause-opens g c =
       scheme = i.scheme;
       database = i.database.now;
       width = i.width;
-      guests = i.guests;
+      conns = i.conns;
       listen = i.listen.now;
       workers = i.workers;
     } in
@@ -46,7 +46,7 @@ returns-in_err-open-clause-opens g c =
       scheme = i.scheme;
       database = i.database.now;
       width = i.width;
-      guests = i.guests;
+      conns = i.conns;
       listen = i.listen.now;
       workers = i.workers;
     } in
@@ -68,7 +68,7 @@ returns-clause-opens g c =
       scheme = i.scheme;
       database = i.database.now;
       width = i.width;
-      guests = i.guests;
+      conns = i.conns;
       listen = i.listen.now;
       workers = i.workers;
     } in

@@ -38,24 +38,24 @@ guests-preserved g c =
 pub returns-in_default-clause-failed : goal.returns-in_default-clause-failed
 returns-in_default-clause-failed g c =
     let i = c.guests.invariant in
-    guests_dry _ c.args.guests c.guests.counter (g.P.Ports.world c.args.ports.now) (g.P.Ports.world c.guests.ports) (g.P.Ports.world c.next_guest.new.self) (omega arith) i.door i.served i.turns c.in_default.ensures.failed c.in_default.ensures.others
+    guests_dry _ c.args.conns c.guests.counter (g.P.Ports.world c.args.ports.now) (g.P.Ports.world c.guests.ports) (g.P.Ports.world c.next_guest.new.self) (omega arith) i.door i.served i.turns c.in_default.ensures.failed c.in_default.ensures.others
 
 pub returns-in_default-clause-others : goal.returns-in_default-clause-others
 returns-in_default-clause-others g c = guests_dry_touch (g.P.Ports.world c.args.ports.now) (g.P.Ports.world c.guests.ports) (g.P.Ports.world c.next_guest.new.self) c.guests.invariant.others c.in_default.ensures.others
 
 pub returns-clause-ok : goal.returns-clause-ok
 returns-clause-ok g c =
-    let all : c.guests.counter ≡ c.args.guests = omega arith in
+    let all : c.guests.counter ≡ c.args.conns = omega arith in
     subst (λ (n : ℕ). ServesGuests c.args.desk.now n (g.P.Ports.world c.args.ports.now) (g.P.Ports.world c.guests.ports)) all c.guests.invariant.served
 
 pub returns-clause-replied : goal.returns-clause-replied
 returns-clause-replied g c = λ stayed.
-    let all : c.guests.counter ≡ c.args.guests = omega arith in
+    let all : c.guests.counter ≡ c.args.conns = omega arith in
     subst (λ (n : ℕ). RepliesToGuests c.args.desk.now n (g.P.Ports.world c.args.ports.now) (g.P.Ports.world c.guests.ports)) all (c.guests.invariant.replying.replied stayed)
 
 pub returns-clause-turns : goal.returns-clause-turns
 returns-clause-turns g c =
-    let all : c.guests.counter ≡ c.args.guests = omega arith in
+    let all : c.guests.counter ≡ c.args.conns = omega arith in
     subst (λ (n : ℕ). AttendsInTurn c.args.desk.now n (g.P.Ports.world c.args.ports.now) (g.P.Ports.world c.guests.ports)) all c.guests.invariant.turns
 
 pub returns-clause-door : goal.returns-clause-door

@@ -33,16 +33,13 @@ loop-i-preserved c =
           c.loop-i.invariant.each (c.unwrap_or.ensures ∙ ap (λ o. unwrap_or o 0) c.copied.ensures ∙ (search rules));
     }
 
-pub returns-in_err-push-clause-size : goal.returns-in_err-push-clause-size
-returns-in_err-push-clause-size c = IfOk-from_err c.from_residual.result _ c.from_residual.ensures.0
+pub returns-in_err-push : goal.returns-in_err-push
+returns-in_err-push c = IfOk-from_err c.from_residual.result _ c.from_residual.ensures.0
 
-pub returns-in_err-push-clause-each : goal.returns-in_err-push-clause-each
-returns-in_err-push-clause-each c = IfOk-from_err c.from_residual.result _ c.from_residual.ensures.0
-
-pub returns-clause-size : goal.returns-clause-size
-returns-clause-size c = omega arith
-
-pub returns-clause-each : goal.returns-clause-each
-returns-clause-each c =
+pub returns : goal.returns
+returns c =
     let all : c.loop-i.i ≡ c.args.count = omega arith in
-    λ i l. c.loop-i.invariant.each i (omega (arith, all, l))
+    record {
+      size = c.loop-i.invariant.size ∙ all;
+      each = λ i l. c.loop-i.invariant.each i (omega (arith, all, l));
+    }

@@ -1,23 +1,21 @@
-use Rattle.std.proofs.Common.{◌≡◌, ◌≢◌, ◌<◌, ℕ, ◌+◌, ◌-◌, ◌*◌, ◌≤◌, length, get_or, take, drop, refl, sym, ap, subst, ◌∙◌, arith}
+use Rattle.std.proofs.Common.{◌≡◌, ◌<◌, ◌+◌, ◌-◌, ◌*◌, ◌≤◌, length, get_or, take, drop, refl, sym, ap, subst, ◌∙◌, arith}
 use borrow.Rule.Slice.PartMut.{put_mid}
 use borrow.Author.Count.{falls}
-use Rattle.gf256.specs.Field.{◌⊕◌, ◌⊗◌}
-use Rattle.gs_interpolate.specs.Family.{multiplier, IsRowStep}
+use Rattle.gs_interpolate.specs.Family.{IsCellStep, IsRowStep}
 use Rattle.gf256.proofs.FlatRows.{row_within}
 use Rattle.gs_interpolate.proofs.Places.{length-part, length-power}
-use Rattle.gs_interpolate.proofs.Steps.{with_own_multiple, row_step-none, row_step-next, carried_on}
+use Rattle.gs_interpolate.proofs.Steps.{IsNextPower, row_step-none, row_step-next, carried_on}
 use Rattle.gs_interpolate.proofs.family.step_row_of_any.Goals as goal
 
 pub loop-i-init : goal.loop-i-init
 unfolding Rattle.gs_interpolate.specs.Family.preceding
-loop-i-init c = record {
-  carry = refl;
-  done = row_step-none (length c.args.factors.now) c.args.row.now c.args.factors.now c.args.p (multiplier c.args.factors.now c.args.p);
-}
+loop-i-init c = record { carry = refl; done = row_step-none c.args.factors.now c.args.row.now c.args.p }
 
 pub loop-i-preserved : goal.loop-i-preserved
 loop-i-preserved c =
-    let n = length c.args.factors.now in
+    let factors = c.args.factors.now in
+    let n = length factors in
+    let p = c.args.p in
     let i = c.loop-i.i in
     let row = c.loop-i.row in
     let before = c.args.row.now in
@@ -26,17 +24,20 @@ loop-i-preserved c =
     let fit = row_within i c.args.count n c.loop-i-test.true in
     let room : i * n + n ≤ length before = omega (arith, fit, c.requires.room) in
     let held = ap (λ k. take k (drop (i * n) row)) whole in
-    let own = c.step_cell-carry.ensures.own ∙ ap (λ xs. get_or xs c.args.p 0) held in
-    let byte : get_or (take n (drop (i * n) row)) c.args.p 0 < 256 = subst (λ x. x < 256) own c.step_cell-carry.type_inv in
-    let pivot =
-    subst (λ xs. get_or part c.args.p 0 ≡ (get_or xs c.args.p 0 ⊕ get_or xs c.args.p 0 ⊗ get_or c.args.factors.now c.args.p 0) ⊕ c.loop-i.carry) held c.step_cell-carry.ensures.pivot
-    ∙ with_own_multiple (get_or (take n (drop (i * n) row)) c.args.p 0) (get_or c.args.factors.now c.args.p 0) c.loop-i.carry byte in
-    let others = subst (λ xs. (g : ℕ) → g ≢ c.args.p → get_or part g 0 ≡ get_or xs g 0 ⊕ get_or xs c.args.p 0 ⊗ get_or c.args.factors.now g 0) held c.step_cell-carry.ensures.others in
-    let size : length part ≡ n = c.step_cell-carry.auto.cell ∙ ap length held ∙ length-part row (i * n) n (omega (arith, room, c.loop-i.auto.row)) in
+    let own = c.step_cell-carry.ensures.own ∙ ap (λ xs. get_or xs p 0) held in
+    let next : IsNextPower factors row before part p c.loop-i.carry i = record {
+      inside = c.requires.inside;
+      long = c.loop-i.auto.row;
+      room = room;
+      done = c.loop-i.invariant.done;
+      carried = c.loop-i.invariant.carry;
+      byte = subst (λ x. x < 256) own c.step_cell-carry.type_inv;
+      size = c.step_cell-carry.auto.cell ∙ ap length held ∙ length-part row (i * n) n (omega (arith, room, c.loop-i.auto.row));
+      step = subst (IsCellStep factors p c.loop-i.carry part) held c.step_cell-carry.ensures.step;
+    } in
     record {
-      carry = own ∙ carried_on n row before c.args.factors.now part c.args.p (multiplier c.args.factors.now c.args.p) c.loop-i.carry i c.requires.inside c.loop-i.auto.row room c.loop-i.invariant.done c.loop-i.invariant.carry size pivot others;
-      done = subst (λ k. IsRowStep n (put_mid (i * n) k row part) before c.args.factors.now c.args.p (multiplier c.args.factors.now c.args.p) (i + 1)) (sym whole)
-          (row_step-next n row before c.args.factors.now part c.args.p (multiplier c.args.factors.now c.args.p) c.loop-i.carry i c.requires.inside c.loop-i.auto.row room c.loop-i.invariant.done c.loop-i.invariant.carry size pivot others);
+      carry = own ∙ carried_on next;
+      done = subst (λ k. IsRowStep factors p (put_mid (i * n) k row part) before (i + 1)) (sym whole) (row_step-next next);
     }
 
 pub overflow_mul-start : goal.overflow_mul-start
@@ -68,4 +69,4 @@ loop-i-smaller c = falls c.args.count c.loop-i.i c.loop-i-test.true
 pub returns : goal.returns
 returns c =
     let all : c.loop-i.i ≡ c.args.count = omega arith in
-    subst (λ i. IsRowStep (length c.args.factors.now) c.loop-i.row c.args.row.now c.args.factors.now c.args.p (multiplier c.args.factors.now c.args.p) i) all c.loop-i.invariant.done
+    subst (IsRowStep c.args.factors.now c.args.p c.loop-i.row c.args.row.now) all c.loop-i.invariant.done

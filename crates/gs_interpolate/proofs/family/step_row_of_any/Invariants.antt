@@ -1,9 +1,9 @@
 use Rattle.std.proofs.Common.{◌≡◌, length}
-use Rattle.gs_interpolate.specs.Family.{preceding, multiplier, IsRowStep}
+use Rattle.gs_interpolate.specs.Family.{preceding, IsRowStep}
 use Rattle.gs_interpolate.proofs.family.step_row_of_any.Given as goal
 
 abbrev pub invariant-loop-i : goal.invariant-loop-i
 invariant-loop-i l = record {
   carry : l.carry ≡ preceding (length l.factors) l.p l.initial.row l.i;
-  done : IsRowStep (length l.factors) l.row l.initial.row l.factors l.p (multiplier l.factors l.p) l.i;
+  done : IsRowStep l.factors l.p l.row l.initial.row l.i;
 }

@@ -3,7 +3,7 @@ use Rattle.std.proofs.Math.Seq.{map-set}
 use Rattle.std.proofs.lemmas.Bool.{cases_lt}
 use Rattle.std.proofs.lemmas.List.{get_or-map, length-map}
 use Rattle.bi_poly.specs.Rows.{row}
-use Rattle.gs_interpolate.specs.Family.{multiplier, IsRowStep}
+use Rattle.gs_interpolate.specs.Family.{IsRowStep}
 use Rattle.gs_interpolate.specs.declared.basis.TheConstants.{MOST_PLACES}
 use Rattle.gs_interpolate.proofs.family.step_rows.Goals as goal
 
@@ -22,18 +22,19 @@ loop-j-preserved c =
     let other = λ (k : ℕ) (o : k ≢ j). ap (λ q. row q k) written ∙ get_or-set_other (map f rows) j k new.items [] o in
     let held : f (get_or rows j c.index-rows-j.result) ≡ row old j = sym (get_or-map f rows j c.index-rows-j.result [] (omega arith)) ∙ c.loop-j.invariant.rest j (omega arith) in
     let count : c.saturating_sub-count.result ≡ c.args.reach - c.args.t * j = c.saturating_sub-count.ensures in
-    let step : IsRowStep n new.items (row old j) c.args.factors.now c.args.p (multiplier c.args.factors.now c.args.p) (c.args.reach - c.args.t * j) =
-    subst (λ k. IsRowStep n new.items (row old j) c.args.factors.now c.args.p (multiplier c.args.factors.now c.args.p) k) count
-    (subst (λ r. IsRowStep n new.items r c.args.factors.now c.args.p (multiplier c.args.factors.now c.args.p) c.saturating_sub-count.result) held c.in_ok-step_long_row.ensures.step) in
+    let step : IsRowStep c.args.factors.now c.args.p new.items (row old j) (c.args.reach - c.args.t * j) =
+    subst (λ k. IsRowStep c.args.factors.now c.args.p new.items (row old j) k) count
+    (subst (λ r. IsRowStep c.args.factors.now c.args.p new.items r c.saturating_sub-count.result) held c.in_ok-step_long_row.ensures.step) in
     let whole : length (row old j) % n ≡ 0 → length new.items % n ≡ 0 = subst (λ r. length r % n ≡ 0 → length new.items % n ≡ 0) held c.in_ok-step_long_row.ensures.whole in
     record {
       each = λ k l.
           elim (cases_lt k j) [
-            | inl below ↦ subst (λ r. IsRowStep n r (row old k) c.args.factors.now c.args.p (multiplier c.args.factors.now c.args.p) (c.args.reach - c.args.t * k)) (sym (other k (λ same. omega (arith, same, below)))) (c.loop-j.invariant.each k below)
+            | inl below ↦ subst (λ r. IsRowStep c.args.factors.now c.args.p r (row old k) (c.args.reach - c.args.t * k))
+                (sym (other k (λ same. omega (arith, same, below)))) (c.loop-j.invariant.each k below)
             | inr past ↦
                 let same : j ≡ k = omega arith in
-                subst (λ k. IsRowStep n (row now k) (row old k) c.args.factors.now c.args.p (multiplier c.args.factors.now c.args.p) (c.args.reach - c.args.t * k)) same
-                (subst (λ r. IsRowStep n r (row old j) c.args.factors.now c.args.p (multiplier c.args.factors.now c.args.p) (c.args.reach - c.args.t * j)) (sym here) step)
+                subst (λ k. IsRowStep c.args.factors.now c.args.p (row now k) (row old k) (c.args.reach - c.args.t * k)) same
+                (subst (λ r. IsRowStep c.args.factors.now c.args.p r (row old j) (c.args.reach - c.args.t * j)) (sym here) step)
           ];
       whole = λ k l.
           elim (cases_lt k j) [

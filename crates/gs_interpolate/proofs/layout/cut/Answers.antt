@@ -1,4 +1,4 @@
-use Rattle.std.proofs.Common.{◌≡◌, ℕ, ◌+◌, ◌<◌, List, [], ◌∷◌, ◌++◌, length, map, get_or, drop, take, refl, sym, ap, subst, ◌∙◌, arith, Vec, Global, length-drop, length-append, below_more}
+use Rattle.std.proofs.Common.{◌≡◌, ℕ, List, [], ◌∷◌, ◌++◌, length, map, get_or, drop, take, refl, sym, ap, subst, ◌∙◌, arith, Vec, Global, length-drop, length-append, below_more}
 use Rattle.std.proofs.lemmas.List.{length-map, map-append, get_or_append_left, drop-drop}
 use Rattle.std.proofs.Math.Seq.{get_or-append_seam}
 use Rattle.bi_poly.specs.Rows.{row}

@@ -3,7 +3,8 @@ use Rattle.std.proofs.Math.Nat.{div-mul-le_self, mul-le-mul_right}
 use Rattle.gf256.specs.Field.{◌⊕◌, ◌⊗◌}
 use Rattle.gf256.proofs.FlatRows.{row_within}
 use Rattle.gs_interpolate.proofs.Places.{part_before, length-part}
-use Rattle.gs_interpolate.proofs.Windows.{AreExpanded, rest_from, expanded-none, expanded-next, rest-none, rest-next}
+use Rattle.gs_interpolate.specs.Window.{AreExpanded}
+use Rattle.gs_interpolate.proofs.Windows.{rest_from, expanded-none, expanded-next, rest-none, rest-next}
 use Rattle.gs_interpolate.proofs.window.expand.Goals as goal
 
 -- a row has the place of each coefficient

@@ -21,7 +21,8 @@ sums_in_two first sums low high a s t all rest size here there k l =
           get_or-append_right low high n k 0 (size ∙ all) past
           ∙ there (k - n) inside
           ∙ ap₂ (λ x y. x ⊕ a ⊗ y) (get_or-take t sums (k - n) 0 inside ∙ sym (get_or-append_right first sums n k 0 refl past))
-          (get_or-take (length sums - n) (drop n sums) (k - n) 0 (omega (arith, l, past)) ∙ get_or-drop n sums (k - n) 0 ∙ ap (λ i. get_or sums i 0) (let e : n + (k - n) ≡ k = omega (arith, past) in e))
+          (get_or-take (length sums - n) (drop n sums) (k - n) 0 (omega (arith, l, past)) ∙ get_or-drop n sums (k - n) 0
+          ∙ ap (λ i. get_or sums i 0) (let e : n + (k - n) ≡ k = omega (arith, past) in e))
     ]
 
 pub slice_bounds-set_sums-count : goal.slice_bounds-set_sums-count

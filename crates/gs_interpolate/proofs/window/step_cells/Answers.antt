@@ -2,7 +2,7 @@ use Rattle.std.proofs.Common.{◌≡◌, ℕ, ◌+◌, ◌-◌, ◌*◌, ◌<◌
 use Rattle.std.proofs.Math.Nat.{mul-le-mul_right}
 use Rattle.std.proofs.lemmas.Bool.{cases_lt}
 use borrow.Rule.Slice.PartMut.{put_mid}
-use Rattle.gs_interpolate.specs.Family.{multiplier, IsRowStep}
+use Rattle.gs_interpolate.specs.Family.{IsRowStep}
 use Rattle.gs_interpolate.specs.Window.{window_row}
 use Rattle.gf256.proofs.FlatRows.{row_within}
 use Rattle.gs_interpolate.proofs.Places.{length-part, part_written, part_kept}
@@ -43,15 +43,15 @@ loop-w-preserved c =
     part_kept cells new (w * s) s (k * s) room (omega (arith, there, c.requires.size)) size
     (elim apart [ inl x ↦ inl (row_within k w s x) | inr x ↦ inr (row_within w k s x) ]) in
     record {
-      each = subst (λ xs. (k : ℕ) → c.args.v ≤ k → k < w + 1 → k < m → IsRowStep n (window_row n m xs k) (window_row n m old k) c.args.factors.now c.args.p (multiplier c.args.factors.now c.args.p) (m - k)) (sym back)
+      each = subst (λ xs. (k : ℕ) → c.args.v ≤ k → k < w + 1 → k < m → IsRowStep c.args.factors.now c.args.p (window_row n m xs k) (window_row n m old k) (m - k)) (sym back)
           (λ k from l h.
           elim (cases_lt k w) [
-            | inl below ↦ subst (λ r. IsRowStep n r (window_row n m old k) c.args.factors.now c.args.p (multiplier c.args.factors.now c.args.p) (m - k)) (sym (other k h (inl below))) (c.loop-w.invariant.each k from below h)
+            | inl below ↦ subst (λ r. IsRowStep c.args.factors.now c.args.p r (window_row n m old k) (m - k)) (sym (other k h (inl below))) (c.loop-w.invariant.each k from below h)
             | inr past ↦
                 let same : w ≡ k = omega arith in
-                subst (λ k. IsRowStep n (window_row n m now k) (window_row n m old k) c.args.factors.now c.args.p (multiplier c.args.factors.now c.args.p) (m - k)) same
-                (subst (λ r. IsRowStep n r (window_row n m old w) c.args.factors.now c.args.p (multiplier c.args.factors.now c.args.p) (m - w)) (sym here)
-                (subst (λ r. IsRowStep n new r c.args.factors.now c.args.p (multiplier c.args.factors.now c.args.p) (m - w)) (held ∙ c.loop-w.invariant.rest w (omega arith) (omega arith)) c.step_row.ensures))
+                subst (λ k. IsRowStep c.args.factors.now c.args.p (window_row n m now k) (window_row n m old k) (m - k)) same
+                (subst (λ r. IsRowStep c.args.factors.now c.args.p r (window_row n m old w) (m - w)) (sym here)
+                (subst (λ r. IsRowStep c.args.factors.now c.args.p new r (m - w)) (held ∙ c.loop-w.invariant.rest w (omega arith) (omega arith)) c.step_row.ensures))
           ]);
       rest = subst (λ xs. (k : ℕ) → w + 1 ≤ k → k < m → window_row n m xs k ≡ window_row n m old k) (sym back)
           (λ k from l. other k l (inr (omega arith)) ∙ c.loop-w.invariant.rest k (omega arith) l);

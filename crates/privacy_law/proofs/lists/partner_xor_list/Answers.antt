@@ -31,7 +31,7 @@ returns-clause-is c =
     c.loop-i.invariant ∙ ap (λ (n : ℕ). in_turn n gives) end
 
 pub returns-clause-bitmaps : goal.returns-clause-bitmaps
-returns-clause-bitmaps c i index l first last ne =
+returns-clause-bitmaps c i l index first last ne =
     let block = c.requires.blocks i 0 l in
     let other = c.requires.others i 0 (omega (arith, l, c.requires.as_many)) in
     ap (λ (items : List ℕ). bitmap (piece ((c.args.n - 1) * size_of c.args.r) i items) c.args.n c.args.r (get_or c.args.b2.now i 0) index) (returns-clause-is c)

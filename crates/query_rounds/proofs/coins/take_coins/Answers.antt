@@ -14,6 +14,7 @@ came : (before after : List ℕ) (n : ℕ) (holds : Option (List ℕ)) → lengt
 came before after n None size told = tt
 came before after n (Some held) size told = sym (take_all n after (omega (arith, size))) ∙ told.bytes
 
+-- the coins were taken whole
 tossed : (before after : List ℕ) (w v : World) → length after ≡ length before → ((i : ℕ) → Fits w8 (get_or after i 0)) → Hands COINS (length before) before after w v
     → Tossed (length before) after (w.at COINS) (v.at COINS)
 tossed before after w v size fits hands = record {
@@ -23,6 +24,7 @@ tossed before after w v size fits hands = record {
   told = came before after (length before) (w.at COINS).holds size hands.told;
 }
 
+-- the coins ended before
 runs_out : (n : ℕ) (before after : List ℕ) (w v : World) → Ends COINS n before after w v → RunsOut (length before) n (w.at COINS) (v.at COINS)
 runs_out n before after w v ends = record { fewer = ends.fewer; cell = ends.hands.cell; all = ends.all }
 

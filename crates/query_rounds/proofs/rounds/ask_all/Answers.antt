@@ -1,27 +1,22 @@
-use Rattle.std.proofs.Common.{◌≡◌, ◌∙◌, ℕ, ◌+◌, ◌<◌, ◌≤◌, List, map, string_bytes, sym, ap, subst, arith}
-use Rattle.std.specs.Prelude.{[], get_or}
-use Rattle.std.proofs.lemmas.List.{get_or-map}
+use Rattle.std.proofs.Common.{◌≡◌, ◌∙◌, ℕ, ◌<◌, ◌≤◌, subst, arith}
 use Rattle.port_rules.specs.Number.{link}
 use Rattle.port_rules.specs.Each.{TouchesRange}
 use Rattle.port_rules.proofs.Ranges.{each_none, range_none, range_more}
 use Rattle.quantity_limits.specs.declared.TheConstants.{MOST_SERVERS}
-use Rattle.query_rounds.specs.Link.{LinkSent}
 use Rattle.query_rounds.specs.Rounds.{SentEach}
-use Rattle.query_rounds.specs.Sent.{sent}
 use Rattle.query_rounds.proofs.Asking.{all_asked, sent_more, within}
 use Rattle.query_rounds.proofs.rounds.ask_all.Goals as goal
 
-few_servers : (place end : ℕ) → place < end → end ≤ MOST_SERVERS → place < 255
+-- a place before the last server is less than the number of servers that there may be
+few_servers : (place end : ℕ) → place < end → end ≤ MOST_SERVERS → place < MOST_SERVERS
 few_servers place end below few = omega (arith, below, few)
 
 pub places-init : goal.places-init
 places-init g c = record { sent = each_none _ _ _ _; others = range_none _ _ }
 
-pub bounds-addresses-from : goal.bounds-addresses-from
-bounds-addresses-from g c = within _ _ _ _ _ c.from.ensures c.places-test.true c.servers-place-end.ensures.is c.requires.addresses
-
 pub bounds-reached-from : goal.bounds-reached-from
-bounds-reached-from g c = within _ _ _ _ _ c.from-in-places.ensures c.places-test.true c.servers-place-end.ensures.is (c.places.auto.reached ∙ c.requires.reached)
+bounds-reached-from g c =
+    within _ _ _ _ _ c.from.ensures c.places-test.true c.servers-place-end.ensures.is (c.places.auto.reached ∙ c.requires.reached)
 
 pub ask_at-requires-clause-place : goal.ask_at-requires-clause-place
 ask_at-requires-clause-place g c = subst (λ (n : ℕ). c.places.place < n) c.servers-place-end.ensures.is c.places-test.true
@@ -33,26 +28,17 @@ pub ask_at-requires-clause-frame : goal.ask_at-requires-clause-frame
 ask_at-requires-clause-frame g c = c.places.auto.frame ∙ c.requires.frame
 
 pub places-preserved : goal.places-preserved
-places-preserved g c =
-    let place = c.places.place in
-    let plan = c.args.queries.now.plan in
-    let addresses = c.args.addresses.now in
-    let within_addresses = within _ _ _ _ _ c.from.ensures c.places-test.true c.servers-place-end.ensures.is c.requires.addresses in
-    let address : get_or (map string_bytes addresses) place [] ≡ c.deref.result.now =
-    ap (λ (i : ℕ). get_or (map string_bytes addresses) i []) (sym c.from.ensures) ∙ get_or-map string_bytes addresses c.from.result c.index-addresses-from.result [] within_addresses
-    ∙ ap string_bytes (sym c.index-addresses-from.is) ∙ sym c.deref.ensures in
-    let asked = subst (λ (l : List ℕ). LinkSent l (sent plan c.args.queries.now.blocks c.args.queries.now.coins (place + 1)) c.ask_at.result
-    ((g.P.Ports.world c.places.ports).at (link 1 + place)) ((g.P.Ports.world c.ask_at.new.ports).at (link 1 + place))) (sym address) c.ask_at.ensures.sent in
-    record {
-      sent = sent_more plan c.args.queries.now.blocks (map string_bytes addresses) c.args.queries.now.coins place c.from-in-places.result c.places.reached c.ask_at.result _ _ _ c.from-in-places.ensures
-          (within _ _ _ _ _ c.from-in-places.ensures c.places-test.true c.servers-place-end.ensures.is (c.places.auto.reached ∙ c.requires.reached)) (few_servers _ _ c.places-test.true c.servers-place-end.ensures.few)
-          c.places.invariant.sent c.places.invariant.others asked c.ask_at.ensures.others;
-      others = range_more (link 1) place _ _ _ c.places.invariant.others c.ask_at.ensures.others;
-    }
+places-preserved g c = record {
+  sent = sent_more c.args.queries.now c.places.place c.from.result c.places.reached c.ask_at.result _ _ _ c.from.ensures
+      (within _ _ _ _ _ c.from.ensures c.places-test.true c.servers-place-end.ensures.is (c.places.auto.reached ∙ c.requires.reached))
+      (few_servers _ _ c.places-test.true c.servers-place-end.ensures.few)
+      c.places.invariant.sent c.places.invariant.others c.ask_at.ensures.sent c.ask_at.ensures.others;
+  others = range_more (link 1) c.places.place _ _ _ c.places.invariant.others c.ask_at.ensures.others;
+}
 
 pub returns-clause-sent : goal.returns-clause-sent
 returns-clause-sent g c =
-    subst (λ (n : ℕ). SentEach c.args.queries.now.plan c.args.queries.now.blocks (map string_bytes c.args.addresses.now) c.args.queries.now.coins n c.places.reached (g.P.Ports.world c.args.ports.now) (g.P.Ports.world c.places.ports))
+    subst (λ (n : ℕ). SentEach c.args.queries.now n c.places.reached (g.P.Ports.world c.args.ports.now) (g.P.Ports.world c.places.ports))
     (all_asked _ _ _ c.places.auto.place-end c.places-test.false c.servers-place-end.ensures.is) c.places.invariant.sent
 
 pub returns-clause-others : goal.returns-clause-others

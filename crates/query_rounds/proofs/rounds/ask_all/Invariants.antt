@@ -1,4 +1,3 @@
-use Rattle.std.proofs.Common.{map, string_bytes}
 use Rattle.port_rules.specs.Number.{link}
 use Rattle.port_rules.specs.Each.{TouchesRange}
 use Rattle.query_rounds.specs.Rounds.{SentEach}
@@ -6,7 +5,6 @@ use Rattle.query_rounds.proofs.rounds.ask_all.Given as goal
 
 abbrev pub invariant-places : goal.invariant-places
 invariant-places g l = record {
-  sent : SentEach l.queries.plan l.queries.blocks (map string_bytes l.addresses) l.queries.coins l.place l.reached
-      (g.P.Ports.world l.initial.ports) (g.P.Ports.world l.ports);
+  sent : SentEach l.queries l.place l.reached (g.P.Ports.world l.initial.ports) (g.P.Ports.world l.ports);
   others : TouchesRange (link 1) l.place (g.P.Ports.world l.initial.ports) (g.P.Ports.world l.ports);
 }

@@ -5,6 +5,7 @@ use Rattle.port_rules.specs.Moves.{Touches}
 use Rattle.port_rules.specs.Each.{TouchesRange}
 use Rattle.port_rules.specs.World.{World}
 use Rattle.port_rules.proofs.Ranges.{each_none, range_none, range_more}
+use Rattle.quantity_limits.specs.declared.TheConstants.{MOST_SERVERS}
 use Rattle.wire_frames.specs.Sizes.{answer_len}
 use Rattle.wire_frames.specs.Session.{Transcript}
 use Rattle.wire_frames.specs.declared.session.SessionParams.{SessionParams}
@@ -12,13 +13,18 @@ use Rattle.query_rounds.specs.Rounds.{TakenEach}
 use Rattle.query_rounds.proofs.Asking.{all_asked, taken_more, within}
 use Rattle.query_rounds.proofs.rounds.take_all.Goals as goal
 
-fewer_places : (place end : ℕ) → place < end → end < 256 → place < 255
+-- a place before the last server is less than the number of servers that there may be
+fewer_places : (place end : ℕ) → place < end → end < 256 → place < MOST_SERVERS
 fewer_places place end below few = omega (arith, below, few)
 
+-- the link of the next server
 next_link : (place : ℕ) (v u : World) → Touches (link (place + 1)) v u → Touches (link 1 + place) v u
 next_link place v u touch = subst (λ (p : ℕ). Touches p v u) (omega arith) touch
 
-one_more : (before after : Transcript) (answer : Option (List ℕ)) (place : ℕ) → after ≡ record before { records = before.records ++ answer ∷ [] } → length before.records ≡ place → length after.records ≡ place + 1
+-- a session with one more record
+one_more : (before after : Transcript) (answer : Option (List ℕ)) (place : ℕ)
+    → after ≡ record before { records = before.records ++ answer ∷ [] } → length before.records ≡ place
+    → length after.records ≡ place + 1
 one_more before after answer place is count = ap (λ (t : Transcript). length t.records) is ∙ omega (arith, length-append before.records (answer ∷ []), count)
 
 pub places-init : goal.places-init

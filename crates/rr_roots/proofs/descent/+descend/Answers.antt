@@ -5,7 +5,7 @@ use Rattle.std.proofs.lemmas.List.{length-append}
 use Rattle.std.proofs.lemmas.Result.{on_ok_weaker, IfOk-from_err}
 use Rattle.gf256.specs.Polynomial.{val}
 use Rattle.bi_poly.specs.Rows.{column}
-use Rattle.rr_roots.specs.Descent.{Appends, IsRootOfSize}
+use Rattle.rr_roots.specs.Descent.{Appends, AppendsRoots, IsRootOfSize}
 use Rattle.rr_roots.proofs.Children.{first_is_below, root_begins, child-nonzero, child-rows, child-roots, child-degree}
 use Rattle.rr_roots.proofs.Levels.{appends-none_yet, appends-skip, appends-more, appends-all}
 use Rattle.rr_roots.proofs.Multiplicities.{multiplicity}
@@ -18,40 +18,42 @@ use Rattle.rr_roots.proofs.descent.+descend.Goals as goal
 positive : (n : ℕ) → n ≢ 0 → 0 < n
 positive n some = omega (arith, some)
 
+-- a byte's place among 256
 in_place : (n b : ℕ) → n ≡ 256 → b < 256 → b < n
 in_place n b size less = omega (arith, size, less)
 
+-- a byte is a place
 fits : (b : ℕ) → b < 256 → Fits w64 b
 fits b less = omega (arith, less)
 
+-- and a byte
 fits_byte : (b : ℕ) → b < 256 → Fits w8 b
 fits_byte b less = omega (arith, less)
 
+-- nothing is less than itself
 never : (n : ℕ) → n < n → ⊥
 never n less = omega (arith, less)
 
+-- with none left nothing is added
 none_left : (n l : ℕ) → l ≡ 0 → n + l ≤ n
 none_left n l none = omega (arith, none)
 
+-- one fewer is left
 fewer : (l t : ℕ) → l ≡ t → l ≢ 0 → l - 1 < t
 fewer l t same some = omega (arith, same, some)
 
-pub returns-then-left-eq0-clause-exact : goal.returns-then-left-eq0-clause-exact
-returns-then-left-eq0-clause-exact g t c =
-    let old = map (λ r. r.items) c.args.roots.now.items in
-    let new = map (λ r. r.items) c.keep_root.new.roots.items in
+pub returns-then-left-eq0-clause-found : goal.returns-then-left-eq0-clause-found
+returns-then-left-eq0-clause-found g t c =
     on_ok_weaker c.keep_root.result
-    (λ (kept : Appends (IsRootOfSize c.args.q 0) c.deref.result.now old new).
-    subst (λ left. Appends (IsRootOfSize c.args.q left) c.args.prefix.now.items old new) (sym c.if-left-eq0.true)
-    (subst (λ prefix. Appends (IsRootOfSize c.args.q 0) prefix old new) c.deref.ensures.value kept))
+    (λ kept. subst (λ left. AppendsRoots c.args.q left c.args.walk.now c.keep_root.new.walk) (sym c.if-left-eq0.true) kept)
     c.keep_root.ensures
 
 pub loop-byte-init : goal.loop-byte-init
 loop-byte-init g t c = record {
   kept = refl;
-  appends = appends-none_yet (IsRootOfSize c.args.q c.args.left) c.args.prefix.now.items (map (λ r. r.items) c.args.roots.now.items);
+  appends = appends-none_yet (IsRootOfSize c.args.q c.args.left) c.args.walk.now.prefix.items (map (λ r. r.items) c.args.walk.now.roots.items);
   most = le-add_right c.args.nodes.now _;
-  least = λ found. absurd (never (length c.args.roots.now.items) found);
+  least = λ found. absurd (never (length c.args.walk.now.roots.items) found);
   rises = le_refl c.args.nodes.now;
 }
 
@@ -105,7 +107,7 @@ loop-byte-preserved-then-index-ne0 g t c =
     let tested : val (column c.in_ok-node.node.q 0) g ≡ c.index.result.now = value-tested g c.index.result.now c.in_ok-node.ensures.values_are less c.index.ensures in
     record {
       kept = c.loop-byte.invariant.kept;
-      appends = appends-skip (IsRootOfSize c.args.q c.args.left) g c.args.prefix.now.items (map (λ r. r.items) c.args.roots.now.items) (map (λ r. r.items) c.loop-byte.roots.items)
+      appends = appends-skip (IsRootOfSize c.args.q c.args.left) g c.args.walk.now.prefix.items (map (λ r. r.items) c.args.walk.now.roots.items) (map (λ r. r.items) c.loop-byte.walk.roots.items)
           c.loop-byte.invariant.appends
           (none_begins s c.args.left g (positive c.args.left c.if-left-eq0.false) (λ z. c.if-index-ne0.true (sym tested ∙ z)));
       most = nodes-skip s c.args.left c.args.nodes.now c.loop-byte.nodes g c.loop-byte.invariant.most;
@@ -123,31 +125,35 @@ loop-byte-preserved g t c =
     let less : g < 256 = c.loop-byte-test.true in
     let some : 0 < left = positive left c.if-left-eq0.false in
     let zero : val p g ≡ 0 = value-zero g c.index.result.now c.in_ok-node.ensures.values_are less c.index.ensures c.if-index-ne0.false in
-    let prefix = c.args.prefix.now.items in
-    let pushed : c.child_at.new.prefix.items ≡ prefix ++ g ∷ [] = with_last prefix c.loop-byte.prefix.items c.child_at.new.prefix.items g c.in_ok-child.ensures.prefix c.loop-byte.invariant.kept in
+    let prefix = c.args.walk.now.prefix.items in
+    let pushed : c.child_at.new.prefix.items ≡ prefix ++ g ∷ [] =
+    with_last prefix c.loop-byte.walk.prefix.items c.child_at.new.prefix.items g c.in_ok-child.ensures.prefix c.loop-byte.invariant.kept in
     let Sub = IsRootOfSize c.in_ok-child.child (left - 1) in
-    let old = map (λ r. r.items) c.args.roots.now.items in
-    let before = map (λ r. r.items) c.loop-byte.roots.items in
-    let new = map (λ r. r.items) c.descend.new.roots.items in
+    let old = map (λ r. r.items) c.args.walk.now.roots.items in
+    let before = map (λ r. r.items) c.loop-byte.walk.roots.items in
+    let new = map (λ r. r.items) c.descend.new.walk.roots.items in
     record {
-      kept = without_last prefix c.child_at.new.prefix.items c.descend.new.prefix.items c.pop.new.self.items g (vec_len c.descend.new.prefix)
-          pushed c.in_ok-descend.ensures.kept c.descend.new.prefix.ok.0 c.pop.ensures.rest;
+      kept = without_last prefix c.child_at.new.prefix.items c.descend.new.walk.prefix.items c.pop.new.self.items g (vec_len c.descend.new.walk.prefix)
+          pushed c.in_ok-descend.ensures.found.kept c.descend.new.walk.prefix.ok.0 c.pop.ensures.rest;
       appends = appends-more (IsRootOfSize c.args.q left) Sub g prefix old before new (root_begins c.args.q left some)
           (λ psi. child-roots s less child left psi some)
           c.loop-byte.invariant.appends
-          (subst (λ prefix. Appends Sub prefix before new) pushed c.in_ok-descend.ensures.exact);
+          (subst (λ prefix. Appends Sub prefix before new) pushed c.in_ok-descend.ensures.found.appends);
       most = nodes-more s left c.args.nodes.now c.loop-byte.nodes c.tick.new.self c.descend.new.nodes g some less zero
           c.loop-byte.invariant.most c.tick.ensures (c.in_ok-descend.ensures.most (multiplicity p g) (child-degree s less child));
       least = nodes-least left c.args.nodes.now c.loop-byte.nodes c.tick.new.self c.descend.new.nodes
-          (length c.args.roots.now.items) (length c.loop-byte.roots.items) (length c.descend.new.roots.items)
+          (length c.args.walk.now.roots.items) (length c.loop-byte.walk.roots.items) (length c.descend.new.walk.roots.items)
           some c.loop-byte.invariant.rises c.tick.ensures c.in_ok-descend.ensures.rises c.loop-byte.invariant.least c.in_ok-descend.ensures.least;
       rises = counted c.args.nodes.now c.loop-byte.nodes c.tick.new.self c.descend.new.nodes c.loop-byte.invariant.rises c.tick.ensures c.in_ok-descend.ensures.rises;
     }
 
-pub returns-clause-exact : goal.returns-clause-exact
-returns-clause-exact g t c =
-    appends-all (IsRootOfSize c.args.q c.args.left) c.loop-byte.byte c.args.prefix.now.items (map (λ r. r.items) c.args.roots.now.items) (map (λ r. r.items) c.loop-byte.roots.items)
-    (first_is_below c.args.q c.args.left c.loop-byte.byte c.loop-byte-test.false) c.loop-byte.invariant.appends
+pub returns-clause-found : goal.returns-clause-found
+returns-clause-found g t c = record {
+  kept = c.loop-byte.invariant.kept;
+  appends = appends-all (IsRootOfSize c.args.q c.args.left) c.loop-byte.byte c.args.walk.now.prefix.items
+      (map (λ r. r.items) c.args.walk.now.roots.items) (map (λ r. r.items) c.loop-byte.walk.roots.items)
+      (first_is_below c.args.q c.args.left c.loop-byte.byte c.loop-byte-test.false) c.loop-byte.invariant.appends;
+}
 
 pub returns-clause-most : goal.returns-clause-most
 returns-clause-most g t c = λ d h.
@@ -178,38 +184,23 @@ returns-in_err-descend-clause-rises g t c = counted c.args.nodes.now c.loop-byte
 pub returns-clause-rises : goal.returns-clause-rises
 returns-clause-rises g t c = c.loop-byte.invariant.rises
 
-pub returns-clause-kept : goal.returns-clause-kept
-returns-clause-kept g t c = c.loop-byte.invariant.kept
-
-pub returns-then-left-eq0-clause-kept : goal.returns-then-left-eq0-clause-kept
-returns-then-left-eq0-clause-kept g t c = on_ok_weaker c.keep_root.result (λ found. refl) c.keep_root.ensures
-
 pub returns-then-left-eq0-clause-least : goal.returns-then-left-eq0-clause-least
 returns-then-left-eq0-clause-least g t c = on_ok_weaker c.keep_root.result (λ found some. none_left c.args.nodes.now c.args.left c.if-left-eq0.true) c.keep_root.ensures
 
-pub returns-in_err-node-clause-kept : goal.returns-in_err-node-clause-kept
-returns-in_err-node-clause-kept g t c = IfOk-from_err c.from_residual.result _ c.from_residual.ensures.0
-
-pub returns-in_err-node-clause-exact : goal.returns-in_err-node-clause-exact
-returns-in_err-node-clause-exact g t c = IfOk-from_err c.from_residual.result _ c.from_residual.ensures.0
+pub returns-in_err-node-clause-found : goal.returns-in_err-node-clause-found
+returns-in_err-node-clause-found g t c = IfOk-from_err c.from_residual.result _ c.from_residual.ensures.0
 
 pub returns-in_err-node-clause-least : goal.returns-in_err-node-clause-least
 returns-in_err-node-clause-least g t c = IfOk-from_err c.from_residual.result _ c.from_residual.ensures.0
 
-pub returns-in_err-child-clause-kept : goal.returns-in_err-child-clause-kept
-returns-in_err-child-clause-kept g t c = IfOk-from_err c.from_residual-in_err-child.result _ c.from_residual-in_err-child.ensures.0
-
-pub returns-in_err-child-clause-exact : goal.returns-in_err-child-clause-exact
-returns-in_err-child-clause-exact g t c = IfOk-from_err c.from_residual-in_err-child.result _ c.from_residual-in_err-child.ensures.0
+pub returns-in_err-child-clause-found : goal.returns-in_err-child-clause-found
+returns-in_err-child-clause-found g t c = IfOk-from_err c.from_residual-in_err-child.result _ c.from_residual-in_err-child.ensures.0
 
 pub returns-in_err-child-clause-least : goal.returns-in_err-child-clause-least
 returns-in_err-child-clause-least g t c = IfOk-from_err c.from_residual-in_err-child.result _ c.from_residual-in_err-child.ensures.0
 
-pub returns-in_err-descend-clause-kept : goal.returns-in_err-descend-clause-kept
-returns-in_err-descend-clause-kept g t c = IfOk-from_err c.from_residual-in_err-descend.result _ c.from_residual-in_err-descend.ensures.0
-
-pub returns-in_err-descend-clause-exact : goal.returns-in_err-descend-clause-exact
-returns-in_err-descend-clause-exact g t c = IfOk-from_err c.from_residual-in_err-descend.result _ c.from_residual-in_err-descend.ensures.0
+pub returns-in_err-descend-clause-found : goal.returns-in_err-descend-clause-found
+returns-in_err-descend-clause-found g t c = IfOk-from_err c.from_residual-in_err-descend.result _ c.from_residual-in_err-descend.ensures.0
 
 pub returns-in_err-descend-clause-least : goal.returns-in_err-descend-clause-least
 returns-in_err-descend-clause-least g t c = IfOk-from_err c.from_residual-in_err-descend.result _ c.from_residual-in_err-descend.ensures.0

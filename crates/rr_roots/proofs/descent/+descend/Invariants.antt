@@ -10,10 +10,10 @@ decreases-descend g l = l.left
 
 abbrev pub invariant-loop-byte : goal.invariant-loop-byte
 invariant-loop-byte g l = record {
-  kept : l.prefix.items ≡ l.initial.prefix.items;
-  appends : Appends (HoldsBelow (IsRootOfSize l.fn.q l.fn.left) l.byte) l.initial.prefix.items
-      (map (λ r. r.items) l.initial.roots.items) (map (λ r. r.items) l.roots.items);
+  kept : l.walk.prefix.items ≡ l.initial.walk.prefix.items;
+  appends : Appends (HoldsBelow (IsRootOfSize l.fn.q l.fn.left) l.byte) l.initial.walk.prefix.items
+      (map (λ r. r.items) l.initial.walk.roots.items) (map (λ r. r.items) l.walk.roots.items);
   most : l.nodes ≤ l.initial.nodes + l.fn.left * roots_below (column l.node.q 0) l.byte;
-  least : length l.initial.roots.items < length l.roots.items → l.initial.nodes + l.fn.left ≤ l.nodes;
+  least : length l.initial.walk.roots.items < length l.walk.roots.items → l.initial.nodes + l.fn.left ≤ l.nodes;
   rises : l.initial.nodes ≤ l.nodes;
 }

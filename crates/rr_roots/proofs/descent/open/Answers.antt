@@ -3,6 +3,7 @@ use Rattle.std.proofs.lemmas.List.{length-map}
 use Rattle.std.proofs.lemmas.Result.{IfOk-from_err}
 use Rattle.rr_roots.proofs.descent.open.Goals as goal
 
+-- what is as much as something at most as much
 fits_in : (a b c d : ℕ) → a ≡ b → b ≤ c → c ≡ d → a ≤ d
 fits_in a b c d same fits rows = omega (arith, same, fits, rows)
 

@@ -1,12 +1,13 @@
-use Rattle.std.proofs.Common.{◌≤◌, ◌∙◌, ℕ, true, inl, inr, refl, sym, subst, arith}
+use Rattle.std.proofs.Common.{◌≤◌, ◌∙◌, ℕ, List, true, inl, inr, refl, sym, subst, arith}
 use Rattle.port_rules.specs.Number.{GUEST}
 use Rattle.port_rules.specs.Whole.{FailsShort}
 use Rattle.port_rules.proofs.Cells.{touches_more}
 use Rattle.wire_frames.specs.declared.header.QueryHeader.{QueryHeader}
 use Rattle.wire_frames.specs.Limits.{IsQuery}
 use Rattle.serve_core.specs.Case.{IsShaped}
-use Rattle.serve_core.specs.Stages.{TakesPayload}
+use Rattle.serve_core.specs.Stages.{GivesRefusal, TakesPayload}
 use Rattle.serve_core.specs.declared.terms.Terms.{Terms}
+use Rattle.serve_core.specs.declared.refusal.Refusal.TheVariants.{Malformed}
 use Rattle.serve_core.proofs.payload.take_into.Goals as goal
 
 -- a database that a query suits has a row
@@ -15,7 +16,9 @@ some_rows terms query range shape = subst (λ (n : ℕ). 1 ≤ n) shape.rows ran
 
 pub prove-unreachable-requires : goal.prove-unreachable-requires
 prove-unreachable-requires g c =
-    let some = c.payload_len-some.ensures.some c.requires.suited.is.is.range.blocks.some_blocks (some_rows c.args.terms c.args.asked.now c.requires.suited.is.is.range c.requires.suited.shape) in
+    let suited = c.requires.suited in
+    let range = suited.is.is.range in
+    let some = c.payload_len-some.ensures.some range.blocks.some_blocks (some_rows c.args.terms c.args.asked.now range suited.shape) in
     omega (arith, some, c.if-prove.true)
 
 pub read_exactly-requires : goal.read_exactly-requires
@@ -45,11 +48,16 @@ returns-in-Ended-clause-handles g c =
 
 pub returns-in-Failed-clause-handles : goal.returns-in-Failed-clause-handles
 returns-in-Failed-clause-handles g c =
-    inr (inr (inr (refl, subst (λ (n : ℕ). FailsShort GUEST n (g.P.Ports.world c.args.ports.now) (g.P.Ports.world c.read_exactly.new.ports)) c.requires.room c.in-Failed.ensures.filled)))
+    let old = g.P.Ports.world c.args.ports.now in
+    let new = g.P.Ports.world c.read_exactly.new.ports in
+    inr (inr (inr (refl, subst (λ (n : ℕ). FailsShort GUEST n old new) c.requires.room c.in-Failed.ensures.filled)))
 
 pub returns-then-some_is_overfull-clause-handles : goal.returns-then-some_is_overfull-clause-handles
 returns-then-some_is_overfull-clause-handles g c =
-    let takes : TakesPayload true c.args.terms c.args.asked.now.count c.read_exactly.new.into (g.P.Ports.world c.args.ports.now) (g.P.Ports.world c.read_exactly.new.ports)
+    let old = g.P.Ports.world c.args.ports.now in
+    let mid = g.P.Ports.world c.read_exactly.new.ports in
+    let new = g.P.Ports.world c.refuse.new.ports in
+    let takes : TakesPayload true c.args.terms c.args.asked.now.count c.read_exactly.new.into old mid
     = record {
       before = c.args.query.now;
       size = c.read_exactly.auto.into ∙ c.requires.room;
@@ -58,10 +66,10 @@ returns-then-some_is_overfull-clause-handles g c =
       unused_is = sym c.some_is_overfull.ensures ∙ c.if-some_is_overfull.true;
     } in
     inr (inl (record {
-      query = c.read_exactly.new.into;
-      mid = g.P.Ports.world c.read_exactly.new.ports;
+      vectors = c.read_exactly.new.into;
+      mid = mid;
       takes = takes;
-      gives = c.refuse.ensures.gives;
+      gives = subst (λ (h : List ℕ). GivesRefusal h Malformed c.refuse.result mid new) c.requires.suited.is.is.spelled c.refuse.ensures.gives;
     }))
 
 pub returns-clause-handles : goal.returns-clause-handles

@@ -8,13 +8,13 @@ use Rattle.server_answer.proofs.four_rows.add_four_rows.Goals as goal
 
 pub loop-i-init : goal.loop-i-init
 loop-i-init c =
-    let g = masked_at c.args.a.now c.args.b.now c.args.c.now c.args.d.now c.args.masks.now (length c.args.a.now) c.args.count in
+    let g = masked_at c.args.rows c.args.masks.now c.args.count in
     let none : 0 ≡ 16 * (0 * c.args.count) = omega arith in
     subst (IsAdded c.args.sums.now c.args.sums.now g 0) none (added-none c.args.sums.now g 0)
 
 pub loop-i-preserved : goal.loop-i-preserved
 loop-i-preserved c =
-    let g = masked_at c.args.a.now c.args.b.now c.args.c.now c.args.d.now c.args.masks.now (length c.args.a.now) c.args.count in
+    let g = masked_at c.args.rows c.args.masks.now c.args.count in
     let n = c.args.count in
     let i = c.loop-i.i in
     let next : 16 * (i * n + n) ≡ 16 * ((i + 1) * n) = grind arith in
@@ -23,7 +23,7 @@ loop-i-preserved c =
 
 pub returns : goal.returns
 returns c = λ p l.
-    let end : c.loop-i.i ≡ div_ceil (length c.args.a.now) 16 = omega arith in
+    let end : c.loop-i.i ≡ div_ceil (length c.args.rows.a.now) 16 = omega arith in
     let places = ap (λ i. 16 * (i * c.args.count)) end in
     c.loop-i.invariant.added p (omega arith) (omega (arith, l, places))
 
@@ -56,7 +56,7 @@ add_block-requires-clause-memory c = omega arith
 
 pub add_block-requires-clause-room : goal.add_block-requires-clause-room
 add_block-requires-clause-room c =
-    omega (arith, row_within c.loop-i.i (div_ceil (length c.args.a.now) 16) c.args.count (omega arith), c.requires.room)
+    omega (arith, row_within c.loop-i.i (div_ceil (length c.args.rows.a.now) 16) c.args.count (omega arith), c.requires.room)
 
 pub loop-i-smaller : goal.loop-i-smaller
 loop-i-smaller c = omega arith

@@ -11,22 +11,22 @@ pub returns-then-few-lt7-clause-sum : goal.returns-then-few-lt7-clause-sum
 returns-then-few-lt7-clause-sum c = λ v k l m.
     let rows = c.args.matrix.now.rows in
     let waiting = c.args.waiting.now in
-    let p = c.args.pattern in
+    let p = c.args.asked.pattern in
     let i = c.args.count - 1 - v in
-    let t = column rows k c.args.j in
+    let t = column rows k c.args.asked.row in
     joined (slice_index c.args.sums.now (v * c.args.matrix.now.width + k)) (waiting_at rows waiting i k) _ (bit_at p i * t)
     (waiting-set rows waiting i k p t c.with.result (omega arith) (omega arith) (c.with.ensures.sum rows k))
 
 pub returns-then-few-lt7-clause-waiting : goal.returns-then-few-lt7-clause-waiting
 returns-then-few-lt7-clause-waiting c =
     let rows = length c.args.matrix.now.rows in
-    are-set rows c.args.waiting.now c.args.pattern c.with.result (omega arith)
-    (c.with.ensures.rows rows (c.requires.waiting c.args.pattern (omega arith)) c.requires.row) c.requires.waiting
+    are-set rows c.args.waiting.now c.args.asked.pattern c.with.result (omega arith)
+    (c.with.ensures.rows rows (c.requires.waiting c.args.asked.pattern (omega arith)) c.requires.row) c.requires.waiting
 
 pub returns-else-few-lt7-clause-waiting : goal.returns-else-few-lt7-clause-waiting
 returns-else-few-lt7-clause-waiting c =
     let rows = length c.args.matrix.now.rows in
-    are-set rows c.args.waiting.now c.args.pattern c.none.result (omega arith)
+    are-set rows c.args.waiting.now c.args.asked.pattern c.none.result (omega arith)
     (none-are rows c.none.result c.none.ensures) c.requires.waiting
 
 pub returns-else-few-lt7-clause-sum : goal.returns-else-few-lt7-clause-sum
@@ -34,10 +34,10 @@ returns-else-few-lt7-clause-sum c = λ v k l m.
     let rows = c.args.matrix.now.rows in
     let width = c.args.matrix.now.width in
     let waiting = c.args.waiting.now in
-    let p = c.args.pattern in
+    let p = c.args.asked.pattern in
     let i = c.args.count - 1 - v in
     let x = slice_index c.args.sums.now (v * width + k) in
-    let t = column rows k c.args.j in
+    let t = column rows k c.args.asked.row in
     let s = few_sum rows k (slice_index_or waiting p no_rows) in
     let size : length c.put_all.new.sum ≡ width = omega arith in
     eight-gone _ x (waiting_at rows waiting i k) _ (bit_at p i) s t (bit_at-lt p i)
@@ -51,7 +51,7 @@ returns-else-few-lt7-clause-sum c = λ v k l m.
 pub returns-then-pattern-eq0-clause-sum : goal.returns-then-pattern-eq0-clause-sum
 returns-then-pattern-eq0-clause-sum c = λ v k l m.
     none-asked (slice_index c.args.sums.now (v * c.args.matrix.now.width + k))
-    (waiting_at c.args.matrix.now.rows c.args.waiting.now (c.args.count - 1 - v) k) c.args.pattern _ _ c.if-pattern-eq0.true
+    (waiting_at c.args.matrix.now.rows c.args.waiting.now (c.args.count - 1 - v) k) c.args.asked.pattern _ _ c.if-pattern-eq0.true
 
 pub returns-then-pattern-eq0-clause-waiting : goal.returns-then-pattern-eq0-clause-waiting
 returns-then-pattern-eq0-clause-waiting c = c.requires.waiting
@@ -79,11 +79,11 @@ bounds-waiting-place-else-few-lt7 c = omega arith
 
 pub put_all-requires-clause-seven : goal.put_all-requires-clause-seven
 put_all-requires-clause-seven c =
-    let rows : AreRows (length c.args.matrix.now.rows) (slice_index_or c.args.waiting.now c.args.pattern no_rows) = c.requires.waiting c.args.pattern (omega arith) in
+    let rows : AreRows (length c.args.matrix.now.rows) (slice_index_or c.args.waiting.now c.args.asked.pattern no_rows) = c.requires.waiting c.args.asked.pattern (omega arith) in
     omega (arith, rows.most)
 
 pub put_all-requires-clause-rows : goal.put_all-requires-clause-rows
-put_all-requires-clause-rows c = c.requires.waiting c.args.pattern (omega arith)
+put_all-requires-clause-rows c = c.requires.waiting c.args.asked.pattern (omega arith)
 
 pub put_all-requires-clause-row : goal.put_all-requires-clause-row
 put_all-requires-clause-row c = c.requires.row

@@ -1,12 +1,6 @@
 use Rattle.std.proofs.Common.{arith, ◌∙◌, sym}
 use Rattle.server_product.proofs.RunSums.{zeros-long}
-use Rattle.server_answer.proofs.AnswerSums.{all-asked}
 use Rattle.server_answer.proofs.gather.sum_in_eights.Goals as goal
-
-pub returns : goal.returns
-returns c =
-    let matrix = c.args.matrix.now in
-    all-asked c.args.bitmaps.now c.add_in_eights.new.sums matrix.rows matrix.width c.args.count c.args.from c.args.to c.add_in_eights.ensures
 
 pub overflow_cast-width : goal.overflow_cast-width
 overflow_cast-width c = omega arith

@@ -2,7 +2,7 @@ use Rattle.std.specs.Int.{div_ceil}
 use Rattle.std.proofs.Common.{◌≡◌, ◌∙◌, slice_index, sym, ap, arith, ◌*◌}
 use Rattle.gf256.specs.Field.{◌⊕◌}
 use Rattle.gf256.proofs.Xor.{add_zero}
-use Rattle.server_answer.specs.Masked.{block_asked}
+use Rattle.server_answer.specs.Group.{group_block_asked}
 use Rattle.server_product.proofs.BlockSums.{quarters, quarters-none, quarters-all, four-more}
 use Rattle.server_answer.proofs.MaskSums.{four-asked}
 use Rattle.chor_xor.specs.Bitmap.{size_of}
@@ -10,24 +10,24 @@ use Rattle.server_answer.proofs.group.add_quarters.Goals as goal
 
 pub loop-i-init : goal.loop-i-init
 loop-i-init c = λ p l.
-    let f = block_asked c.args.bitmaps.now c.args.matrix.now.rows c.args.matrix.now.width c.args.count p in
+    let f = group_block_asked c.args.group p in
     let sum = slice_index c.args.sums.now p in
     sym (ap (◌⊕◌ sum) (quarters-none f c.args.from c.args.quarter) ∙ add_zero sum)
 
 pub loop-i-preserved : goal.loop-i-preserved
 loop-i-preserved c = λ p l.
-    let matrix = c.args.matrix.now in
-    let f = block_asked c.args.bitmaps.now matrix.rows matrix.width c.args.count p in
+    let group = c.args.group in
+    let f = group_block_asked group p in
+    let four = c.four_apart-four.ensures in
     four-more f _ _ (slice_index c.args.sums.now p) _ c.args.from c.args.quarter c.loop-i.i (c.loop-i.invariant p l)
-    (four-asked c.args.bitmaps.now _ _ _ _ _ matrix.rows matrix.width _ c.args.count c.args.from c.args.quarter c.loop-i.i c.div_ceil-size.result p c.requires.some
-    c.requires.wide c.row.ensures.size (c.div_ceil-size.ensures ∙ ap size_of c.rows.ensures.is) c.rows.ensures.matrix c.requires.within c.loop-i-test.true
-    (omega (arith, l, c.requires.room)) c.row.ensures.is c.row-in-loop-i.ensures.is c.row-in-loop-i-2.ensures.is c.row-in-loop-i-3.ensures.is
-    c.set_masks.ensures)
+    (four-asked group.bitmaps.now _ _ group.matrix.now group.count c.args.from c.args.quarter c.loop-i.i c.div_ceil-size.result p c.requires.some
+    c.requires.wide four.width_a (c.div_ceil-size.ensures ∙ ap size_of c.rows.ensures.is) c.rows.ensures.matrix c.requires.within c.loop-i-test.true
+    (omega (arith, l, c.requires.room)) four.a four.b four.c four.d c.set_masks.ensures)
     (c.add_four_rows.ensures p (omega (arith, l, c.loop-i.auto.sums)))
 
 pub returns : goal.returns
 returns c = λ p l.
-    let f = block_asked c.args.bitmaps.now c.args.matrix.now.rows c.args.matrix.now.width c.args.count p in
+    let f = group_block_asked c.args.group p in
     let end : c.loop-i.i ≡ c.args.quarter = omega arith in
     c.loop-i.invariant p l
     ∙ ap (◌⊕◌ (slice_index c.args.sums.now p)) (ap (quarters f c.args.from c.args.quarter) end ∙ quarters-all f c.args.from c.args.quarter)
@@ -57,46 +57,7 @@ pub set_masks-requires-clause-memory : goal.set_masks-requires-clause-memory
 set_masks-requires-clause-memory c = omega arith
 
 pub set_masks-requires-clause-bitmaps : goal.set_masks-requires-clause-bitmaps
-set_masks-requires-clause-bitmaps c = c.requires.bitmaps ∙ ap (λ s. c.args.count * s) (sym (c.div_ceil-size.ensures ∙ ap size_of c.rows.ensures.is))
-
-pub overflow_add-from-in-loop-i : goal.overflow_add-from-in-loop-i
-overflow_add-from-in-loop-i c = omega arith
-
-pub row-requires : goal.row-requires
-row-requires c = omega arith
-
-pub overflow_add-from-in-loop-i-2 : goal.overflow_add-from-in-loop-i-2
-overflow_add-from-in-loop-i-2 c = omega arith
-
-pub overflow_add-from-in-loop-i-3 : goal.overflow_add-from-in-loop-i-3
-overflow_add-from-in-loop-i-3 c = omega arith
-
-pub row-requires-in-loop-i : goal.row-requires-in-loop-i
-row-requires-in-loop-i c = omega arith
-
-pub overflow_mul-quarter : goal.overflow_mul-quarter
-overflow_mul-quarter c = omega arith
-
-pub overflow_add-from-in-loop-i-4 : goal.overflow_add-from-in-loop-i-4
-overflow_add-from-in-loop-i-4 c = omega arith
-
-pub overflow_add-from-in-loop-i-5 : goal.overflow_add-from-in-loop-i-5
-overflow_add-from-in-loop-i-5 c = omega arith
-
-pub row-requires-in-loop-i-2 : goal.row-requires-in-loop-i-2
-row-requires-in-loop-i-2 c = omega arith
-
-pub overflow_mul-quarter-in-loop-i : goal.overflow_mul-quarter-in-loop-i
-overflow_mul-quarter-in-loop-i c = omega arith
-
-pub overflow_add-from-in-loop-i-6 : goal.overflow_add-from-in-loop-i-6
-overflow_add-from-in-loop-i-6 c = omega arith
-
-pub overflow_add-from-in-loop-i-7 : goal.overflow_add-from-in-loop-i-7
-overflow_add-from-in-loop-i-7 c = omega arith
-
-pub row-requires-in-loop-i-3 : goal.row-requires-in-loop-i-3
-row-requires-in-loop-i-3 c = omega arith
+set_masks-requires-clause-bitmaps c = c.requires.bitmaps ∙ ap (λ s. c.args.group.count * s) (sym (c.div_ceil-size.ensures ∙ ap size_of c.rows.ensures.is))
 
 pub slice_bounds-add_four_rows-end : goal.slice_bounds-add_four_rows-end
 slice_bounds-add_four_rows-end c = omega arith
@@ -127,7 +88,7 @@ add_four_rows-requires-clause-few c = c.requires.few
 
 pub add_four_rows-requires-clause-room : goal.add_four_rows-requires-clause-room
 add_four_rows-requires-clause-room c =
-    c.loop-i.auto.sums ∙ c.requires.room ∙ ap (λ w. 16 * (div_ceil w 16 * c.args.count)) (sym c.row.ensures.size)
+    c.loop-i.auto.sums ∙ c.requires.room ∙ ap (λ w. 16 * (div_ceil w 16 * c.args.group.count)) (sym c.four_apart-four.ensures.width_a)
 
 pub loop-i-smaller : goal.loop-i-smaller
 loop-i-smaller c = omega arith

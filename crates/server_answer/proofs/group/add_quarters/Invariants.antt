@@ -1,10 +1,10 @@
 use Rattle.std.proofs.Common.{◌≡◌, ℕ, ◌<◌, length, slice_index}
 use Rattle.gf256.specs.Field.{◌⊕◌}
-use Rattle.server_answer.specs.Masked.{block_asked}
+use Rattle.server_answer.specs.Group.{group_block_asked}
 use Rattle.server_product.proofs.BlockSums.{quarters}
 use Rattle.server_answer.proofs.group.add_quarters.Given as goal
 
 abbrev pub invariant-loop-i : goal.invariant-loop-i
 invariant-loop-i l = (p : ℕ) → p < length l.fn.sums
     → slice_index l.sums p
-    ≡ slice_index l.fn.sums p ⊕ quarters (block_asked l.bitmaps l.matrix.rows l.matrix.width l.count p) l.from l.quarter l.i
+    ≡ slice_index l.fn.sums p ⊕ quarters (group_block_asked l.group p) l.from l.quarter l.i

@@ -1,27 +1,28 @@
 use Rattle.std.proofs.Common.{◌+◌, ◌*◌, slice_range, ap, ◌∙◌, arith}
 use Rattle.chor_xor.specs.Bitmap.{size_of}
 use Rattle.chor_xor.specs.Chosen.{given}
-use Rattle.server_answer.specs.Asked.{asked}
+use Rattle.server_answer.specs.Group.{group_asked}
 use Rattle.server_product.proofs.QuerySums.{rest-done, rest-kept, part_fits}
 use Rattle.server_answer.proofs.MaskSums.{given-is}
 use Rattle.server_answer.proofs.group.add_rest.Goals as goal
 
 pub loop-v-preserved : goal.loop-v-preserved
 loop-v-preserved c =
-    let matrix = c.args.matrix.now in
-    let bitmaps = c.args.bitmaps.now in
+    let group = c.args.group in
+    let matrix = group.matrix.now in
+    let bitmaps = group.bitmaps.now in
     let v = c.loop-v.v in
     let r = c.div_ceil-size.result in
     let room = c.loop-v.auto.sums ∙ c.requires.room in
     record {
       done =
-          rest-done c.loop-v.sums c.add_chosen_rows.new.sum c.args.sums.now matrix.width c.args.count v c.args.from c.args.to c.width-width.result
+          rest-done c.loop-v.sums c.add_chosen_rows.new.sum c.args.sums.now matrix.width c.args.group.count v c.args.from c.args.to c.width-width.result
           c.width-width.ensures.is c.loop-v-test.true room c.add_chosen_rows.auto.sum c.loop-v.invariant.kept
-          (asked bitmaps matrix.rows matrix.width) (given (slice_range bitmaps (v * r) ((v + 1) * r)) matrix.rows)
+          (group_asked group) (given (slice_range bitmaps (v * r) ((v + 1) * r)) matrix.rows)
           c.add_chosen_rows.ensures (λ k j l a b. given-is bitmaps matrix.rows matrix.width v r k j (c.div_ceil-size.ensures ∙ ap size_of c.rows.ensures.is) l)
           c.loop-v.invariant.done;
       kept =
-          rest-kept c.loop-v.sums c.add_chosen_rows.new.sum c.args.sums.now matrix.width c.args.count v c.args.from c.args.to c.width-width.result
+          rest-kept c.loop-v.sums c.add_chosen_rows.new.sum c.args.sums.now matrix.width c.args.group.count v c.args.from c.args.to c.width-width.result
           c.width-width.ensures.is c.loop-v-test.true room c.add_chosen_rows.auto.sum c.loop-v.invariant.kept;
     }
 
@@ -66,24 +67,24 @@ add_chosen_rows-requires-clause-room c = omega arith
 
 pub overflow_mul-bitmap : goal.overflow_mul-bitmap
 overflow_mul-bitmap c =
-    omega (arith, part_fits c.loop-v.v c.args.count c.div_ceil-size.result _ _ (omega arith) (c.div_ceil-size.ensures ∙ ap size_of c.rows.ensures.is) c.requires.bitmaps)
+    omega (arith, part_fits c.loop-v.v c.args.group.count c.div_ceil-size.result _ _ (omega arith) (c.div_ceil-size.ensures ∙ ap size_of c.rows.ensures.is) c.requires.bitmaps)
 
 pub overflow_mul-bitmap-in-loop-v : goal.overflow_mul-bitmap-in-loop-v
 overflow_mul-bitmap-in-loop-v c =
-    omega (arith, part_fits (c.loop-v.v + 1) c.args.count c.div_ceil-size.result _ _ (omega arith) (c.div_ceil-size.ensures ∙ ap size_of c.rows.ensures.is) c.requires.bitmaps)
+    omega (arith, part_fits (c.loop-v.v + 1) c.args.group.count c.div_ceil-size.result _ _ (omega arith) (c.div_ceil-size.ensures ∙ ap size_of c.rows.ensures.is) c.requires.bitmaps)
 
 pub slice_bounds-bitmap-end : goal.slice_bounds-bitmap-end
 slice_bounds-bitmap-end c =
-    omega (arith, part_fits (c.loop-v.v + 1) c.args.count c.div_ceil-size.result _ _ (omega arith) (c.div_ceil-size.ensures ∙ ap size_of c.rows.ensures.is) c.requires.bitmaps)
+    omega (arith, part_fits (c.loop-v.v + 1) c.args.group.count c.div_ceil-size.result _ _ (omega arith) (c.div_ceil-size.ensures ∙ ap size_of c.rows.ensures.is) c.requires.bitmaps)
 
 pub overflow_mul-v : goal.overflow_mul-v
 overflow_mul-v c =
-    omega (arith, part_fits c.loop-v.v c.args.count c.width-width.result _ _ (omega arith) c.width-width.ensures.is c.requires.room)
+    omega (arith, part_fits c.loop-v.v c.args.group.count c.width-width.result _ _ (omega arith) c.width-width.ensures.is c.requires.room)
 
 pub overflow_mul-v-in-loop-v : goal.overflow_mul-v-in-loop-v
 overflow_mul-v-in-loop-v c =
-    omega (arith, part_fits (c.loop-v.v + 1) c.args.count c.width-width.result _ _ (omega arith) c.width-width.ensures.is c.requires.room)
+    omega (arith, part_fits (c.loop-v.v + 1) c.args.group.count c.width-width.result _ _ (omega arith) c.width-width.ensures.is c.requires.room)
 
 pub slice_bounds-add_chosen_rows-end : goal.slice_bounds-add_chosen_rows-end
 slice_bounds-add_chosen_rows-end c =
-    omega (arith, part_fits (c.loop-v.v + 1) c.args.count c.width-width.result _ _ (omega arith) c.width-width.ensures.is (c.loop-v.auto.sums ∙ c.requires.room))
+    omega (arith, part_fits (c.loop-v.v + 1) c.args.group.count c.width-width.result _ _ (omega arith) c.width-width.ensures.is (c.loop-v.auto.sums ∙ c.requires.room))

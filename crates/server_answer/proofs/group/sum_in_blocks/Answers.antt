@@ -1,6 +1,5 @@
 use Rattle.std.proofs.Common.{◌≡◌, ℕ, ◌+◌, ◌*◌, ◌<◌, ◌∙◌, slice_index, subst, arith}
-use Rattle.server_answer.specs.Asked.{asked}
-use Rattle.server_answer.specs.Masked.{block_asked}
+use Rattle.server_answer.specs.Group.{group_asked, group_block_asked}
 use Rattle.server_product.specs.Blocks.{place_of}
 use Rattle.server_product.proofs.BlockSums.{group-sums}
 use Rattle.server_answer.proofs.MaskSums.{asked-there}
@@ -8,12 +7,13 @@ use Rattle.server_answer.proofs.group.sum_in_blocks.Goals as goal
 
 pub returns : goal.returns
 returns c =
-    let matrix = c.args.matrix.now in
-    let n = c.args.count in
-    group-sums (asked c.args.bitmaps.now matrix.rows matrix.width) (block_asked c.args.bitmaps.now matrix.rows matrix.width n)
+    let group = c.args.group in
+    let matrix = group.matrix.now in
+    let n = group.count in
+    group-sums (group_asked group) (group_block_asked group)
     c.args.blocks.now c.add_quarters.new.sums c.lay_out.new.sums c.add_rest.new.sums matrix.width n c.args.from
     (c.args.from + 4 * c.share_of-quarter.result) c.args.to c.requires.wide (omega arith) (omega arith) c.requires.zeros
-    (λ v k j l m. asked-there matrix.width n v k l c.requires.wide m c.args.bitmaps.now matrix.rows j)
+    (λ v k j l m. asked-there matrix.width n v k l c.requires.wide m group.bitmaps.now matrix.rows j)
     (λ p l. c.add_quarters.ensures p (omega (arith, c.requires.blocks, l)))
     (subst (λ w. (v k : ℕ) → v < n → k < w → slice_index c.lay_out.new.sums (v * w + k) ≡ slice_index c.add_quarters.new.sums (place_of w n v k)) c.width-2.ensures.is c.lay_out.ensures)
     c.add_rest.ensures

@@ -1,4 +1,4 @@
-use Rattle.std.proofs.Common.{◌≡◌, ◌≤◌, ◌+◌, ◌*◌, length, subst, refl, arith, mul-le-mul}
+use Rattle.std.proofs.Common.{◌≡◌, ◌≤◌, ◌+◌, ◌*◌, length, subst, arith, mul-le-mul}
 use Rattle.gf256.specs.Rows.{IsAdded}
 use Rattle.gf256.proofs.Added.{added-none}
 use Rattle.server_product.specs.Blocks.{four_at}
@@ -7,23 +7,22 @@ use Rattle.server_product.proofs.four_rows.add_block.Goals as goal
 
 pub loop-v-init : goal.loop-v-init
 loop-v-init c =
-    let g = four_at c.args.a.now c.args.b.now c.args.c.now c.args.d.now c.args.factors.now (length c.args.a.now) c.args.count in
+    let g = four_at c.args.rows c.args.factors.now c.args.count in
     let none : 16 * (c.args.i * c.args.count) ≡ 16 * (c.args.i * c.args.count + 0) = omega arith in
     subst (IsAdded c.args.sums.now c.args.sums.now g (16 * (c.args.i * c.args.count))) none (added-none c.args.sums.now g (16 * (c.args.i * c.args.count)))
 
 pub loop-v-preserved : goal.loop-v-preserved
 loop-v-preserved c =
-    let g = four_at c.args.a.now c.args.b.now c.args.c.now c.args.d.now c.args.factors.now (length c.args.a.now) c.args.count in
+    let g = four_at c.args.rows c.args.factors.now c.args.count in
     let b = c.args.i * c.args.count in
     let v = c.loop-v.v in
     let next : 16 * (b + v) + 16 ≡ 16 * (b + (v + 1)) = omega arith in
     let room : 16 * (b + v) + 16 ≤ length c.loop-v.sums = omega arith in
     subst (IsAdded _ c.args.sums.now g (16 * b)) next
-    (block-put c.loop-v.sums c.args.sums.now c.args.a.now c.args.b.now c.args.c.now c.args.d.now c.args.factors.now
+    (block-put c.loop-v.sums c.args.sums.now c.args.rows c.args.factors.now
     c.at-in_a.result c.at-in_b.result c.at-in_c.result c.at-in_d.result
-    c.times.result c.times-in-loop-v.result c.times-in-loop-v-2.result c.times-in-loop-v-3.result _ _ _ _ (length c.args.a.now) c.args.count c.args.i v
-    (16 * b) c.start_of-start.result
-    c.requires.wide refl c.requires.b c.requires.c c.requires.d (omega arith) room (omega arith) c.start_of-start.ensures refl refl refl refl
+    c.times.result c.times-in-loop-v.result c.times-in-loop-v-2.result c.times-in-loop-v-3.result c.args.count c.args.i v (16 * b) c.start_of-start.result
+    c.requires.wide c.requires.b c.requires.c c.requires.d (omega arith) room (omega arith) c.start_of-start.ensures
     c.at-in_a.ensures c.at-in_b.ensures c.at-in_c.ensures c.at-in_d.ensures
     c.times.ensures c.times-in-loop-v.ensures c.times-in-loop-v-2.ensures c.times-in-loop-v-3.ensures c.loop-v.invariant)
 
@@ -104,7 +103,7 @@ loop-v-smaller c = omega arith
 
 pub returns : goal.returns
 returns c =
-    let g = four_at c.args.a.now c.args.b.now c.args.c.now c.args.d.now c.args.factors.now (length c.args.a.now) c.args.count in
+    let g = four_at c.args.rows c.args.factors.now c.args.count in
     let b = c.args.i * c.args.count in
     let end : c.loop-v.v ≡ c.args.count = omega arith in
     subst (λ v. IsAdded c.loop-v.sums c.args.sums.now g (16 * b) (16 * (b + v))) end c.loop-v.invariant

@@ -4,7 +4,7 @@ use Rattle.gf256.proofs.Xor.{add_zero, add_assoc}
 use Rattle.gf256.specs.Sums.{run_sum}
 use Rattle.server_product.specs.Runs.{term}
 use Rattle.server_product.specs.Gathered.{held_sum, waiting_sum, FewAreOf}
-use Rattle.server_product.specs.declared.gather.Few.TheVariants.{Empty}
+use Rattle.server_product.specs.declared.gather.UpToThree.TheVariants.{Empty}
 use Rattle.gf256.proofs.RunSums.{run-none, run-next}
 use Rattle.server_product.proofs.Gathering.{waiting-none, none-are}
 use Rattle.server_product.proofs.gather.add_in_trios.Goals as goal

@@ -3,7 +3,7 @@ use Rattle.gf256.specs.Field.{◌⊕◌}
 use Rattle.gf256.specs.Sums.{run_sum}
 use Rattle.server_product.specs.Runs.{term}
 use Rattle.server_product.specs.Gathered.{held_sum, waiting_sum, FewAreOf, HeldAreAlike}
-use Rattle.server_product.specs.declared.gather.Few.TheVariants.{Empty}
+use Rattle.server_product.specs.declared.gather.UpToThree.TheVariants.{Empty}
 use Rattle.server_product.proofs.gather.add_in_trios.Given as goal
 
 abbrev pub invariant-loop-j : goal.invariant-loop-j

@@ -2,7 +2,7 @@ use Rattle.std.proofs.Common.{◌∙◌, ◌<◌, sym, ap, subst, slice_index}
 use Rattle.gf256.specs.Field.{◌⊕◌}
 use Rattle.server_product.specs.Runs.{term}
 use Rattle.server_product.specs.Gathered.{held_sum, three_sum, HeldAreRows}
-use Rattle.server_product.proofs.RunSums.{six-terms}
+use Rattle.server_product.proofs.SixSums.{six-terms}
 use Rattle.server_product.proofs.Gathering.{plus-none, six-and-none}
 use Rattle.server_product.proofs.gather.add_six.Goals as goal
 
@@ -32,9 +32,8 @@ returns-in-Some-clause-sum c = λ k.
     ap (λ y. y ⊕ 0)
     (c.add_six_rows.ensures k
     ∙ ap (◌⊕◌ x)
-    (six-terms q rows k o.a o.b o.c t.a t.b t.c _ _ _ _ _ _ _ _ _ _ _ _
-    s.ensures.row s2.ensures.row s3.ensures.row s4.ensures.row s5.ensures.row s6.ensures.row
-    s.ensures.factor s2.ensures.factor s3.ensures.factor s4.ensures.factor s5.ensures.factor s6.ensures.factor))
+    (six-terms _ k _ _ _ _ _ _
+    (s.ensures.term k) (s2.ensures.term k) (s3.ensures.term k) (s4.ensures.term k) (s5.ensures.term k) (s6.ensures.term k)))
     ∙ six-and-none x (term q rows k o.a) (term q rows k o.b) (term q rows k o.c) (term q rows k t.a) (term q rows k t.b) (term q rows k t.c)
     ∙ sym (ap (λ left. x ⊕ held_sum q rows k left ⊕ three_sum q rows k t) c.in-Some.is)
 

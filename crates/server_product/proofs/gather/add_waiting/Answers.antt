@@ -2,7 +2,7 @@ use Rattle.std.proofs.Common.{◌∙◌, ◌+◌, drop, sym, ap, ap₂, arith, s
 use Rattle.gf256.specs.Field.{◌⊕◌}
 use Rattle.gf256.proofs.Xor.{add_zero, zero_add, add_assoc}
 use Rattle.server_product.specs.Gathered.{few_sum, held_sum, rest_sum, waiting_sum}
-use Rattle.server_product.specs.declared.gather.Few.TheVariants.{Empty}
+use Rattle.server_product.specs.declared.gather.UpToThree.TheVariants.{Empty}
 use Rattle.server_product.proofs.Gathering.{waiting-next, waiting-end, are-rows}
 use Rattle.server_product.proofs.gather.add_waiting.Goals as goal
 

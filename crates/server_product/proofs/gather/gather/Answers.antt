@@ -3,7 +3,7 @@ use Rattle.gf256.specs.Field.{◌⊕◌}
 use Rattle.gf256.proofs.Xor.{zero_add}
 use Rattle.server_product.specs.Runs.{term}
 use Rattle.server_product.specs.Gathered.{few_sum, three_sum, held_sum, waiting_sum, FewAreOf}
-use Rattle.server_product.specs.declared.gather.Few.TheVariants.{Empty, One, Two, All}
+use Rattle.server_product.specs.declared.gather.UpToThree.TheVariants.{Empty, One, Two, All}
 use Rattle.server_product.proofs.Gathering.{waiting-set, joined-waiting, three-gone, alike, set-are-of}
 use Rattle.server_product.proofs.gather.gather.Goals as goal
 

@@ -1,25 +1,26 @@
 use Rattle.std.proofs.Common.{◌+◌, ◌*◌, slice_range, ◌∙◌, arith}
 use Rattle.server_product.specs.Runs.{term}
-use Rattle.server_product.specs.Queries.{entry}
+use Rattle.server_product.specs.Group.{group_entry}
 use Rattle.server_product.proofs.QuerySums.{rest-done, rest-kept, term-is, part_fits}
 use Rattle.server_product.proofs.group.add_rest.Goals as goal
 
 pub loop-v-preserved : goal.loop-v-preserved
 loop-v-preserved c =
-    let matrix = c.args.matrix.now in
-    let queries = c.args.queries.now in
+    let group = c.args.group in
+    let matrix = group.matrix.now in
+    let queries = group.queries.now in
     let v = c.loop-v.v in
     let r = c.rows-rows.result in
     let room = c.loop-v.auto.sums ∙ c.requires.room in
     record {
       done =
-          rest-done c.loop-v.sums c.add_in_sixths.new.sums c.args.sums.now matrix.width c.args.count v c.args.from c.args.to c.width-width.result
+          rest-done c.loop-v.sums c.add_in_sixths.new.sums c.args.sums.now matrix.width c.args.group.count v c.args.from c.args.to c.width-width.result
           c.width-width.ensures.is c.loop-v-test.true room c.add_in_sixths.auto.sums c.loop-v.invariant.kept
-          (entry queries matrix.rows matrix.width) (term (slice_range queries (v * r) ((v + 1) * r)) matrix.rows)
+          (group_entry group) (term (slice_range queries (v * r) ((v + 1) * r)) matrix.rows)
           c.add_in_sixths.ensures (λ k j l a b. term-is queries matrix.rows matrix.width v r k j c.rows-rows.ensures.is l (omega (arith, b, c.requires.within)))
           c.loop-v.invariant.done;
       kept =
-          rest-kept c.loop-v.sums c.add_in_sixths.new.sums c.args.sums.now matrix.width c.args.count v c.args.from c.args.to c.width-width.result
+          rest-kept c.loop-v.sums c.add_in_sixths.new.sums c.args.sums.now matrix.width c.args.group.count v c.args.from c.args.to c.width-width.result
           c.width-width.ensures.is c.loop-v-test.true room c.add_in_sixths.auto.sums c.loop-v.invariant.kept;
     }
 
@@ -60,19 +61,19 @@ pub add_in_sixths-requires-clause-room : goal.add_in_sixths-requires-clause-room
 add_in_sixths-requires-clause-room c = omega arith
 
 pub overflow_mul-query : goal.overflow_mul-query
-overflow_mul-query c = omega (arith, part_fits c.loop-v.v c.args.count c.rows-rows.result _ _ (omega arith) c.rows-rows.ensures.is c.requires.queries)
+overflow_mul-query c = omega (arith, part_fits c.loop-v.v c.args.group.count c.rows-rows.result _ _ (omega arith) c.rows-rows.ensures.is c.requires.queries)
 
 pub overflow_mul-query-in-loop-v : goal.overflow_mul-query-in-loop-v
-overflow_mul-query-in-loop-v c = omega (arith, part_fits (c.loop-v.v + 1) c.args.count c.rows-rows.result _ _ (omega arith) c.rows-rows.ensures.is c.requires.queries)
+overflow_mul-query-in-loop-v c = omega (arith, part_fits (c.loop-v.v + 1) c.args.group.count c.rows-rows.result _ _ (omega arith) c.rows-rows.ensures.is c.requires.queries)
 
 pub slice_bounds-query-end : goal.slice_bounds-query-end
-slice_bounds-query-end c = omega (arith, part_fits (c.loop-v.v + 1) c.args.count c.rows-rows.result _ _ (omega arith) c.rows-rows.ensures.is c.requires.queries)
+slice_bounds-query-end c = omega (arith, part_fits (c.loop-v.v + 1) c.args.group.count c.rows-rows.result _ _ (omega arith) c.rows-rows.ensures.is c.requires.queries)
 
 pub overflow_mul-v : goal.overflow_mul-v
-overflow_mul-v c = omega (arith, part_fits c.loop-v.v c.args.count c.width-width.result _ _ (omega arith) c.width-width.ensures.is c.requires.room)
+overflow_mul-v c = omega (arith, part_fits c.loop-v.v c.args.group.count c.width-width.result _ _ (omega arith) c.width-width.ensures.is c.requires.room)
 
 pub overflow_mul-v-in-loop-v : goal.overflow_mul-v-in-loop-v
-overflow_mul-v-in-loop-v c = omega (arith, part_fits (c.loop-v.v + 1) c.args.count c.width-width.result _ _ (omega arith) c.width-width.ensures.is c.requires.room)
+overflow_mul-v-in-loop-v c = omega (arith, part_fits (c.loop-v.v + 1) c.args.group.count c.width-width.result _ _ (omega arith) c.width-width.ensures.is c.requires.room)
 
 pub slice_bounds-add_in_sixths-end : goal.slice_bounds-add_in_sixths-end
-slice_bounds-add_in_sixths-end c = omega (arith, part_fits (c.loop-v.v + 1) c.args.count c.width-width.result _ _ (omega arith) c.width-width.ensures.is (c.loop-v.auto.sums ∙ c.requires.room))
+slice_bounds-add_in_sixths-end c = omega (arith, part_fits (c.loop-v.v + 1) c.args.group.count c.width-width.result _ _ (omega arith) c.width-width.ensures.is (c.loop-v.auto.sums ∙ c.requires.room))

@@ -1,12 +1,10 @@
-use Rattle.std.proofs.Common.{◌≡◌, ℕ, ◌*◌, ◌<◌, ◌≤◌, slice_index}
-use Rattle.gf256.specs.Field.{◌⊕◌}
-use Rattle.gf256.specs.Sums.{run_sum}
-use Rattle.server_product.specs.Queries.{entry}
+use Rattle.std.proofs.Common.{◌≡◌, ℕ, ◌*◌, ◌≤◌, slice_index}
+use Rattle.server_product.specs.RowSums.{AddsSums}
+use Rattle.server_product.specs.Group.{group_entry}
 use Rattle.server_product.proofs.group.add_rest.Given as goal
 
 abbrev pub invariant-loop-v : goal.invariant-loop-v
 invariant-loop-v l = record {
-  done : (p : ℕ) → p < l.v * l.matrix.width → slice_index l.sums p
-      ≡ slice_index l.fn.sums p ⊕ run_sum (entry l.queries l.matrix.rows l.matrix.width p) l.from l.to;
-  kept : (p : ℕ) → l.v * l.matrix.width ≤ p → slice_index l.sums p ≡ slice_index l.fn.sums p;
+  done : AddsSums (group_entry l.group) (l.v * l.group.matrix.now.width) l.from l.to l.fn.sums l.sums;
+  kept : (p : ℕ) → l.v * l.group.matrix.now.width ≤ p → slice_index l.sums p ≡ slice_index l.fn.sums p;
 }

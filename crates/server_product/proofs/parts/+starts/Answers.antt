@@ -1,5 +1,6 @@
 use Rattle.std.proofs.Common.{◌≡◌, ◌≤◌, ◌+◌, ◌*◌, length, ap, refl, sym, subst, add-mul, arith, rules}
 use Rattle.std.proofs.Math.Nat.{mul-le-mul_right}
+use Rattle.server_product.specs.Parts.{Accepts, OfParts}
 use Rattle.server_product.proofs.Workers.{joined, last}
 use Rattle.server_product.proofs.parts.+starts.Goals as goal
 
@@ -23,7 +24,8 @@ run_from-returns-then-first-workers g t c =
 pub run_from-returns : goal.run_from-returns
 run_from-returns g t c =
     joined (g.T.Task.leaves c.args.task.now) c.args.first c.args.workers c.args.size c.run_both.new.own c.run_both.new.others
-    (omega (arith, c.run_both.auto.own, c.split_at_mut-own.ensures.front_len)) c.run_both.ensures.own c.run_both.ensures.others
+    (omega (arith, c.run_both.auto.own, c.split_at_mut-own.ensures.front_len)) c.run_both.ensures.own
+    (subst (λ n. OfParts (g.T.Task.leaves c.args.task.now) (c.args.first + 1) c.args.workers n c.run_both.new.others) c.split_at_mut-own.ensures.front_len c.run_both.ensures.others)
 
 pub run_from-run-requires : goal.run_from-run-requires
 run_from-run-requires g t c =
@@ -36,7 +38,12 @@ run_from-run_both-requires g t c κs within =
     let size = c.args.size in
     let more : (c.args.first + 1) * size ≤ c.args.workers * size = mul-le-mul_right size (omega arith) in
     let cut = c.split_at_mut-own in
-    let own = subst (g.T.Task.accepts c.args.task.now c.args.first) (sym cut.ensures.front_len) (c.requires.accepts c.args.first c.requires.first) in (
+    let long = sym cut.ensures.front_len in
+    let own = subst (g.T.Task.accepts c.args.task.now c.args.first) long (c.requires.accepts c.args.first c.requires.first) in
+    let others : length cut.result.1.now + (c.args.first + 1) * size ≡ c.args.workers * size =
+    omega (arith, more, add-mul c.args.first 1 size, c.requires.parts, cut.ensures.back_len) in
+    let accepts = subst (Accepts (g.T.Task.accepts c.args.task.now) c.args.workers) long c.requires.accepts in
+    let room = subst (λ n. length cut.result.1.now + (c.args.first + 1) * n ≡ c.args.workers * n) long others in (
       omega arith,
       (
         within.0,
@@ -44,7 +51,7 @@ run_from-run_both-requires g t c κs within =
           within.1,
           (
             search rules,
-            (search rules, (omega arith, (own, (omega (arith, more, add-mul c.args.first 1 size, c.requires.parts, cut.ensures.back_len), c.requires.accepts)))),
+            (search rules, (omega arith, (own, (room, accepts)))),
           ),
         ),
       ),

@@ -6,9 +6,7 @@ use Rattle.server_product.proofs.six_rows.add_six_rows.Given as goal
 abbrev pub invariant-lanes : goal.invariant-lanes
 invariant-lanes l = record {
   within : l.at ≤ l.last + 16;
-  summed :
-      IsAdded l.acc l.initial.acc
-      (six_at l.a.row.now l.b.row.now l.c.row.now l.d.row.now l.e.row.now l.f.row.now l.by_a l.by_b l.by_c l.by_d l.by_e l.by_f) 0 l.at;
+  summed : IsAdded l.acc l.initial.acc (six_at l.six) 0 l.at;
 }
 
 abbrev pub decreases-lanes : goal.decreases-lanes

@@ -6,31 +6,22 @@ use Rattle.server_product.proofs.SixSums.{six-past, six-place}
 use Rattle.server_product.proofs.six_rows.add_six_short.Goals as goal
 
 pub loop-i-init : goal.loop-i-init
-loop-i-init c =
-    added-none c.args.acc.now
-    (six_at c.args.a.row.now c.args.b.row.now c.args.c.row.now c.args.d.row.now c.args.e.row.now c.args.f.row.now
-    c.args.a.factor c.args.b.factor c.args.c.factor c.args.d.factor c.args.e.factor c.args.f.factor) 0
+loop-i-init c = added-none c.args.acc.now (six_at c.args.six) 0
 
 pub loop-i-preserved : goal.loop-i-preserved
 loop-i-preserved c =
-    added-place c.loop-i.acc c.args.acc.now
-    (six_at c.args.a.row.now c.args.b.row.now c.args.c.row.now c.args.d.row.now c.args.e.row.now c.args.f.row.now
-    c.args.a.factor c.args.b.factor c.args.c.factor c.args.d.factor c.args.e.factor c.args.f.factor)
-    0 c.loop-i.i _ (omega arith) (omega arith)
-    (six-place c.args.a.row.now c.args.b.row.now c.args.c.row.now c.args.d.row.now c.args.e.row.now c.args.f.row.now
-    c.args.a.factor c.args.b.factor c.args.c.factor c.args.d.factor c.args.e.factor c.args.f.factor c.loop-i.i _ _ _ _ _ _
+    added-place c.loop-i.acc c.args.acc.now (six_at c.args.six) 0 c.loop-i.i _ (omega arith) (omega arith)
+    (six-place c.args.six c.loop-i.i _ _ _ _ _ _
     c.mul.ensures c.mul-in-loop-i.ensures c.mul-in-loop-i-2.ensures c.mul-in-loop-i-3.ensures c.mul-in-loop-i-4.ensures c.mul-in-loop-i-5.ensures)
     c.loop-i.invariant
 
 pub returns : goal.returns
 returns c =
-    let g = six_at c.args.a.row.now c.args.b.row.now c.args.c.row.now c.args.d.row.now c.args.e.row.now c.args.f.row.now
-    c.args.a.factor c.args.b.factor c.args.c.factor c.args.d.factor c.args.e.factor c.args.f.factor in
+    let g = six_at c.args.six in
     let n = length c.args.acc.now in
     let end : c.loop-i.i ≡ n = omega arith in
     added-all c.loop-i.acc c.args.acc.now g n
-    (six-past c.args.a.row.now c.args.b.row.now c.args.c.row.now c.args.d.row.now c.args.e.row.now c.args.f.row.now
-    c.args.a.factor c.args.b.factor c.args.c.factor c.args.d.factor c.args.e.factor c.args.f.factor n c.requires.a c.requires.b c.requires.c c.requires.d c.requires.e c.requires.f)
+    (six-past c.args.six n c.requires.a c.requires.b c.requires.c c.requires.d c.requires.e c.requires.f)
     (subst (IsAdded c.loop-i.acc c.args.acc.now g 0) end c.loop-i.invariant)
 
 pub bounds-a-i : goal.bounds-a-i

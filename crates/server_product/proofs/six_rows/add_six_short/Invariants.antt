@@ -3,7 +3,4 @@ use Rattle.gf256.specs.Rows.{IsAdded}
 use Rattle.server_product.proofs.six_rows.add_six_short.Given as goal
 
 abbrev pub invariant-loop-i : goal.invariant-loop-i
-invariant-loop-i l =
-    IsAdded l.acc l.initial.acc
-    (six_at l.a.row.now l.b.row.now l.c.row.now l.d.row.now l.e.row.now l.f.row.now
-    l.a.factor l.b.factor l.c.factor l.d.factor l.e.factor l.f.factor) 0 l.i
+invariant-loop-i l = IsAdded l.acc l.initial.acc (six_at l.six) 0 l.i

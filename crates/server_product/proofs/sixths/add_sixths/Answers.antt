@@ -2,7 +2,8 @@ use Rattle.std.proofs.Common.{◌≡◌, ◌∙◌, ◌+◌, ◌*◌, sym, ap, a
 use Rattle.gf256.specs.Field.{◌⊕◌}
 use Rattle.gf256.proofs.Xor.{add_zero, add_assoc}
 use Rattle.server_product.specs.Runs.{term}
-use Rattle.server_product.proofs.RunSums.{sixths, sixths-none, sixths-next, sixths-all, six-terms}
+use Rattle.server_product.proofs.RunSums.{sixths, sixths-none, sixths-next, sixths-all}
+use Rattle.server_product.proofs.SixSums.{six-terms}
 use Rattle.server_product.proofs.sixths.add_sixths.Goals as goal
 
 pub loop-i-init : goal.loop-i-init
@@ -25,10 +26,8 @@ loop-i-preserved c = λ k.
     let s6 = c.scaled_row-in-loop-i-5 in
     c.add_six_rows.ensures k
     ∙ ap₂ ◌⊕◌ (c.loop-i.invariant k)
-    (six-terms q rows k (from + i) (from + sixth + i) (from + 2 * sixth + i) (from + 3 * sixth + i) (from + 4 * sixth + i) (from + 5 * sixth + i)
-    _ _ _ _ _ _ _ _ _ _ _ _
-    s.ensures.row s2.ensures.row s3.ensures.row s4.ensures.row s5.ensures.row s6.ensures.row
-    s.ensures.factor s2.ensures.factor s3.ensures.factor s4.ensures.factor s5.ensures.factor s6.ensures.factor)
+    (six-terms _ k _ _ _ _ _ _
+    (s.ensures.term k) (s2.ensures.term k) (s3.ensures.term k) (s4.ensures.term k) (s5.ensures.term k) (s6.ensures.term k))
     ∙ add_assoc (slice_index c.args.sums.now k) (sixths (term q rows k) from sixth i) _
     ∙ ap (◌⊕◌ (slice_index c.args.sums.now k)) (sym (sixths-next (term q rows k) from sixth i))
 

@@ -9,7 +9,7 @@ pub lanes-init : goal.lanes-init
 lanes-init c = record {
   begun = omega arith;
   within = c.requires.order;
-  summed = added-none c.args.acc.now (trio_at c.args.trio.a.now c.args.trio.b.now c.args.trio.c.now c.args.products.now) c.args.from;
+  summed = added-none c.args.acc.now (trio_at c.args.trio) c.args.from;
 }
 
 pub lanes-preserved : goal.lanes-preserved
@@ -17,23 +17,23 @@ lanes-preserved c = record {
   begun = omega (arith, c.lanes.invariant.begun);
   within = omega (arith, c.lanes.invariant.within);
   summed =
-      added-on c.add_lanes.new.acc c.lanes.acc c.args.acc.now (trio_at c.args.trio.a.now c.args.trio.b.now c.args.trio.c.now c.args.products.now)
+      added-on c.add_lanes.new.acc c.lanes.acc c.args.acc.now (trio_at c.args.trio)
       c.args.from c.lanes.at (c.lanes.at + 16) c.lanes.invariant.begun (omega arith) c.lanes.invariant.summed c.add_lanes.ensures;
 }
 
 pub loop-i-preserved : goal.loop-i-preserved
 loop-i-preserved c =
     let trio = c.args.trio in
-    added-place c.loop-i.acc c.args.acc.now (trio_at trio.a.now trio.b.now trio.c.now c.args.products.now) c.args.from c.loop-i.i _
+    added-place c.loop-i.acc c.args.acc.now (trio_at trio) c.args.from c.loop-i.i _
     (omega (arith, c.lanes.invariant.begun)) (omega arith)
-    (trio-place trio.a.now trio.b.now trio.c.now c.args.products.now trio.factor c.loop-i.i _ c.mul.ensures c.requires.factor)
+    (trio-place trio c.loop-i.i _ c.mul.ensures)
     c.loop-i.invariant
 
 pub returns : goal.returns
 returns c =
     let trio = c.args.trio in
     let end : c.loop-i.i ≡ c.args.to = omega (arith, c.lanes.invariant.within) in
-    subst (IsAdded c.loop-i.acc c.args.acc.now (trio_at trio.a.now trio.b.now trio.c.now c.args.products.now) c.args.from) end c.loop-i.invariant
+    subst (IsAdded c.loop-i.acc c.args.acc.now (trio_at trio) c.args.from) end c.loop-i.invariant
 
 pub overflow_sub-to : goal.overflow_sub-to
 overflow_sub-to c = omega arith
@@ -46,6 +46,9 @@ add_lanes-requires-clause-b c = omega arith
 
 pub add_lanes-requires-clause-c : goal.add_lanes-requires-clause-c
 add_lanes-requires-clause-c c = omega arith
+
+pub add_lanes-requires-clause-factor : goal.add_lanes-requires-clause-factor
+add_lanes-requires-clause-factor c = c.requires.factor
 
 pub add_lanes-requires-clause-within : goal.add_lanes-requires-clause-within
 add_lanes-requires-clause-within c = omega arith

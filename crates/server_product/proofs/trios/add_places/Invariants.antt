@@ -7,11 +7,11 @@ abbrev pub invariant-lanes : goal.invariant-lanes
 invariant-lanes l = record {
   begun : l.from ≤ l.at;
   within : l.at ≤ l.to;
-  summed : IsAdded l.acc l.fn.acc (trio_at l.trio.a.now l.trio.b.now l.trio.c.now l.products) l.from l.at;
+  summed : IsAdded l.acc l.fn.acc (trio_at l.trio) l.from l.at;
 }
 
 abbrev pub decreases-lanes : goal.decreases-lanes
 decreases-lanes l = l.to - l.at
 
 abbrev pub invariant-loop-i : goal.invariant-loop-i
-invariant-loop-i l = IsAdded l.acc l.fn.acc (trio_at l.trio.a.now l.trio.b.now l.trio.c.now l.products) l.from l.i
+invariant-loop-i l = IsAdded l.acc l.fn.acc (trio_at l.trio) l.from l.i

@@ -1,15 +1,12 @@
-use Rattle.std.proofs.Common.{◌≡◌, ◌+◌, ◌-◌, length, slice_index, ap₂, subst, ◌∙◌, arith}
-use Rattle.gf256.specs.Field.{◌⊕◌}
+use Rattle.std.proofs.Common.{◌≡◌, ◌+◌, ◌-◌, length, subst, arith}
 use Rattle.server_product.specs.Trios.{trio_at}
 use Rattle.server_product.proofs.TrioSums.{trio-past, IsLagged, lagged-start, lagged-first, lagged-second, lagged-all}
 use Rattle.server_product.proofs.trios.add_two_trios.Goals as goal
 
 pub lanes-init : goal.lanes-init
 lanes-init c =
-    let a = c.args.first in
-    let b = c.args.second in
-    let g = trio_at a.a.now a.b.now a.c.now c.of-by_first.result in
-    let h = trio_at b.a.now b.b.now b.c.now c.of-by_second.result in
+    let g = trio_at c.args.first in
+    let h = trio_at c.args.second in
     let lag = c.min-lag.result in
     let none : 0 ≡ lag - lag = omega arith in
     record {
@@ -20,10 +17,8 @@ lanes-init c =
 
 pub lanes-preserved : goal.lanes-preserved
 lanes-preserved c =
-    let a = c.args.first in
-    let b = c.args.second in
-    let g = trio_at a.a.now a.b.now a.c.now c.of-by_first.result in
-    let h = trio_at b.a.now b.b.now b.c.now c.of-by_second.result in
+    let g = trio_at c.args.first in
+    let h = trio_at c.args.second in
     let at = c.lanes.at in
     let lag = c.min-lag.result in
     let next : at - lag + 16 ≡ at + 16 - lag = omega (arith, c.lanes.invariant.begun) in
@@ -38,20 +33,17 @@ lanes-preserved c =
 
 pub returns : goal.returns
 returns c = λ k.
-    let a = c.args.first in
-    let b = c.args.second in
-    let g = trio_at a.a.now a.b.now a.c.now c.of-by_first.result in
-    let h = trio_at b.a.now b.b.now b.c.now c.of-by_second.result in
+    let g = trio_at c.args.first in
+    let h = trio_at c.args.second in
     let old = c.args.acc.now in
     let n = length old in
     let at = c.lanes.at in
     let lag = c.min-lag.result in
     let ahead = lagged-first c.add_places-2.new.acc c.lanes.acc old g h at (at - lag) n (omega arith) (omega (arith, c.lanes.invariant.within)) c.add_places-2.ensures c.lanes.invariant.lagged in
     lagged-all c.add_places-3.new.acc old g h n
-    (trio-past a.a.now a.b.now a.c.now c.of-by_first.result n c.requires.first_a c.requires.first_b c.requires.first_c)
-    (trio-past b.a.now b.b.now b.c.now c.of-by_second.result n c.requires.second_a c.requires.second_b c.requires.second_c)
+    (trio-past c.args.first n c.requires.first_a c.requires.first_b c.requires.first_c)
+    (trio-past c.args.second n c.requires.second_a c.requires.second_b c.requires.second_c)
     (lagged-second c.add_places-3.new.acc c.add_places-2.new.acc old g h n (at - lag) n (omega (arith, c.lanes.invariant.within)) (omega arith) c.add_places-3.ensures ahead) k
-    ∙ ap₂ (λ f e. slice_index old k ⊕ trio_at a.a.now a.b.now a.c.now f k ⊕ trio_at b.a.now b.b.now b.c.now e k) c.of-by_first.ensures c.of-by_second.ensures
 
 pub add_places-requires-clause-a : goal.add_places-requires-clause-a
 add_places-requires-clause-a c = omega arith
@@ -83,6 +75,9 @@ add_lanes-requires-clause-b c = omega arith
 pub add_lanes-requires-clause-c : goal.add_lanes-requires-clause-c
 add_lanes-requires-clause-c c = omega arith
 
+pub add_lanes-requires-clause-factor : goal.add_lanes-requires-clause-factor
+add_lanes-requires-clause-factor c = c.of-by_first.ensures
+
 pub add_lanes-requires-clause-within : goal.add_lanes-requires-clause-within
 add_lanes-requires-clause-within c = omega arith
 
@@ -97,6 +92,9 @@ add_lanes-requires-in-lanes-clause-b c = omega arith
 
 pub add_lanes-requires-in-lanes-clause-c : goal.add_lanes-requires-in-lanes-clause-c
 add_lanes-requires-in-lanes-clause-c c = omega arith
+
+pub add_lanes-requires-in-lanes-clause-factor : goal.add_lanes-requires-in-lanes-clause-factor
+add_lanes-requires-in-lanes-clause-factor c = c.of-by_second.ensures
 
 pub add_lanes-requires-in-lanes-clause-within : goal.add_lanes-requires-in-lanes-clause-within
 add_lanes-requires-in-lanes-clause-within c = omega arith

@@ -8,8 +8,7 @@ invariant-lanes l = record {
   begun : l.lag ≤ l.at;
   within : l.at ≤ l.len;
   lagged :
-      IsLagged l.acc l.fn.acc (trio_at l.first.a.now l.first.b.now l.first.c.now l.by_first)
-      (trio_at l.second.a.now l.second.b.now l.second.c.now l.by_second) l.at (l.at - l.lag);
+      IsLagged l.acc l.fn.acc (trio_at l.first) (trio_at l.second) l.at (l.at - l.lag);
 }
 
 abbrev pub decreases-lanes : goal.decreases-lanes

@@ -17,7 +17,10 @@ parts-init c = record {
         let t = c.args.t in
         let fit = row_within k 16 t l in
         let long = length-row_coins rows t k (omega (arith, fit, c.requires.whole)) in
-        get_or-replicate 16 k 0 0 l ∙ sym (ap (value_from rows t (16 * c.div_ceil-part.result) c.args.products.now) (zero-add k) ∙ nothing_left rows t (16 * c.div_ceil-part.result) c.args.products.now k (omega (arith, long, c.div_ceil-part.ensures)));
+        let end = 16 * c.div_ceil-part.result in
+        let a = c.args.products.now in
+        let none = nothing_left rows t end a k (omega (arith, long, c.div_ceil-part.ensures)) in
+        get_or-replicate 16 k 0 0 l ∙ sym (ap (value_from rows t end a) (zero-add k) ∙ none);
   };
 }
 

@@ -13,16 +13,19 @@ returns-in_default-clause-asked g c =
 
 pub returns-in_default-write_all-clause-asked : goal.returns-in_default-write_all-clause-asked
 returns-in_default-write_all-clause-asked g c =
-    breaks_giving _ c.args.frame.now _ (link c.args.index) _ (g.P.Ports.world c.open.new.self) (g.P.Ports.world c.write_all.new.ports) c.in-Ok.ensures.ok c.in_default-write_all.ensures.failed
+    breaks_giving _ c.args.frame.now _ (link c.args.index) _ (g.P.Ports.world c.open.new.self) (g.P.Ports.world c.write_all.new.ports)
+    c.in-Ok.ensures.ok c.in_default-write_all.ensures.failed
 
 pub returns-in-Full-clause-asked : goal.returns-in-Full-clause-asked
 returns-in-Full-clause-asked g c =
-    answers_whole c.args.address.now c.args.frame.now c.args.answer.now c.read_exactly.new.into (link c.args.index) _ _ (g.P.Ports.world c.write_all.new.ports) (g.P.Ports.world c.read_exactly.new.ports)
+    answers_whole c.args.address.now c.args.frame.now c.args.answer.now c.read_exactly.new.into (link c.args.index) _ _
+    (g.P.Ports.world c.write_all.new.ports) (g.P.Ports.world c.read_exactly.new.ports)
     c.in-Ok.ensures.ok c.in-Ok-write_all.ensures.ok c.read_exactly.auto.into c.in-Full.ensures.filled
 
 pub returns-in-Ended-clause-asked : goal.returns-in-Ended-clause-asked
 returns-in-Ended-clause-asked g c =
-    answers_short c.args.address.now c.args.frame.now c.args.answer.now c.read_exactly.new.into (link c.args.index) _ _ (g.P.Ports.world c.write_all.new.ports) (g.P.Ports.world c.read_exactly.new.ports)
+    answers_short c.args.address.now c.args.frame.now c.args.answer.now c.read_exactly.new.into (link c.args.index) _ _
+    (g.P.Ports.world c.write_all.new.ports) (g.P.Ports.world c.read_exactly.new.ports)
     c.in-Ok.ensures.ok c.in-Ok-write_all.ensures.ok c.read_exactly.auto.into c.in-Ended.came c.in-Ended.ensures.filled
 
 pub returns-in-Ended-clause-fits : goal.returns-in-Ended-clause-fits
@@ -31,12 +34,15 @@ returns-in-Ended-clause-fits g c =
 
 pub returns-in-Full-clause-others : goal.returns-in-Full-clause-others
 returns-in-Full-clause-others g c =
-    touches_more _ _ (g.P.Ports.world c.write_all.new.ports) _ (touches_more _ _ (g.P.Ports.world c.open.new.self) _ c.open.ensures.others c.write_all.ensures.others) c.read_exactly.ensures.others
+    touches_more _ _ (g.P.Ports.world c.write_all.new.ports) _
+    (touches_more _ _ (g.P.Ports.world c.open.new.self) _ c.open.ensures.others c.write_all.ensures.others) c.read_exactly.ensures.others
 
 pub returns-in-Ended-clause-others : goal.returns-in-Ended-clause-others
 returns-in-Ended-clause-others g c =
-    touches_more _ _ (g.P.Ports.world c.write_all.new.ports) _ (touches_more _ _ (g.P.Ports.world c.open.new.self) _ c.open.ensures.others c.write_all.ensures.others) c.read_exactly.ensures.others
+    touches_more _ _ (g.P.Ports.world c.write_all.new.ports) _
+    (touches_more _ _ (g.P.Ports.world c.open.new.self) _ c.open.ensures.others c.write_all.ensures.others) c.read_exactly.ensures.others
 
 pub returns-in-Failed-clause-others : goal.returns-in-Failed-clause-others
 returns-in-Failed-clause-others g c =
-    touches_more _ _ (g.P.Ports.world c.write_all.new.ports) _ (touches_more _ _ (g.P.Ports.world c.open.new.self) _ c.open.ensures.others c.write_all.ensures.others) c.read_exactly.ensures.others
+    touches_more _ _ (g.P.Ports.world c.write_all.new.ports) _
+    (touches_more _ _ (g.P.Ports.world c.open.new.self) _ c.open.ensures.others c.write_all.ensures.others) c.read_exactly.ensures.others

@@ -44,12 +44,14 @@ pub write_slice-requires-clause-room : goal.write_slice-requires-clause-room
 write_slice-requires-clause-room c =
     let size = rows_in c.args.spread c.args.place in
     let fits = piece_fits c.loop-v.v c.args.count size (omega (arith, c.loop-v-test.true, c.from-v-end.ensures)) in
-    ap length (piece_between c.loop-v.v c.rows_in-size.result size c.loop-v.out c.rows_in-size.ensures.is) ∙ length-piece size c.loop-v.v c.loop-v.out (omega (arith, fits, c.loop-v.invariant.size))
+    ap length (piece_between c.loop-v.v c.rows_in-size.result size c.loop-v.out c.rows_in-size.ensures.is)
+    ∙ length-piece size c.loop-v.v c.loop-v.out (omega (arith, fits, c.loop-v.invariant.size))
 
 pub write_slice-requires-clause-vector : goal.write_slice-requires-clause-vector
 write_slice-requires-clause-vector c =
     let fits = piece_fits c.loop-v.v c.args.count c.args.spread.rows (omega (arith, c.loop-v-test.true, c.from-v-end.ensures)) in
-    ap length (piece_between c.loop-v.v c.args.spread.rows c.args.spread.rows c.args.vectors.now refl) ∙ length-piece c.args.spread.rows c.loop-v.v c.args.vectors.now (omega (arith, fits, c.requires.vectors))
+    ap length (piece_between c.loop-v.v c.args.spread.rows c.args.spread.rows c.args.vectors.now refl)
+    ∙ length-piece c.args.spread.rows c.loop-v.v c.args.vectors.now (omega (arith, fits, c.requires.vectors))
 
 pub overflow_mul-vector-in-loop-v : goal.overflow_mul-vector-in-loop-v
 overflow_mul-vector-in-loop-v c =

@@ -14,7 +14,8 @@ lanes-preserved c =
     let bytes = c.args.bytes.now in
     let made = zip2 bit_xor c.sixteen_masks-masks.result (chunk at 16 bytes) in
     let room : at + 16 ≤ length bytes = omega arith in
-    let is = share_of_lanes bytes c.args.coins.now c.sixteen_masks-masks.result c.args.tau c.args.products.now at room (λ i. (c.type_inv.bytes i).fits) (c.sixteen_masks-masks.ensures ∙ masks_of_rest c.args.coins.now c.args.tau at 16 c.args.products.now) in
+    let is = share_of_lanes bytes c.args.coins.now c.sixteen_masks-masks.result c.args.tau c.args.products.now at room
+    (λ i. (c.type_inv.bytes i).fits) (c.sixteen_masks-masks.ensures ∙ masks_of_rest c.args.coins.now c.args.tau at 16 c.args.products.now) in
     record {
       within = omega (arith, length-put_chunk at c.lanes.out made);
       done = take_more_put_chunk at c.lanes.out made (at + 16) (omega (arith, is.0)) (omega arith)

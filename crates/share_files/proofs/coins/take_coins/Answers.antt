@@ -17,7 +17,8 @@ small bytes each = λ k d lt. subst (λ b. b < 256) (get_or_default bytes k 0 d 
 -- the port was opened by this name, and then it was read
 module _ (name before after : List ℕ) (w v u : World) (opened : v.at COINS ≡ named name (w.at COINS)) where
   -- so many bytes came
-  all_came : length after ≡ length before → All (λ b. b < 256) after → Hands COINS (length before) before after v u → Tossed (length before) after (named name (w.at COINS)) (u.at COINS)
+  all_came : length after ≡ length before → All (λ b. b < 256) after → Hands COINS (length before) before after v u
+      → Tossed (length before) after (named name (w.at COINS)) (u.at COINS)
   all_came size bytes hands =
       let told = subst (λ (c : Cell). IfSome c.holds (Came (length before) before after)) opened hands.told in
       record {

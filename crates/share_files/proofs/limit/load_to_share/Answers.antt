@@ -6,7 +6,9 @@ use Rattle.share_files.proofs.limit.load_to_share.Goals as goal
 
 pub returns-in-Err-TooBig-clause-loads : goal.returns-in-Err-TooBig-clause-loads
 returns-in-Err-TooBig-clause-loads g c =
-    let loads = subst (λ (e : LoadFault). Loads c.args.width (Err e) (g.P.Ports.world c.args.ports.now) (g.P.Ports.world c.load.new.ports)) c.in-Err-TooBig.field-0-is c.in-Err-TooBig.ensures.loads in
+    let old = g.P.Ports.world c.args.ports.now in
+    let new = g.P.Ports.world c.load.new.ports in
+    let loads = subst (λ (e : LoadFault). Loads c.args.width (Err e) old new) c.in-Err-TooBig.field-0-is c.in-Err-TooBig.ensures.loads in
     (c.most_bytes_shared-limit.ensures, holds_more c.args.width c.args.tau _ _ (omega (arith, c.requires.some)) c.requires.tau loads.1)
 
 pub returns-then-bytes-limit-clause-loads : goal.returns-then-bytes-limit-clause-loads

@@ -9,7 +9,8 @@ abbrev pub invariant-pieces : goal.invariant-pieces
 invariant-pieces g l = record {
   within : l.at ≤ length l.bytes;
   size : length l.room ≡ length l.initial.room;
-  so_far : (g.P.Ports.world l.ports).at (share_file l.index) ≡ gave (first_shares l.bytes l.coins l.tau l.at l.index) ((g.P.Ports.world l.initial.ports).at (share_file l.index));
+  so_far : (g.P.Ports.world l.ports).at (share_file l.index)
+      ≡ gave (first_shares l.bytes l.coins l.tau l.at l.index) ((g.P.Ports.world l.initial.ports).at (share_file l.index));
   others : Touches (share_file l.index) (g.P.Ports.world l.initial.ports) (g.P.Ports.world l.ports);
 }
 

@@ -17,7 +17,10 @@ none_split plan bytes result fault w is out = subst (λ (r : Result (Unit {0}) S
 
 pub returns-clause-splits : goal.returns-clause-splits
 returns-clause-splits g c =
-    subst (λ (bytes : List ℕ). Splits c.args.plan.now bytes c.split_bytes-split.result (g.P.Ports.world c.args.ports.now) (g.P.Ports.world c.split_bytes-split.new.ports)) c.bytes-bytes.ensures.is c.split_bytes-split.ensures.splits
+    let old = g.P.Ports.world c.args.ports.now in
+    let new = g.P.Ports.world c.split_bytes-split.new.ports in
+    subst (λ (bytes : List ℕ). Splits c.args.plan.now bytes c.split_bytes-split.result old new) c.bytes-bytes.ensures.is
+    c.split_bytes-split.ensures.splits
 
 pub returns-clause-others : goal.returns-clause-others
 returns-clause-others g c = c.split_bytes-split.ensures.others

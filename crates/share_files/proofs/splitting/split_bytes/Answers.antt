@@ -1,4 +1,4 @@
-use Rattle.std.proofs.Common.{◌≡◌, ◌∙◌, ℕ, ◌*◌, ◌<◌, List, length, map, string_bytes, sym, subst, rules}
+use Rattle.std.proofs.Common.{◌≡◌, ◌∙◌, ℕ, ◌*◌, ◌<◌, List, length, map, string_bytes, sym, subst, rules, arith}
 use Rattle.std.specs.Prelude.{Result, Ok, Err}
 use Rattle.std.specs.Result.{IsErrAnd}
 use Rattle.port_rules.specs.World.{World}
@@ -54,7 +54,8 @@ returns-in-Ok-clause-splits g c =
     let count = subst (λ (p : SplitPlan). length c.args.names.now ≡ p.servers) back c.requires.count in
     let size = subst (λ (p : SplitPlan). length c.args.coins.now ≡ length bytes * p.tau) back c.requires.coins in
     subst (λ (p : SplitPlan). SplitsWhole p bytes start end) c.plan.view_is
-    (whole_split _ bytes _ names _ _ start mid end few are count size c.in_ok-take_coins.ensures.taken c.take_coins.ensures.others c.write_shares.ensures.others c.in-Ok.ensures.written)
+    (whole_split _ bytes _ names _ _ start mid end few are count size c.in_ok-take_coins.ensures.taken
+    c.take_coins.ensures.others c.write_shares.ensures.others c.in-Ok.ensures.written)
 
 pub returns-in-Err-clause-splits : goal.returns-in-Err-clause-splits
 returns-in-Err-clause-splits g c =
@@ -69,7 +70,8 @@ returns-in-Err-clause-splits g c =
     let count = subst (λ (p : SplitPlan). length c.args.names.now ≡ p.servers) back c.requires.count in
     let size = subst (λ (p : SplitPlan). length c.args.coins.now ≡ length bytes * p.tau) back c.requires.coins in
     subst (λ (p : SplitPlan). SplitsPart p bytes start end) c.plan.view_is
-    (part_split _ bytes _ names _ _ start mid end few are count size c.in_ok-take_coins.ensures.taken c.take_coins.ensures.others c.write_shares.ensures.others c.in-Err.ensures.written)
+    (part_split _ bytes _ names _ _ start mid end few are count size c.in_ok-take_coins.ensures.taken
+    c.take_coins.ensures.others c.write_shares.ensures.others c.in-Err.ensures.written)
 
 -- Coins alone were touched, and then the files of the shares
 both_touched : (n m : ℕ) (w v u : World) → n ≡ m → Touches COINS w v → TouchesRange (share_file 1) n v u → TouchesShares m w u
@@ -83,18 +85,31 @@ both_touched n m w v u same touch range =
 
 pub returns-in-Ok-clause-others : goal.returns-in-Ok-clause-others
 returns-in-Ok-clause-others g c =
-    both_touched _ _ (g.P.Ports.world c.args.ports.now) (g.P.Ports.world c.take_coins.new.ports) (g.P.Ports.world c.write_shares.new.ports) c.requires.count c.take_coins.ensures.others c.write_shares.ensures.others
+    both_touched _ _ (g.P.Ports.world c.args.ports.now) (g.P.Ports.world c.take_coins.new.ports) (g.P.Ports.world c.write_shares.new.ports)
+    c.requires.count c.take_coins.ensures.others c.write_shares.ensures.others
 
 pub returns-in-Err-clause-others : goal.returns-in-Err-clause-others
 returns-in-Err-clause-others g c =
-    both_touched _ _ (g.P.Ports.world c.args.ports.now) (g.P.Ports.world c.take_coins.new.ports) (g.P.Ports.world c.write_shares.new.ports) c.requires.count c.take_coins.ensures.others c.write_shares.ensures.others
+    both_touched _ _ (g.P.Ports.world c.args.ports.now) (g.P.Ports.world c.take_coins.new.ports) (g.P.Ports.world c.write_shares.new.ports)
+    c.requires.count c.take_coins.ensures.others c.write_shares.ensures.others
 
-pub write_shares-requires-clause-some : goal.write_shares-requires-clause-some
-write_shares-requires-clause-some g c = c.requires.some
-
-pub write_shares-requires-clause-coins : goal.write_shares-requires-clause-coins
-write_shares-requires-clause-coins g c =
-    c.take_coins.auto.coins ∙ subst (λ (p : SplitPlan). length c.args.coins.now ≡ length c.args.bytes.now * p.tau) (sym c.plan.view_is) c.requires.coins
+pub write_shares-requires-clause-few : goal.write_shares-requires-clause-few
+write_shares-requires-clause-few g c =
+    let few : c.plan.inside.servers < 256 = search rules in
+    let count = subst (λ (p : SplitPlan). length c.args.names.now ≡ p.servers) (sym c.plan.view_is) c.requires.count in
+    omega (arith, few, count)
 
 pub write_shares-requires-clause-room : goal.write_shares-requires-clause-room
 write_shares-requires-clause-room g c = c.requires.room
+
+pub invariant_of-sharing : goal.invariant_of-sharing
+invariant_of-sharing g c =
+    let few : c.plan.inside.servers < 256 = search rules in
+    let degree = c.plan.invariant in
+    let size = subst (λ (p : SplitPlan). length c.args.coins.now ≡ length c.args.bytes.now * p.tau) (sym c.plan.view_is) c.requires.coins in
+    record {
+      some = c.requires.some;
+      some_degree = degree.0;
+      few_degrees = omega (arith, few, degree.1);
+      enough = c.take_coins.auto.coins ∙ size;
+    }

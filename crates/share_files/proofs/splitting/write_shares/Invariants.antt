@@ -9,6 +9,6 @@ abbrev pub invariant-shares : goal.invariant-shares
 invariant-shares g l = record {
   number : l.index ≡ l.name-index;
   size : 0 < length l.room;
-  so_far : SharesEach (map string_bytes l.names) l.bytes l.coins l.tau l.name-index (g.P.Ports.world l.initial.ports) (g.P.Ports.world l.ports);
+  so_far : SharesEach (map string_bytes l.names) l.sharing l.name-index (g.P.Ports.world l.initial.ports) (g.P.Ports.world l.ports);
   others : TouchesRange (share_file 1) l.name-index (g.P.Ports.world l.initial.ports) (g.P.Ports.world l.ports);
 }

@@ -14,7 +14,9 @@ returns-in-Ok-clause-ok c = λ b. (
     | inl old ↦ old
     | inr new ↦
         let place = rw c.deref.ensures.value at c.in-Ok.ensures in
-        subst (Contains c.args.self.now) (sym new) (subst (λ l. Contains l c.args.agreement) c.self.view_is (Contains-at c.args.agreement c.self.inside.agreements.items c.in-Ok.field-0 place.range (λ d. same_agreements _ _ (place.place d))))
+        subst (Contains c.args.self.now) (sym new)
+        (subst (λ l. Contains l c.args.agreement) c.self.view_is
+        (Contains-at c.args.agreement c.self.inside.agreements.items c.in-Ok.field-0 place.range (λ d. same_agreements _ _ (place.place d))))
   ],
 )
 

@@ -31,14 +31,19 @@ loop-answer-preserved c =
     elim c.if-eval-payload.branch [
       | then-eval-payload+in_ok-push w ↦
           let answer = w.new.ensures ∙ ap₂ (λ (i : ℕ) (bytes : List ℕ). record { index = i; payload = bytes }) w.index-then-eval-payload.ensures w.payload-then-eval-payload.ensures in
-          kept_more (meets c.args.polynomial.now c.args.column) c.loop-answer.answer-index c.deref-answer-items.result.now c.answer-item.result c.loop-answer.kept c.if-eval-payload.kept c.loop-answer-test.true c.answer-item.is c.loop-answer.invariant
+          kept_more (meets c.args.polynomial.now c.args.column) c.loop-answer.answer-index c.deref-answer-items.result.now c.answer-item.result
+          c.loop-answer.kept c.if-eval-payload.kept c.loop-answer-test.true c.answer-item.is c.loop-answer.invariant
           (eq-eqb (val c.args.polynomial.now c.answer-item.result.index) (get_or c.answer-item.result.payload c.args.column 0) (value ∙ w.if-eval-payload.true ∙ byte))
           (w.kept-is ∙ w.in_ok-push.ensures ∙ ap (λ (a : Answer). c.loop-answer.kept ++ a ∷ []) answer)
       | else-eval-payload w ↦
-          kept_same (meets c.args.polynomial.now c.args.column) c.loop-answer.answer-index c.deref-answer-items.result.now c.answer-item.result c.loop-answer.kept c.if-eval-payload.kept c.loop-answer-test.true c.answer-item.is c.loop-answer.invariant
+          kept_same (meets c.args.polynomial.now c.args.column) c.loop-answer.answer-index c.deref-answer-items.result.now c.answer-item.result
+          c.loop-answer.kept c.if-eval-payload.kept c.loop-answer-test.true c.answer-item.is c.loop-answer.invariant
           (ne_eqb (val c.args.polynomial.now c.answer-item.result.index) (get_or c.answer-item.result.payload c.args.column 0) (λ same. w.if-eval-payload.false (sym value ∙ same ∙ sym byte)))
           w.kept-is
     ]
 
 pub returns : goal.returns
-returns c = c.loop-answer.invariant ∙ ap (filter (meets c.args.polynomial.now c.args.column)) (take_all c.loop-answer.answer-index c.deref-answer-items.result.now c.loop-answer-test.false ∙ c.deref-answer-items.ensures.value ∙ c.self.view_is)
+returns c =
+    c.loop-answer.invariant ∙ ap (filter (meets c.args.polynomial.now c.args.column))
+    (take_all c.loop-answer.answer-index c.deref-answer-items.result.now c.loop-answer-test.false ∙ c.deref-answer-items.ensures.value
+    ∙ c.self.view_is)

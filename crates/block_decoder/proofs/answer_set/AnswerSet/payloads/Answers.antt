@@ -18,9 +18,12 @@ pub loop-answer-preserved : goal.loop-answer-preserved
 loop-answer-preserved c =
     let bytes = map (λ (payload : Bor (List ℕ)). payload.now) in
     let before = c.loop-answer.payloads.items in
-    made_more (λ (a : Answer). a.payload) c.loop-answer.answer-index c.deref-answer-items.result.now c.answer-item.result (bytes before) (bytes c.push.new.self.items) c.payload.result.now c.loop-answer-test.true c.answer-item.is c.loop-answer.invariant
+    made_more (λ (a : Answer). a.payload) c.loop-answer.answer-index c.deref-answer-items.result.now c.answer-item.result (bytes before)
+    (bytes c.push.new.self.items) c.payload.result.now c.loop-answer-test.true c.answer-item.is c.loop-answer.invariant
     (ap bytes c.in_ok-push.ensures.items ∙ map-append (λ (payload : Bor (List ℕ)). payload.now) before (c.payload.result ∷ [])) c.payload.ensures
 
 pub returns : goal.returns
 returns c =
-    made_all (λ (a : Answer). a.payload) c.loop-answer.answer-index c.deref-answer-items.result.now c.args.self.now (map (λ (payload : Bor (List ℕ)). payload.now) c.loop-answer.payloads.items) (c.deref-answer-items.ensures.value ∙ c.self.view_is) c.loop-answer-test.false c.loop-answer.invariant
+    made_all (λ (a : Answer). a.payload) c.loop-answer.answer-index c.deref-answer-items.result.now c.args.self.now
+    (map (λ (payload : Bor (List ℕ)). payload.now) c.loop-answer.payloads.items) (c.deref-answer-items.ensures.value ∙ c.self.view_is)
+    c.loop-answer-test.false c.loop-answer.invariant

@@ -20,9 +20,13 @@ returns-in_err-push c = IfOk-from_err c.from_residual-in_err-push.result _ c.fro
 
 pub loop-answer-preserved : goal.loop-answer-preserved
 loop-answer-preserved c =
-    made_more (λ (a : Answer). (a.index, get_or a.payload c.args.column 0)) c.loop-answer.answer-index c.deref-answer-items.result.now c.answer-item.result c.loop-answer.points.items c.push.new.self.items (c.index.result, get_or c.payload.result.now c.args.column 0) c.loop-answer-test.true c.answer-item.is c.loop-answer.invariant c.in_ok-push.ensures.items
+    made_more (λ (a : Answer). (a.index, get_or a.payload c.args.column 0)) c.loop-answer.answer-index c.deref-answer-items.result.now
+    c.answer-item.result c.loop-answer.points.items c.push.new.self.items (c.index.result, get_or c.payload.result.now c.args.column 0)
+    c.loop-answer-test.true c.answer-item.is c.loop-answer.invariant c.in_ok-push.ensures.items
     (ap₂ (λ (i : ℕ) (bytes : List ℕ). (i, get_or bytes c.args.column 0)) c.index.ensures c.payload.ensures)
 
 pub returns : goal.returns
 returns c =
-    made_all (λ (a : Answer). (a.index, get_or a.payload c.args.column 0)) c.loop-answer.answer-index c.deref-answer-items.result.now c.args.self.now c.loop-answer.points.items (c.deref-answer-items.ensures.value ∙ c.self.view_is) c.loop-answer-test.false c.loop-answer.invariant
+    made_all (λ (a : Answer). (a.index, get_or a.payload c.args.column 0)) c.loop-answer.answer-index c.deref-answer-items.result.now
+    c.args.self.now c.loop-answer.points.items (c.deref-answer-items.ensures.value ∙ c.self.view_is) c.loop-answer-test.false
+    c.loop-answer.invariant

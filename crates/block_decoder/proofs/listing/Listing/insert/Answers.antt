@@ -26,7 +26,8 @@ invariant_of-self-in-Err c =
     let is = rw c.deref-2.ensures.value at c.in-Err.ensures in
     let place = rw c.deref.ensures.value at is.place in
     let gap = place (comparisons_rise nat_list_cmp_total (λ b. b.items) blocks c.args.block.items c.self.invariant) in
-    sorted_after nat_list_cmp_total (λ b. b.items) blocks c.insert.new.self.items c.args.block c.in-Err.place (is_ok c.insert.result) c.insert.ensures.items c.self.invariant (rw c.deref.ensures.value at is.range) gap.0 gap.1
+    sorted_after nat_list_cmp_total (λ b. b.items) blocks c.insert.new.self.items c.args.block c.in-Err.place
+    (is_ok c.insert.result) c.insert.ensures.items c.self.invariant (rw c.deref.ensures.value at is.range) gap.0 gap.1
 
 pub returns-in_ok-insert-in-Err-clause-ascending : goal.returns-in_ok-insert-in-Err-clause-ascending
 returns-in_ok-insert-in-Err-clause-ascending c = invariant_of-self-in-Err c
@@ -50,7 +51,9 @@ pub returns-in_err-insert-in-Err-clause-ok : goal.returns-in_err-insert-in-Err-c
 returns-in_err-insert-in-Err-clause-ok c = IfOk-from_err c.from_residual.result _ c.from_residual.ensures.0
 
 pub returns-in_err-insert-in-Err-clause-err : goal.returns-in_err-insert-in-Err-clause-err
-returns-in_err-insert-in-Err-clause-err c = MatchResult-from_err c.from_residual.result _ _ c.from_residual.ensures.0 (λ _. ap (map (λ (b : Vec ℕ Global). b.items)) c.in_err-insert-in-Err.ensures.items ∙ c.self.view_is)
+returns-in_err-insert-in-Err-clause-err c =
+    MatchResult-from_err c.from_residual.result _ _ c.from_residual.ensures.0
+    (λ _. ap (map (λ (b : Vec ℕ Global). b.items)) c.in_err-insert-in-Err.ensures.items ∙ c.self.view_is)
 
 pub returns-in-Ok-clause-ascending : goal.returns-in-Ok-clause-ascending
 returns-in-Ok-clause-ascending c = subst (IsStrictlySortedBy (slice_cmp nat_cmp)) c.self.view_is c.self.invariant

@@ -23,9 +23,13 @@ pub invariant_of-result : goal.invariant_of-result
 invariant_of-result c =
     let len : c.len-len.result ≡ length c.args.bytes.items = c.len-len.ensures ∙ c.args.bytes.ok.0 in
     record {
-      shape = subst (λ n. IsShape n c.args.width) (sym (rows_are c))
-          (shape_of_file (length c.args.bytes.items) c.args.width c.requires.some c.requires.few (omega (arith, len, c.if-len-eq0.false)) (omega (arith, len, c.if-len-limit.false, c.most_bytes-limit.ensures.is)));
-      size = c.fill_up.new.bytes.ok.0 ∙ ap length (bytes_are c) ∙ length-filled_up c.args.width c.args.bytes.items (omega (arith, c.requires.some)) ∙ ap (λ n. n * c.args.width) (sym (rows_are c));
+      shape =
+          subst (λ n. IsShape n c.args.width) (sym (rows_are c))
+          (shape_of_file (length c.args.bytes.items) c.args.width c.requires.some c.requires.few
+          (omega (arith, len, c.if-len-eq0.false)) (omega (arith, len, c.if-len-limit.false, c.most_bytes-limit.ensures.is)));
+      size =
+          c.fill_up.new.bytes.ok.0 ∙ ap length (bytes_are c) ∙ length-filled_up c.args.width c.args.bytes.items (omega (arith, c.requires.some))
+          ∙ ap (λ n. n * c.args.width) (sym (rows_are c));
       bytes = subst (All (λ b. b < 256)) c.deref.ensures.value c.are_bytes.ensures;
     }
 

@@ -29,6 +29,7 @@ product_into-requires-clause-room g c κs within =
 pub returns : goal.returns
 returns g c =
     let w = c.self.inside.load in
-    product-honest w _ _ _ c.deref.result.now c.query_into.new.out _ _ _ c.args.index c.self.invariant.1 c.deref.ensures.value c.from-degree.ensures (ap (λ r. w.seed % r) c.from.ensures) c.query_into.ensures
+    product-honest w _ _ _ c.deref.result.now c.query_into.new.out _ _ _ c.args.index c.self.invariant.1 c.deref.ensures.value c.from-degree.ensures
+    (ap (λ r. w.seed % r) c.from.ensures) c.query_into.ensures
     c.product_into.ensures
     ∙ ap (λ (s : Servers). honest_payload s.load c.args.index) c.self.view_is

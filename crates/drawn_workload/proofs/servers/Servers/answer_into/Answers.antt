@@ -14,14 +14,16 @@ returns-then-index-honest g c =
 pub payload_at-requires : goal.payload_at-requires
 payload_at-requires g c =
     let servers = ap (λ (s : Servers). s.load.servers) c.self.view_is in
-    lie_fits c.self.inside.load c.deref.result.now c.from-liar.result (c.deref.ensures.value ∙ c.self.invariant.1.lies_are) (omega (arith, c.from-liar.ensures, c.if-index-honest.false, c.requires.server, servers, c.self.invariant.0.0.liars))
+    lie_fits c.self.inside.load c.deref.result.now c.from-liar.result (c.deref.ensures.value ∙ c.self.invariant.1.lies_are)
+    (omega (arith, c.from-liar.ensures, c.if-index-honest.false, c.requires.server, servers, c.self.invariant.0.0.liars))
 
 pub copy_from_slice-requires : goal.copy_from_slice-requires
 copy_from_slice-requires g c =
     let w = c.self.inside.load in
     let v = c.from-liar.result in
     let servers = ap (λ (s : Servers). s.load.servers) c.self.view_is in
-    let one = lie_among w c.deref.result.now v (c.deref.ensures.value ∙ c.self.invariant.1.lies_are) (omega (arith, c.from-liar.ensures, c.if-index-honest.false, c.requires.server, servers, c.self.invariant.0.0.liars)) in
+    let one = lie_among w c.deref.result.now v (c.deref.ensures.value ∙ c.self.invariant.1.lies_are)
+    (omega (arith, c.from-liar.ensures, c.if-index-honest.false, c.requires.server, servers, c.self.invariant.0.0.liars)) in
     c.requires.room ∙ ap (λ (s : Servers). s.load.width) (sym c.self.view_is) ∙ sym (ap length (c.payload_at.ensures ∙ one) ∙ length-lie w v)
 
 pub returns : goal.returns
@@ -29,7 +31,8 @@ returns g c =
     let w = c.self.inside.load in
     let v = c.from-liar.result in
     let servers = ap (λ (s : Servers). s.load.servers) c.self.view_is in
-    let one = lie_among w c.deref.result.now v (c.deref.ensures.value ∙ c.self.invariant.1.lies_are) (omega (arith, c.from-liar.ensures, c.if-index-honest.false, c.requires.server, servers, c.self.invariant.0.0.liars)) in
+    let one = lie_among w c.deref.result.now v (c.deref.ensures.value ∙ c.self.invariant.1.lies_are)
+    (omega (arith, c.from-liar.ensures, c.if-index-honest.false, c.requires.server, servers, c.self.invariant.0.0.liars)) in
     c.copy_from_slice.ensures.after ∙ c.payload_at.ensures ∙ one ∙ ap (lie w) c.from-liar.ensures
     ∙ sym (payload-lie w c.args.index (omega (arith, c.if-index-honest.false)))
     ∙ ap (λ (s : Servers). payload s.load c.args.index) c.self.view_is

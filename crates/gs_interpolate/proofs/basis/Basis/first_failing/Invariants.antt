@@ -1,5 +1,5 @@
-use Rattle.std.proofs.Common.{◌≢◌, ℕ, ◌<◌, get_or, length}
-use Rattle.gs_interpolate.specs.Basis.{IsBefore}
+use Rattle.std.proofs.Common.{◌≢◌, ℕ, ◌<◌, length, get_or}
+use Rattle.gs_interpolate.specs.Basis.{LeadsBefore}
 use Rattle.gs_interpolate.proofs.basis.Basis.first_failing.Given as goal
 
 abbrev pub invariant-loop-j : goal.invariant-loop-j
@@ -7,6 +7,5 @@ invariant-loop-j l = record {
   passed : l.first < l.j;
   inside : l.first < length l.values;
   fails : get_or l.values l.first 0 ≢ 0;
-  first : (k : ℕ) → k < l.j → get_or l.values k 0 ≢ 0 → k ≢ l.first
-      → IsBefore l.t (get_or l.self.exponents.items l.first 0) l.first (get_or l.self.exponents.items k 0) k;
+  first : (k : ℕ) → k < l.j → get_or l.values k 0 ≢ 0 → k ≢ l.first → LeadsBefore l.self l.first k;
 }

@@ -1,11 +1,11 @@
-use Rattle.std.proofs.Common.{◌≡◌, ℕ, ◌+◌, ◌-◌, ◌*◌, ◌<◌, length, map, get_or}
+use Rattle.std.proofs.Common.{◌≡◌, ℕ, ◌+◌, ◌-◌, ◌*◌, ◌<◌, length}
 use Rattle.bi_poly.specs.Rows.{row}
+use Rattle.gs_interpolate.specs.Family.{bytes_of, AreCoefficients}
 use Rattle.gs_interpolate.proofs.basis.Basis.into_lightest.Given as goal
 
 abbrev pub invariant-loop-j : goal.invariant-loop-j
 invariant-loop-j l = record {
   size : length l.rows.items ≡ l.j;
-  each : (k : ℕ) → k < l.j → length (row (map (λ r. r.items) l.rows.items) k) ≡ l.most + 1 - l.weights.t * k;
-  cells : (k i : ℕ) → k < l.j → i < l.most + 1 - l.weights.t * k
-      → get_or (row (map (λ r. r.items) l.rows.items) k) i 0 ≡ get_or (row (map (λ r. r.items) l.self.rows.items) k) (i * l.self.lanes + l.place) 0;
+  each : (k : ℕ) → k < l.j → AreCoefficients l.self-inside.lanes l.place (l.most + 1 - l.self-inside.t * k)
+      (row (bytes_of l.self-inside.rows.items) k) (row (bytes_of l.rows.items) k);
 }

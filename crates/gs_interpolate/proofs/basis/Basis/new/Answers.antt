@@ -1,4 +1,4 @@
-use Rattle.std.proofs.Common.{◌≡◌, ◌+◌, ◌*◌, ◌/◌, ◌%◌, ◌≤◌, List, [], ◌∷◌, ℕ, length, map, sum, get_or, sym, ap, subst, ◌∙◌, arith, Vec, Global}
+use Rattle.std.proofs.Common.{◌≡◌, ◌+◌, ◌*◌, ◌/◌, ◌%◌, ◌≤◌, List, [], ◌∷◌, ℕ, length, map, sum, get_or, refl, sym, ap, subst, ◌∙◌, arith, Vec, Global}
 use Rattle.std.proofs.Math.Nat.{mul-mod_left}
 use Rattle.std.proofs.lemmas.List.{length-map, map-append, length-replicate, get_or-replicate}
 use Rattle.std.proofs.lemmas.List.Folds.{sum_by-replicate}
@@ -11,8 +11,8 @@ use Rattle.gs_interpolate.proofs.Leading.{led-power}
 use Rattle.gs_interpolate.proofs.Pushed.{pushed_size, pushed_each}
 use Rattle.gs_interpolate.proofs.basis.Basis.new.Goals as goal
 
-pub returns-clause-basis : goal.returns-clause-basis
-returns-clause-basis c = λ t d.
+pub returns : goal.returns
+returns c =
     let f : Vec ℕ Global → List ℕ = λ r. r.items in
     let n = c.args.n in
     let lanes = (n + 15) / 16 * 16 in
@@ -22,14 +22,34 @@ returns-clause-basis c = λ t d.
     let zeros = c.in_ok-exponents.ensures.items_if_clones_equal (λ y e. e) in
     let once : 1 * lanes ≡ lanes = omega arith in
     record {
-      size = ap length zeros ∙ length-replicate n 0 ∙ sym all;
-      wide = wide;
-      whole = λ j l.
-          let power = c.loop-j.invariant.each j (omega (arith, l, all)) in
-          ap (λ k. k % lanes) (power.size ∙ sym once) ∙ mul-mod_left 1 lanes;
-      each = λ j l _.
-          subst (λ e. IsLed t (member lanes rows j) e j) (sym (ap (λ es. get_or es j 0) zeros ∙ get_or-replicate n j 0 0 (omega (arith, l, all))))
-          (led-power t lanes rows wide (λ k h. c.loop-j.invariant.each k (omega (arith, h, all))) j l);
+      weight = refl;
+      degree = refl;
+      size = all;
+      basis = record {
+        size = ap length zeros ∙ length-replicate n 0 ∙ sym all;
+        wide = wide;
+        whole = λ j l.
+            let power = c.loop-j.invariant.each j (omega (arith, l, all)) in
+            ap (λ k. k % lanes) (power.size ∙ sym once) ∙ mul-mod_left 1 lanes;
+        each = λ j l _.
+            subst (λ e. IsLed c.args.t (member lanes rows j) e j) (sym (ap (λ es. get_or es j 0) zeros ∙ get_or-replicate n j 0 0 (omega (arith, l, all))))
+            (led-power c.args.t lanes rows wide (λ k h. c.loop-j.invariant.each k (omega (arith, h, all))) j l);
+      };
+      exponents = ap sum zeros ∙ sum_by-replicate (λ (x : ℕ). x) n 0 ∙ (let none : n * 0 ≡ 0 = omega arith in none);
+    }
+
+pub invariant_of-result : goal.invariant_of-result
+invariant_of-result c =
+    let f : Vec ℕ Global → List ℕ = λ r. r.items in
+    let all : length (map f c.loop-j.rows.items) ≡ c.args.n = omega (arith, length-map c.loop-j.rows.items f, c.loop-j.invariant.size) in
+    let exponents = ap length (c.in_ok-exponents.ensures.items_if_clones_equal (λ y e. e)) ∙ length-replicate c.args.n 0 in
+    record {
+      weight = c.requires.weight;
+      width = omega (arith, c.requires.few);
+      places = omega (arith, all, c.requires.few);
+      some = omega (arith, all, c.requires.some);
+      wide = omega (arith, all);
+      size = exponents ∙ sym all;
     }
 
 pub overflow_add-lanes : goal.overflow_add-lanes
@@ -63,47 +83,11 @@ loop-j-preserved c =
           (length-map old f ∙ c.loop-j.invariant.size) c.loop-j.invariant.each c.in_ok-power_row.ensures;
     }
 
-pub returns-in_err-power_row-clause-size : goal.returns-in_err-power_row-clause-size
-returns-in_err-power_row-clause-size c = IfOk-from_err c.from_residual.result _ c.from_residual.ensures.0
+pub returns-in_err-power_row : goal.returns-in_err-power_row
+returns-in_err-power_row c = IfOk-from_err c.from_residual.result _ c.from_residual.ensures.0
 
-pub returns-in_err-power_row-clause-lanes : goal.returns-in_err-power_row-clause-lanes
-returns-in_err-power_row-clause-lanes c = IfOk-from_err c.from_residual.result _ c.from_residual.ensures.0
+pub returns-in_err-push : goal.returns-in_err-push
+returns-in_err-push c = IfOk-from_err c.from_residual-in_err-push.result _ c.from_residual-in_err-push.ensures.0
 
-pub returns-in_err-power_row-clause-basis : goal.returns-in_err-power_row-clause-basis
-returns-in_err-power_row-clause-basis c = IfOk-from_err c.from_residual.result _ c.from_residual.ensures.0
-
-pub returns-in_err-power_row-clause-sum : goal.returns-in_err-power_row-clause-sum
-returns-in_err-power_row-clause-sum c = IfOk-from_err c.from_residual.result _ c.from_residual.ensures.0
-
-pub returns-in_err-push-clause-size : goal.returns-in_err-push-clause-size
-returns-in_err-push-clause-size c = IfOk-from_err c.from_residual-in_err-push.result _ c.from_residual-in_err-push.ensures.0
-
-pub returns-in_err-push-clause-lanes : goal.returns-in_err-push-clause-lanes
-returns-in_err-push-clause-lanes c = IfOk-from_err c.from_residual-in_err-push.result _ c.from_residual-in_err-push.ensures.0
-
-pub returns-in_err-push-clause-basis : goal.returns-in_err-push-clause-basis
-returns-in_err-push-clause-basis c = IfOk-from_err c.from_residual-in_err-push.result _ c.from_residual-in_err-push.ensures.0
-
-pub returns-in_err-push-clause-sum : goal.returns-in_err-push-clause-sum
-returns-in_err-push-clause-sum c = IfOk-from_err c.from_residual-in_err-push.result _ c.from_residual-in_err-push.ensures.0
-
-pub returns-in_err-exponents-clause-size : goal.returns-in_err-exponents-clause-size
-returns-in_err-exponents-clause-size c = IfOk-from_err c.from_residual-in_err-exponents.result _ c.from_residual-in_err-exponents.ensures.0
-
-pub returns-in_err-exponents-clause-lanes : goal.returns-in_err-exponents-clause-lanes
-returns-in_err-exponents-clause-lanes c = IfOk-from_err c.from_residual-in_err-exponents.result _ c.from_residual-in_err-exponents.ensures.0
-
-pub returns-in_err-exponents-clause-basis : goal.returns-in_err-exponents-clause-basis
-returns-in_err-exponents-clause-basis c = IfOk-from_err c.from_residual-in_err-exponents.result _ c.from_residual-in_err-exponents.ensures.0
-
-pub returns-in_err-exponents-clause-sum : goal.returns-in_err-exponents-clause-sum
-returns-in_err-exponents-clause-sum c = IfOk-from_err c.from_residual-in_err-exponents.result _ c.from_residual-in_err-exponents.ensures.0
-
-pub returns-clause-size : goal.returns-clause-size
-returns-clause-size c = omega arith
-
-pub returns-clause-lanes : goal.returns-clause-lanes
-returns-clause-lanes c = omega arith
-
-pub returns-clause-sum : goal.returns-clause-sum
-returns-clause-sum c = ap sum (c.in_ok-exponents.ensures.items_if_clones_equal (λ y e. e)) ∙ sum_by-replicate (λ (x : ℕ). x) c.args.n 0 ∙ (let none : c.args.n * 0 ≡ 0 = omega arith in none)
+pub returns-in_err-exponents : goal.returns-in_err-exponents
+returns-in_err-exponents c = IfOk-from_err c.from_residual-in_err-exponents.result _ c.from_residual-in_err-exponents.ensures.0

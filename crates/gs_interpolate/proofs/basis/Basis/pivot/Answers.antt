@@ -1,38 +1,54 @@
-use Rattle.std.proofs.Common.{◌+◌, ◌*◌, ◌<◌, length, get_or, ap, ◌∙◌, arith, inl, inr}
+use Rattle.std.proofs.Common.{◌≡◌, ◌≢◌, ℕ, ◌<◌, List, length, take, get_or, MatchOption, sym, ap, subst, ◌∙◌, arith, inl, inr, Vec, Global}
 use Rattle.std.proofs.lemmas.Bool.{cases_eq}
-use Rattle.std.proofs.lemmas.List.{get_or_default}
+use Rattle.std.proofs.lemmas.List.{get_or-take, length-map}
+use Rattle.gs_interpolate.specs.Basis.{Polynomials, weight, AreZeroWhereLight, IsFirstFailing, IsPivot}
 use Rattle.gs_interpolate.proofs.basis.Basis.pivot.Goals as goal
 
--- the weight of the first is that of the leading monomial at its place
-pub returns : goal.returns
-returns c =
-    let es = c.args.self.now.exponents.items in
-    let first = c.in_ok-first.first in
-    let found = c.in_ok-first.ensures in
-    let inside : first < length es = omega (arith, found.inside, c.requires.size) in
-    let own = c.weight.ensures ∙ ap (λ e. e + c.args.weights.t * first) (c.index.ensures ∙ get_or_default es first _ 0 inside) in
-    record {
-      inside = inside;
-      light = omega (arith, own, c.if-weight-weights.false);
-      first = found;
-    }
+-- the values of the polynomials come first
+of_all : (s : Polynomials) (values : List ℕ) (n p : ℕ) → n ≡ length s.rows → IsFirstFailing s (take n values) p → IsFirstFailing s values p
+of_all s values n p all found = record {
+  inside = found.inside;
+  fails = subst (λ x. x ≢ 0) (get_or-take n values p 0 (let inside = found.inside in omega (arith, inside, all))) found.fails;
+  first = λ j l some other. found.first j l (subst (λ x. x ≢ 0) (sym (get_or-take n values j 0 (omega (arith, l, all)))) some) other;
+}
 
--- where that is not light, each other that fails is as heavy
-pub returns-then-weight-weights : goal.returns-then-weight-weights
-returns-then-weight-weights c = λ j low.
-    let es = c.args.self.now.exponents.items in
-    let values = c.args.values.now in
-    let first = c.in_ok-first.first in
-    let found = c.in_ok-first.ensures in
-    let inside : first < length es = omega (arith, found.inside, c.requires.size) in
-    let own = c.weight.ensures ∙ ap (λ e. e + c.args.weights.t * first) (c.index.ensures ∙ get_or_default es first _ 0 inside) in
+-- where the first that fails is not light, none is
+none_light : (s : Polynomials) (values : List ℕ) (p : ℕ) → s.d < weight s p → IsFirstFailing s values p → AreZeroWhereLight s values
+none_light s values p heavy found j l low =
     elim (cases_eq (get_or values j 0) 0) [
       | inl none ↦ none
-      | inr some ↦ elim (cases_eq j first) [
-        | inl same ↦ absurd (let product = ap (λ k. get_or es k 0 + c.args.weights.t * k) same in omega (arith, own, c.if-weight-weights.true, low, product))
-        | inr other ↦ absurd (elim (found.first j some other) [
-          | inl less ↦ omega (arith, own, c.if-weight-weights.true, low, less)
-          | inr as_light ↦ omega (arith, own, c.if-weight-weights.true, low, as_light.0)
+      | inr some ↦ elim (cases_eq j p) [
+        | inl same ↦ absurd (let e = ap (weight s) same in omega (arith, heavy, low, e))
+        | inr other ↦ absurd (elim (found.first j l some other) [
+          | inl less ↦ omega (arith, heavy, low, less)
+          | inr as_light ↦ omega (arith, heavy, low, as_light.0)
         ])
       ]
     ]
+
+pub returns : goal.returns
+returns c =
+    let s = c.args.self.now in
+    let f : Vec ℕ Global → List ℕ = λ r. r.items in
+    let all : c.len.result ≡ length s.rows = omega (arith, c.len.ensures, length-map c.self.inside.rows.items f, ap (λ s. length s.rows) c.self.view_is) in
+    record {
+      light = omega (arith, c.weight.ensures.weight, c.if-weight-self.false, ap (λ s. s.d) c.self.view_is);
+      first = of_all s c.args.values.now c.len.result c.in_ok-first.first all c.in_ok-first.ensures;
+    }
+
+pub returns-then-weight-self : goal.returns-then-weight-self
+returns-then-weight-self c =
+    let s = c.args.self.now in
+    let f : Vec ℕ Global → List ℕ = λ r. r.items in
+    let all : c.len.result ≡ length s.rows = omega (arith, c.len.ensures, length-map c.self.inside.rows.items f, ap (λ s. length s.rows) c.self.view_is) in
+    none_light s c.args.values.now c.in_ok-first.first (omega (arith, c.weight.ensures.weight, c.if-weight-self.true, ap (λ s. s.d) c.self.view_is))
+    (of_all s c.args.values.now c.len.result c.in_ok-first.first all c.in_ok-first.ensures)
+
+pub returns-in_err-first : goal.returns-in_err-first
+returns-in_err-first c =
+    let s = c.args.self.now in
+    let values = c.args.values.now in
+    let f : Vec ℕ Global → List ℕ = λ r. r.items in
+    let all : c.len.result ≡ length s.rows = omega (arith, c.len.ensures, length-map c.self.inside.rows.items f, ap (λ s. length s.rows) c.self.view_is) in
+    subst (λ o. MatchOption o (AreZeroWhereLight s values) (IsPivot s values)) (sym c.from_residual.ensures)
+    (λ j l _. sym (get_or-take c.len.result values j 0 (omega (arith, l, all))) ∙ c.in_err-first.ensures j)

@@ -1,12 +1,12 @@
-use Rattle.std.proofs.Common.{◌≡◌, ◌<◌, ◌≤◌, List, [], ◌∷◌, ℕ, length, map, sum, get_or, refl, sym, subst, ◌∙◌, arith, inl, inr, Vec, Global}
+use Rattle.std.proofs.Common.{◌≡◌, ◌+◌, ◌≤◌, List, [], ◌∷◌, ℕ, length, sum, get_or, sym, ap, subst, ◌∙◌, arith, inl, inr}
 use Rattle.std.proofs.Math.Nat.{div-le_self}
 use Rattle.std.proofs.lemmas.Bool.{cases_lt}
-use Rattle.std.proofs.lemmas.List.{get_or_default, length-map}
+use Rattle.std.proofs.lemmas.List.{get_or_default}
 use Rattle.std.proofs.lemmas.Result.{IfOk-weaker}
-use Rattle.bi_poly.specs.Hasse.{HasZero}
-use Rattle.gs_interpolate.specs.Family.{member}
+use Rattle.interpolation.specs.Interpolant.{IsInterpolant}
 use Rattle.interpolation.specs.Monomials.{conditions}
-use Rattle.gs_interpolate.specs.Basis.{IsBasis}
+use Rattle.gs_interpolate.specs.Basis.{HaveZero}
+use Rattle.gs_interpolate.specs.Layout.{IsLayout}
 use Rattle.gs_interpolate.proofs.Passing.{conditions-next, conditions-more}
 use Rattle.gs_interpolate.proofs.Lightest.{lightest_interpolates}
 use Rattle.gs_interpolate.proofs.koetter.KoetterInterpolate.interpolate.Goals as goal
@@ -48,62 +48,58 @@ pass-requires-clause-room c =
     omega (arith, more, c.loop-a.invariant.few, c.requires.few)
 
 pub loop-a-init : goal.loop-a-init
-loop-a-init c = record {
-  size = omega (arith, c.in_ok-basis.ensures.size, c.len.ensures);
-  lanes = refl;
-  basis = c.in_ok-basis.ensures.basis c.args.t c.args.d;
-  zeros = λ k j l. absurd (omega arith);
-  few = let none = c.in_ok-basis.ensures.sum in omega arith;
-}
+loop-a-init c =
+    let made = c.in_ok-basis.ensures in
+    record {
+      weight = made.weight;
+      degree = made.degree;
+      size = let size = made.size in omega (arith, size, c.len.ensures);
+      basis = made.basis;
+      zeros = λ k l. absurd (omega (arith, l));
+      few = let none = made.exponents in omega (arith, none);
+    }
 
 pub loop-a-preserved : goal.loop-a-preserved
 loop-a-preserved c =
-    let f : Vec ℕ Global → List ℕ = λ r. r.items in
     let h = c.loop-a.invariant in
     let i = c.loop-a.a-index in
     let m = c.args.m in
     let points = c.args.points.now in
-    let old = c.loop-a.basis in
     let new = c.pass.new.self in
-    let rows = map f new.rows.items in
-    let P = c.in_ok-pass.ensures.passed in
-    let lanes = c.in_ok-pass.ensures.lanes in
-    let before = length-map old.rows.items f in
-    let after = length-map new.rows.items f in
-    let size : length new.rows.items ≡ length old.rows.items = omega (arith, before, after, P.size) in
+    let passed = c.in_ok-pass.ensures in
     record {
-      size = size ∙ h.size;
-      lanes = lanes ∙ h.lanes;
-      basis = subst (λ n. IsBasis c.args.t c.args.d n rows new.exponents.items) (sym lanes) P.basis;
-      zeros = λ k j l inside low.
-          let here : j < length (map f old.rows.items) = omega (arith, inside, size, before) in
-          subst (λ n. HasZero (member n rows j) (get_or points k (0, 0)).0 (get_or points k (0, 0)).1 m) (sym lanes)
-          (elim (cases_lt k i) [
-            | inl below ↦ P.kept _ _ m (λ g s. h.zeros k g below (omega (arith, s, before))) j here low
+      weight = ap (λ s. s.t) passed.alike ∙ h.weight;
+      degree = ap (λ s. s.d) passed.alike ∙ h.degree;
+      size = passed.size ∙ h.size;
+      basis = passed.basis;
+      zeros = λ k l.
+          elim (cases_lt k i) [
+            | inl below ↦ passed.kept _ _ m (h.zeros k below)
             | inr past ↦
-                let same : i ≡ k = omega arith in
-                subst (λ x. HasZero (member old.lanes rows j) (get_or points x (0, 0)).0 (get_or points x (0, 0)).1 m) same (P.zeros j here low)
-          ]);
-      few = let rise = P.rise in let few = h.few in let next = conditions-next i m in omega arith;
+                let same : i ≡ k = omega (arith, l, past) in
+                subst (λ x. HaveZero new (get_or points x (0, 0)).0 (get_or points x (0, 0)).1 m) same passed.zeros
+          ];
+      few = let rise = passed.rise in let few = h.few in let next = conditions-next i m in omega (arith, rise, few, next);
     }
 
 pub returns : goal.returns
 returns c =
-    let f : Vec ℕ Global → List ℕ = λ r. r.items in
     let points = c.args.points.now in
     let m = c.args.m in
     let h = c.loop-a.invariant in
-    let n = c.loop-a.basis.lanes in
-    let rows = map f c.loop-a.basis.rows.items in
-    let count = length-map c.loop-a.basis.rows.items f in
+    let s = c.loop-a.basis in
+    let ns = c.in_ok-lengths.lengths.items in
     let all : c.loop-a.a-index ≡ length points = omega arith in
+    let layout =
+    subst (λ t. IsLayout ns (conditions (length points) m + 1) t s.d) (sym h.weight)
+    (subst (λ d. IsLayout ns (conditions (length points) m + 1) c.args.t d) (sym h.degree) c.in_ok-lengths.ensures) in
     IfOk-weaker c.into_lightest.result _ _
     (λ q light.
-    lightest_interpolates points m c.args.t c.args.d n c.in_ok-lengths.lengths.items rows c.loop-a.basis.exponents.items q
-    c.in_ok-lengths.ensures (count ∙ h.size) h.basis (subst (λ k. sum c.loop-a.basis.exponents.items ≤ conditions k m) all h.few)
-    (λ k d l j inside low.
-    subst (λ p. HasZero (member n rows j) p.0 p.1 m) (get_or_default points k (0, 0) d l) (h.zeros k j (omega (arith, l, all)) (omega (arith, inside, count)) low))
-    light)
+    subst (λ d. IsInterpolant q points m c.args.t d) h.degree
+    (subst (λ t. IsInterpolant q points m t s.d) h.weight
+    (lightest_interpolates points m ns s q layout h.size h.basis (subst (λ k. sum s.exponents ≤ conditions k m) all h.few)
+    (λ k d l. subst (λ p. HaveZero s p.0 p.1 m) (get_or_default points k (0, 0) d l) (h.zeros k (omega (arith, l, all))))
+    light)))
     c.into_lightest.ensures
 
 pub row_lengths-requires-clause-weight : goal.row_lengths-requires-clause-weight
@@ -116,45 +112,10 @@ pub offset_bounds-points-a-index : goal.offset_bounds-points-a-index
 offset_bounds-points-a-index c = omega arith
 
 pub pass-requires-clause-multiplicity : goal.pass-requires-clause-multiplicity
-pass-requires-clause-multiplicity c = omega arith
-
-pub pass-requires-clause-weight : goal.pass-requires-clause-weight
-pass-requires-clause-weight c = omega arith
-
-pub into_lightest-requires-clause-weight : goal.into_lightest-requires-clause-weight
-into_lightest-requires-clause-weight c = omega arith
-
-pub pass-requires-clause-some : goal.pass-requires-clause-some
-pass-requires-clause-some c =
-    let f : Vec ℕ Global → List ℕ = λ r. r.items in
-    let some = some_rows c.in_ok-lengths.lengths.items (let size = c.in_ok-lengths.ensures.sum in omega arith) in
-    omega (arith, some, c.loop-a.invariant.size, length-map c.loop-a.basis.rows.items f, c.loop-a.invariant.basis.wide)
-
-pub pass-requires-clause-places : goal.pass-requires-clause-places
-pass-requires-clause-places c = omega (arith, c.loop-a.invariant.size, c.in_ok-lengths.ensures.rows, div-le_self c.args.d c.args.t)
-
-pub pass-requires-clause-lanes : goal.pass-requires-clause-lanes
-pass-requires-clause-lanes c = omega (arith, c.loop-a.invariant.lanes, c.in_ok-basis.ensures.lanes)
+pass-requires-clause-multiplicity c = c.requires.multiplicity
 
 pub pass-requires-clause-basis : goal.pass-requires-clause-basis
 pass-requires-clause-basis c = c.loop-a.invariant.basis
 
-pub into_lightest-requires-clause-places : goal.into_lightest-requires-clause-places
-into_lightest-requires-clause-places c = omega (arith, c.loop-a.invariant.size, c.in_ok-lengths.ensures.rows, div-le_self c.args.d c.args.t)
-
-pub into_lightest-requires-clause-lanes : goal.into_lightest-requires-clause-lanes
-into_lightest-requires-clause-lanes c = omega (arith, c.loop-a.invariant.lanes, c.in_ok-basis.ensures.lanes)
-
-pub into_lightest-requires-clause-some : goal.into_lightest-requires-clause-some
-into_lightest-requires-clause-some c =
-    let some = some_rows c.in_ok-lengths.lengths.items (let size = c.in_ok-lengths.ensures.sum in omega arith) in
-    omega (arith, some, c.loop-a.invariant.size)
-
-pub into_lightest-requires-clause-room : goal.into_lightest-requires-clause-room
-into_lightest-requires-clause-room c =
-    let all : c.loop-a.a-index ≡ length c.args.points.now = omega arith in
-    let few = subst (λ k. sum c.loop-a.basis.exponents.items ≤ conditions k c.args.m) all c.loop-a.invariant.few in
-    omega (arith, few, c.requires.few)
-
-pub into_lightest-requires-clause-basis : goal.into_lightest-requires-clause-basis
-into_lightest-requires-clause-basis c = c.loop-a.invariant.basis
+pub into_lightest-requires : goal.into_lightest-requires
+into_lightest-requires c = c.loop-a.invariant.basis

@@ -1,4 +1,4 @@
-use Rattle.std.proofs.Common.{◌≡◌, ◌+◌, ◌-◌, ◌*◌, ◌/◌, ◌%◌, ◌<◌, ◌++◌, List, ℕ, [], length, map, get_or, drop, refl, sym, ap, subst, ◌∙◌, arith, take_at, Vec, Global}
+use Rattle.std.proofs.Common.{◌≡◌, ◌+◌, ◌-◌, ◌*◌, ◌/◌, ◌%◌, ◌<◌, ◌++◌, List, ℕ, [], length, map, get_or, drop, sym, ap, subst, ◌∙◌, arith, take_at, Vec, Global}
 use Rattle.std.proofs.lemmas.List.{length-replicate, get_or-replicate, length-map, get_or-map}
 use Rattle.std.proofs.lemmas.Result.{IfOk-from_err}
 use Rattle.gf256.specs.Field.{◌⊕◌, ◌⊗◌}
@@ -7,7 +7,8 @@ use Rattle.uni_poly.specs.Taylor.{taylor}
 use Rattle.uni_poly.proofs.Taylor.{taylor_lt}
 use Rattle.bi_poly.specs.Rows.{row}
 use Rattle.gs_interpolate.specs.Family.{lane}
-use Rattle.gs_interpolate.proofs.Windows.{AreExpanded, row_values, expanded-none, expanded-next, expanded-at, values-none, values-next, is_window}
+use Rattle.gs_interpolate.specs.Window.{AreExpanded}
+use Rattle.gs_interpolate.proofs.Windows.{row_values, expanded-none, expanded-next, expanded-at, values-none, values-next, is_window}
 use Rattle.std.proofs.Math.Nat.{mul-le-mul_right}
 use Rattle.gs_interpolate.proofs.window.Window.of.Goals as goal
 
@@ -36,7 +37,7 @@ expand-requires-clause-whole c =
     let j = c.loop-j.j - 1 in
     let inside : j < length c.args.rows.now = omega arith in
     ap (λ r. length r % c.args.lanes) (c.deref.ensures.value ∙ ap f c.index-rows-j.is ∙ sym (get_or-map f c.args.rows.now j _ [] inside))
-    ∙ c.requires.whole j inside
+    ∙ c.requires.whole j (omega (arith, inside, length-map c.args.rows.now f))
 
 pub loop-j-preserved : goal.loop-j-preserved
 loop-j-preserved c =
@@ -62,7 +63,8 @@ loop-j-preserved c =
     subst (λ (ys : List ℕ). (k : ℕ) → k < length made → get_or next k 0 ≡ get_or (ys ++ made) k 0 ⊕ b ⊗ get_or made k 0) c.deref-in-loop-j-2.ensures.value
     (subst (λ (xs : List ℕ). (k : ℕ) → k < length xs → get_or next k 0 ≡ get_or (c.deref-in-loop-j-2.result.now ++ xs) k 0 ⊕ b ⊗ get_or xs k 0) c.deref-in-loop-j.ensures.value c.horner.ensures) in
     let all = values-next s m n a b next rows j inside
-    (expanded-next s m b made next first (λ k. taylor (lane n (k % n) (row rows j)) a (k / n)) (λ k. row_values n a k (drop (j + 1) rows)) c.loop-j.invariant.size small is (λ k. taylor_lt (lane n (k % n) (row rows j)) a (k / n)) done sums) in
+    (expanded-next s m b made next first (λ k. taylor (lane n (k % n) (row rows j)) a (k / n)) (λ k. row_values n a k (drop (j + 1) rows))
+    c.loop-j.invariant.size small is (λ k. taylor_lt (lane n (k % n) (row rows j)) a (k / n)) done sums) in
     let long : length next ≡ length c.loop-j.next.items = c.horner.auto.next ∙ ap length c.deref_mut.ensures.value in
     let items : c.swap.new.x.items ≡ next =
     ap (λ v. v.items) c.swap.ensures.x_after ∙ take_at next _ c.loop-j.next.len (c.horner.auto.next ∙ c.deref_mut.ensures.len) in
@@ -74,12 +76,15 @@ loop-j-preserved c =
       sums = λ u g l h. ap (λ xs. get_or xs (u * s + g) 0) items ∙ all u g l h;
     }
 
-pub returns-clause-window : goal.returns-clause-window
-returns-clause-window c =
+pub returns : goal.returns
+returns c =
     let f : Vec ℕ Global → List ℕ = λ r. r.items in
     let none : c.loop-j.j ≡ 0 = omega arith in
-    is_window c.args.lanes c.args.m c.args.a c.args.b c.loop-j.cells.items (map f c.args.rows.now) (omega (arith, c.requires.wide, length-map c.args.rows.now f)) c.loop-j.invariant.size
+    is_window c.args.lanes c.args.m c.args.a c.args.b c.loop-j.cells.items (map f c.args.rows.now) (omega (arith, c.requires.wide, length-map c.args.rows.now f))
     (subst (λ i. AreExpanded (c.args.m * c.args.lanes) c.args.m c.args.b c.loop-j.cells.items (λ k. row_values c.args.lanes c.args.a k (drop i (map f c.args.rows.now)))) none c.loop-j.invariant.sums)
+
+pub invariant_of-result : goal.invariant_of-result
+invariant_of-result c = c.loop-j.invariant.size
 
 pub overflow_mul-m : goal.overflow_mul-m
 overflow_mul-m c = omega arith
@@ -119,41 +124,17 @@ overflow_mul-size c =
     let some = mul-le-mul_right (c.args.m * c.args.lanes) c.requires.terms in
     omega (arith, some)
 
-pub returns-in_err-cells-clause-lanes : goal.returns-in_err-cells-clause-lanes
-returns-in_err-cells-clause-lanes c = IfOk-from_err c.from_residual.result _ c.from_residual.ensures.0
+pub returns-in_err-cells : goal.returns-in_err-cells
+returns-in_err-cells c = IfOk-from_err c.from_residual.result _ c.from_residual.ensures.0
 
-pub returns-in_err-cells-clause-order : goal.returns-in_err-cells-clause-order
-returns-in_err-cells-clause-order c = IfOk-from_err c.from_residual.result _ c.from_residual.ensures.0
+pub returns-in_err-next : goal.returns-in_err-next
+returns-in_err-next c = IfOk-from_err c.from_residual-in_err-next.result _ c.from_residual-in_err-next.ensures.0
 
-pub returns-in_err-cells-clause-window : goal.returns-in_err-cells-clause-window
-returns-in_err-cells-clause-window c = IfOk-from_err c.from_residual.result _ c.from_residual.ensures.0
+pub returns-in_err-first : goal.returns-in_err-first
+returns-in_err-first c = IfOk-from_err c.from_residual-in_err-first.result _ c.from_residual-in_err-first.ensures.0
 
-pub returns-in_err-next-clause-lanes : goal.returns-in_err-next-clause-lanes
-returns-in_err-next-clause-lanes c = IfOk-from_err c.from_residual-in_err-next.result _ c.from_residual-in_err-next.ensures.0
-
-pub returns-in_err-next-clause-order : goal.returns-in_err-next-clause-order
-returns-in_err-next-clause-order c = IfOk-from_err c.from_residual-in_err-next.result _ c.from_residual-in_err-next.ensures.0
-
-pub returns-in_err-next-clause-window : goal.returns-in_err-next-clause-window
-returns-in_err-next-clause-window c = IfOk-from_err c.from_residual-in_err-next.result _ c.from_residual-in_err-next.ensures.0
-
-pub returns-in_err-first-clause-lanes : goal.returns-in_err-first-clause-lanes
-returns-in_err-first-clause-lanes c = IfOk-from_err c.from_residual-in_err-first.result _ c.from_residual-in_err-first.ensures.0
-
-pub returns-in_err-first-clause-order : goal.returns-in_err-first-clause-order
-returns-in_err-first-clause-order c = IfOk-from_err c.from_residual-in_err-first.result _ c.from_residual-in_err-first.ensures.0
-
-pub returns-in_err-first-clause-window : goal.returns-in_err-first-clause-window
-returns-in_err-first-clause-window c = IfOk-from_err c.from_residual-in_err-first.result _ c.from_residual-in_err-first.ensures.0
-
-pub returns-in_err-spare-clause-lanes : goal.returns-in_err-spare-clause-lanes
-returns-in_err-spare-clause-lanes c = IfOk-from_err c.from_residual-in_err-spare.result _ c.from_residual-in_err-spare.ensures.0
-
-pub returns-in_err-spare-clause-order : goal.returns-in_err-spare-clause-order
-returns-in_err-spare-clause-order c = IfOk-from_err c.from_residual-in_err-spare.result _ c.from_residual-in_err-spare.ensures.0
-
-pub returns-in_err-spare-clause-window : goal.returns-in_err-spare-clause-window
-returns-in_err-spare-clause-window c = IfOk-from_err c.from_residual-in_err-spare.result _ c.from_residual-in_err-spare.ensures.0
+pub returns-in_err-spare : goal.returns-in_err-spare
+returns-in_err-spare c = IfOk-from_err c.from_residual-in_err-spare.result _ c.from_residual-in_err-spare.ensures.0
 
 pub horner-requires-clause-room : goal.horner-requires-clause-room
 horner-requires-clause-room c =
@@ -163,9 +144,3 @@ horner-requires-clause-room c =
       ap length c.deref-in-loop-j.ensures.value ∙ c.loop-j.invariant.size,
       mul-le-mul_right (c.args.m * c.args.lanes) c.requires.terms,
     )
-
-pub returns-clause-lanes : goal.returns-clause-lanes
-returns-clause-lanes c = refl
-
-pub returns-clause-order : goal.returns-clause-order
-returns-clause-order c = refl

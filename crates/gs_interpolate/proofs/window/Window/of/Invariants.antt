@@ -1,5 +1,6 @@
 use Rattle.std.proofs.Common.{◌≡◌, ◌*◌, drop, length, map}
-use Rattle.gs_interpolate.proofs.Windows.{AreExpanded, row_values}
+use Rattle.gs_interpolate.specs.Window.{AreExpanded}
+use Rattle.gs_interpolate.proofs.Windows.{row_values}
 use Rattle.gs_interpolate.proofs.window.Window.of.Given as goal
 
 abbrev pub invariant-loop-j : goal.invariant-loop-j

@@ -6,6 +6,7 @@ use Rattle.std.proofs.lemmas.Result.{on_ok_weaker}
 use Rattle.block_decoder.specs.Agreed.{constants_of, weight}
 use Rattle.block_decoder.specs.Gains.{Gains}
 use Rattle.block_decoder.specs.Numbered.{all_numbered, Continues, ContinuesBelow}
+use Rattle.program_tests.specs.Search.{sought}
 use Rattle.block_decoder.proofs.Continued.{continues-light}
 use Rattle.block_decoder.proofs.Continues.{Gains-none, Gains-same, Gains-both, Continues-whole, Continues-next, ContinuesBelow-more}
 use Rattle.program_tests.proofs.plain_blocks.Search.+extend.Goals as goal
@@ -21,8 +22,8 @@ pub returns-then-weight-self-clause-exact : goal.returns-then-weight-self-clause
 returns-then-weight-self-clause-exact t c =
     let s = c.args.self.now in
     let w = rw c.deref.ensures.value at c.weight.ensures in
-    Gains-none (Continues s.answers s.width s.degree s.agreement c.args.numbers.now.items) c.args.listing.now
-    (continues-light constants_of s.answers s.width s.degree s.agreement (all_numbered s.degree c.args.numbers.now.items) (omega (arith, w, c.if-weight-self.true)))
+    Gains-none (Continues (sought s) c.args.numbers.now.items) c.args.listing.now
+    (continues-light constants_of (sought s) (all_numbered s.degree c.args.numbers.now.items) (omega (arith, w, c.if-weight-self.true)))
 
 pub returns-then-len-self-clause-exact : goal.returns-then-len-self-clause-exact
 returns-then-len-self-clause-exact t c =
@@ -34,8 +35,8 @@ returns-then-len-self-clause-exact t c =
     let enough : s.agreement ≤ weight (all_numbered s.degree numbers) s.answers = omega (arith, w, c.if-weight-self.false) in
     let IsBlock : List ℕ → Type 0 = λ b. b ≡ c.in_ok-constants.field-0.items in
     on_ok_weaker c.insert.result
-    (Gains-same IsBlock (Continues s.answers s.width s.degree s.agreement numbers) c.args.listing.now c.insert.new.self
-    (λ b. let alone = Continues-whole s.answers s.width s.degree s.agreement numbers whole enough b in
+    (Gains-same IsBlock (Continues (sought s) numbers) c.args.listing.now c.insert.new.self
+    (λ b. let alone = Continues-whole (sought s) numbers whole enough b in
     (λ e. alone.0 (e ∙ block), λ more. alone.1 more ∙ sym block)))
     c.insert.ensures.ok
 
@@ -60,12 +61,12 @@ loop-number-preserved t c =
       length_kept = c.pop.new.self.ok.0 ∙ ap length kept ∙ sym c.args.numbers.now.ok.0;
       ascending = c.extend.ensures.ascending;
       gains = Gains-both
-          (ContinuesBelow c.loop-number.number s.answers s.width s.degree s.agreement numbers)
-          (Continues s.answers s.width s.degree s.agreement (numbers ++ c.loop-number.number ∷ []))
-          (ContinuesBelow (c.loop-number.number + 1) s.answers s.width s.degree s.agreement numbers)
+          (ContinuesBelow c.loop-number.number (sought s) numbers)
+          (Continues (sought s) (numbers ++ c.loop-number.number ∷ []))
+          (ContinuesBelow (c.loop-number.number + 1) (sought s) numbers)
           c.args.listing.now c.loop-number.listing c.extend.new.listing c.loop-number.invariant.gains
-          (subst (λ ns. Gains (Continues s.answers s.width s.degree s.agreement ns) c.loop-number.listing c.extend.new.listing) pushed c.in_ok-extend.ensures.exact)
-          (ContinuesBelow-more s.answers s.width s.degree s.agreement numbers c.loop-number.number);
+          (subst (λ ns. Gains (Continues (sought s) ns) c.loop-number.listing c.extend.new.listing) pushed c.in_ok-extend.ensures.exact)
+          (ContinuesBelow-more (sought s) numbers c.loop-number.number);
     }
 
 pub returns-clause-exact : goal.returns-clause-exact
@@ -74,6 +75,6 @@ returns-clause-exact t c =
     let numbers = c.args.numbers.now.items in
     let end : c.loop-number.number ≡ 256 ^ (s.degree + 1) = omega (arith, c.pow-number-end.ensures) in
     let short : length numbers < s.width = omega (arith, c.args.numbers.now.ok.0, c.requires.columns, c.len.ensures, c.if-len-self.false) in
-    Gains-same (ContinuesBelow c.loop-number.number s.answers s.width s.degree s.agreement numbers) (Continues s.answers s.width s.degree s.agreement numbers) c.args.listing.now c.loop-number.listing
-    (subst (λ n. (b : List ℕ) → ContinuesBelow n s.answers s.width s.degree s.agreement numbers b ↔ Continues s.answers s.width s.degree s.agreement numbers b) (sym end) (Continues-next s.answers s.width s.degree s.agreement numbers short))
+    Gains-same (ContinuesBelow c.loop-number.number (sought s) numbers) (Continues (sought s) numbers) c.args.listing.now c.loop-number.listing
+    (subst (λ n. (b : List ℕ) → ContinuesBelow n (sought s) numbers b ↔ Continues (sought s) numbers b) (sym end) (Continues-next (sought s) numbers short))
     c.loop-number.invariant.gains

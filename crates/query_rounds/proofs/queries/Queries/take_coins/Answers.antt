@@ -2,7 +2,7 @@ use Rattle.std.proofs.Common.{◌≡◌, ◌∙◌, ◌++◌, ◌<◌, ℕ, List
 use Rattle.std.proofs.lemmas.List.{take_at}
 use Rattle.query_rounds.specs.declared.plan.FetchPlan.{FetchPlan}
 use Rattle.query_rounds.specs.Plan.{need}
-use Rattle.query_rounds.specs.Queries.{Queries}
+use Rattle.query_rounds.specs.Queries.{request_of}
 use Rattle.query_rounds.specs.Tossed.{TakesCoins}
 use Rattle.query_rounds.proofs.queries.Queries.take_coins.Goals as goal
 
@@ -20,8 +20,8 @@ returns-clause-taken g c =
     let before = g.P.Ports.world c.args.ports.now in
     let after = g.P.Ports.world c.take_coins.new.ports in
     let size : length new ≡ len = omega arith in
-    let needed : given ≡ need c.args.self.now.plan (length c.args.self.now.blocks) =
-    ap length c.deref_mut.ensures.value ∙ c.self.invariant.size ∙ ap (λ (q : Queries). need q.plan (length q.blocks)) c.self.view_is in
+    let needed : given ≡ need c.self.inside.plan (length c.self.inside.blocks.now) =
+    ap length c.deref_mut.ensures.value ∙ c.self.invariant.size in
     subst (λ (n : ℕ). TakesCoins n result (take len (new ++ drop (length new) c.self.inside.coins.items)) before after) needed
     (subst (λ (coins : List ℕ). TakesCoins given result coins before after) (sym (take_at new (drop (length new) c.self.inside.coins.items) len size)) c.take_coins.ensures.taken)
 
@@ -36,14 +36,12 @@ invariant_of-self g c =
     record {
       plan = c.self.invariant.plan;
       blocks = c.self.invariant.blocks;
+      addresses = c.self.invariant.addresses;
       size = ap length (take_at new (drop (length new) c.self.inside.coins.items) len size) ∙ c.take_coins.auto.coins ∙ ap length c.deref_mut.ensures.value ∙ c.self.invariant.size;
     }
 
-pub returns-clause-plan : goal.returns-clause-plan
-returns-clause-plan g c = ap (λ (q : Queries). q.plan) c.self.view_is
-
-pub returns-clause-blocks : goal.returns-clause-blocks
-returns-clause-blocks g c = ap (λ (q : Queries). q.blocks) c.self.view_is
+pub returns-clause-request : goal.returns-clause-request
+returns-clause-request g c = ap request_of c.self.view_is
 
 pub returns-clause-others : goal.returns-clause-others
 returns-clause-others g c = c.take_coins.ensures.others

@@ -17,9 +17,11 @@ use Rattle.query_rounds.proofs.queries.Queries.write_payload.Goals as goal
 below : (i end count blocks : ℕ) → i < end → end ≡ count → count ≡ blocks → i < blocks
 below i end count blocks lt end_is count_is = omega (arith, lt, end_is, count_is)
 
+-- up to a block there are no more than may be asked for
 few_blocks : (i end count : ℕ) → i < end → end ≡ count → count ≤ MOST_BLOCKS → i + 1 ≤ MOST_BLOCKS
 few_blocks i end count lt end_is few = omega (arith, lt, end_is, few)
 
+-- and before it neither
 fewer_blocks : (i : ℕ) → i + 1 ≤ MOST_BLOCKS → i ≤ MOST_BLOCKS
 fewer_blocks i few = omega (arith, few)
 
@@ -31,18 +33,23 @@ fits_part k given few small = omega (arith, mul-le k given MOST_BLOCKS (2 ^ 32) 
 part_starts : (i given : ℕ) → i * given ≤ (i + 1) * given
 part_starts i given = mul-le-mul_right given (omega arith)
 
+-- the part of a block ends within the slice
 part_ends : (i blocks given size len : ℕ) → given ≡ size → i < blocks → len ≡ blocks * size → (i + 1) * given ≤ len
 part_ends i blocks given size len is lt all = omega (arith, piece_fits i blocks size lt, ap (λ (w : ℕ). (i + 1) * w) is, all)
 
+-- and it has the size of one
 part_size : (i blocks given size : ℕ) (xs : List ℕ) → given ≡ size → i < blocks → length xs ≡ blocks * size → length (take ((i + 1) * given - i * given) (drop (i * given) xs)) ≡ size
 part_size i blocks given size xs is lt all = ap length (piece_between i given size xs is) ∙ length-piece size i xs (omega (arith, piece_fits i blocks size lt, all))
 
+-- the loop that ended has been at every block
 all_written : (i end count blocks : ℕ) → i ≤ end → end ≤ i → end ≡ count → count ≡ blocks → i ≡ blocks
 all_written i end count blocks most least end_is count_is = omega (arith, most, least, end_is, count_is)
 
+-- the coins of a block are few
 small_coins : (given : ℕ) → given ≤ MOST_CELLS → given ≤ 2 ^ 32
 small_coins given few = omega (arith, few)
 
+-- so are the bytes of its vector
 small_vector : (given rows : ℕ) → given ≤ rows → rows ≤ MOST_ROWS → given ≤ 2 ^ 32
 small_vector given rows few most = omega (arith, few, most)
 
@@ -50,9 +57,12 @@ small_vector given rows few most = omega (arith, few, most)
 own_size : (given : ℕ) (plan : FetchPlan) (q : Queries) → given ≡ query_coins (query_params plan 1 0) → plan ≡ q.plan → given ≡ query_coins (query_params q.plan 1 0)
 own_size given plan q is same = is ∙ ap (λ (p : FetchPlan). query_coins (query_params p 1 0)) same
 
-vector_size : (given : ℕ) (scheme : Scheme) (plan : FetchPlan) (q : Queries) → given ≡ payload_len scheme plan.r → scheme ≡ scheme_of plan.scheme → plan ≡ q.plan → given ≡ payload_len (scheme_of q.plan.scheme) q.plan.r
+-- the size of a vector, which the plan determines
+vector_size : (given : ℕ) (scheme : Scheme) (plan : FetchPlan) (q : Queries) → given ≡ payload_len scheme plan.r
+    → scheme ≡ scheme_of plan.scheme → plan ≡ q.plan → given ≡ payload_len (scheme_of q.plan.scheme) q.plan.r
 vector_size given scheme plan q is scheme_is same = is ∙ ap (λ (s : Scheme). payload_len s plan.r) scheme_is ∙ ap (λ (p : FetchPlan). payload_len (scheme_of p.scheme) p.r) same
 
+-- the slice has no part behind the last block
 no_longer : (len i blocks size : ℕ) → len ≡ blocks * size → i ≡ blocks → len ≤ i * size
 no_longer len i blocks size all same = omega (arith, all, ap (λ (n : ℕ). n * size) same)
 
@@ -63,10 +73,12 @@ pub overflow_mul-own_coins-in-loop-i : goal.overflow_mul-own_coins-in-loop-i
 overflow_mul-own_coins-in-loop-i c = fits_part _ _ (few_blocks _ _ _ c.loop-i-test.true c.from-i-end.ensures c.count.ensures.few) (small_coins _ c.query_coins-own.ensures.few)
 
 pub overflow_mul-vector : goal.overflow_mul-vector
-overflow_mul-vector c = fits_part _ _ (fewer_blocks _ (few_blocks _ _ _ c.loop-i-test.true c.from-i-end.ensures c.count.ensures.few)) (small_vector _ _ c.payload_len-size.ensures.few c.self.invariant.plan.numbers.shape.few_rows)
+overflow_mul-vector c = fits_part _ _ (fewer_blocks _ (few_blocks _ _ _ c.loop-i-test.true c.from-i-end.ensures c.count.ensures.few))
+    (small_vector _ _ c.payload_len-size.ensures.few c.self.invariant.plan.numbers.shape.few_rows)
 
 pub overflow_mul-vector-in-loop-i : goal.overflow_mul-vector-in-loop-i
-overflow_mul-vector-in-loop-i c = fits_part _ _ (few_blocks _ _ _ c.loop-i-test.true c.from-i-end.ensures c.count.ensures.few) (small_vector _ _ c.payload_len-size.ensures.few c.self.invariant.plan.numbers.shape.few_rows)
+overflow_mul-vector-in-loop-i c = fits_part _ _ (few_blocks _ _ _ c.loop-i-test.true c.from-i-end.ensures c.count.ensures.few)
+    (small_vector _ _ c.payload_len-size.ensures.few c.self.invariant.plan.numbers.shape.few_rows)
 
 pub slice_bounds-own_coins-start : goal.slice_bounds-own_coins-start
 slice_bounds-own_coins-start c = part_starts c.loop-i.i c.query_coins-own.result
@@ -100,7 +112,8 @@ write_vector-requires-clause-block c =
 
 pub write_vector-requires-clause-coins : goal.write_vector-requires-clause-coins
 write_vector-requires-clause-coins c =
-    part_size c.loop-i.i _ _ _ c.query_coins-coins.result.now (own_size c.query_coins-own.result c.self.inside.plan c.args.self.now c.query_coins-own.ensures.is (ap (λ (z : Queries). z.plan) c.self.view_is))
+    part_size c.loop-i.i _ _ _ c.query_coins-coins.result.now
+    (own_size c.query_coins-own.result c.self.inside.plan c.args.self.now c.query_coins-own.ensures.is (ap (λ (z : Queries). z.plan) c.self.view_is))
     (below _ _ _ _ c.loop-i-test.true c.from-i-end.ensures c.count.ensures.is) (ap length c.query_coins-coins.ensures.is ∙ c.query_coins-coins.ensures.size)
 
 pub write_vector-requires-clause-room : goal.write_vector-requires-clause-room

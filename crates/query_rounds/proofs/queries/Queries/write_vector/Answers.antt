@@ -16,10 +16,12 @@ coins_by : (plan : FetchPlan) (q : Queries) (told scheme : Scheme) (len : ℕ) �
 unfolding query_coins
 coins_by plan q told scheme len same is e all = all ∙ ap (λ (p : FetchPlan). query_coins (query_params p 1 0)) (sym same) ∙ ap (λ (s : Scheme). coins_for s (query_params plan 1 0)) (sym is ∙ e)
 
+-- so is what is said of its room
 room_by : (plan : FetchPlan) (q : Queries) (told scheme : Scheme) (len : ℕ) → plan ≡ q.plan → told ≡ scheme_of plan.scheme → told ≡ scheme
     → len ≡ payload_len (scheme_of q.plan.scheme) q.plan.r → len ≡ payload_len scheme plan.r
 room_by plan q told scheme len same is e all = all ∙ ap (λ (p : FetchPlan). payload_len (scheme_of p.scheme) p.r) (sym same) ∙ ap (λ (s : Scheme). payload_len s plan.r) (sym is ∙ e)
 
+-- and of the vector
 vector_by : (plan : FetchPlan) (q : Queries) (told scheme : Scheme) (coins : List ℕ) (block i : ℕ) → plan ≡ q.plan → told ≡ scheme_of plan.scheme → told ≡ scheme
     → payload_in scheme (query_params plan 1 0) coins block i ≡ payload_to (query_params q.plan 1 0) coins block i
 unfolding payload_to
@@ -30,6 +32,7 @@ vector_by plan q told scheme coins block i same is e =
 small_degree : (given : ℕ) (plan : FetchPlan) → IsPlan plan → given ≡ plan.t → given ≤ 254
 small_degree given plan is given_is = omega (arith, given_is, is.numbers.few_private)
 
+-- there are two servers at least
 two_servers : (given : ℕ) (plan : FetchPlan) → IsPlan plan → given ≡ plan.n → 2 ≤ given
 two_servers given plan is given_is = omega (arith, given_is, is.private, is.numbers.agreement, is.numbers.servers)
 
