@@ -43,9 +43,14 @@ module _ (n : ℕ) where
   -- coins in two parts
   parts : (coins : List ℕ) → AreCoins (NUMBER_LEN + n) coins → (length (take NUMBER_LEN coins) ≡ NUMBER_LEN) × AreCoins n (drop NUMBER_LEN coins)
   parts coins is =
-      let size = is.size in
-      (length-take-le NUMBER_LEN coins (omega (arith, size)), record { size = let d = length-drop NUMBER_LEN coins in omega
-      (arith, d, size); bytes = All-drop (λ c. c < 256) NUMBER_LEN coins is.bytes })
+      let size = is.size in (
+        length-take-le NUMBER_LEN coins (omega (arith, size)),
+        record {
+          size = let d = length-drop NUMBER_LEN coins in omega
+              (arith, d, size);
+          bytes = All-drop (λ c. c < 256) NUMBER_LEN coins is.bytes;
+        },
+      )
 
   joined : (coins rest : List ℕ) → AreCoins (NUMBER_LEN + n) coins → AreCoins n rest → AreCoins (NUMBER_LEN + n) (take NUMBER_LEN coins ++ rest)
   joined coins rest is more =
