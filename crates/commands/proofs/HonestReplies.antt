@@ -12,6 +12,7 @@ use Rattle.wire_frames.specs.Scheme.{scheme_of, payload_len}
 use Rattle.wire_frames.specs.declared.header.QueryHeader.{QueryHeader}
 use Rattle.wire_frames.specs.declared.session.SessionParams.{SessionParams}
 use Rattle.wire_frames.specs.Header.{blocks_in, query_header}
+use Rattle.wire_frames.specs.Sizes.{query_len}
 use Rattle.wire_frames.specs.Turns.{piece}
 use Rattle.wire_frames.proofs.Answering.{answer_to_query, blocks_in_query}
 use Rattle.wire_frames.proofs.Turns.{in_turn-same, piece-in_turn}
@@ -22,7 +23,7 @@ use Rattle.wire_frames.proofs.Servers.{scheme_in}
 use Rattle.query_rounds.specs.declared.coins.TheConstants.{NUMBER_LEN}
 use Rattle.query_rounds.specs.declared.plan.FetchPlan.{FetchPlan}
 use Rattle.query_rounds.specs.Plan.{AreBlocks, IsPlan, need, query_coins, query_params}
-use Rattle.query_rounds.specs.Sent.{frame_len, header_to, payload_for, payload_in, payload_to, queries_from, sent, session_number, vector_at}
+use Rattle.query_rounds.specs.Sent.{header_to, payload_for, payload_in, payload_to, queries_from, sent, session_number, vector_at}
 use Rattle.fetch_client.specs.Honest.{answer_by, answer_in, honest_answer, honest_frame}
 use Rattle.query_rounds.proofs.Schemes.{length-payload_for, length-payload_to}
 use Rattle.query_rounds.proofs.Ranges.{range_of}
@@ -83,7 +84,7 @@ module _ (p : FetchPlan) (blocks : List ℕ) (are : AreBlocks p blocks) (coins :
   rest = drop-append_seam (query_header header) asked_for
 
   -- and has that length
-  size : length (sent p blocks coins i) ≡ frame_len p (length blocks)
+  size : length (sent p blocks coins i) ≡ query_len (scheme_of p.scheme) (length blocks) p.r
   unfolding sent
   size = length-append (query_header header) asked_for ∙ ap (λ n. FRAME_HEADER_LEN + n) (length-payload_for params own blocks i)
 
