@@ -1,5 +1,5 @@
 -- A coalition is sent the same frames, in each scheme.
-use Rattle.std.proofs.Common.{◌≡◌, ◌≢◌, ℕ, ◌+◌, ◌-◌, ◌*◌, ◌<◌, ◌≤◌, List, ◌++◌, length, take, drop, get_or, All, refl, sym, ap, ap₂, subst, ◌∙◌, arith, length-append, length-drop}
+use Rattle.std.proofs.Common.{◌≡◌, ◌≢◌, ℕ, ◌+◌, ◌-◌, ◌*◌, ◌<◌, ◌≤◌, List, ◌++◌, length, take, drop, get_or, All, [], refl, sym, ap, ap₂, subst, ◌∙◌, arith, length-append, length-drop}
 use Rattle.std.proofs.Math.Seq.{get_or-take, take-append_seam, drop-append_seam}
 use Rattle.std.proofs.lemmas.List.{get_or_default, length-take-le, take-append-drop}
 use Rattle.std.proofs.lemmas.List.Elements.{All-take, All-drop, All-append}
@@ -12,7 +12,7 @@ use Rattle.wire_frames.proofs.Turns.{in_turn-same}
 use Rattle.query_rounds.specs.declared.coins.TheConstants.{NUMBER_LEN}
 use Rattle.query_rounds.specs.declared.plan.FetchPlan.{FetchPlan}
 use Rattle.query_rounds.specs.Plan.{params_of, query_coins, query_params, need}
-use Rattle.query_rounds.specs.Sent.{session_number, payload_for, payload_to, sent, vector_at}
+use Rattle.query_rounds.specs.Sent.{header_to, queries_from, session_number, payload_for, payload_to, sent, vector_at}
 use Rattle.query_rounds.proofs.Asking.{sent_is}
 use Rattle.query_rounds.proofs.Schemes.{coins_of_shamir, payload_of_shamir, coins_of_xor, payload_of_xor}
 use Rattle.privacy_law.specs.Bijection.{AreCoins, IsBijection}
@@ -80,6 +80,13 @@ module _ (n : ℕ) where
     right = λ coins is. behind_both b.inverse f coins is (b.right (drop NUMBER_LEN coins) (parts coins is).1);
   }
 
+-- a header and the payload for these blocks are the frame
+framed : (p : FetchPlan) (blocks coins : List ℕ) (i : ℕ)
+    → query_header (header_to p (length blocks) coins i) ++ payload_for (query_params p 1 0) (queries_from coins) blocks i
+    ≡ sent p blocks coins i
+framed p blocks coins i =
+    sent_is (record { plan = p; blocks = blocks; addresses = []; coins = coins }) i _ _ refl refl
+
 -- a frame is the same where each vector of its payload is
 same_frame : (p : FetchPlan) (blocks others : List ℕ) (i : ℕ) (coins rest : List ℕ) → length others ≡ length blocks → AreCoins (need p (length blocks)) coins
     → ((v : ℕ) → v < length blocks → vector_at (query_params p 1 0) rest others i v ≡ vector_at (query_params p 1 0) (drop NUMBER_LEN coins) blocks i v)
@@ -89,12 +96,12 @@ same_frame p blocks others i coins rest as_many is same =
     let front = (parts (length blocks * query_coins params) coins is).0 in
     let number : session_number (take NUMBER_LEN coins ++ rest) ≡ session_number coins =
     sym (session_front (take NUMBER_LEN coins ++ rest)) ∙ ap session_number (front_of (take NUMBER_LEN coins) rest front) ∙ session_front coins in
-    sym (sent_is p others (take NUMBER_LEN coins ++ rest) i _ _ refl refl)
+    sym (framed p others (take NUMBER_LEN coins ++ rest) i)
     ∙ ap₂ (λ (x y : List ℕ). x ++ y)
     (ap₂ (λ (q n : ℕ). query_header (asked (params_of p q n) i)) as_many number)
     (ap (λ (l : List ℕ). payload_for params l others i) (rest_of (take NUMBER_LEN coins) rest front)
     ∙ ap (λ (n : ℕ). in_turn n (vector_at params rest others i)) as_many ∙ in_turn-same (length blocks) _ _ same)
-    ∙ sent_is p blocks coins i _ _ refl refl
+    ∙ framed p blocks coins i
 
 -- in Shamir's sharing the frames are the same where the queries are
 module _ (p : FetchPlan) (one : p.scheme ≡ SHAMIR) (coalition blocks others : List ℕ) (as_many : length others ≡ length blocks)
