@@ -104,13 +104,13 @@ pub fn measure_product<R: Clock + Print + Threads + Sync>(
     let matrix = matrix_of(alloc, &mut state, order.rows, order.width)?;
     let mut query = vec![in alloc; 0; matrix.rows() as usize]?;
     fill(&mut state, &mut query);
-    let mut out = vec![in alloc; 0; matrix.width() as usize]?;
     for &workers in &order.numbers {
         let work = Work {
             matrix: &matrix,
             workers: workers.clamp(1, MOST_WORKERS),
             calls: order.calls,
         };
+        let mut out = vec![in alloc; 0; matrix.width() as usize]?;
         let mut scratch = vec![in alloc; 0; work.workers as usize * matrix.width() as usize]?;
         let best = best_product(rt, &work, &query, &mut scratch, &mut out)?;
         let best = (work.calls > 1).then_some(best);
