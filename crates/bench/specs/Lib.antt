@@ -1,2 +1,0 @@
-pub mod Decidable
-pub mod Listable
