@@ -75,7 +75,9 @@ pub fn measure_lists<R: Clock + Print + AllocGlobal>(rt: &R, mut words: Args) ->
     let h = next_number::<u32>(&mut words, "agreement")?;
     let rounds = next_number::<u64>(&mut words, "rounds")?;
     let mut points = Vec::new(rt.alloc());
-    while let Some(word) = words.next() {
+    // A point more than there can be is no list.
+    for _ in 0..256u32 {
+        let Some(word) = words.next() else { break };
         let x = word.as_str().parse::<u8>()?;
         let y = next_number::<u8>(&mut words, "value")?;
         points.push((x, y))?;
