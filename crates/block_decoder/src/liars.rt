@@ -1,9 +1,9 @@
 //! Writes which usable answers of a session are not among those that agree, with no memory taken.
 
 ghost use Rattle.std.specs.Prelude.{◌≡◌, ◌≤◌, if◌then◌else◌, [], ◌∷◌, ◌++◌, length, codes};
-ghost use Rattle.port_rules.specs.Number.{OUTPUT};
-ghost use Rattle.port_rules.specs.Moves.{Touches};
-ghost use Rattle.port_rules.specs.Written.{Written};
+ghost use Rattle.port_trait.specs.Number.{OUTPUT};
+ghost use Rattle.port_trait.specs.Moves.{Touches};
+ghost use Rattle.port_trait.specs.Written.{Written};
 ghost use Rattle.wire_frames.specs.Answer.{answers, with_answer};
 ghost use Rattle.block_decoder.specs.Text.{others, words_of, liars_line};
 ghost use Rattle.block_decoder.specs.Usable.{payload_of};
@@ -11,7 +11,7 @@ ghost use Rattle.block_decoder.specs.Usable.{payload_of};
 use crate::agreements::Agreement;
 use crate::usable::usable_payload;
 use crate::write::write_number;
-use port_rules::{Failed, Port, Ports, write_all};
+use port_trait::{Failed, Port, Ports, write_all};
 use wire_frames::Session;
 
 /// How many answers of the session are usable.

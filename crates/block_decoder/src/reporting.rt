@@ -1,16 +1,16 @@
 //! Writes the text of a report, in pieces, with no memory taken.
 
 ghost use Rattle.std.specs.Prelude.{◌≡◌, flat_map, map};
-ghost use Rattle.port_rules.specs.Number.{OUTPUT};
-ghost use Rattle.port_rules.specs.Moves.{Touches};
-ghost use Rattle.port_rules.specs.Written.{Written};
+ghost use Rattle.port_trait.specs.Number.{OUTPUT};
+ghost use Rattle.port_trait.specs.Moves.{Touches};
+ghost use Rattle.port_trait.specs.Written.{Written};
 ghost use Rattle.block_decoder.specs.Reported.{IsSessionReport};
 ghost use Rattle.block_decoder.specs.Text.{agree_line, line_of, number_word, report_text};
 
 use crate::agreements::{Agreement, Report};
 use crate::liars::write_liars;
 use crate::write::{write_hex, write_number};
-use port_rules::{Failed, Port, Ports, write_all};
+use port_trait::{Failed, Port, Ports, write_all};
 use wire_frames::Session;
 
 /// Numbers of servers in decimal, each after a space.

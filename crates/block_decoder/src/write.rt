@@ -1,15 +1,15 @@
 //! Writes the text of a verdict, in pieces, with no memory taken.
 
 ghost use Rattle.std.specs.Prelude.{◌≡◌, ◌<◌, ◌≤◌, length, map, flat_map};
-ghost use Rattle.port_rules.specs.Number.{OUTPUT};
+ghost use Rattle.port_trait.specs.Number.{OUTPUT};
 ghost use Rattle.hex.specs.Hex.{encode_lower};
-ghost use Rattle.port_rules.specs.Moves.{Touches};
-ghost use Rattle.port_rules.specs.Written.{Written};
+ghost use Rattle.port_trait.specs.Moves.{Touches};
+ghost use Rattle.port_trait.specs.Written.{Written};
 ghost use Rattle.block_decoder.specs.Text.{block_line, number_word, line_of, text};
 
 use crate::{Listing, Verdict};
 use itoa::Buffer;
-use port_rules::{Failed, Port, Ports, write_all};
+use port_trait::{Failed, Port, Ports, write_all};
 
 /// How many bytes of a block are written at once.
 const PIECE: usize = 2048;

@@ -4,11 +4,11 @@ use Rattle.std.specs.Prelude.{Option, Some, None, IfSome}
 use Rattle.std.specs.Option.{option_map}
 use Rattle.std.proofs.Math.Seq.{take-add}
 use Rattle.std.proofs.lemmas.List.{take_all, drop_all, length-take-le, length-drop}
-use Rattle.port_rules.specs.World.{Cell, World}
-use Rattle.port_rules.specs.Number.{DATABASE}
-use Rattle.port_rules.specs.Moves.{Hands, took, counted, RoseOnce}
-use Rattle.port_rules.specs.Whole.{Reads, IsFront, Ends, FailsShort}
-use Rattle.port_rules.proofs.Cells.{reads_more, took-took}
+use Rattle.port_trait.specs.World.{Cell, World}
+use Rattle.port_trait.specs.Number.{DATABASE}
+use Rattle.port_trait.specs.Moves.{Hands, took, counted, RoseOnce}
+use Rattle.port_trait.specs.Whole.{Reads, IsPrefix, Ends, FailsShort}
+use Rattle.port_trait.proofs.Cells.{reads_more, took-took}
 use Rattle.block_matrix.specs.Loading.{ReadsUpTo}
 
 -- the bytes behind a slice that is all of a list
@@ -32,7 +32,7 @@ module _ (n : ℕ) (read before after : List ℕ) (w v u : World) (kept : take (
       subst (λ (l : List ℕ). Reads DATABASE l w u) (take_all (length read + n) after (omega (arith, full, length-drop (length read) before, same))) reads_piece
 
 -- what was read is as long as what was held: it is all of that
-all_read : (n : ℕ) (first read : List ℕ) (o o1 : Option (List ℕ)) → o1 ≡ option_map (drop (length first)) o → IfSome o (IsFront first) → IfSome o (IsFront read) → length read ≡ length first + n
+all_read : (n : ℕ) (first read : List ℕ) (o o1 : Option (List ℕ)) → o1 ≡ option_map (drop (length first)) o → IfSome o (IsPrefix first) → IfSome o (IsPrefix read) → length read ≡ length first + n
     → IfSome o1 (λ h. length h ≡ n) → IfSome o (λ h. read ≡ h)
 all_read n first read None o1 is a b size ends = tt
 all_read n first read (Some h) o1 is a b size ends =
@@ -53,7 +53,7 @@ reads_ended most n read before after w v u kept still same few so_far ends =
     }
 
 -- more was held than was read
-held_more : (n : ℕ) (read : List ℕ) (o o1 : Option (List ℕ)) → o1 ≡ option_map (drop (length read)) o → IfSome o (IsFront read)
+held_more : (n : ℕ) (read : List ℕ) (o o1 : Option (List ℕ)) → o1 ≡ option_map (drop (length read)) o → IfSome o (IsPrefix read)
     → IfSome o1 (λ h. n ≤ length h) → IfSome o (λ h. length read + n ≤ length h)
 held_more n read None o1 is a more = tt
 held_more n read (Some h) o1 is a more =

@@ -50,7 +50,7 @@ IsMatrix-rows_of width count bytes size small = record {
       All-take (λ b. b < 256) (j * width + width - j * width) (drop (j * width) bytes) (All-drop (λ b. b < 256) (j * width) bytes small));
 }
 
--- the first rows, one after the other, are the front of the bytes that they were cut from
+-- the first rows, one after the other, are the prefix of the bytes that they were cut from
 joined_rows : (width count : ℕ) (bytes : List ℕ) → concat (rows_of width count bytes) ≡ take (count * width) bytes
 unfolding rows_of
 joined_rows width zero bytes = let none : 0 ≡ 0 * width = grind arith in ap (λ (k : ℕ). take k bytes) none

@@ -1,11 +1,11 @@
 -- What reading the file of a database does to its port.
 use Rattle.std.specs.Prelude.{◌≡◌, ℕ, ◌+◌, ◌<◌, ◌≤◌, List, [], length, take, drop, IfSome, Vec, Result, Ok, Err}
 use Rattle.std.specs.declared.alloc.Global.{Global}
-use Rattle.port_rules.specs.World.{Cell, World}
-use Rattle.port_rules.specs.Number.{DATABASE}
-use Rattle.port_rules.specs.Moves.{took}
-use Rattle.port_rules.specs.Whole.{Fills, Reads, FailsShort}
-use Rattle.port_rules.specs.declared.moves.Filled.{Filled}
+use Rattle.port_trait.specs.World.{Cell, World}
+use Rattle.port_trait.specs.Number.{DATABASE}
+use Rattle.port_trait.specs.Moves.{took}
+use Rattle.port_trait.specs.Whole.{Fills, Reads, FailsShort}
+use Rattle.port_trait.specs.declared.moves.Filled.{Filled}
 use Rattle.block_matrix.specs.Database.{Database, limit}
 use Rattle.block_matrix.specs.Loaded.{IsFileOf}
 use Rattle.block_matrix.specs.declared.matrix.LoadFault.{LoadFault}

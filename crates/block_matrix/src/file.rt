@@ -1,12 +1,12 @@
 //! Reads a database from its file.
 ghost use Rattle.std.specs.Prelude.{◌≡◌, ◌+◌, ◌<◌, ◌≤◌, length, take, vec_len};
-ghost use Rattle.port_rules.specs.Number.{DATABASE};
-ghost use Rattle.port_rules.specs.Moves.{Touches};
+ghost use Rattle.port_trait.specs.Number.{DATABASE};
+ghost use Rattle.port_trait.specs.Moves.{Touches};
 ghost use Rattle.quantity_limits.specs.declared.TheConstants.{MOST_WIDTH};
 ghost use Rattle.block_matrix.specs.Loading.{FillsFrom, Lengthens, ReadsOr, Loads};
 
 use crate::matrix::{LoadFault, Matrix, most_bytes};
-use port_rules::{Filled, Port, Ports, read_exactly};
+use port_trait::{Filled, Port, Ports, read_exactly};
 use std::alloc::Global;
 
 /// How many bytes are asked for at once, at most.
@@ -47,7 +47,7 @@ fn fill_rest<P: Ports>(ports: &mut P, bytes: &mut [u8], filled: usize) -> Filled
 }
 
 /// The first so many bytes.
-fn front(mut bytes: Vec<u8>, filled: usize) -> Vec<u8>
+fn prefix(mut bytes: Vec<u8>, filled: usize) -> Vec<u8>
     ensures { result.items ≡ take filled bytes.items }
 {
     bytes.truncate(filled);
@@ -65,7 +65,7 @@ fn read_up_to<P: Ports>(alloc: Global, ports: &mut P, most: usize) -> Result<Vec
         lengthen(&mut bytes, most)?;
         match fill_rest(ports, &mut bytes, filled) {
             Filled::Full => {}
-            Filled::Ended(n) => return Ok(front(bytes, filled + n)),
+            Filled::Ended(n) => return Ok(prefix(bytes, filled + n)),
             Filled::Failed => return Err(LoadFault::ReadFault),
         }
     }

@@ -1,6 +1,6 @@
 //! A case: what it is run on, and what is expected.
 
-use port_rules::Port;
+use port_trait::Port;
 use std::alloc::Global;
 
 /// What a port holds.

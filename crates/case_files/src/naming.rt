@@ -3,7 +3,7 @@
 use crate::fault::Fault;
 use crate::lines::{number, small_number, split_word};
 use pir_tool::{Bad, Status};
-use port_rules::Port;
+use port_trait::Port;
 
 /// The port at the head of a text, and what follows it.
 pub fn read_port(text: &str) -> Result<(Port, &str), Fault> {

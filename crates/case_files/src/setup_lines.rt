@@ -6,7 +6,7 @@ use crate::expected_lines::read_expected;
 use crate::fault::Fault;
 use crate::lines::{number, split_word};
 use crate::naming::read_port;
-use port_rules::Port;
+use port_trait::Port;
 use std::alloc::Global;
 
 /// Appends a word; `''` is the empty one.

@@ -6,10 +6,10 @@ use Rattle.std.specs.List.{range_with_len, take-map}
 use Rattle.std.proofs.lemmas.List.FromFn.{map-range_with_len_more}
 use Rattle.std.proofs.lemmas.Simd.{map-map}
 use Rattle.std.proofs.lemmas.List.{map-append, take_all, take_more, length-map}
-use Rattle.port_rules.specs.World.{World}
-use Rattle.port_rules.specs.Number.{child}
-use Rattle.port_rules.specs.Children.{Starts}
-use Rattle.port_rules.specs.Moves.{Fails, Touches}
+use Rattle.port_trait.specs.World.{World}
+use Rattle.port_trait.specs.Number.{child}
+use Rattle.port_trait.specs.Children.{Starts}
+use Rattle.port_trait.specs.Moves.{Fails, Touches}
 use Rattle.commands.specs.DemoOrder.{address_from}
 use Rattle.commands.specs.DemoOutcome.{StartsAll, StartsSome}
 

@@ -5,15 +5,15 @@ use Rattle.std.specs.List.{range_with_len}
 use Rattle.std.proofs.lemmas.List.{length-map}
 use Rattle.std.proofs.lemmas.List.FromFn.{length-map-range_with_len}
 use Rattle.std.proofs.lemmas.Simd.{map-map}
-use Rattle.port_rules.specs.declared.port.TheConstants.{PORT_COUNT}
-use Rattle.port_rules.specs.World.{Cell, World}
-use Rattle.port_rules.specs.Number.{OUTPUT, COINS, link, child}
-use Rattle.port_rules.specs.Moves.{Rose, gave, named}
-use Rattle.port_rules.proofs.Rises.{once_rose}
-use Rattle.port_rules.proofs.Ranges.{each_within}
+use Rattle.port_trait.specs.declared.port.TheConstants.{PORT_COUNT}
+use Rattle.port_trait.specs.World.{Cell, World}
+use Rattle.port_trait.specs.Number.{OUTPUT, COINS, link, child}
+use Rattle.port_trait.specs.Moves.{Rose, gave, named}
+use Rattle.port_trait.proofs.Rises.{once_rose}
+use Rattle.port_trait.proofs.Ranges.{each_within}
 use Rattle.wire_frames.specs.Session.{Transcript}
 use Rattle.query_rounds.specs.Plan.{need}
-use Rattle.port_rules.specs.Tossed.{Tossed}
+use Rattle.port_trait.specs.Tossed.{Tossed}
 use Rattle.commands.specs.Said.{whole_text}
 use Rattle.commands.specs.Told.{NoneRose, NoChildRose}
 use Rattle.commands.specs.FetchOrder.{FetchOrder, plain_fetch}

@@ -1,14 +1,14 @@
 -- A fetch from its first port to its last.
 use Rattle.std.proofs.Common.{◌≡◌, ◌≢◌, ◌⊎◌, ◌∙◌, inl, inr, Bool, true, false, ℕ, ◌+◌, ◌<◌, ◌≤◌, List, [], ◌∷◌, length, take, slice_index_or, refl, lit<, sym, ap, subst, arith}
 use Rattle.std.specs.Prelude.{Option, Some, None, IfSome, unwrap_or, Result, Ok, Err}
-use Rattle.port_rules.specs.declared.port.TheConstants.{PORT_COUNT}
-use Rattle.port_rules.specs.World.{Cell, World}
-use Rattle.port_rules.specs.Number.{COINS, OUTPUT, RECORD, link}
-use Rattle.port_rules.specs.Moves.{Fails, RoseOnce, Touches, took, gave, named, counted}
-use Rattle.port_rules.specs.Tossed.{RunsOut}
-use Rattle.port_rules.proofs.Cells.{touches_more}
-use Rattle.port_rules.proofs.Ranges.{each_within}
-use Rattle.port_rules.proofs.Carried.{fails_writing_before}
+use Rattle.port_trait.specs.declared.port.TheConstants.{PORT_COUNT}
+use Rattle.port_trait.specs.World.{Cell, World}
+use Rattle.port_trait.specs.Number.{COINS, OUTPUT, RECORD, link}
+use Rattle.port_trait.specs.Moves.{Fails, RoseOnce, Touches, took, gave, named, counted}
+use Rattle.port_trait.specs.Tossed.{RunsOut}
+use Rattle.port_trait.proofs.Cells.{touches_more}
+use Rattle.port_trait.proofs.Ranges.{each_within}
+use Rattle.port_trait.proofs.Carried.{fails_writing_before}
 use Rattle.wire_frames.specs.Sizes.{answer_len}
 use Rattle.wire_frames.specs.Session.{Transcript, session_bytes}
 use Rattle.block_decoder.specs.declared.verdict.Verdict.{Verdict}

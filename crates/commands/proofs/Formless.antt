@@ -1,7 +1,7 @@
 -- What `run` promises where the words were not read as a command, and that no command is refused as words are.
 use Rattle.std.proofs.Common.{◌≡◌, inl, inr, Err, Bool, List, ℕ, None, refl, ap}
 use Rattle.std.specs.Prelude.{option_map}
-use Rattle.port_rules.specs.World.{World}
+use Rattle.port_trait.specs.World.{World}
 use Rattle.drawn_workload.specs.declared.order.Workload.{Workload}
 use Rattle.pir_words.specs.Form.{IsReadAs, asked_of}
 use Rattle.pir_words.specs.declared.asked.WordsFault.{WordsFault}

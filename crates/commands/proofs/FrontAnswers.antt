@@ -4,12 +4,12 @@ use Rattle.std.specs.Prelude.{Option, Some, IfSome}
 use Rattle.std.specs.Option.{option_map}
 use Rattle.std.proofs.lemmas.Bool.{cases_eq}
 use Rattle.std.proofs.lemmas.List.{append-nil, drop-drop, get_or-drop, get_or_push, get_or_append_left, length_push}
-use Rattle.port_rules.specs.World.{Cell, Crowd, LinkThen, World, answers, answered, link_now, links_now}
-use Rattle.port_rules.specs.Number.{DOOR, GUEST, link}
-use Rattle.port_rules.specs.Moves.{Touches}
-use Rattle.port_rules.specs.Guests.{Meets}
-use Rattle.port_rules.proofs.Served.{answers_push}
-use Rattle.port_rules.proofs.Links.{by_links-at, by_links-same}
+use Rattle.port_trait.specs.World.{Cell, Crowd, LinkThen, World, answers, answered, link_now, links_now}
+use Rattle.port_trait.specs.Number.{DOOR, GUEST, link}
+use Rattle.port_trait.specs.Moves.{Touches}
+use Rattle.port_trait.specs.Guests.{Meets}
+use Rattle.port_trait.proofs.Served.{answers_push}
+use Rattle.port_trait.proofs.Links.{by_links-at, by_links-same}
 use Rattle.quantity_limits.specs.declared.TheConstants.{MOST_SHARDS}
 use Rattle.shard_front.specs.declared.spread.Spread.{Spread}
 use Rattle.shard_front.specs.declared.relayed.Relayed.{Relayed}

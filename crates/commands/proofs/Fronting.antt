@@ -2,11 +2,11 @@
 use Rattle.std.proofs.Common.{◌≡◌, ◌⊎◌, inl, inr, ◌∙◌, ℕ, ◌+◌, ◌<◌, ◌≤◌, Bool, List, cond, refl, sym, ap, subst, arith}
 use Rattle.std.specs.Prelude.{Ok, Err, nat_le}
 use Rattle.std.proofs.lemmas.Bool.{cases_lt, le-leb, lt-leb}
-use Rattle.port_rules.specs.World.{Cell, World}
-use Rattle.port_rules.specs.Number.{OUTPUT, DOOR, GUEST, link}
-use Rattle.port_rules.specs.Moves.{RoseAtMost, RoseOnce, Touches, Fails, counted, gave}
-use Rattle.port_rules.specs.Guests.{Meets}
-use Rattle.port_rules.proofs.Rises.{at_most_once, at_most_still, once_rose}
+use Rattle.port_trait.specs.World.{Cell, World}
+use Rattle.port_trait.specs.Number.{OUTPUT, DOOR, GUEST, link}
+use Rattle.port_trait.specs.Moves.{RoseAtMost, RoseOnce, Touches, Fails, counted, gave}
+use Rattle.port_trait.specs.Guests.{Meets}
+use Rattle.port_trait.proofs.Rises.{at_most_once, at_most_still, once_rose}
 use Rattle.pir_words.specs.FrontForm.{IsFront}
 use Rattle.quantity_limits.specs.declared.TheConstants.{MOST_SHARDS}
 use Rattle.shard_front.specs.declared.spread.Spread.{Spread}

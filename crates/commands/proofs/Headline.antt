@@ -2,10 +2,10 @@
 use Rattle.std.proofs.Common.{◌≡◌, ◌⊎◌, inl, inr, ℕ, ◌<◌, ◌≤◌, List, length, take, ◌∙◌, Bool, refl, subst, ap, ap₂, sym, arith}
 use Rattle.std.specs.Prelude.{Option, Some, None}
 use Rattle.std.proofs.lemmas.List.{length-take}
-use Rattle.port_rules.specs.World.{World}
-use Rattle.port_rules.specs.Number.{INPUT, OUTPUT, COINS}
-use Rattle.port_rules.specs.Moves.{gave, named}
-use Rattle.port_rules.proofs.Rises.{once_rose}
+use Rattle.port_trait.specs.World.{World}
+use Rattle.port_trait.specs.Number.{INPUT, OUTPUT, COINS}
+use Rattle.port_trait.specs.Moves.{gave, named}
+use Rattle.port_trait.proofs.Rises.{once_rose}
 use Rattle.wire_frames.specs.Limits.{IsInRange}
 use Rattle.wire_frames.specs.Session.{Transcript, IsSession}
 use Rattle.wire_frames.proofs.OneSession.{one_session}
@@ -14,7 +14,7 @@ use Rattle.block_decoder.specs.Report.{Agreement}
 use Rattle.block_decoder.specs.declared.verdict.Verdict.{Verdict}
 use Rattle.block_decoder.proofs.OneVerdict.{one_verdict}
 use Rattle.replay.specs.Replayed.{NoSession, ReadsWhole}
-use Rattle.port_rules.proofs.Cells.{at_told}
+use Rattle.port_trait.proofs.Cells.{at_told}
 use Rattle.query_rounds.specs.Plan.{need}
 use Rattle.commands.proofs.Saying.{same_beside}
 use Rattle.commands.specs.declared.status.Status.{Status}

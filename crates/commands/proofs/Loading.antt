@@ -1,8 +1,8 @@
 -- The desk of `serve`, from its database on.
 use Rattle.std.proofs.Common.{◌≡◌, ◌∙◌, inl, inr, Ok, Err, length, refl, sym, ap, subst, arith}
-use Rattle.port_rules.specs.World.{Cell, World}
-use Rattle.port_rules.specs.Number.{DATABASE}
-use Rattle.port_rules.specs.Moves.{Fails, RoseOnce, counted, named, took}
+use Rattle.port_trait.specs.World.{Cell, World}
+use Rattle.port_trait.specs.Number.{DATABASE}
+use Rattle.port_trait.specs.Moves.{Fails, RoseOnce, counted, named, took}
 use Rattle.block_matrix.specs.Loading.{Holds, HoldsMore, HoldsNone, Loads, Stopped, asked_for}
 use Rattle.block_matrix.specs.Database.{Database}
 use Rattle.block_matrix.specs.declared.matrix.LoadFault.{LoadFault}

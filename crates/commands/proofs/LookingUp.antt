@@ -4,17 +4,17 @@ use Rattle.std.specs.Prelude.{Err, Ok, Option, Some, None, Result, slice_get, sl
 use Rattle.std.proofs.lemmas.List.{length-take}
 use Rattle.std.proofs.lemmas.Option.{slice_get-get_or}
 use Rattle.gf256.specs.Product.{IsMatrix}
-use Rattle.port_rules.specs.declared.port.TheConstants.{PORT_COUNT}
-use Rattle.port_rules.specs.World.{Cell, World}
-use Rattle.port_rules.specs.Number.{COINS, OUTPUT, link}
-use Rattle.port_rules.specs.Moves.{Touches, gave, named}
-use Rattle.port_rules.proofs.Carried.{fails_writing_before}
-use Rattle.port_rules.proofs.Rises.{once_rose}
+use Rattle.port_trait.specs.declared.port.TheConstants.{PORT_COUNT}
+use Rattle.port_trait.specs.World.{Cell, World}
+use Rattle.port_trait.specs.Number.{COINS, OUTPUT, link}
+use Rattle.port_trait.specs.Moves.{Touches, gave, named}
+use Rattle.port_trait.proofs.Carried.{fails_writing_before}
+use Rattle.port_trait.proofs.Rises.{once_rose}
 use Rattle.wire_frames.specs.declared.scheme.TheConstants.{SHAMIR}
 use Rattle.wire_frames.specs.Answer.{answers}
 use Rattle.wire_frames.proofs.Turns.{in_turn-one}
 use Rattle.block_decoder.specs.declared.verdict.Verdict.{Verdict}
-use Rattle.port_rules.proofs.Cells.{at_told}
+use Rattle.port_trait.proofs.Cells.{at_told}
 use Rattle.query_rounds.specs.declared.plan.FetchPlan.{FetchPlan}
 use Rattle.query_rounds.specs.declared.plan.FetchFault.{FetchFault}
 use Rattle.query_rounds.specs.declared.plan.FetchFault.TheVariants.{CoinsFault, CoinsEnded as TooFewCoins, Memory as NoMemory}

@@ -1,10 +1,10 @@
 -- A replay from its first port to its last.
 use Rattle.std.proofs.Common.{◌≡◌, ◌⊎◌, ◌∙◌, inl, inr, ℕ, Bool, true, false, List, [], ◌∷◌, refl, lit<, sym, ap, subst, arith}
 use Rattle.std.specs.Prelude.{Option, None, Err}
-use Rattle.port_rules.specs.World.{Cell, World}
-use Rattle.port_rules.specs.Number.{INPUT, OUTPUT}
-use Rattle.port_rules.specs.Moves.{Fails, RoseOnce, Touches, gave, named}
-use Rattle.port_rules.proofs.Carried.{fails_writing_before}
+use Rattle.port_trait.specs.World.{Cell, World}
+use Rattle.port_trait.specs.Number.{INPUT, OUTPUT}
+use Rattle.port_trait.specs.Moves.{Fails, RoseOnce, Touches, gave, named}
+use Rattle.port_trait.proofs.Carried.{fails_writing_before}
 use Rattle.wire_frames.specs.Session.{Transcript}
 use Rattle.block_decoder.specs.Report.{Agreement}
 use Rattle.block_decoder.specs.Text.{text}

@@ -1,8 +1,8 @@
 -- What a run says of a workload.
 use Rattle.std.proofs.Common.{◌≡◌, ◌⊎◌, inl, inr, [], ◌∷◌, refl}
-use Rattle.port_rules.specs.World.{World}
-use Rattle.port_rules.specs.Number.{OUTPUT}
-use Rattle.port_rules.proofs.Rises.{once_rose}
+use Rattle.port_trait.specs.World.{World}
+use Rattle.port_trait.specs.Number.{OUTPUT}
+use Rattle.port_trait.proofs.Rises.{once_rose}
 use Rattle.drawn_workload.specs.declared.order.Workload.{Workload}
 use Rattle.commands.specs.Told.{NoneRose}
 use Rattle.block_decoder.specs.declared.verdict.Verdict.{Verdict}

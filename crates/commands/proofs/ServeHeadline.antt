@@ -1,11 +1,11 @@
 -- What is promised of `serve` where no call failed but on guests.
 use Rattle.std.proofs.Common.{◌≡◌, ◌⊎◌, inl, inr, ℕ, ◌<◌, ◌≤◌, List, [], length, refl, ap, arith}
 use Rattle.std.specs.Prelude.{Some}
-use Rattle.port_rules.specs.World.{World}
-use Rattle.port_rules.specs.Number.{DATABASE}
-use Rattle.port_rules.proofs.Rises.{once_rose}
+use Rattle.port_trait.specs.World.{World}
+use Rattle.port_trait.specs.Number.{DATABASE}
+use Rattle.port_trait.proofs.Rises.{once_rose}
 use Rattle.block_matrix.specs.Database.{limit}
-use Rattle.port_rules.proofs.Cells.{at_told}
+use Rattle.port_trait.proofs.Cells.{at_told}
 use Rattle.commands.specs.Told.{NoneRose}
 use Rattle.commands.specs.ServeOrder.{ServeOrder}
 use Rattle.commands.specs.ServeSteps.{Loaded}

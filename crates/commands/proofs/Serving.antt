@@ -1,13 +1,13 @@
 -- The steps of `serve`, put together.
 use Rattle.std.proofs.Common.{◌≡◌, inl, ℕ, ◌+◌, ◌-◌, ◌^◌, ◌<◌, ◌≤◌, min, List, sym, ◌∙◌, ap, ap₂, subst, arith}
 use Rattle.std.specs.Prelude.{Ok, Err}
-use Rattle.port_rules.specs.World.{Cell, World, answers}
-use Rattle.port_rules.specs.Number.{OUTPUT, DATABASE, DOOR, GUEST}
-use Rattle.port_rules.specs.Moves.{Rose, RoseOnce, Touches, Fails, named, counted, gave}
-use Rattle.port_rules.proofs.Carried.{fails_writing_before}
-use Rattle.port_rules.specs.Guests.{Meets}
-use Rattle.port_rules.specs.Serving.{Served as IsServing}
-use Rattle.port_rules.proofs.Served.{served_none, served_still, served_more}
+use Rattle.port_trait.specs.World.{Cell, World, answers}
+use Rattle.port_trait.specs.Number.{OUTPUT, DATABASE, DOOR, GUEST}
+use Rattle.port_trait.specs.Moves.{Rose, RoseOnce, Touches, Fails, named, counted, gave}
+use Rattle.port_trait.proofs.Carried.{fails_writing_before}
+use Rattle.port_trait.specs.Guests.{Meets}
+use Rattle.port_trait.specs.Serving.{Served as IsServing}
+use Rattle.port_trait.proofs.Served.{served_none, served_still, served_more}
 use Rattle.block_matrix.specs.Database.{Database}
 use Rattle.serve_core.specs.Service.{Service}
 use Rattle.serve_core.specs.Attended.{Replied, Broke, Attends, HasReply, IsServed}

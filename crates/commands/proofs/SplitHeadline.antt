@@ -3,14 +3,14 @@ use Rattle.std.proofs.Common.{◌≡◌, ◌∙◌, ◌⊎◌, inl, inr, ℕ, �
 use Rattle.std.specs.Prelude.{Some}
 use Rattle.std.specs.Int.{div_ceil}
 use Rattle.std.proofs.lemmas.List.{length-take}
-use Rattle.port_rules.specs.World.{World}
-use Rattle.port_rules.specs.Number.{COINS, DATABASE}
-use Rattle.port_rules.proofs.Rises.{once_rose}
+use Rattle.port_trait.specs.World.{World}
+use Rattle.port_trait.specs.Number.{COINS, DATABASE}
+use Rattle.port_trait.proofs.Rises.{once_rose}
 use Rattle.block_matrix.specs.Database.{Database}
 use Rattle.share_files.specs.Limit.{shared_limit}
 use Rattle.share_files.proofs.Limits.{length-cells}
 use Rattle.share_files.proofs.Shares.{length-share_names}
-use Rattle.port_rules.proofs.Cells.{at_told}
+use Rattle.port_trait.proofs.Cells.{at_told}
 use Rattle.commands.specs.Told.{NoneRose, NoShareRose}
 use Rattle.commands.specs.SplitOrder.{SplitOrder}
 use Rattle.commands.specs.SplitSteps.{LoadedToShare, coins_to_split}

@@ -1,12 +1,12 @@
 -- A splitting from its first port to its last.
 use Rattle.std.proofs.Common.{◌≡◌, ◌∙◌, inl, inr, ℕ, ◌<◌, List, length, lit<, sym, ap, subst, arith}
 use Rattle.std.specs.Prelude.{Ok, Err}
-use Rattle.port_rules.specs.World.{Cell, World}
-use Rattle.port_rules.specs.Number.{COINS, DATABASE, OUTPUT}
-use Rattle.port_rules.specs.Moves.{RoseOnce, Touches, took, gave, named, counted}
-use Rattle.port_rules.specs.Files.{Unread}
-use Rattle.port_rules.specs.Tossed.{RunsOut}
-use Rattle.port_rules.proofs.Carried.{fails_writing_before}
+use Rattle.port_trait.specs.World.{Cell, World}
+use Rattle.port_trait.specs.Number.{COINS, DATABASE, OUTPUT}
+use Rattle.port_trait.specs.Moves.{RoseOnce, Touches, took, gave, named, counted}
+use Rattle.port_trait.specs.Files.{Unread}
+use Rattle.port_trait.specs.Tossed.{RunsOut}
+use Rattle.port_trait.proofs.Carried.{fails_writing_before}
 use Rattle.block_matrix.specs.Database.{Database}
 use Rattle.block_matrix.specs.Loading.{HoldsNone, Stopped, asked_for}
 use Rattle.block_matrix.specs.declared.matrix.LoadFault.{LoadFault}

@@ -1,10 +1,10 @@
 -- What `demo` does to the outside, by the status that it ends with.
 use Rattle.std.specs.Prelude.{◌≡◌, ◌⊎◌, ℕ, ◌+◌, ◌<◌, ◌≤◌, List, [], ◌∷◌, length, take, ◌++◌, Some}
 use Rattle.std.specs.Option.{option_map}
-use Rattle.port_rules.specs.declared.port.TheConstants.{PORT_COUNT}
-use Rattle.port_rules.specs.World.{World}
-use Rattle.port_rules.specs.Number.{OUTPUT, COINS, child}
-use Rattle.port_rules.specs.Moves.{Fails, Touches}
+use Rattle.port_trait.specs.declared.port.TheConstants.{PORT_COUNT}
+use Rattle.port_trait.specs.World.{World}
+use Rattle.port_trait.specs.Number.{OUTPUT, COINS, child}
+use Rattle.port_trait.specs.Moves.{Fails, Touches}
 use Rattle.query_rounds.specs.Plan.{need}
 use Rattle.commands.specs.Told.{NoneRose, NoChildRose}
 use Rattle.commands.specs.DemoOrder.{DemoOrder, fetch_from_children, words_of_children}

@@ -1,7 +1,7 @@
 -- How the program ends: as a run of its words does, by the status of that run.
 use Rattle.std.specs.Prelude.{◌≡◌, List, ℕ}
 use Rattle.std.specs.Process.{exit_status}
-use Rattle.port_rules.specs.World.{World}
+use Rattle.port_trait.specs.World.{World}
 use Rattle.commands.specs.Outcome.{AnswersSession, EndsAsOrdered, KeepsPromise, RefusesWords}
 use Rattle.commands.specs.Table.{code_of, line_of}
 use Rattle.commands.specs.declared.status.Status.{Status}

@@ -1,12 +1,12 @@
 -- What `fetch` does to the outside, by the status that it ends with.
 use Rattle.std.specs.Prelude.{◌≡◌, ◌⊎◌, ℕ, ◌<◌, ◌≤◌, Bool, List, [], ◌∷◌, length, Option, Some, None, Result, Ok, Err}
-use Rattle.port_rules.specs.World.{World}
-use Rattle.port_rules.specs.Number.{OUTPUT, COINS, RECORD, link}
-use Rattle.port_rules.specs.Moves.{Touches, gave, named}
-use Rattle.port_rules.specs.Whole.{FailsWithin}
-use Rattle.port_rules.specs.Touched.{One, From, TouchesOnly}
-use Rattle.port_rules.specs.Files.{Unread, Unwritten}
-use Rattle.port_rules.specs.Tossed.{Tossed, RunsOut}
+use Rattle.port_trait.specs.World.{World}
+use Rattle.port_trait.specs.Number.{OUTPUT, COINS, RECORD, link}
+use Rattle.port_trait.specs.Moves.{Touches, gave, named}
+use Rattle.port_trait.specs.Whole.{FailsWithin}
+use Rattle.port_trait.specs.Touched.{One, From, TouchesOnly}
+use Rattle.port_trait.specs.Files.{Unread, Unwritten}
+use Rattle.port_trait.specs.Tossed.{Tossed, RunsOut}
 use Rattle.wire_frames.specs.Session.{Transcript, IsSession, session_bytes}
 use Rattle.block_decoder.specs.Report.{Agreement}
 use Rattle.block_decoder.specs.Verdict.{IsVerdict}
@@ -20,7 +20,7 @@ use Rattle.query_rounds.specs.Gathered.{AsksAll, FetchesTo}
 use Rattle.fetch_client.specs.Fetched.{Concludes}
 use Rattle.commands.specs.HeldRow.{FindsHeldRow}
 use Rattle.commands.specs.Table.{status_of}
-use Rattle.port_rules.specs.declared.port.Failed.{Failed}
+use Rattle.port_trait.specs.declared.port.Failed.{Failed}
 use Rattle.commands.specs.Said.{IsBeside, ToldAs, whole_text}
 use Rattle.commands.specs.Told.{NoneRose}
 use Rattle.commands.specs.FetchOrder.{FetchOrder}
@@ -74,7 +74,7 @@ pub record FetchReported (o : FetchOrder) (status : Status) (old new : World) : 
   pub recorded : Recorded o.keep session old new
   pub written : new.at OUTPUT ≡ gave (whole_text session verdict report) (old.at OUTPUT)
 
--- the session can't be recorded, and Output is left alone; or it is, and Output has taken a proper front of the
+-- the session can't be recorded, and Output is left alone; or it is, and Output has taken a proper prefix of the
 -- verdict's text, or of that and of the report's behind it, where one is wanted
 pub record FetchCutShort (o : FetchOrder) (old new : World) : Type 0 where
   pub session : Transcript

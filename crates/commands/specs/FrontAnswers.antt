@@ -1,7 +1,7 @@
 -- What the guests of `front` are given, by what they and the links held as each came in.
 use Rattle.std.specs.Prelude.{◌≡◌, ℕ, ◌+◌, ◌<◌, ◌≤◌, Bool, List, [], ◌∷◌, ◌++◌, length, drop, get_or, Some, None}
-use Rattle.port_rules.specs.World.{LinkThen, World, answered, links_now}
-use Rattle.port_rules.specs.Number.{GUEST}
+use Rattle.port_trait.specs.World.{LinkThen, World, answered, links_now}
+use Rattle.port_trait.specs.Number.{GUEST}
 use Rattle.shard_front.specs.declared.spread.Spread.{Spread}
 use Rattle.shard_front.specs.declared.relayed.Relayed.{Relayed}
 use Rattle.shard_front.specs.Spread.{shards}

@@ -1,9 +1,9 @@
 -- What `front` does to the outside, by the status that it ends with.
 use Rattle.std.specs.Prelude.{◌≡◌, ◌⊎◌, ℕ, ◌<◌, List, [], ◌∷◌}
-use Rattle.port_rules.specs.World.{World}
-use Rattle.port_rules.specs.Number.{OUTPUT, DOOR, GUEST, link}
-use Rattle.port_rules.specs.Moves.{Fails, Touches, gave, named, counted}
-use Rattle.port_rules.specs.Touched.{One, From, Crowd, TouchesOnly}
+use Rattle.port_trait.specs.World.{World}
+use Rattle.port_trait.specs.Number.{OUTPUT, DOOR, GUEST, link}
+use Rattle.port_trait.specs.Moves.{Fails, Touches, gave, named, counted}
+use Rattle.port_trait.specs.Touched.{One, From, Crowd, TouchesOnly}
 use Rattle.shard_front.specs.Spread.{shards}
 use Rattle.commands.specs.Told.{DidRiseOnce, NoneRose}
 use Rattle.commands.specs.ServeSteps.{ready, IsMute, IsShut, TouchesDoor}

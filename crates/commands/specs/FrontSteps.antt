@@ -1,10 +1,10 @@
 -- The steps of `front`, and what each does to the outside.
 use Rattle.std.specs.Prelude.{◌≡◌, ℕ, ◌+◌, ◌<◌, List, [], ◌∷◌}
-use Rattle.port_rules.specs.World.{World}
-use Rattle.port_rules.specs.Number.{DOOR, GUEST, link}
-use Rattle.port_rules.specs.Guests.{Meets}
-use Rattle.port_rules.specs.Moves.{Fails, RoseAtMost, Touches, counted}
-use Rattle.port_rules.specs.Touched.{One, From, Crowd, TouchesOnly}
+use Rattle.port_trait.specs.World.{World}
+use Rattle.port_trait.specs.Number.{DOOR, GUEST, link}
+use Rattle.port_trait.specs.Guests.{Meets}
+use Rattle.port_trait.specs.Moves.{Fails, RoseAtMost, Touches, counted}
+use Rattle.port_trait.specs.Touched.{One, From, Crowd, TouchesOnly}
 use Rattle.shard_front.specs.declared.spread.Spread.{Spread}
 use Rattle.shard_front.specs.declared.relayed.Relayed.{Relayed}
 use Rattle.shard_front.specs.Spread.{shards}
@@ -14,7 +14,7 @@ use Rattle.commands.specs.Told.{DidRiseOnce}
 use Rattle.commands.specs.FrontAnswers.{FrontsGuests}
 
 -- the next guest came in, and was met by asking the shards: each link that was asked was given the part of the query for its
--- shard, or a front of it where its count rose; and the guest its frame, by what it and the links held as it came in and by
+-- shard, or a prefix of it where its count rose; and the guest its frame, by what it and the links held as it came in and by
 -- which counts rose since. Nothing but Guest and the links was touched
 pub record FrontsNext (spread : Spread) (addresses : List (List ℕ)) (met : Relayed) (old new : World) : Type 0 where
   pub mid : World

@@ -1,11 +1,11 @@
 -- What `lookup` does to the outside, by the status that it ends with.
 use Rattle.std.specs.Prelude.{◌≡◌, ◌⊎◌, ℕ, ◌+◌, ◌*◌, ◌%◌, ◌<◌, ◌≤◌, List, [], ◌∷◌, length, ⊤, Some, Result}
 use Rattle.gf256.specs.Product.{IsMatrix}
-use Rattle.port_rules.specs.World.{Cell, World}
-use Rattle.port_rules.specs.Number.{OUTPUT, COINS, link}
-use Rattle.port_rules.specs.Moves.{Fails, Touches, gave, named}
-use Rattle.port_rules.specs.Whole.{FailsWithin}
-use Rattle.port_rules.specs.Touched.{One, From, TouchesOnly}
+use Rattle.port_trait.specs.World.{Cell, World}
+use Rattle.port_trait.specs.Number.{OUTPUT, COINS, link}
+use Rattle.port_trait.specs.Moves.{Fails, Touches, gave, named}
+use Rattle.port_trait.specs.Whole.{FailsWithin}
+use Rattle.port_trait.specs.Touched.{One, From, TouchesOnly}
 use Rattle.wire_frames.specs.Answer.{answers}
 use Rattle.query_rounds.specs.declared.plan.FetchPlan.{FetchPlan}
 use Rattle.query_rounds.specs.declared.plan.FetchFault.{FetchFault}
@@ -59,7 +59,7 @@ pub record LookUpReported (o : LookUpOrder) (status : Status) (old new : World) 
   pub status_is : status ≡ status_of_end ended
   pub written : new.at OUTPUT ≡ gave (end_text ended) (old.at OUTPUT)
 
--- Output has taken a proper front of its text
+-- Output has taken a proper prefix of its text
 pub record LookUpCutShort (o : LookUpOrder) (old new : World) : Type 0 where
   pub ended : Ended
   pub settled : LookUpSettled o ended old new

@@ -1,7 +1,7 @@
 -- What a run does to the outside, by the order that the words give and the status that it ends with, and what it promises.
 use Rattle.std.specs.Prelude.{◌≡◌, ◌⊎◌, ℕ, List, None, Some}
-use Rattle.port_rules.specs.World.{World}
-use Rattle.port_rules.specs.Number.{INPUT}
+use Rattle.port_trait.specs.World.{World}
+use Rattle.port_trait.specs.Number.{INPUT}
 use Rattle.wire_frames.specs.Session.{Transcript, IsSession}
 use Rattle.pir_words.specs.Form.{asked_of}
 use Rattle.commands.specs.Told.{NoneRose}

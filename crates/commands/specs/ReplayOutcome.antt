@@ -1,10 +1,10 @@
 -- What `replay FILE` and `replay --report FILE` do to the outside, by the status that they end with.
 use Rattle.std.specs.Prelude.{◌≡◌, ◌⊎◌, ℕ, Bool, List, [], ◌∷◌, Option, Some}
-use Rattle.port_rules.specs.World.{World}
-use Rattle.port_rules.specs.Number.{INPUT, OUTPUT}
-use Rattle.port_rules.specs.Moves.{gave, named, counted}
-use Rattle.port_rules.specs.Touched.{One, TouchesOnly}
-use Rattle.port_rules.specs.Whole.{FailsWithin}
+use Rattle.port_trait.specs.World.{World}
+use Rattle.port_trait.specs.Number.{INPUT, OUTPUT}
+use Rattle.port_trait.specs.Moves.{gave, named, counted}
+use Rattle.port_trait.specs.Touched.{One, TouchesOnly}
+use Rattle.port_trait.specs.Whole.{FailsWithin}
 use Rattle.wire_frames.specs.Session.{Transcript, IsSession}
 use Rattle.block_decoder.specs.Report.{Agreement}
 use Rattle.block_decoder.specs.Verdict.{IsVerdict}
@@ -34,7 +34,7 @@ pub record Reported (name : List ℕ) (wanted : Bool) (status : Status) (old new
   pub read : ReadsWhole (Concluded wanted session verdict report) (named name (old.at INPUT)) (new.at INPUT)
   pub written : new.at OUTPUT ≡ gave (whole_text session verdict report) (old.at OUTPUT)
 
--- a call on Output failed, which has taken a proper front of that text
+-- a call on Output failed, which has taken a proper prefix of that text
 pub record CutShort (name : List ℕ) (wanted : Bool) (old new : World) : Type 0 where
   pub session : Transcript
   pub verdict : Verdict

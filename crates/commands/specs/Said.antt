@@ -1,9 +1,9 @@
 -- What is said of a session: its verdict, and where that is wanted, who agrees and who lied.
 use Rattle.std.specs.Prelude.{◌≡◌, ◌⊎◌, ℕ, Bool, true, false, List, ◌++◌, Option, Some, None}
-use Rattle.port_rules.specs.World.{World}
-use Rattle.port_rules.specs.Number.{OUTPUT}
-use Rattle.port_rules.specs.Moves.{gave}
-use Rattle.port_rules.specs.Whole.{FailsWithin}
+use Rattle.port_trait.specs.World.{World}
+use Rattle.port_trait.specs.Number.{OUTPUT}
+use Rattle.port_trait.specs.Moves.{gave}
+use Rattle.port_trait.specs.Whole.{FailsWithin}
 use Rattle.wire_frames.specs.Session.{Transcript}
 use Rattle.block_decoder.specs.Report.{Agreement}
 use Rattle.block_decoder.specs.Reported.{IsReportOn, IsSessionReport}

@@ -1,10 +1,10 @@
 -- What `selfrun` does to the outside, by the status that it ends with.
 use Rattle.std.specs.Prelude.{◌≡◌, ◌⊎◌, ℕ, ◌+◌, ◌*◌, ◌<◌, ◌≤◌, List, [], ◌∷◌, ◌++◌, Contains, codes, decimal}
 use Rattle.std.specs.List.{concat}
-use Rattle.port_rules.specs.World.{World}
-use Rattle.port_rules.specs.Number.{OUTPUT}
-use Rattle.port_rules.specs.Moves.{Touches, gave}
-use Rattle.port_rules.specs.Whole.{FailsWithin}
+use Rattle.port_trait.specs.World.{World}
+use Rattle.port_trait.specs.Number.{OUTPUT}
+use Rattle.port_trait.specs.Moves.{Touches, gave}
+use Rattle.port_trait.specs.Whole.{FailsWithin}
 use Rattle.column_lists.specs.Numbers.{cost}
 use Rattle.block_decoder.specs.Numbers.{bound_of}
 use Rattle.block_decoder.specs.Text.{text}
@@ -68,7 +68,7 @@ pub record SelfrunReported (w : Workload) (status : Status) (old new : World) : 
   pub status_is : status ≡ status_of verdict
   pub written : new.at OUTPUT ≡ gave (report_of w verdict) (old.at OUTPUT)
 
--- a call on Output failed, which has taken a proper front of that
+-- a call on Output failed, which has taken a proper prefix of that
 pub record SelfrunCutShort (w : Workload) (old new : World) : Type 0 where
   pub verdict : Verdict
   pub judged : IsVerdictOn w verdict

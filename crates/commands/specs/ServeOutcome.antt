@@ -1,11 +1,11 @@
 -- What `serve` does to the outside, by the status that it ends with.
 use Rattle.std.specs.Prelude.{◌≡◌, ◌⊎◌, ℕ, ◌<◌, ◌≤◌, List, [], ◌∷◌, length, Some}
-use Rattle.port_rules.specs.World.{World}
-use Rattle.port_rules.specs.Number.{OUTPUT, DATABASE, DOOR, GUEST}
-use Rattle.port_rules.specs.Moves.{Fails, Touches, gave, named, counted}
-use Rattle.port_rules.specs.Whole.{FailsWithin}
-use Rattle.port_rules.specs.Touched.{One, Crowd, TouchesOnly}
-use Rattle.port_rules.specs.Files.{Unread}
+use Rattle.port_trait.specs.World.{World}
+use Rattle.port_trait.specs.Number.{OUTPUT, DATABASE, DOOR, GUEST}
+use Rattle.port_trait.specs.Moves.{Fails, Touches, gave, named, counted}
+use Rattle.port_trait.specs.Whole.{FailsWithin}
+use Rattle.port_trait.specs.Touched.{One, Crowd, TouchesOnly}
+use Rattle.port_trait.specs.Files.{Unread}
 use Rattle.block_matrix.specs.Database.{Database, limit}
 use Rattle.block_matrix.specs.Loading.{asked_for}
 use Rattle.commands.specs.Told.{DidRiseOnce, NoneRose}
@@ -60,7 +60,7 @@ pub record CannotListen (o : ServeOrder) (old new : World) : Type 0 where
   pub output : new.at OUTPUT ≡ old.at OUTPUT
   pub nobody : Nobody old new
 
--- the database was loaded and guests could come in, but Output has taken only a front of what says so: nobody came in
+-- the database was loaded and guests could come in, but Output has taken only a prefix of what says so: nobody came in
 pub record CannotSayReady (o : ServeOrder) (old new : World) : Type 0 where
   pub database : Database
   pub loaded : Loaded o.database o.width database old new

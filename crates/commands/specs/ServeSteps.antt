@@ -1,12 +1,12 @@
 -- The steps of `serve`, and what each does to the outside.
 use Rattle.std.specs.Prelude.{◌≡◌, ℕ, ◌+◌, ◌<◌, List, [], codes, Result, Ok, Err, ◌∷◌}
-use Rattle.port_rules.specs.World.{World}
-use Rattle.port_rules.specs.Number.{OUTPUT, DATABASE, DOOR, GUEST}
-use Rattle.port_rules.specs.Moves.{Fails, RoseAtMost, Touches, gave, named, counted}
-use Rattle.port_rules.specs.Whole.{FailsWithin}
-use Rattle.port_rules.specs.Touched.{One, Crowd, TouchesOnly}
-use Rattle.port_rules.specs.Files.{Unread}
-use Rattle.port_rules.specs.Serving.{Served}
+use Rattle.port_trait.specs.World.{World}
+use Rattle.port_trait.specs.Number.{OUTPUT, DATABASE, DOOR, GUEST}
+use Rattle.port_trait.specs.Moves.{Fails, RoseAtMost, Touches, gave, named, counted}
+use Rattle.port_trait.specs.Whole.{FailsWithin}
+use Rattle.port_trait.specs.Touched.{One, Crowd, TouchesOnly}
+use Rattle.port_trait.specs.Files.{Unread}
+use Rattle.port_trait.specs.Serving.{Served}
 use Rattle.block_matrix.specs.Database.{Database, limit}
 use Rattle.block_matrix.specs.Loading.{Holds, HoldsMore, HoldsNone, Stopped, asked_for}
 use Rattle.serve_core.specs.Service.{Service}
@@ -64,7 +64,7 @@ pub record IsShut (old new : World) : Type 0 where
   pub rose : DidRiseOnce DOOR old new
   pub output : new.at OUTPUT ≡ old.at OUTPUT
 
--- Door was opened, but Output has taken only a front of what says so
+-- Door was opened, but Output has taken only a prefix of what says so
 pub record IsMute (address : List ℕ) (old new : World) : Type 0 where
   pub door : new.at DOOR ≡ named address (old.at DOOR)
   pub written : FailsWithin OUTPUT ready old new

@@ -1,12 +1,12 @@
 -- What `split` does to the outside, by the status that it ends with.
 use Rattle.std.specs.Prelude.{◌≡◌, ◌⊎◌, ℕ, ◌*◌, ◌<◌, ◌≤◌, List, [], ◌∷◌, length, Some}
 use Rattle.std.specs.Int.{div_ceil}
-use Rattle.port_rules.specs.World.{World}
-use Rattle.port_rules.specs.Number.{OUTPUT, DATABASE, COINS, share_file}
-use Rattle.port_rules.specs.Moves.{Touches, named}
-use Rattle.port_rules.specs.Touched.{One, From, TouchesOnly}
-use Rattle.port_rules.specs.Files.{Unread}
-use Rattle.port_rules.specs.Tossed.{RunsOut}
+use Rattle.port_trait.specs.World.{World}
+use Rattle.port_trait.specs.Number.{OUTPUT, DATABASE, COINS, share_file}
+use Rattle.port_trait.specs.Moves.{Touches, named}
+use Rattle.port_trait.specs.Touched.{One, From, TouchesOnly}
+use Rattle.port_trait.specs.Files.{Unread}
+use Rattle.port_trait.specs.Tossed.{RunsOut}
 use Rattle.block_matrix.specs.Database.{Database}
 use Rattle.block_matrix.specs.Loading.{asked_for}
 use Rattle.share_files.specs.Limit.{shared_limit}

@@ -1,13 +1,13 @@
 -- The steps of `split`, and what each does to the outside.
 use Rattle.std.specs.Prelude.{◌≡◌, ◌⊎◌, ℕ, ◌*◌, List, [], ◌∷◌, length, codes, decimal}
 use Rattle.std.specs.List.{concat}
-use Rattle.port_rules.specs.World.{World}
-use Rattle.port_rules.specs.Number.{OUTPUT, DATABASE, COINS, share_file}
-use Rattle.port_rules.specs.Moves.{Touches, gave, named}
-use Rattle.port_rules.specs.Whole.{FailsWithin}
-use Rattle.port_rules.specs.Touched.{One, From, TouchesOnly}
-use Rattle.port_rules.specs.Files.{Unread}
-use Rattle.port_rules.specs.Tossed.{RunsOut}
+use Rattle.port_trait.specs.World.{World}
+use Rattle.port_trait.specs.Number.{OUTPUT, DATABASE, COINS, share_file}
+use Rattle.port_trait.specs.Moves.{Touches, gave, named}
+use Rattle.port_trait.specs.Whole.{FailsWithin}
+use Rattle.port_trait.specs.Touched.{One, From, TouchesOnly}
+use Rattle.port_trait.specs.Files.{Unread}
+use Rattle.port_trait.specs.Tossed.{RunsOut}
 use Rattle.block_matrix.specs.Database.{Database}
 use Rattle.share_files.specs.Limit.{HoldsFew, HoldsTooMany, shared_limit}
 use Rattle.share_files.specs.Splits.{SplitsPart, SplitsWhole}
@@ -48,7 +48,7 @@ pub record SharesAll (o : SplitOrder) (m : Database) (old new : World) : Type 0 
   pub written : new.at OUTPUT ≡ gave (split_text o m) (old.at OUTPUT)
 
 -- the shares of some servers are in their files, that of the next can't be written whole, those of later ones are left
--- alone, and nothing is written; or each is in its file, and Output has taken only a front of what says so
+-- alone, and nothing is written; or each is in its file, and Output has taken only a prefix of what says so
 abbrev pub SharesNotAll : SplitOrder → Database → World → World → Type 0
 SharesNotAll o m old new = (SplitsPart (plan_to_split o) (cells_of m) old new × (new.at OUTPUT ≡ old.at OUTPUT))
     ⊎ (SplitsWhole (plan_to_split o) (cells_of m) old new × FailsWithin OUTPUT (split_text o m) old new)

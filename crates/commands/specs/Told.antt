@@ -1,8 +1,8 @@
 -- What a run may say of any port.
 use Rattle.std.specs.Prelude.{ℕ, ◌+◌, ◌<◌, List, [], ◌∷◌}
-use Rattle.port_rules.specs.World.{World}
-use Rattle.port_rules.specs.Number.{child, share_file}
-use Rattle.port_rules.specs.Moves.{Rose, RoseOnce}
+use Rattle.port_trait.specs.World.{World}
+use Rattle.port_trait.specs.Number.{child, share_file}
+use Rattle.port_trait.specs.Moves.{Rose, RoseOnce}
 
 -- a call on the port failed in this run, or its count stands at its limit
 abbrev pub DidRise : ℕ → World → World → Type 0

@@ -8,7 +8,7 @@ ghost use Rattle.commands.specs.DemoOutcome.{DemoOutcome, StartsAll, StartsSome}
 use crate::fetch_command::fetch_block;
 use crate::orders::{DemoOrder, FetchOrder};
 use crate::status::Status;
-use port_rules::{Failed, Ports};
+use port_trait::{Failed, Ports};
 use std::alloc::{AllocError, Global};
 
 /// The address of child i, counted from 1.

@@ -12,7 +12,7 @@ use crate::selfrun_command::run_workload;
 use crate::serve_command::serve_file;
 use crate::split_command::split_file;
 use crate::status::Status;
-use port_rules::Ports;
+use port_trait::Ports;
 use std::alloc::Global;
 use std::thread::Threads;
 

@@ -5,7 +5,7 @@ ghost use Rattle.commands.specs.Ending.{EndsAsRun};
 
 use crate::running::run;
 use crate::status::{Ending, Status, ending_of};
-use port_rules::Ports;
+use port_trait::Ports;
 use std::alloc::Global;
 use std::thread::Threads;
 

@@ -2,8 +2,8 @@
 
 ghost use Rattle.std.specs.Prelude.{◌≡◌, ◌<◌, length};
 ghost use Rattle.std.specs.Option.{option_copied};
-ghost use Rattle.port_rules.specs.Number.{RECORD};
-ghost use Rattle.port_rules.specs.Moves.{Touches};
+ghost use Rattle.port_trait.specs.Number.{RECORD};
+ghost use Rattle.port_trait.specs.Moves.{Touches};
 ghost use Rattle.wire_frames.specs.Session.{Transcript};
 ghost use Rattle.block_decoder.specs.Report.{Agreement};
 ghost use Rattle.query_rounds.specs.Gathered.{TouchesLinks};
@@ -18,7 +18,7 @@ use crate::status::Status;
 use block_decoder::{Report, Verdict};
 use fetch_client::{FetchFault, fetch, fetch_report};
 use gs_interpolate::Koetter;
-use port_rules::{Failed, Port, Ports};
+use port_trait::{Failed, Port, Ports};
 use std::alloc::Global;
 use std::marker::Brand;
 use std::sync::ledger::{Blank, Ledger};
@@ -57,7 +57,7 @@ fn fetch_counted<C: Ledger, N: Ledger, P: Ports>(
 }
 
 /// The same, with counters of columns and of nodes that nobody reads, made of the blanks.
-fn fetch_once<C: Ledger, N: Ledger, P: Ports>(
+fn fetch_uncounted<C: Ledger, N: Ledger, P: Ports>(
     alloc: Global,
     cols: Blank,
     nodes: Blank,
@@ -121,7 +121,7 @@ pub(crate) fn fetch_block<P: Ports>(alloc: Global, order: &FetchOrder, ports: &m
         return Status::ReadFault;
     };
     let (cols, nodes) = (Blank::new(1), Blank::new(1));
-    match fetch_once::<Brand, Brand, P>(alloc, cols, nodes, order, ports) {
+    match fetch_uncounted::<Brand, Brand, P>(alloc, cols, nodes, order, ports) {
         Ok((session, verdict, found)) => {
             report_session(ports, order.keep, &session, &verdict, &found)
         }

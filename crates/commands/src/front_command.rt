@@ -1,7 +1,7 @@
 //! The command `front`.
 
 ghost use Rattle.std.specs.Prelude.{◌≡◌, IfErr, OnOk, OnErr, length, map, string_bytes};
-ghost use Rattle.port_rules.specs.Number.{DOOR, GUEST};
+ghost use Rattle.port_trait.specs.Number.{DOOR, GUEST};
 ghost use Rattle.shard_front.specs.Spread.{IsSpread, shards};
 ghost use Rattle.commands.specs.FrontAnswers.{FrontsGuests};
 ghost use Rattle.commands.specs.FrontSteps.{FrontRunsDry, FrontsInTurn, TouchesRelaying};
@@ -10,7 +10,7 @@ ghost use Rattle.commands.specs.FrontOutcome.{FrontEnds, FrontedAll, TouchesFron
 use crate::orders::FrontOrder;
 use crate::serve_command::listen;
 use crate::status::Status;
-use port_rules::{Failed, Ports};
+use port_trait::{Failed, Ports};
 use shard_front::{Front, front_one};
 use std::alloc::Global;
 

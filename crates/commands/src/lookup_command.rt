@@ -1,8 +1,8 @@
 //! The command `lookup`.
 
 ghost use Rattle.std.specs.Prelude.{◌≡◌};
-ghost use Rattle.port_rules.specs.Number.{OUTPUT};
-ghost use Rattle.port_rules.specs.Moves.{Touches};
+ghost use Rattle.port_trait.specs.Number.{OUTPUT};
+ghost use Rattle.port_trait.specs.Moves.{Touches};
 ghost use Rattle.query_rounds.specs.Gathered.{TouchesLinks};
 ghost use Rattle.drawn_workload.specs.Counters.{IsOwn};
 ghost use Rattle.commands.specs.LookUpOutcome.{EndTold, LookUpEnds, LooksUpBy, TouchesLookUp};
@@ -14,14 +14,14 @@ use crate::status::Status;
 use fetch_client::FetchFault;
 use gs_interpolate::Koetter;
 use key_fetches::{Ending, KeyRequest, LookUp, look_up, write_end};
-use port_rules::{Failed, Port, Ports};
+use port_trait::{Failed, Port, Ports};
 use std::alloc::Global;
 use std::marker::Brand;
 use std::sync::ledger::{Blank, Ledger};
 use uni_poly::steps::Steps;
 
 /// Makes the fetches of a look-up, with counters of columns and of nodes that nobody reads, made of the blanks.
-fn look_up_once<C: Ledger, N: Ledger, P: Ports>(
+fn look_up_uncounted<C: Ledger, N: Ledger, P: Ports>(
     alloc: Global,
     cols: Blank,
     nodes: Blank,
@@ -72,7 +72,7 @@ pub(crate) fn look_up_row<P: Ports>(alloc: Global, order: &LookUpOrder, ports: &
         return Status::ReadFault;
     };
     let (cols, nodes) = (Blank::new(1), Blank::new(1));
-    match look_up_once::<Brand, Brand, P>(alloc, cols, nodes, order, ports) {
+    match look_up_uncounted::<Brand, Brand, P>(alloc, cols, nodes, order, ports) {
         Ok(look_up) => report_end(ports, &look_up),
         Err(fault) => fault.into(),
     }

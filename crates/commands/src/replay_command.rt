@@ -1,8 +1,8 @@
 //! The command `replay`.
 
 ghost use Rattle.std.specs.Prelude.{◌≡◌, ◌<◌, true, false};
-ghost use Rattle.port_rules.specs.Number.{INPUT};
-ghost use Rattle.port_rules.specs.Moves.{Touches};
+ghost use Rattle.port_trait.specs.Number.{INPUT};
+ghost use Rattle.port_trait.specs.Moves.{Touches};
 ghost use Rattle.replay.specs.Replayed.{Judged, JudgedWhole, ReadTo};
 ghost use Rattle.drawn_workload.specs.Counters.{IsOwn};
 ghost use Rattle.commands.specs.ReplayOutcome.{ReplayEnds, ReplayOutcome, TouchesStreams};
@@ -12,7 +12,7 @@ use crate::report::{report, report_whole};
 use crate::status::Status;
 use block_decoder::{Report, Verdict};
 use gs_interpolate::Koetter;
-use port_rules::{Port, Ports};
+use port_trait::{Port, Ports};
 use replay::{ReplayFault, replay, replay_report};
 use std::alloc::Global;
 use std::marker::Brand;
@@ -21,7 +21,7 @@ use uni_poly::steps::Steps;
 use wire_frames::Session;
 
 /// Judges the session in Input, with counters of columns and of nodes that nobody reads, made of the blanks.
-fn replay_once<C: Ledger, N: Ledger, P: Ports>(
+fn replay_uncounted<C: Ledger, N: Ledger, P: Ports>(
     alloc: Global,
     cols: Blank,
     nodes: Blank,
@@ -38,7 +38,7 @@ fn replay_once<C: Ledger, N: Ledger, P: Ports>(
 }
 
 /// The same, with the session, and the report beside the verdict.
-fn replay_whole_once<C: Ledger, N: Ledger, P: Ports>(
+fn replay_whole_uncounted<C: Ledger, N: Ledger, P: Ports>(
     alloc: Global,
     cols: Blank,
     nodes: Blank,
@@ -62,7 +62,7 @@ fn replay_plain<P: Ports>(alloc: Global, name: &str, ports: &mut P) -> Status
     let Ok(()) = ports.open(Port::Input, name) else {
         return Status::ReadFault;
     };
-    match replay_once::<Brand, Brand, P>(alloc, Blank::new(1), Blank::new(1), ports) {
+    match replay_uncounted::<Brand, Brand, P>(alloc, Blank::new(1), Blank::new(1), ports) {
         Ok(verdict) => report(ports, &verdict),
         Err(fault) => fault.into(),
     }
@@ -76,7 +76,7 @@ fn replay_whole<P: Ports>(alloc: Global, name: &str, ports: &mut P) -> Status
     let Ok(()) = ports.open(Port::Input, name) else {
         return Status::ReadFault;
     };
-    match replay_whole_once::<Brand, Brand, P>(alloc, Blank::new(1), Blank::new(1), ports) {
+    match replay_whole_uncounted::<Brand, Brand, P>(alloc, Blank::new(1), Blank::new(1), ports) {
         Ok((session, verdict, found)) => report_whole(ports, &session, &verdict, &found),
         Err(fault) => fault.into(),
     }

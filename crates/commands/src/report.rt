@@ -1,9 +1,9 @@
 //! The verdict, told, and who agrees.
 
 ghost use Rattle.std.specs.Prelude.{◌≡◌, ◌++◌};
-ghost use Rattle.port_rules.specs.Number.{OUTPUT};
-ghost use Rattle.port_rules.specs.Moves.{Touches};
-ghost use Rattle.port_rules.specs.Written.{Written};
+ghost use Rattle.port_trait.specs.Number.{OUTPUT};
+ghost use Rattle.port_trait.specs.Moves.{Touches};
+ghost use Rattle.port_trait.specs.Written.{Written};
 ghost use Rattle.block_decoder.specs.Reported.{IsSessionReport};
 ghost use Rattle.block_decoder.specs.Text.{report_text, text};
 ghost use Rattle.commands.specs.Table.{status_of};
@@ -11,7 +11,7 @@ ghost use Rattle.commands.specs.Said.{IsReportOf, ToldAs, whole_text};
 
 use crate::status::Status;
 use block_decoder::{Report, Verdict, write_report, write_verdict};
-use port_rules::{Failed, Ports};
+use port_trait::{Failed, Ports};
 use wire_frames::Session;
 
 /// The status that a verdict is.

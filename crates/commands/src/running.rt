@@ -7,7 +7,7 @@ use crate::dispatch::dispatch;
 use crate::orders::order_of;
 use crate::status::Status;
 use pir_words::read_words;
-use port_rules::Ports;
+use port_trait::Ports;
 use std::alloc::Global;
 use std::thread::Threads;
 

@@ -2,9 +2,9 @@
 
 ghost use Rattle.std.specs.Prelude.{◌≡◌, ◌≤◌, ◌++◌, string_bytes, IfOk};
 ghost use Rattle.std.specs.List.{concat};
-ghost use Rattle.port_rules.specs.Number.{OUTPUT};
-ghost use Rattle.port_rules.specs.Moves.{Touches};
-ghost use Rattle.port_rules.specs.Written.{Written};
+ghost use Rattle.port_trait.specs.Number.{OUTPUT};
+ghost use Rattle.port_trait.specs.Moves.{Touches};
+ghost use Rattle.port_trait.specs.Written.{Written};
 ghost use Rattle.block_decoder.specs.Text.{text};
 ghost use Rattle.commands.specs.SelfrunOutcome.{IsStrong, IsVerdictOn, SelfrunEnds, ending};
 ghost use Rattle.commands.specs.SelfrunOutcome.{line_of_numbers, numbers_line, words_of_decoding, words_of_servers};
@@ -14,7 +14,7 @@ use crate::status::Status;
 use block_decoder::{Verdict, bound, write_verdict};
 use column_lists::plan;
 use drawn_workload::{Workload, WorkloadOrder, judge_answers};
-use port_rules::{Failed, Port, Ports, write_all};
+use port_trait::{Failed, Port, Ports, write_all};
 use std::alloc::{AllocError, Global};
 use std::thread::Threads;
 

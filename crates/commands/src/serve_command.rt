@@ -1,8 +1,8 @@
 //! The command `serve`.
 
 ghost use Rattle.std.specs.Prelude.{◌≡◌, IfErr, OnOk, OnErr};
-ghost use Rattle.port_rules.specs.Number.{DATABASE, DOOR, GUEST};
-ghost use Rattle.port_rules.specs.Moves.{Touches};
+ghost use Rattle.port_trait.specs.Number.{DATABASE, DOOR, GUEST};
+ghost use Rattle.port_trait.specs.Moves.{Touches};
 ghost use Rattle.commands.specs.ServeSteps.{OpensDesk, Listens, TouchesDoor, TouchesAtDesk};
 ghost use Rattle.commands.specs.ServeSteps.{AttendsInTurn, ServesGuests, RepliesUnlessCut, RunsDry, TouchesGuests};
 ghost use Rattle.commands.specs.ServeOutcome.{EndsFromDesk, ServeEnds, ServedAll, ServesFromDesk, TouchesServer};
@@ -10,7 +10,7 @@ ghost use Rattle.commands.specs.ServeOutcome.{EndsFromDesk, ServeEnds, ServedAll
 use crate::orders::ServeOrder;
 use crate::status::Status;
 use block_matrix::load;
-use port_rules::{Failed, Port, Ports, write_all};
+use port_trait::{Failed, Port, Ports, write_all};
 use serve_core::{Desk, serve_one};
 use server_product::OpenGate;
 use std::alloc::Global;

@@ -1,8 +1,8 @@
 //! The command `split`.
 
 ghost use Rattle.std.specs.Prelude.{◌≡◌, ◌<◌, length, string_bytes, IfOk};
-ghost use Rattle.port_rules.specs.Number.{OUTPUT};
-ghost use Rattle.port_rules.specs.Moves.{Touches};
+ghost use Rattle.port_trait.specs.Number.{OUTPUT};
+ghost use Rattle.port_trait.specs.Moves.{Touches};
 ghost use Rattle.commands.specs.SplitOrder.{plan_to_split};
 ghost use Rattle.commands.specs.SplitSteps.{Says, SharesOut, TouchesSharing, numbers_text};
 ghost use Rattle.commands.specs.SplitOutcome.{SplitEnds, TouchesSplit};
@@ -10,7 +10,7 @@ ghost use Rattle.commands.specs.SplitOutcome.{SplitEnds, TouchesSplit};
 use crate::orders::SplitOrder;
 use crate::status::Status;
 use block_matrix::Matrix;
-use port_rules::{Failed, Port, Ports, write_all};
+use port_trait::{Failed, Port, Ports, write_all};
 use share_files::{SplitPlan, load_to_share, split};
 use std::alloc::{AllocError, Global};
 

@@ -17,7 +17,7 @@ use uni_poly::steps::Steps;
 
 /// Judges the answers of a workload by a way to interpolate, with counters of columns and of nodes that nobody reads,
 /// made of the blanks.
-fn judge_once<I: Interpolate, C: Ledger, N: Ledger, R: Threads + Sync>(
+fn judge_uncounted<I: Interpolate, C: Ledger, N: Ledger, R: Threads + Sync>(
     rt: &R,
     alloc: Global,
     way: &I,
@@ -61,8 +61,8 @@ pub fn judge_answers<R: Threads + Sync>(
 {
     let (cols, nodes) = (Blank::new(1), Blank::new(1));
     if order.slow {
-        judge_once::<Elimination, Brand, Brand, R>(rt, alloc, &Elimination, cols, nodes, order)
+        judge_uncounted::<Elimination, Brand, Brand, R>(rt, alloc, &Elimination, cols, nodes, order)
     } else {
-        judge_once::<Koetter, Brand, Brand, R>(rt, alloc, &Koetter, cols, nodes, order)
+        judge_uncounted::<Koetter, Brand, Brand, R>(rt, alloc, &Koetter, cols, nodes, order)
     }
 }

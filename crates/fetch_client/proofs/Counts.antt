@@ -1,7 +1,7 @@
 -- What a fetch does and counts where it fails, or has judged a session.
 use Rattle.std.proofs.Common.{◌≡◌, ◌∙◌, ℕ, Bool, true, List, All, ◌+◌, ◌*◌, ◌≤◌, length, inr, refl, sym, ap, subst, le_refl, arith}
 use Rattle.std.specs.Prelude.{Option, Result, Ok, Err}
-use Rattle.port_rules.specs.World.{World}
+use Rattle.port_trait.specs.World.{World}
 use Rattle.wire_frames.specs.declared.session.SessionParams.{SessionParams}
 use Rattle.wire_frames.specs.declared.scheme.TheConstants.{XOR}
 use Rattle.wire_frames.specs.Answer.{answers, block_len}

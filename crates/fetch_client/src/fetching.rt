@@ -12,7 +12,7 @@ ghost use Rattle.block_decoder.specs.Decoding.{counters};
 
 use block_decoder::{Report, Verdict, judge_with};
 use interpolation::Interpolate;
-use port_rules::Ports;
+use port_trait::Ports;
 use query_rounds::{FetchFault, FetchPlan, gather};
 use std::alloc::Global;
 use std::sync::ledger::Ledger;

@@ -1,8 +1,8 @@
 -- One more fetch.
 use Rattle.std.proofs.Common.{◌∙◌, ℕ, ◌+◌, ◌<◌, List, [], ◌∷◌, ◌++◌, map, None, slice_index_or, refl, subst}
 use Rattle.std.specs.Prelude.{fold}
-use Rattle.port_rules.specs.World.{Cell, World}
-use Rattle.port_rules.specs.Number.{link}
+use Rattle.port_trait.specs.World.{Cell, World}
+use Rattle.port_trait.specs.Number.{link}
 use Rattle.wire_frames.specs.Sizes.{answer_len}
 use Rattle.wire_frames.specs.Session.{Transcript}
 use Rattle.block_decoder.specs.declared.verdict.Verdict.{Verdict}

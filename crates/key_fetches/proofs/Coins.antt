@@ -8,14 +8,14 @@ use Rattle.std.proofs.lemmas.Grind.{flat_map-append}
 use Rattle.std.proofs.lemmas.List.{append-nil}
 use Rattle.std.proofs.lemmas.List.Elements.{All-append}
 use Rattle.std.proofs.lemmas.Nat.{mod-mul-add}
-use Rattle.port_rules.specs.World.{Cell, World}
-use Rattle.port_rules.specs.Number.{COINS}
-use Rattle.port_rules.specs.Moves.{RoseOnce, took, counted}
-use Rattle.port_rules.specs.Whole.{FailsShort}
-use Rattle.port_rules.proofs.Cells.{took-took}
+use Rattle.port_trait.specs.World.{Cell, World}
+use Rattle.port_trait.specs.Number.{COINS}
+use Rattle.port_trait.specs.Moves.{RoseOnce, took, counted}
+use Rattle.port_trait.specs.Whole.{FailsShort}
+use Rattle.port_trait.proofs.Cells.{took-took}
 use Rattle.query_rounds.specs.declared.plan.FetchPlan.{FetchPlan}
 use Rattle.query_rounds.specs.Plan.{need}
-use Rattle.port_rules.specs.Tossed.{Tossed, RunsOut}
+use Rattle.port_trait.specs.Tossed.{Tossed, RunsOut}
 use Rattle.key_search.specs.Standing.{turns_of}
 use Rattle.key_fetches.specs.Rounds.{Round, TossedFor, coins_of}
 use Rattle.key_fetches.specs.LookedUp.{EndsNext, FailsNext, TooFewHeld}

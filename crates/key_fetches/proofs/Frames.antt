@@ -3,11 +3,11 @@ use Rattle.std.proofs.Common.{◌≡◌, ◌∙◌, ◌⊎◌, inl, inr, ℕ, �
 use Rattle.std.specs.List.{concat}
 use Rattle.std.specs.Option.{option_map}
 use Rattle.std.proofs.lemmas.List.{append-nil, length-take-le, take_all}
-use Rattle.port_rules.specs.World.{Cell, World}
-use Rattle.port_rules.specs.Number.{link}
-use Rattle.port_rules.specs.Moves.{Rose, RoseOnce}
-use Rattle.port_rules.proofs.Ranges.{each_as}
-use Rattle.port_rules.proofs.Rises.{once_rose}
+use Rattle.port_trait.specs.World.{Cell, World}
+use Rattle.port_trait.specs.Number.{link}
+use Rattle.port_trait.specs.Moves.{Rose, RoseOnce}
+use Rattle.port_trait.proofs.Ranges.{each_as}
+use Rattle.port_trait.proofs.Rises.{once_rose}
 use Rattle.wire_frames.specs.Sizes.{answer_len}
 use Rattle.query_rounds.specs.declared.plan.FetchPlan.{FetchPlan}
 use Rattle.query_rounds.specs.Link.{LinkAsked}

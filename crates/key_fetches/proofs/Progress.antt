@@ -5,12 +5,12 @@ use Rattle.std.proofs.lemmas.List.{map-append}
 use Rattle.std.proofs.lemmas.List.Elements.{All-nil}
 use Rattle.std.proofs.lemmas.List.Sums.{fold-append}
 use Rattle.std.specs.Option.{option_or}
-use Rattle.port_rules.specs.World.{Cell, World}
-use Rattle.port_rules.specs.Number.{COINS, link}
-use Rattle.port_rules.specs.Moves.{Touches}
-use Rattle.port_rules.specs.Whole.{FailsShort}
-use Rattle.port_rules.proofs.Cells.{took_none}
-use Rattle.port_rules.proofs.Ranges.{each_after}
+use Rattle.port_trait.specs.World.{Cell, World}
+use Rattle.port_trait.specs.Number.{COINS, link}
+use Rattle.port_trait.specs.Moves.{Touches}
+use Rattle.port_trait.specs.Whole.{FailsShort}
+use Rattle.port_trait.proofs.Cells.{took_none}
+use Rattle.port_trait.proofs.Ranges.{each_after}
 use Rattle.wire_frames.specs.declared.scheme.TheConstants.{SHAMIR}
 use Rattle.wire_frames.specs.Session.{Transcript}
 use Rattle.block_decoder.specs.declared.verdict.Verdict.{Verdict}
@@ -19,7 +19,7 @@ use Rattle.query_rounds.specs.declared.plan.FetchFault.{FetchFault}
 use Rattle.query_rounds.specs.declared.plan.FetchFault.TheVariants.{CoinsFault, CoinsEnded, Memory}
 use Rattle.query_rounds.specs.Plan.{IsPlan, need}
 use Rattle.query_rounds.specs.Request.{Request, request}
-use Rattle.port_rules.specs.Tossed.{RunsOut, Tossed}
+use Rattle.port_trait.specs.Tossed.{RunsOut, Tossed}
 use Rattle.query_rounds.specs.Gathered.{AsksSome}
 use Rattle.fetch_client.specs.Fetched.{Concludes, Fetches}
 use Rattle.query_rounds.specs.Sent.{session_number}

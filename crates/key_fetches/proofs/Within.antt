@@ -1,15 +1,15 @@
 -- What a look-up did, over what others did before it and after it, and left the links as they were.
 use Rattle.std.proofs.Common.{◌≡◌, ℕ, ◌+◌, ◌*◌, ◌<◌, List, [], ◌∷◌, ◌++◌, slice_index_or, inl, inr, sym, subst}
 use Rattle.std.specs.Prelude.{Err, Ok, Result}
-use Rattle.port_rules.specs.World.{Cell, World}
-use Rattle.port_rules.specs.Number.{COINS, link}
-use Rattle.port_rules.proofs.Ranges.{each_within}
+use Rattle.port_trait.specs.World.{Cell, World}
+use Rattle.port_trait.specs.Number.{COINS, link}
+use Rattle.port_trait.proofs.Ranges.{each_within}
 use Rattle.block_decoder.specs.declared.verdict.Verdict.{Verdict}
 use Rattle.query_rounds.specs.declared.plan.FetchPlan.{FetchPlan}
 use Rattle.query_rounds.specs.declared.plan.FetchFault.{FetchFault}
 use Rattle.query_rounds.specs.declared.plan.FetchFault.TheVariants.{CoinsFault, CoinsEnded, Memory}
 use Rattle.query_rounds.specs.Plan.{need}
-use Rattle.port_rules.specs.Tossed.{Tossed}
+use Rattle.port_trait.specs.Tossed.{Tossed}
 use Rattle.key_fetches.specs.KeyRequest.{KeyRequest}
 use Rattle.key_fetches.specs.Listed.{Ended}
 use Rattle.key_fetches.specs.Rounds.{AskEach, AskedInTurn, Round, TossedFor, coins_of}

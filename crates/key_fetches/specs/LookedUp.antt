@@ -1,8 +1,8 @@
 -- What a look-up does.
 use Rattle.std.specs.Prelude.{◌≡◌, ℕ, ◌+◌, ◌*◌, ◌%◌, ◌<◌, ◌≤◌, ◌⊎◌, ◌++◌, List, [], ◌∷◌, length, map, take, fold, IfSome, Result, Ok, Err}
-use Rattle.port_rules.specs.World.{Cell, World}
-use Rattle.port_rules.specs.Number.{COINS}
-use Rattle.port_rules.specs.Moves.{RoseOnce, took, counted}
+use Rattle.port_trait.specs.World.{Cell, World}
+use Rattle.port_trait.specs.Number.{COINS}
+use Rattle.port_trait.specs.Moves.{RoseOnce, took, counted}
 use Rattle.block_decoder.specs.declared.verdict.Verdict.{Verdict}
 use Rattle.query_rounds.specs.declared.plan.FetchPlan.{FetchPlan}
 use Rattle.query_rounds.specs.declared.plan.FetchFault.{FetchFault}

@@ -1,8 +1,8 @@
 -- The fetches of a look-up, one after the other.
 use Rattle.std.specs.Prelude.{◌≡◌, ℕ, ◌+◌, ◌*◌, ◌<◌, List, [], ◌∷◌, length, flat_map, All, ⊤, slice_index_or, slice_get, None}
-use Rattle.port_rules.specs.World.{Cell, World}
-use Rattle.port_rules.specs.Number.{COINS, link}
-use Rattle.port_rules.specs.Each.{Each}
+use Rattle.port_trait.specs.World.{Cell, World}
+use Rattle.port_trait.specs.Number.{COINS, link}
+use Rattle.port_trait.specs.Each.{Each}
 use Rattle.wire_frames.specs.Sizes.{answer_len}
 use Rattle.wire_frames.specs.Session.{Transcript}
 use Rattle.block_decoder.specs.declared.verdict.Verdict.{Verdict}
@@ -10,7 +10,7 @@ use Rattle.block_decoder.specs.Verdict.{IsVerdict}
 use Rattle.query_rounds.specs.declared.plan.FetchPlan.{FetchPlan}
 use Rattle.query_rounds.specs.Plan.{need, params_of}
 use Rattle.query_rounds.specs.Sent.{sent, session_number, queries_from}
-use Rattle.port_rules.specs.Tossed.{Tossed}
+use Rattle.port_trait.specs.Tossed.{Tossed}
 use Rattle.query_rounds.specs.Link.{LinkAsked}
 use Rattle.fetch_client.specs.Honest.{FindsHonestBlock}
 use Rattle.key_search.specs.Standing.{Standing, asked_row, standing_after}

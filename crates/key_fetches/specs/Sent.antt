@@ -2,10 +2,10 @@
 use Rattle.std.specs.Prelude.{◌≡◌, ℕ, ◌+◌, ◌++◌, List, [], ◌∷◌, length, take, map, ⊤}
 use Rattle.std.specs.List.{concat}
 use Rattle.std.specs.Option.{option_map}
-use Rattle.port_rules.specs.World.{Cell, World}
-use Rattle.port_rules.specs.Number.{link}
-use Rattle.port_rules.specs.Moves.{Rose, RoseAtMost}
-use Rattle.port_rules.specs.Each.{Each}
+use Rattle.port_trait.specs.World.{Cell, World}
+use Rattle.port_trait.specs.Number.{link}
+use Rattle.port_trait.specs.Moves.{Rose, RoseAtMost}
+use Rattle.port_trait.specs.Each.{Each}
 use Rattle.query_rounds.specs.declared.plan.FetchPlan.{FetchPlan}
 use Rattle.key_fetches.specs.Rounds.{Round, frame_in}
 

@@ -2,7 +2,7 @@
 
 ghost use Rattle.std.specs.Prelude.{◌≡◌, ◌<◌, length, IfSome};
 ghost use Rattle.std.specs.Option.{option_or};
-ghost use Rattle.port_rules.specs.Number.{COINS};
+ghost use Rattle.port_trait.specs.Number.{COINS};
 ghost use Rattle.key_search.specs.Standing.{standing_after, turns_of};
 ghost use Rattle.query_rounds.specs.Gathered.{TouchesLinks};
 ghost use Rattle.key_fetches.specs.Listed.{only_block, unlisted_of};
@@ -14,7 +14,7 @@ use block_decoder::Verdict;
 use fetch_client::{FetchFault, fetch};
 use interpolation::Interpolate;
 use key_search::Search;
-use port_rules::Ports;
+use port_trait::Ports;
 use std::alloc::Global;
 use std::sync::ledger::Ledger;
 use uni_poly::steps::Steps;

@@ -1,14 +1,14 @@
 //! Writes the text of what a look-up came to.
 
 ghost use Rattle.std.specs.Prelude.{◌≡◌, codes};
-ghost use Rattle.port_rules.specs.Number.{OUTPUT};
-ghost use Rattle.port_rules.specs.Moves.{Touches};
-ghost use Rattle.port_rules.specs.Written.{Written};
+ghost use Rattle.port_trait.specs.Number.{OUTPUT};
+ghost use Rattle.port_trait.specs.Moves.{Touches};
+ghost use Rattle.port_trait.specs.Written.{Written};
 ghost use Rattle.key_fetches.specs.Text.{absent_line, end_text, found_line};
 
 use crate::looked_up::{Ending, LookUp};
 use block_decoder::{write_block, write_verdict};
-use port_rules::{Failed, Port, Ports, write_all};
+use port_trait::{Failed, Port, Ports, write_all};
 
 /// The word `found`, and the row in hexadecimal, on a line.
 fn write_found<P: Ports>(ports: &mut P, row: &[u8]) -> Result<(), Failed>

@@ -1,7 +1,7 @@
 //! Ports that note what each link gave, for whoever asks why a run ended as it did.
 
 use crate::exchange::Exchange;
-use port_rules::{Failed, Port, Ports};
+use port_trait::{Failed, Port, Ports};
 use std::alloc::{AllocError, Global};
 
 /// What is noted of a run's calls: what went over each link since it was last opened, the first address without a port that

@@ -1,10 +1,10 @@
 -- What a call does to what is told, where that is the counts alone: by what `OsPorts::told` promises of them.
 use Rattle.std.proofs.Common.{ℕ, ◌≡◌, ◌≢◌, ◌+◌, ◌-◌, ◌^◌, ◌≤◌, min, List, length, take, slice_index, Result, Ok, Err, IfOk, OnOk, OnErr, None, refl, ap, subst, arith}
 use Rattle.std.proofs.lemmas.Result.{IfOk-weaker, on_ok_weaker, on_err_weaker}
-use Rattle.port_rules.specs.World.{Cell}
-use Rattle.port_rules.specs.Moves.{Touches, Fails, Hands, gave, named}
-use Rattle.port_rules.specs.Guests.{Meets}
-use Rattle.port_rules.specs.Children.{Starts}
+use Rattle.port_trait.specs.World.{Cell}
+use Rattle.port_trait.specs.Moves.{Touches, Fails, Hands, gave, named}
+use Rattle.port_trait.specs.Guests.{Meets}
+use Rattle.port_trait.specs.Children.{Starts}
 use Rattle.os_ports.specs.Counted.{counts_alone}
 
 -- a port whose count alone is told

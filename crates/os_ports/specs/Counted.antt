@@ -1,6 +1,6 @@
 -- What is told where the counts alone are told.
 use Rattle.std.specs.Prelude.{ℕ, List, slice_index, None}
-use Rattle.port_rules.specs.World.{Crowd, World}
+use Rattle.port_trait.specs.World.{Crowd, World}
 
 -- nothing is told of guests
 abbrev pub untold_crowd : Crowd

@@ -7,7 +7,7 @@ use crate::guest::Guest;
 use crate::links::Links;
 use crate::parent::Parent;
 use crate::variables::{CHILD, is_one};
-use port_rules::Port;
+use port_trait::Port;
 use std::alloc::Global;
 use std::io::{self, ErrorKind, Read, Write};
 use std::net::{Net, OpenListener, OpenStream, SocketAddr, TcpListener};

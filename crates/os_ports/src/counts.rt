@@ -1,8 +1,8 @@
 // How many calls on each port failed.
 ghost use Rattle.std.specs.Prelude.{◌≡◌, ◌≢◌, ◌+◌, ◌-◌, ◌^◌, ℕ, slice_index, min, IfOk};
-ghost use Rattle.port_rules.specs.Number.{number};
+ghost use Rattle.port_trait.specs.Number.{number};
 
-use port_rules::{Failed, PORT_COUNT, Port};
+use port_trait::{Failed, PORT_COUNT, Port};
 use std::alloc::{AllocError, Global};
 use std::marker::Model;
 
@@ -14,7 +14,7 @@ pub struct Counts {
 
 impl Model for Counts {
     ghost use Rattle.std.specs.Prelude.{◌≡◌, List, ℕ, length};
-    ghost use Rattle.port_rules.specs.declared.port.TheConstants.{PORT_COUNT};
+    ghost use Rattle.port_trait.specs.declared.port.TheConstants.{PORT_COUNT};
 
     ghost Value = { List ℕ };
 

@@ -1,7 +1,7 @@
 // Why calls on ports failed, for whoever asks.
 use crate::port_name::PortName;
 use crate::standard_error::StandardError;
-use port_rules::Port;
+use port_trait::Port;
 use std::alloc::{AllocError, Global};
 use std::collections::BTreeMap;
 use std::io::{self, Eprint};

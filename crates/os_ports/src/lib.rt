@@ -1,5 +1,5 @@
 //! The outside itself, the trusted edge: files, standard streams, TCP streams, a listener and child
-//! programs as the ports of `port_rules`.
+//! programs as the ports of `port_trait`.
 //!
 //! Promised is that a call that fails raises the count of its own port, that one that succeeds
 //! raises none, and that no count but that of the port named is touched.

@@ -1,5 +1,5 @@
 // The names of ports in words.
-use port_rules::Port;
+use port_trait::Port;
 use std::fmt::{self, Display, Formatter, Write};
 
 /// A port as a text calls it: `coins`, `link 3`.

@@ -1,6 +1,6 @@
 // The ports of the system.
 ghost use Rattle.std.specs.Prelude.{◌≡◌, ◌≢◌, ◌<◌, ◌+◌, ◌-◌, ◌^◌, ℕ, slice_index, min, IfOk, OnOk, OnErr, Ok};
-ghost use Rattle.port_rules.specs.Number.{number};
+ghost use Rattle.port_trait.specs.Number.{number};
 
 use crate::children::Children;
 use crate::counts::Counts;
@@ -9,7 +9,7 @@ use crate::standard::StandardStreams;
 use crate::streams::Streams;
 use crate::system::System;
 use crate::variables::{EXPLAIN, is_one};
-use port_rules::{Failed, Port, Ports};
+use port_trait::{Failed, Port, Ports};
 use std::io::{self, ErrorKind};
 use std::os::fd::AsRawFd;
 

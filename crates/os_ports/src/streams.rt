@@ -5,7 +5,7 @@ use crate::children::Children;
 use crate::connections::Connections;
 use crate::explainer::Explainer;
 use crate::files::OpenFiles;
-use port_rules::Port;
+use port_trait::Port;
 use std::alloc::Global;
 use std::fs::OpenFile;
 use std::io::{self, Eprint, ErrorKind, Input, Print, Read, Write};

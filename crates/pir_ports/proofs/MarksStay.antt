@@ -5,15 +5,15 @@ use Rattle.std.specs.List.{AllByRecursion}
 use Rattle.std.proofs.lemmas.Bool.{cases_eq}
 use Rattle.std.proofs.lemmas.List.{append-nil, get_or-set_same, get_or-set_other, set-get_or, map_push}
 use Rattle.std.proofs.lemmas.List.Elements.{recursion_from_All, All-push}
-use Rattle.port_rules.specs.declared.port.TheConstants.{LINK_COUNT}
+use Rattle.port_trait.specs.declared.port.TheConstants.{LINK_COUNT}
 use Rattle.pir_ports.specs.declared.cell.Mark.{Mark}
-use Rattle.port_rules.specs.World.{LinkThen}
-use Rattle.port_rules.specs.Number.{link}
+use Rattle.port_trait.specs.World.{LinkThen}
+use Rattle.port_trait.specs.Number.{link}
 use Rattle.pir_ports.specs.MemoryCell.{MemoryCell, empty_cell}
 use Rattle.pir_ports.specs.Marks.{no_mark, link_by, links_by, LiesAmong, MarksEach}
 use Rattle.pir_ports.specs.CellList.{CellList, with_cell, with_links, link_in, links_in}
 use Rattle.pir_ports.specs.CellsInside.{list_by}
-use Rattle.port_rules.proofs.Links.{by_links-same}
+use Rattle.port_trait.proofs.Links.{by_links-same}
 use Rattle.pir_ports.proofs.WordSpans.{range-append}
 
 -- these bytes, and maybe more behind them

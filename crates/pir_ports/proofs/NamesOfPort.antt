@@ -2,11 +2,11 @@
 use Rattle.std.proofs.Common.{◌≡◌, ◌≢◌, ℕ, List, [], ◌∷◌, ◌++◌, get_or, refl, ◌∙◌, ap, arith}
 use Rattle.std.specs.Prelude.{Bool, true, false, cond, eqb}
 use Rattle.std.proofs.lemmas.Bool.Decides.{nat_tests}
-use Rattle.port_rules.specs.World.{Crowd}
+use Rattle.port_trait.specs.World.{Crowd}
 use Rattle.pir_ports.specs.MemoryCell.{MemoryCell, empty_cell}
 use Rattle.pir_ports.specs.NameLog.{NameLog, names_of, with_name}
 use Rattle.pir_ports.specs.Memory.{told, world_from}
-use Rattle.port_rules.specs.Moves.{Touches, named}
+use Rattle.port_trait.specs.Moves.{Touches, named}
 
 -- an element behind a choice of lists is behind each
 cond_push : (b : Bool) (x y : List ℕ) (l : List (List ℕ))

@@ -3,13 +3,13 @@ use Rattle.std.proofs.Common.{◌≡◌, ℕ, ◌+◌, ◌-◌, ◌<◌, ◌≤�
 use Rattle.std.specs.Prelude.{Some, slice_get}
 use Rattle.std.proofs.lemmas.List.{get_or-set_same, get_or-set_other, get_or-map, get_or-take, get_or-drop, get_or_append_left, length-map, length-take-le, drop-map, map_push, take_more_set, drop-append-le, drop-set-lt, drop-drop}
 use Rattle.std.proofs.lemmas.Option.{slice_get-get_or}
-use Rattle.port_rules.specs.World.{everyone}
+use Rattle.port_trait.specs.World.{everyone}
 use Rattle.pir_ports.specs.MemoryCell.{MemoryCell, empty_cell, came_in}
 use Rattle.pir_ports.specs.CellList.{CellList, with_cell, with_links}
 use Rattle.pir_ports.specs.NameLog.{names_of}
 use Rattle.pir_ports.specs.Memory.{Memory, told, held_by, cell_at, met, called, next_call, world_of}
 use Rattle.pir_ports.specs.PortsInside.{given_to, memory_of, IsSound}
-use Rattle.port_rules.specs.Guests.{Meets}
+use Rattle.port_trait.specs.Guests.{Meets}
 use Rattle.pir_ports.specs.declared.memory.MemPorts.TheInside.{Inside}
 
 -- the guest that was in leaves its cell where the next one waited

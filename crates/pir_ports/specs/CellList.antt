@@ -1,8 +1,8 @@
 -- The ports in memory side by side, and what the links held before.
 use Rattle.std.specs.Prelude.{ℕ, ◌-◌, List, [], ◌∷◌, ◌++◌, get_or, set, replicate, Some}
-use Rattle.port_rules.specs.declared.port.TheConstants.{PORT_COUNT}
-use Rattle.port_rules.specs.World.{LinkThen, by_links}
-use Rattle.port_rules.specs.Number.{link}
+use Rattle.port_trait.specs.declared.port.TheConstants.{PORT_COUNT}
+use Rattle.port_trait.specs.World.{LinkThen, by_links}
+use Rattle.port_trait.specs.Number.{link}
 use Rattle.pir_ports.specs.MemoryCell.{MemoryCell, empty_cell}
 
 -- the ports by their numbers, what each link held and its count each time that this was kept, and how many times more

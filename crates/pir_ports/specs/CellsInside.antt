@@ -1,6 +1,6 @@
 -- The fields of `Cells`, and the ports that they keep.
 use Rattle.std.specs.Prelude.{ℕ, ◌+◌, ◌≤◌, ◌≡◌, List, All, length, map, vec_len, vec_capacity}
-use Rattle.port_rules.specs.declared.port.TheConstants.{PORT_COUNT}
+use Rattle.port_trait.specs.declared.port.TheConstants.{PORT_COUNT}
 use Rattle.pir_ports.specs.MemoryCell.{MemoryCell}
 use Rattle.pir_ports.specs.CellList.{CellList}
 use Rattle.pir_ports.specs.Marks.{links_by, LiesAmong}

@@ -1,8 +1,8 @@
 -- Places in what was put to a port, which say what it held at one time.
 use Rattle.std.specs.Prelude.{ℕ, ◌<◌, ◌≤◌, ◌≡◌, List, get_or, length, slice_range, Some}
-use Rattle.port_rules.specs.World.{LinkThen, by_links}
-use Rattle.port_rules.specs.declared.port.TheConstants.{LINK_COUNT}
-use Rattle.port_rules.specs.Number.{link}
+use Rattle.port_trait.specs.World.{LinkThen, by_links}
+use Rattle.port_trait.specs.declared.port.TheConstants.{LINK_COUNT}
+use Rattle.port_trait.specs.Number.{link}
 use Rattle.pir_ports.specs.MemoryCell.{MemoryCell, empty_cell}
 use Rattle.pir_ports.specs.declared.cell.Mark.{Mark}
 

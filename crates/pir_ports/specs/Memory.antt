@@ -1,8 +1,8 @@
 -- Ports in memory.
 use Rattle.std.specs.Prelude.{ℕ, ◌+◌, ◌-◌, ◌^◌, min, Contains, List, [], ◌∷◌, get_or, set, replicate, map, drop, Option, Some, ◌++◌, slice_get}
 use Rattle.std.specs.Option.{option_map, option_and_then}
-use Rattle.port_rules.specs.declared.port.TheConstants.{PORT_COUNT}
-use Rattle.port_rules.specs.World.{Cell, Crowd, LinkThen, World, everyone}
+use Rattle.port_trait.specs.declared.port.TheConstants.{PORT_COUNT}
+use Rattle.port_trait.specs.World.{Cell, Crowd, LinkThen, World, everyone}
 use Rattle.pir_ports.specs.MemoryCell.{MemoryCell, empty_cell, came_in}
 use Rattle.pir_ports.specs.CellList.{links_in}
 use Rattle.pir_ports.specs.NameLog.{NameLog, no_names, names_of, with_name, with_start}

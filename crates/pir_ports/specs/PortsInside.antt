@@ -2,7 +2,7 @@
 use Rattle.std.specs.Prelude.{ℕ, ◌+◌, ◌<◌, ◌≤◌, ◌≡◌, List, length, map, take, drop, vec_capacity}
 use Rattle.pir_ports.specs.MemoryCell.{MemoryCell}
 use Rattle.pir_ports.specs.Memory.{Memory}
-use Rattle.port_rules.specs.declared.port.TheConstants.{PORT_COUNT}
+use Rattle.port_trait.specs.declared.port.TheConstants.{PORT_COUNT}
 use Rattle.pir_ports.specs.declared.memory.MemPorts.TheInside.{Inside}
 
 -- what a port took

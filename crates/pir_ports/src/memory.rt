@@ -1,11 +1,11 @@
 // Ports in memory.
 ghost use Rattle.std.specs.Prelude.{◌≡◌, ◌≢◌, ◌<◌, ◌≤◌, ◌+◌, ◌-◌, ◌^◌, ◌↔◌, ℕ, [], Some, length, map, string_bytes, take, slice_get, Contains, IfOk, IfSome, OnOk, OnErr, IsErr, IsTrue, ◌⊎◌};
 ghost use Rattle.std.specs.Option.{option_copied};
-ghost use Rattle.port_rules.specs.World.{answered};
-ghost use Rattle.port_rules.specs.Number.{number, DOOR, GUEST, child};
-ghost use Rattle.port_rules.specs.Moves.{Touches, Hands, Fails, gave, named};
-ghost use Rattle.port_rules.specs.Guests.{Meets};
-ghost use Rattle.port_rules.specs.Children.{Starts};
+ghost use Rattle.port_trait.specs.World.{answered};
+ghost use Rattle.port_trait.specs.Number.{number, DOOR, GUEST, child};
+ghost use Rattle.port_trait.specs.Moves.{Touches, Hands, Fails, gave, named};
+ghost use Rattle.port_trait.specs.Guests.{Meets};
+ghost use Rattle.port_trait.specs.Children.{Starts};
 ghost use Rattle.pir_ports.specs.MemoryCell.{empty_cell, put, with_room, hand, accept, fault, moved};
 ghost use Rattle.pir_ports.specs.NameLog.{CanKeep, CanKeepStart};
 ghost use Rattle.pir_ports.specs.Memory.{Memory, world_of, cell_at, told, filled, joined_by, fresh, changed, opened, begun, word_at, invited, met, next_call, called, IsDue};

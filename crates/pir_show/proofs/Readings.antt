@@ -8,7 +8,7 @@ use Rattle.wire_frames.specs.declared.reader.FeedFault.{FeedFault}
 use Rattle.wire_frames.specs.declared.reader.FeedFault.TheVariants.{BadSession, Memory as NoMemory}
 use Rattle.wire_frames.specs.Reading.{Reading, SoFar, Feeds}
 use Rattle.wire_frames.specs.Session.{IsSession}
-use Rattle.wire_frames.proofs.Fronts.{stops-front, stops-none}
+use Rattle.wire_frames.proofs.Places.{stops-prefix, stops-none}
 use Rattle.pir_show.specs.Reading.{ReadsAs, of_feed}
 
 -- the reader has seen the bytes by which what a source has left is less than it was
@@ -24,18 +24,18 @@ consumes_more (Some os) None k xs ys h more = absurd h
 consumes_more (Some os) (Some ls) None xs ys h more = absurd more
 consumes_more (Some os) (Some ls) (Some ks) xs ys h more = h ∙ ap (λ zs. xs ++ zs) more ∙ sym (append_assoc xs ys ks)
 
--- what was taken is the front of what there was
-pub consumed_front : (os : List ℕ) (l : Option (List ℕ)) (xs : List ℕ) → Consumes (Some os) l xs → xs ≡ take (length xs) os
-consumed_front os None xs h = absurd h
-consumed_front os (Some ls) xs h = sym (take-append_seam xs ls) ∙ ap (take (length xs)) (sym h)
+-- what was taken is the prefix of what there was
+pub consumed_prefix : (os : List ℕ) (l : Option (List ℕ)) (xs : List ℕ) → Consumes (Some os) l xs → xs ≡ take (length xs) os
+consumed_prefix os None xs h = absurd h
+consumed_prefix os (Some ls) xs h = sym (take-append_seam xs ls) ∙ ap (take (length xs)) (sym h)
 
 -- a piece that is refused
 refused : (old next : Option (List ℕ)) (bytes piece : List ℕ) (fault : FeedFault) (new : Reading)
     → Consumes old next (bytes ++ piece) → Feeds (SoFar bytes) piece (Err fault) new → ReadsAs old (Err (of_feed fault))
 refused None next bytes piece fault new all feeds = tt
 refused (Some os) next bytes piece (BadSession place) new all feeds =
-    let there = stops-front IsSession (bytes ++ piece) os place (consumed_front os next (bytes ++ piece) all) feeds.1 feeds.0 in
-    let size = ap length (consumed_front os next (bytes ++ piece) all) in
+    let there = stops-prefix IsSession (bytes ++ piece) os place (consumed_prefix os next (bytes ++ piece) all) feeds.1 feeds.0 in
+    let size = ap length (consumed_prefix os next (bytes ++ piece) all) in
     record { place_is = there; none = stops-none IsSession os place there (omega (arith, feeds.1, size, length-take (length (bytes ++ piece)) os)) }
 refused (Some os) next bytes piece NoMemory new all feeds = tt
 

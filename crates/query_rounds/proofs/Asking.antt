@@ -2,14 +2,14 @@
 use Rattle.std.proofs.Common.{◌≡◌, ◌∙◌, inl, inr, ℕ, ◌+◌, ◌≤◌, ◌<◌, List, [], ◌∷◌, ◌++◌, length, take, set, slice_index_or, ap, ap₂, sym, subst, arith}
 use Rattle.std.specs.Prelude.{Bool, true, false, Option, Some, None, IfSome}
 use Rattle.std.proofs.lemmas.List.{get_or-append-add, get_or-set_other, get_or-set_same, get_or_append_left}
-use Rattle.port_rules.specs.World.{Cell, World}
-use Rattle.port_rules.specs.declared.port.TheConstants.{PORT_COUNT}
-use Rattle.port_rules.specs.Number.{COINS, link}
-use Rattle.port_rules.specs.Moves.{RoseOnce, Touches, took, counted}
-use Rattle.port_rules.specs.Whole.{FailsShort}
-use Rattle.port_rules.specs.Each.{TouchesRange}
-use Rattle.port_rules.proofs.Ranges.{each_as, each_before, each_more, range_still}
-use Rattle.port_rules.specs.Tossed.{Tossed}
+use Rattle.port_trait.specs.World.{Cell, World}
+use Rattle.port_trait.specs.declared.port.TheConstants.{PORT_COUNT}
+use Rattle.port_trait.specs.Number.{COINS, link}
+use Rattle.port_trait.specs.Moves.{RoseOnce, Touches, took, counted}
+use Rattle.port_trait.specs.Whole.{FailsShort}
+use Rattle.port_trait.specs.Each.{TouchesRange}
+use Rattle.port_trait.proofs.Ranges.{each_as, each_before, each_more, range_still}
+use Rattle.port_trait.specs.Tossed.{Tossed}
 use Rattle.quantity_limits.specs.declared.TheConstants.{MOST_SERVERS}
 use Rattle.wire_frames.specs.Session.{Transcript}
 use Rattle.query_rounds.specs.Plan.{params_of}

@@ -1,13 +1,13 @@
 -- What asking all servers does.
 use Rattle.std.specs.Prelude.{ℕ, ◌≡◌, ◌+◌, ◌⊎◌, ◌∷◌, List, [], length, None, Result, Ok, Err}
 use Rattle.std.specs.Prelude.{slice_index_or}
-use Rattle.port_rules.specs.World.{World}
-use Rattle.port_rules.specs.Number.{COINS, link}
-use Rattle.port_rules.specs.Moves.{Touches}
-use Rattle.port_rules.specs.Whole.{FailsShort}
-use Rattle.port_rules.specs.Each.{Each}
-use Rattle.port_rules.specs.Tossed.{Tossed, RunsOut}
-use Rattle.port_rules.specs.Touched.{One, From, TouchesOnly}
+use Rattle.port_trait.specs.World.{World}
+use Rattle.port_trait.specs.Number.{COINS, link}
+use Rattle.port_trait.specs.Moves.{Touches}
+use Rattle.port_trait.specs.Whole.{FailsShort}
+use Rattle.port_trait.specs.Each.{Each}
+use Rattle.port_trait.specs.Tossed.{Tossed, RunsOut}
+use Rattle.port_trait.specs.Touched.{One, From, TouchesOnly}
 use Rattle.wire_frames.specs.Session.{Transcript}
 use Rattle.query_rounds.specs.declared.gathering.Gathered.{Gathered}
 use Rattle.query_rounds.specs.declared.plan.FetchFault.{FetchFault}

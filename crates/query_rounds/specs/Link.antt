@@ -1,7 +1,7 @@
 -- What happens on one link.
 use Rattle.std.specs.Prelude.{ℕ, ◌≡◌, ◌<◌, ◌≤◌, ◌⊎◌, List, length, take, Bool, true, false, Option, Some, None, IfSome}
-use Rattle.port_rules.specs.World.{Cell}
-use Rattle.port_rules.specs.Moves.{RoseOnce, took, gave, named, counted}
+use Rattle.port_trait.specs.World.{Cell}
+use Rattle.port_trait.specs.Moves.{RoseOnce, took, gave, named, counted}
 
 -- the link was opened by its address, took the whole frame, and handed out these bytes: the first that it held, up to
 -- so many

@@ -1,8 +1,8 @@
 -- What the two rounds of a fetch do: each server is sent its query, and then the answer of each is taken.
 use Rattle.std.specs.Prelude.{ℕ, ◌≡◌, ◌+◌, ◌++◌, ◌∷◌, List, [], length, Bool, false, Option, None, slice_index_or}
-use Rattle.port_rules.specs.World.{Cell, World}
-use Rattle.port_rules.specs.Number.{link}
-use Rattle.port_rules.specs.Each.{Each}
+use Rattle.port_trait.specs.World.{Cell, World}
+use Rattle.port_trait.specs.Number.{link}
+use Rattle.port_trait.specs.Each.{Each}
 use Rattle.wire_frames.specs.Session.{Transcript}
 use Rattle.query_rounds.specs.Queries.{Queries}
 use Rattle.query_rounds.specs.Sent.{address_at, frame_at}

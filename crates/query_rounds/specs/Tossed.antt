@@ -1,9 +1,9 @@
 -- The coins of a fetch.
 use Rattle.std.specs.Prelude.{ℕ, List, Result, Ok, Err}
-use Rattle.port_rules.specs.World.{World}
-use Rattle.port_rules.specs.Number.{COINS}
-use Rattle.port_rules.specs.Whole.{FailsShort}
-use Rattle.port_rules.specs.Tossed.{Tossed, RunsOut}
+use Rattle.port_trait.specs.World.{World}
+use Rattle.port_trait.specs.Number.{COINS}
+use Rattle.port_trait.specs.Whole.{FailsShort}
+use Rattle.port_trait.specs.Tossed.{Tossed, RunsOut}
 use Rattle.query_rounds.specs.declared.plan.FetchFault.{FetchFault}
 use Rattle.query_rounds.specs.declared.plan.FetchFault.TheVariants.{CoinsFault, CoinsEnded, Memory}
 use Rattle.query_rounds.specs.Queries.{Queries, request_of}

@@ -1,15 +1,15 @@
 //! The random bytes.
 
 ghost use Rattle.std.specs.Prelude.{◌≡◌, ◌<◌, ◌≤◌, length};
-ghost use Rattle.port_rules.specs.Number.{COINS};
-ghost use Rattle.port_rules.specs.Moves.{Touches};
+ghost use Rattle.port_trait.specs.Number.{COINS};
+ghost use Rattle.port_trait.specs.Moves.{Touches};
 ghost use Rattle.query_rounds.specs.declared.coins.TheConstants.{NUMBER_LEN};
 ghost use Rattle.query_rounds.specs.Sent.{session_number};
 ghost use Rattle.query_rounds.specs.Tossed.{TakesCoins};
 
 use crate::plan::FetchFault;
 use byteorder::{BigEndian, ByteOrder};
-use port_rules::{Filled, Port, Ports, read_exactly};
+use port_trait::{Filled, Port, Ports, read_exactly};
 
 /// How many coins the number of a session takes.
 pub const NUMBER_LEN: usize = 8;

@@ -10,7 +10,7 @@ ghost use Rattle.query_rounds.specs.Gathered.{AsksServers, GathersTo, TouchesLin
 use crate::plan::{FetchFault, FetchPlan};
 use crate::queries::Queries;
 use crate::rounds::{ask_all, take_all};
-use port_rules::Ports;
+use port_trait::Ports;
 use std::alloc::{AllocError, Global};
 use wire_frames::Session;
 

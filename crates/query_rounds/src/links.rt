@@ -2,11 +2,11 @@
 
 ghost use Rattle.std.specs.Prelude.{◌≡◌, ◌<◌, ◌≤◌, length, take, IfSome};
 ghost use Rattle.std.specs.Option.{option_map};
-ghost use Rattle.port_rules.specs.Number.{link};
-ghost use Rattle.port_rules.specs.Moves.{Touches};
+ghost use Rattle.port_trait.specs.Number.{link};
+ghost use Rattle.port_trait.specs.Moves.{Touches};
 ghost use Rattle.query_rounds.specs.Link.{LinkSent, LinkTaken};
 
-use port_rules::{Filled, Port, Ports, read_exactly, write_all};
+use port_trait::{Filled, Port, Ports, read_exactly, write_all};
 
 /// Asks one server: opens its link, and gives it the frame. It says whether the server was reached: whether its link
 /// took the whole frame, and no call on it failed.

@@ -1,8 +1,8 @@
 //! What each server is sent.
 
 ghost use Rattle.std.specs.Prelude.{◌≡◌, ◌*◌, ◌<◌, ◌≤◌, length, map, string_bytes, IfOk};
-ghost use Rattle.port_rules.specs.Number.{COINS};
-ghost use Rattle.port_rules.specs.Moves.{Touches};
+ghost use Rattle.port_trait.specs.Number.{COINS};
+ghost use Rattle.port_trait.specs.Moves.{Touches};
 ghost use Rattle.quantity_limits.specs.declared.TheConstants.{MOST_BLOCKS, MOST_SERVERS};
 ghost use Rattle.wire_frames.specs.Limits.{IsInRange};
 ghost use Rattle.query_rounds.specs.Plan.{AreBlocks, IsPlan, params_of, query_params};
@@ -15,7 +15,7 @@ ghost use Rattle.query_rounds.specs.Tossed.{TakesOwnCoins};
 use crate::coins::{NUMBER_LEN, session_number_of, take_coins};
 use crate::plan::{FetchFault, FetchPlan};
 use chor_xor::bitmap_into;
-use port_rules::Ports;
+use port_trait::Ports;
 use shamir_share::query_into;
 use std::alloc::{AllocError, Global};
 use std::marker::Model;

@@ -1,9 +1,9 @@
 //! The two rounds in which the servers are asked: each is sent its query before the answer of any is awaited.
 
 ghost use Rattle.std.specs.Prelude.{ℕ, ◌≡◌, ◌<◌, ◌≤◌, ◌+◌, [], length};
-ghost use Rattle.port_rules.specs.Number.{link};
-ghost use Rattle.port_rules.specs.Moves.{Touches};
-ghost use Rattle.port_rules.specs.Each.{TouchesRange};
+ghost use Rattle.port_trait.specs.Number.{link};
+ghost use Rattle.port_trait.specs.Moves.{Touches};
+ghost use Rattle.port_trait.specs.Each.{TouchesRange};
 ghost use Rattle.quantity_limits.specs.declared.TheConstants.{MOST_SERVERS};
 ghost use Rattle.wire_frames.specs.Sizes.{answer_len};
 ghost use Rattle.query_rounds.specs.Queries.{request_of};
@@ -12,7 +12,7 @@ ghost use Rattle.query_rounds.specs.Rounds.{SentEach, SentTo, TakenEach, TakesNe
 
 use crate::links::{ask, take_answer};
 use crate::queries::Queries;
-use port_rules::Ports;
+use port_trait::Ports;
 use wire_frames::Session;
 
 /// Asks the server at a place, counted from 0, and says whether it was reached.

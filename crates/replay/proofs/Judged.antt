@@ -1,8 +1,8 @@
 -- What a replay does and counts where it fails, or has read a session.
 use Rattle.std.proofs.Common.{◌≡◌, ◌∙◌, inl, inr, ℕ, List, [], refl, sym, ap, subst, arith}
 use Rattle.std.specs.Prelude.{Result, Err}
-use Rattle.port_rules.specs.World.{World}
-use Rattle.port_rules.specs.Number.{INPUT}
+use Rattle.port_trait.specs.World.{World}
+use Rattle.port_trait.specs.Number.{INPUT}
 use Rattle.wire_frames.specs.Session.{Transcript}
 use Rattle.replay.specs.declared.ReplayFault.{ReplayFault}
 use Rattle.replay.specs.declared.ReplayFault.TheVariants.{ReadFault, BadSession, Memory}
@@ -39,7 +39,7 @@ pub no_room : {T : Type 0} (P : T → List ℕ → Type 0) (w : World) (result :
 no_room {T} P w result fault is same =
     let seen = seen_nothing w in
     subst (λ (r : Result T ReplayFault). ReadTo P r w w) (sym (is ∙ ap Err same))
-    (inl record { read = []; cell = seen.reads.cell; front = seen.reads.told; few = omega arith })
+    (inl record { read = []; cell = seen.reads.cell; prefix = seen.reads.told; few = omega arith })
 
 -- there was none for the verdict: the whole session was read
 pub no_verdict : {T : Type 0} (P : T → List ℕ → Type 0) (session : Transcript) (old new : World) (result : Result T ReplayFault) (fault : ReplayFault) → result ≡ Err fault → fault ≡ Memory

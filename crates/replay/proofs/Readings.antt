@@ -5,11 +5,11 @@ use Rattle.std.specs.Prelude.{Option, Some, None, IfSome, Ok, Err}
 use Rattle.std.proofs.lemmas.Bool.{cases_lt}
 use Rattle.std.proofs.lemmas.List.{length-take-le, take-append-le, take_all}
 use Rattle.std.proofs.lemmas.List.Elements.{All-nil, All-push}
-use Rattle.port_rules.specs.World.{Cell, World}
-use Rattle.port_rules.specs.Number.{INPUT}
-use Rattle.port_rules.specs.Moves.{RoseOnce, Touches, Hands, Fails, counted}
-use Rattle.port_rules.specs.Whole.{Reads, IsFront}
-use Rattle.port_rules.proofs.Cells.{at_told, took_none, reads_more, reads_end, touches_more}
+use Rattle.port_trait.specs.World.{Cell, World}
+use Rattle.port_trait.specs.Number.{INPUT}
+use Rattle.port_trait.specs.Moves.{RoseOnce, Touches, Hands, Fails, counted}
+use Rattle.port_trait.specs.Whole.{Reads, IsPrefix}
+use Rattle.port_trait.proofs.Cells.{at_told, took_none, reads_more, reads_end, touches_more}
 use Rattle.wire_frames.specs.declared.scheme.TheConstants.{SHAMIR, XOR}
 use Rattle.wire_frames.specs.Sizes.{answer_len}
 use Rattle.wire_frames.specs.Answer.{answers, block_len}
@@ -21,7 +21,7 @@ use Rattle.wire_frames.specs.declared.reader.FeedFault.TheVariants.{BadSession a
 use Rattle.wire_frames.specs.declared.reader.BadSession.{BadSession as SessionFault}
 use Rattle.wire_frames.proofs.Beginnings.{begins_short}
 use Rattle.wire_frames.proofs.OneSession.{one_session}
-use Rattle.wire_frames.proofs.Fronts.{stops-front, stops-none}
+use Rattle.wire_frames.proofs.Fronts.{stops-prefix, stops-none}
 use Rattle.block_decoder.specs.Verdict.{least_columns}
 use Rattle.block_decoder.specs.declared.verdict.Verdict.{Verdict}
 use Rattle.replay.specs.declared.TheConstants.{PIECE_LEN}
@@ -50,13 +50,13 @@ pub of_held : (P : List ℕ → Type 0) (o : Option (List ℕ)) (read : List ℕ
 of_held P None read is p = tt
 of_held P (Some h) read is p = subst P is p
 
--- bytes that are refused are the front of no session
-pub refused_front : (o : Option (List ℕ)) (read : List ℕ) (place : ℕ) → IfSome o (IsFront read) → IsPlace read place
+-- bytes that are refused are the prefix of no session
+pub refused_prefix : (o : Option (List ℕ)) (read : List ℕ) (place : ℕ) → IfSome o (IsPrefix read) → IsPlace read place
     → place < length read → IfSome o (NoSession place)
-refused_front None read place front is lt = tt
-refused_front (Some h) read place front is lt =
-    let there = stops-front IsSession read h place front.bytes lt is in
-    record { place_is = there; none = stops-none IsSession h place there (omega (arith, front.there)) }
+refused_prefix None read place prefix is lt = tt
+refused_prefix (Some h) read place prefix is lt =
+    let there = stops-prefix IsSession read h place prefix.bytes lt is in
+    record { place_is = there; none = stops-none IsSession h place there (omega (arith, prefix.there)) }
 
 -- so many bytes were seen, with the next piece
 length_seen : (n : ℕ) (sub ys : List ℕ) (v u : World) (seen : List ℕ) → length ys ≡ length sub
@@ -126,7 +126,7 @@ seen_nothing w = record {
   begins = nothing_begins;
 }
   where
-    no_bytes : (o : Option (List ℕ)) → IfSome o (IsFront [])
+    no_bytes : (o : Option (List ℕ)) → IfSome o (IsPrefix [])
     no_bytes None = tt
     no_bytes (Some held) = record { there = omega arith; bytes = refl }
 
@@ -163,17 +163,17 @@ seen_fails old v u reader h fails = record {
   read = seen_by reader;
   begins = h.begins;
   cell = fails.cell ∙ ap (counted (u.at INPUT).faults) h.reads.cell;
-  front = h.reads.told;
+  prefix = h.reads.told;
   rose = subst (λ (k : ℕ). RoseOnce k (u.at INPUT).faults) (ap (λ (c : Cell). c.faults) h.reads.cell) fails.rose;
 }
 
--- where bytes begin a session, the place of what has them in front is not before their end
+-- where bytes begin a session, the place of what has them in prefix is not before their end
 place_behind : (begun piece : List ℕ) (place : ℕ) → Begins begun → IsPlace (begun ++ piece) place → length begun ≤ place
 place_behind begun piece place begins is = elim (cases_lt place (length begun)) [
   | inl before ↦
-      let front : begun ≡ take (length begun) (begun ++ piece) =
+      let prefix : begun ≡ take (length begun) (begun ++ piece) =
       sym (take-append-le (length begun) begun piece (omega arith) ∙ take_all (length begun) begun (omega arith)) in
-      absurd (is.longest (length begun) before (omega (arith, length-append begun piece)) (subst Begins front begins))
+      absurd (is.longest (length begun) before (omega (arith, length-append begun piece)) (subst Begins prefix begins))
   | inr behind ↦ omega (arith, behind)
 ]
 
@@ -191,11 +191,11 @@ seen_stops P n sub ys old v u reader new (Wrong place) room same h hands fed =
     record {
       read = seen;
       cell = reads.cell;
-      front = reads.told;
+      prefix = reads.told;
       wrong = record { place_is = fed'.0; none = stops-none IsSession seen place fed'.0 fed'.1 };
       least = omega (arith, fed'.1);
       most = omega (arith, behind, size, hands.fits, room);
-      none = refused_front (old.at INPUT).holds seen place reads.told fed'.0 fed'.1;
+      none = refused_prefix (old.at INPUT).holds seen place reads.told fed'.0 fed'.1;
     }
 seen_stops P n sub ys old v u reader new NoMemory room same h hands fed =
     let fed' = subst (λ (r : Reading). Feeds r (take n ys) (Err NoMemory) new) h.still fed in
@@ -204,7 +204,7 @@ seen_stops P n sub ys old v u reader new NoMemory room same h hands fed =
     inl record {
       read = seen_by reader ++ take n ys;
       cell = reads.cell;
-      front = reads.told;
+      prefix = reads.told;
       few = omega (arith, fed'.1, size, hands.fits, room);
     }
 
@@ -235,7 +235,7 @@ seen_short n sub ys old v u reader fault h hands none last ends =
     record {
       read = read;
       cell = all.0;
-      front = h.reads.told;
+      prefix = h.reads.told;
       wrong = wrong;
       least = omega (arith, short.1);
       most = omega (arith, short.1);

@@ -1,9 +1,9 @@
 -- What reading a recorded session from Input, and judging it, does and gives.
 use Rattle.std.specs.Prelude.{◌≤◌, ◌+◌, ◌⊎◌, length, Some, ◌≡◌, ℕ, List, Option, IfSome, Result, Ok, Err}
-use Rattle.port_rules.specs.World.{Cell, World}
-use Rattle.port_rules.specs.Number.{INPUT}
-use Rattle.port_rules.specs.Moves.{RoseOnce, took, counted}
-use Rattle.port_rules.specs.Whole.{IsFront}
+use Rattle.port_trait.specs.World.{Cell, World}
+use Rattle.port_trait.specs.Number.{INPUT}
+use Rattle.port_trait.specs.Moves.{RoseOnce, took, counted}
+use Rattle.port_trait.specs.Whole.{IsPrefix}
 use Rattle.wire_frames.specs.declared.scheme.TheConstants.{SHAMIR, XOR}
 use Rattle.wire_frames.specs.declared.sizes.TheConstants.{SESSION_HEADER_LEN}
 use Rattle.wire_frames.specs.Session.{Transcript, IsSession}
@@ -53,7 +53,7 @@ pub record ReadsWhole (P : List ℕ → Type 0) (old new : Cell) : Type 0 where
 pub record Refuses (place : ℕ) (old new : Cell) : Type 0 where
   pub read : List ℕ
   pub cell : new ≡ took (length read) old
-  pub front : IfSome old.holds (IsFront read)
+  pub prefix : IfSome old.holds (IsPrefix read)
   pub wrong : NoSession place read
   pub least : place ≤ length read
   pub most : length read ≤ place + PIECE_LEN
@@ -64,14 +64,14 @@ pub record BreaksOff (old new : Cell) : Type 0 where
   pub read : List ℕ
   pub begins : Begins read
   pub cell : new ≡ counted new.faults (took (length read) old)
-  pub front : IfSome old.holds (IsFront read)
+  pub prefix : IfSome old.holds (IsPrefix read)
   pub rose : RoseOnce old.faults new.faults
 
 -- the port was read no further than a session's header and one piece
 pub record ReadsLittle (old new : Cell) : Type 0 where
   pub read : List ℕ
   pub cell : new ≡ took (length read) old
-  pub front : IfSome old.holds (IsFront read)
+  pub prefix : IfSome old.holds (IsPrefix read)
   pub few : length read ≤ SESSION_HEADER_LEN + PIECE_LEN
 
 -- Input was read: what it held is P of the result; or it is no session; or a call on Input failed; or memory ran out,

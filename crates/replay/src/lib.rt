@@ -9,14 +9,14 @@
 #![tactic(auto)]
 
 ghost use Rattle.std.specs.Prelude.{◌≡◌, ◌≤◌, length, vec_len, IfOk};
-ghost use Rattle.port_rules.specs.Number.{INPUT};
-ghost use Rattle.port_rules.specs.Moves.{Touches};
+ghost use Rattle.port_trait.specs.Number.{INPUT};
+ghost use Rattle.port_trait.specs.Moves.{Touches};
 ghost use Rattle.block_decoder.specs.Numbers.{most_columns, most_nodes};
 ghost use Rattle.replay.specs.Replayed.{ReadTo, Judged, JudgedWhole, Spells, ReplayCounts, CountsListed, CountsNone};
 
 use block_decoder::{Report, Verdict, judge, judge_report};
 use interpolation::Interpolate;
-use port_rules::{Failed, Port, Ports};
+use port_trait::{Failed, Port, Ports};
 use std::alloc::{AllocError, Global};
 use std::sync::ledger::Ledger;
 use thiserror::Error;

@@ -1,10 +1,10 @@
 -- A reply to a guest, once its query was taken, refused or cut.
 use Rattle.std.proofs.Common.{◌≡◌, inl, inr, ℕ, ◌≤◌, List, length, take, refl, sym, ◌∙◌, ap, ap₂, subst}
 use Rattle.std.specs.Prelude.{Option, Some, None, IfSome}
-use Rattle.port_rules.specs.World.{World}
-use Rattle.port_rules.specs.Number.{GUEST}
-use Rattle.port_rules.specs.Moves.{RoseOnce, gave, counted}
-use Rattle.port_rules.specs.Whole.{FailsWithin}
+use Rattle.port_trait.specs.World.{World}
+use Rattle.port_trait.specs.Number.{GUEST}
+use Rattle.port_trait.specs.Moves.{RoseOnce, gave, counted}
+use Rattle.port_trait.specs.Whole.{FailsWithin}
 use Rattle.wire_frames.specs.declared.header.QueryHeader.{QueryHeader}
 use Rattle.wire_frames.specs.Header.{blocks_in, query_header}
 use Rattle.wire_frames.proofs.Answering.{blocks_in_query}

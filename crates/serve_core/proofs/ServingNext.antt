@@ -1,10 +1,10 @@
 -- A guest who comes in and is attended to.
 use Rattle.std.proofs.Common.{◌≡◌, [], ◌∷◌, ◌∙◌, subst}
-use Rattle.port_rules.specs.World.{World}
-use Rattle.port_rules.specs.Number.{GUEST}
-use Rattle.port_rules.specs.Moves.{Touches}
-use Rattle.port_rules.specs.Touched.{One, Crowd, TouchesOnly}
-use Rattle.port_rules.specs.Guests.{Meets}
+use Rattle.port_trait.specs.World.{World}
+use Rattle.port_trait.specs.Number.{GUEST}
+use Rattle.port_trait.specs.Moves.{Touches}
+use Rattle.port_trait.specs.Touched.{One, Crowd, TouchesOnly}
+use Rattle.port_trait.specs.Guests.{Meets}
 use Rattle.serve_core.specs.Service.{Service}
 use Rattle.serve_core.specs.Attended.{Attends, AttendsNext}
 use Rattle.serve_core.specs.declared.met.Met.{Met}

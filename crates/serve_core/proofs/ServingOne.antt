@@ -2,10 +2,10 @@
 use Rattle.std.proofs.Common.{◌≡◌, inl, inr, ℕ, ◌≤◌, List, [], ◌++◌, length, ◌∙◌, ap, subst, arith}
 use Rattle.std.specs.Prelude.{◌⊎◌, Option, IfSome}
 use Rattle.std.specs.Option.{option_map}
-use Rattle.port_rules.specs.World.{Cell, World}
-use Rattle.port_rules.specs.Number.{GUEST}
-use Rattle.port_rules.specs.Moves.{RoseOnce}
-use Rattle.port_rules.specs.Serving.{ServesOne}
+use Rattle.port_trait.specs.World.{Cell, World}
+use Rattle.port_trait.specs.Number.{GUEST}
+use Rattle.port_trait.specs.Moves.{RoseOnce}
+use Rattle.port_trait.specs.Serving.{ServesOne}
 use Rattle.wire_frames.specs.declared.sizes.TheConstants.{FRAME_HEADER_LEN}
 use Rattle.serve_core.specs.Service.{Service, terms_of}
 use Rattle.serve_core.specs.Case.{ReplyTakes, Suits, query_len_of}

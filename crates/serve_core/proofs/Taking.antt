@@ -3,12 +3,12 @@ use Rattle.std.proofs.Common.{◌≡◌, inl, inr, ℕ, ◌+◌, ◌≤◌, List
 use Rattle.std.specs.Prelude.{Option, Some, None, IfSome, Ok, Err, Bool, true, false}
 use Rattle.std.specs.Option.{option_map}
 use Rattle.std.proofs.lemmas.List.{take_all, length-drop}
-use Rattle.port_rules.specs.World.{World}
-use Rattle.port_rules.specs.Number.{GUEST}
-use Rattle.port_rules.specs.Moves.{RoseOnce, Came, Hands, took, gave, counted}
-use Rattle.port_rules.specs.Whole.{Ends, FailsShort, FailsWithin}
-use Rattle.port_rules.proofs.Cells.{took-took}
-use Rattle.port_rules.proofs.Pieces.{gave_none}
+use Rattle.port_trait.specs.World.{World}
+use Rattle.port_trait.specs.Number.{GUEST}
+use Rattle.port_trait.specs.Moves.{RoseOnce, Came, Hands, took, gave, counted}
+use Rattle.port_trait.specs.Whole.{Ends, FailsShort, FailsWithin}
+use Rattle.port_trait.proofs.Cells.{took-took}
+use Rattle.port_trait.proofs.Pieces.{gave_none}
 use Rattle.wire_frames.specs.declared.sizes.TheConstants.{FRAME_HEADER_LEN}
 use Rattle.wire_frames.specs.declared.header.QueryHeader.{QueryHeader}
 use Rattle.wire_frames.specs.Header.{answer_to, blocks_in}

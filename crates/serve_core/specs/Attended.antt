@@ -1,9 +1,9 @@
 -- What a server does with the guest that is in.
 use Rattle.std.specs.Prelude.{◌≡◌, ◌⊎◌, ℕ, ◌<◌, ◌≤◌, List, [], length, take, IfSome}
-use Rattle.port_rules.specs.World.{World}
-use Rattle.port_rules.specs.Number.{GUEST}
-use Rattle.port_rules.specs.Guests.{Meets}
-use Rattle.port_rules.specs.Moves.{RoseOnce, Touches, took, gave, counted}
+use Rattle.port_trait.specs.World.{World}
+use Rattle.port_trait.specs.Number.{GUEST}
+use Rattle.port_trait.specs.Guests.{Meets}
+use Rattle.port_trait.specs.Moves.{RoseOnce, Touches, took, gave, counted}
 use Rattle.serve_core.specs.Service.{Service, terms_of}
 use Rattle.serve_core.specs.Case.{ReplyTakes}
 use Rattle.serve_core.specs.Reply.{Replies}

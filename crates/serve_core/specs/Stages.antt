@@ -1,9 +1,9 @@
 -- The steps of a reply: the header is judged, the payload is taken, the frame is given.
 use Rattle.std.specs.Prelude.{◌≡◌, ◌≢◌, ◌⊎◌, ℕ, Bool, true, false, List, length, Result, Ok, Err}
-use Rattle.port_rules.specs.World.{World}
-use Rattle.port_rules.specs.Number.{GUEST}
-use Rattle.port_rules.specs.Moves.{Hands, gave}
-use Rattle.port_rules.specs.Whole.{Ends, FailsShort, FailsWithin}
+use Rattle.port_trait.specs.World.{World}
+use Rattle.port_trait.specs.Number.{GUEST}
+use Rattle.port_trait.specs.Moves.{Hands, gave}
+use Rattle.port_trait.specs.Whole.{Ends, FailsShort, FailsWithin}
 use Rattle.wire_frames.specs.declared.header.QueryHeader.{QueryHeader}
 use Rattle.wire_frames.specs.Header.{answer_to, query_header}
 use Rattle.wire_frames.specs.Query.{IsQueryHeader}

@@ -1,8 +1,8 @@
 -- What is taken of the guest that is in, before its query is answered.
 use Rattle.std.specs.Prelude.{◌≡◌, ◌⊎◌, ℕ, ◌<◌, ◌≤◌, false, List, [], length, take, IfSome}
-use Rattle.port_rules.specs.World.{World}
-use Rattle.port_rules.specs.Number.{GUEST}
-use Rattle.port_rules.specs.Moves.{RoseOnce, took, gave, counted}
+use Rattle.port_trait.specs.World.{World}
+use Rattle.port_trait.specs.Number.{GUEST}
+use Rattle.port_trait.specs.Moves.{RoseOnce, took, gave, counted}
 use Rattle.wire_frames.specs.declared.sizes.TheConstants.{FRAME_HEADER_LEN}
 use Rattle.wire_frames.specs.declared.header.QueryHeader.{QueryHeader}
 use Rattle.wire_frames.specs.Header.{query_header}

@@ -1,7 +1,7 @@
 //! The answer to a query that was taken.
 ghost use Rattle.std.specs.Prelude.{◌≡◌, ◌*◌, ◌≤◌, ◌++◌, length, drop, take};
-ghost use Rattle.port_rules.specs.Number.{GUEST};
-ghost use Rattle.port_rules.specs.Moves.{Touches};
+ghost use Rattle.port_trait.specs.Number.{GUEST};
+ghost use Rattle.port_trait.specs.Moves.{Touches};
 ghost use Rattle.wire_frames.specs.declared.sizes.TheConstants.{FRAME_HEADER_LEN};
 ghost use Rattle.quantity_limits.specs.declared.TheConstants.{MOST_BLOCKS};
 ghost use Rattle.wire_frames.specs.Header.{answer_to, query_header};
@@ -23,7 +23,7 @@ use crate::give::give;
 use crate::met::Met;
 use crate::room::Room;
 use crate::service::Service;
-use port_rules::Ports;
+use port_trait::Ports;
 use server_answer::answers_into;
 use server_product::{Gate, products_into};
 use std::thread::Threads;

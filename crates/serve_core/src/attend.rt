@@ -1,6 +1,6 @@
 //! Attends to the guest that is in, with the room of a desk.
-ghost use Rattle.port_rules.specs.Number.{GUEST};
-ghost use Rattle.port_rules.specs.Moves.{Touches};
+ghost use Rattle.port_trait.specs.Number.{GUEST};
+ghost use Rattle.port_trait.specs.Moves.{Touches};
 ghost use Rattle.serve_core.specs.Attended.{Attends};
 ghost use Rattle.serve_core.specs.Room.{Fits};
 
@@ -10,7 +10,7 @@ use crate::room::Room;
 use crate::service::Service;
 use crate::take::take_query;
 use crate::taken::Taken;
-use port_rules::Ports;
+use port_trait::Ports;
 use server_product::Gate;
 use std::thread::Threads;
 

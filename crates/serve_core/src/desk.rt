@@ -1,7 +1,7 @@
 //! The desk at which guests are served: what is served, and room for a query and its answer.
 ghost use Rattle.std.specs.Prelude.{◌≡◌, ◌⊎◌, ◌≤◌, IfOk};
-ghost use Rattle.port_rules.specs.Number.{GUEST};
-ghost use Rattle.port_rules.specs.Moves.{Touches};
+ghost use Rattle.port_trait.specs.Number.{GUEST};
+ghost use Rattle.port_trait.specs.Moves.{Touches};
 ghost use Rattle.wire_frames.specs.declared.scheme.TheConstants.{SHAMIR, XOR};
 ghost use Rattle.quantity_limits.specs.declared.TheConstants.{MOST_WORKERS};
 ghost use Rattle.serve_core.specs.Attended.{Attends};
@@ -11,7 +11,7 @@ use crate::met::Met;
 use crate::room::Room;
 use crate::service::Service;
 use block_matrix::Matrix;
-use port_rules::Ports;
+use port_trait::Ports;
 use server_product::Gate;
 use std::alloc::{AllocError, Global};
 use std::marker::Model;

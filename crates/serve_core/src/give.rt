@@ -1,13 +1,13 @@
 //! Gives the guest a frame.
 ghost use Rattle.std.specs.Prelude.{◌<◌, length};
-ghost use Rattle.port_rules.specs.Number.{GUEST};
-ghost use Rattle.port_rules.specs.Moves.{Touches};
+ghost use Rattle.port_trait.specs.Number.{GUEST};
+ghost use Rattle.port_trait.specs.Moves.{Touches};
 ghost use Rattle.serve_core.specs.Stages.{Gives, GivesRefusal};
 
 use crate::met::Met;
 use crate::refusal::Refusal;
 use crate::taken::Taken;
-use port_rules::{Failed, Port, Ports, write_all};
+use port_trait::{Failed, Port, Ports, write_all};
 use wire_frames::{FRAME_HEADER_LEN, write_answer_header};
 
 /// Gives the guest a frame, and says that it is met so, or that a call on it failed.

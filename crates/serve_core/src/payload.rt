@@ -1,7 +1,7 @@
 //! Takes the payload of a query whose header suits.
 ghost use Rattle.std.specs.Prelude.{◌≡◌, ◌+◌, ◌*◌, ◌<◌, ◌≤◌, length};
-ghost use Rattle.port_rules.specs.Number.{GUEST};
-ghost use Rattle.port_rules.specs.Moves.{Touches};
+ghost use Rattle.port_trait.specs.Number.{GUEST};
+ghost use Rattle.port_trait.specs.Moves.{Touches};
 ghost use Rattle.quantity_limits.specs.declared.TheConstants.{MOST_BLOCKS};
 ghost use Rattle.wire_frames.specs.Turns.{piece};
 ghost use Rattle.wire_frames.specs.Scheme.{scheme_of};
@@ -15,7 +15,7 @@ use crate::refusal::Refusal;
 use crate::taken::Taken;
 use crate::terms::Terms;
 use chor_xor::has_unused_bits;
-use port_rules::{Filled, Port, Ports, read_exactly};
+use port_trait::{Filled, Port, Ports, read_exactly};
 use wire_frames::{FRAME_HEADER_LEN, QueryHeader, Scheme};
 
 /// The i-th vector of the payload of a query for so many blocks, counted from 0.

@@ -1,12 +1,12 @@
 //! Serves the guest that is in.
 ghost use Rattle.std.specs.Prelude.{◌≡◌};
-ghost use Rattle.port_rules.specs.Number.{GUEST};
-ghost use Rattle.port_rules.specs.Moves.{Touches};
+ghost use Rattle.port_trait.specs.Number.{GUEST};
+ghost use Rattle.port_trait.specs.Moves.{Touches};
 ghost use Rattle.serve_core.specs.Attended.{Attends};
 
 use crate::desk::Desk;
 use crate::met::Met;
-use port_rules::Ports;
+use port_trait::Ports;
 use server_product::Gate;
 use std::thread::Threads;
 

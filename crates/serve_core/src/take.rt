@@ -1,7 +1,7 @@
 //! Takes the query of the guest that is in.
 ghost use Rattle.std.specs.Prelude.{◌≤◌, length};
-ghost use Rattle.port_rules.specs.Number.{GUEST};
-ghost use Rattle.port_rules.specs.Moves.{Touches};
+ghost use Rattle.port_trait.specs.Number.{GUEST};
+ghost use Rattle.port_trait.specs.Moves.{Touches};
 ghost use Rattle.serve_core.specs.Terms.{most_payload_for, terms_for};
 ghost use Rattle.serve_core.specs.Taking.{Takes};
 
@@ -10,7 +10,7 @@ use crate::header::judge_header;
 use crate::payload::take_payload;
 use crate::taken::Taken;
 use crate::terms::Terms;
-use port_rules::{Filled, Port, Ports, read_exactly};
+use port_trait::{Filled, Port, Ports, read_exactly};
 use wire_frames::FRAME_HEADER_LEN;
 
 /// Takes the query of the guest that is in, on these terms.

@@ -1,12 +1,12 @@
 -- The steps of a front, put together.
 use Rattle.std.proofs.Common.{◌≡◌, ◌∙◌, inl, inr, ℕ, ◌+◌, ◌*◌, ◌<◌, ◌≤◌, List, [], ◌++◌, length, take, get_or, refl, sym, ap, subst, arith}
-use Rattle.port_rules.specs.declared.port.TheConstants.{PORT_COUNT}
-use Rattle.port_rules.specs.World.{Cell, World}
-use Rattle.port_rules.specs.Number.{GUEST, link}
-use Rattle.port_rules.specs.Moves.{RoseOnce, Touches, took, gave, counted}
-use Rattle.port_rules.specs.Whole.{FailsWithin}
-use Rattle.port_rules.specs.Each.{TouchesRange}
-use Rattle.port_rules.proofs.Ranges.{each_after, each_before}
+use Rattle.port_trait.specs.declared.port.TheConstants.{PORT_COUNT}
+use Rattle.port_trait.specs.World.{Cell, World}
+use Rattle.port_trait.specs.Number.{GUEST, link}
+use Rattle.port_trait.specs.Moves.{RoseOnce, Touches, took, gave, counted}
+use Rattle.port_trait.specs.Whole.{FailsWithin}
+use Rattle.port_trait.specs.Each.{TouchesRange}
+use Rattle.port_trait.proofs.Ranges.{each_after, each_before}
 use Rattle.wire_frames.specs.declared.header.QueryHeader.{QueryHeader}
 use Rattle.wire_frames.specs.Header.{answer_header}
 use Rattle.serve_core.specs.Terms.{query_len_for}

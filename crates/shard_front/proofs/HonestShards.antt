@@ -2,9 +2,9 @@
 use Rattle.std.proofs.Common.{◌≡◌, ◌∙◌, ℕ, ◌+◌, ◌*◌, ◌<◌, List, [], ◌++◌, length, get_or, refl, sym, ap, subst}
 use Rattle.std.specs.Prelude.{Bool, true, false, Option, Some, None}
 use Rattle.gf256.specs.Product.{IsMatrix, product}
-use Rattle.port_rules.specs.World.{World}
-use Rattle.port_rules.specs.Number.{link}
-use Rattle.port_rules.proofs.Rises.{once_rose}
+use Rattle.port_trait.specs.World.{World}
+use Rattle.port_trait.specs.Number.{link}
+use Rattle.port_trait.proofs.Rises.{once_rose}
 use Rattle.wire_frames.specs.declared.header.QueryHeader.{QueryHeader}
 use Rattle.wire_frames.specs.declared.scheme.TheConstants.{SHAMIR}
 use Rattle.wire_frames.specs.Header.{answer_header}

@@ -3,9 +3,9 @@ use Rattle.std.proofs.Common.{◌≡◌, ◌∙◌, inl, inr, ℕ, ◌≤◌, Li
 use Rattle.std.specs.Prelude.{Option, Some, None, IfSome}
 use Rattle.std.proofs.lemmas.List.{length-take-le, take_all}
 use Rattle.std.proofs.lemmas.Option.{IfSome_then}
-use Rattle.port_rules.specs.World.{Cell, World}
-use Rattle.port_rules.specs.Moves.{Came, Hands, RoseOnce, took, gave, named, counted}
-use Rattle.port_rules.specs.Whole.{Ends, FailsShort, FailsWithin}
+use Rattle.port_trait.specs.World.{Cell, World}
+use Rattle.port_trait.specs.Moves.{Came, Hands, RoseOnce, took, gave, named, counted}
+use Rattle.port_trait.specs.Whole.{Ends, FailsShort, FailsWithin}
 use Rattle.shard_front.specs.Link.{LinkAnswers, LinkBreaks}
 
 -- the link was opened and took the whole frame, and then a call failed

@@ -1,8 +1,8 @@
 -- Asking one shard.
 use Rattle.std.proofs.Common.{◌≡◌, ◌∙◌, inl, inr, ℕ, ◌+◌, List, sym, ap, subst, arith}
 use Rattle.std.specs.Prelude.{Bool, true, false, Option, Some, None}
-use Rattle.port_rules.specs.World.{World}
-use Rattle.port_rules.specs.Number.{link}
+use Rattle.port_trait.specs.World.{World}
+use Rattle.port_trait.specs.Number.{link}
 use Rattle.wire_frames.specs.declared.header.QueryHeader.{QueryHeader}
 use Rattle.wire_frames.specs.Answer.{usable}
 use Rattle.shard_front.specs.Parts.{Part, part_answer_len, part_frame, part_header}

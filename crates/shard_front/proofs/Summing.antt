@@ -5,12 +5,12 @@ use Rattle.std.proofs.Math.Seq.{get_or-append_seam}
 use Rattle.std.proofs.lemmas.List.FromFn.{length-map-range_with_len, get_or-map-range_with_len}
 use Rattle.gf256.specs.Field.{◌⊕◌}
 use Rattle.gf256.specs.Sums.{sum_to}
-use Rattle.port_rules.specs.declared.port.TheConstants.{PORT_COUNT}
-use Rattle.port_rules.specs.World.{Cell, World}
-use Rattle.port_rules.specs.Number.{link}
-use Rattle.port_rules.specs.Moves.{Touches}
-use Rattle.port_rules.specs.Each.{Each}
-use Rattle.port_rules.proofs.Ranges.{each_as, each_more, each_none, range_more, range_none, range_still}
+use Rattle.port_trait.specs.declared.port.TheConstants.{PORT_COUNT}
+use Rattle.port_trait.specs.World.{Cell, World}
+use Rattle.port_trait.specs.Number.{link}
+use Rattle.port_trait.specs.Moves.{Touches}
+use Rattle.port_trait.specs.Each.{Each}
+use Rattle.port_trait.proofs.Ranges.{each_as, each_more, each_none, range_more, range_none, range_still}
 use Rattle.chor_xor.specs.Chosen.{combined, combined_at}
 use Rattle.chor_xor.proofs.ChosenSums.{combined_at-push}
 use Rattle.shard_front.specs.Spread.{shards}

@@ -5,10 +5,10 @@ use Rattle.std.proofs.lemmas.Bool.{cases_lt}
 use Rattle.std.proofs.lemmas.Bool.Decides.{eqb_tells}
 use Rattle.std.specs.Prelude.{◌⊎◌, Option, Some, None}
 use Rattle.std.specs.Option.{option_map}
-use Rattle.port_rules.specs.World.{Cell, World}
-use Rattle.port_rules.specs.Number.{GUEST, link}
-use Rattle.port_rules.specs.Moves.{Touches}
-use Rattle.port_rules.proofs.Cells.{at_told}
+use Rattle.port_trait.specs.World.{Cell, World}
+use Rattle.port_trait.specs.Number.{GUEST, link}
+use Rattle.port_trait.specs.Moves.{Touches}
+use Rattle.port_trait.proofs.Cells.{at_told}
 use Rattle.wire_frames.specs.declared.header.QueryHeader.{QueryHeader}
 use Rattle.wire_frames.specs.Answer.{usable}
 use Rattle.serve_core.specs.Taking.{BreaksTaking, Dismisses, IsBrokenTaking, IsDismissal, IsGood, IsQueryOf}

@@ -1,8 +1,8 @@
 -- What the shards make of a query, in their order.
 use Rattle.std.specs.Prelude.{ℕ, ◌≡◌, ◌+◌, ◌*◌, ◌<◌, List, [], ◌∷◌, ◌++◌, length, Option, Some, None, slice_index, slice_index_or}
-use Rattle.port_rules.specs.World.{World}
-use Rattle.port_rules.specs.Number.{link}
-use Rattle.port_rules.specs.Each.{Each, TouchesRange}
+use Rattle.port_trait.specs.World.{World}
+use Rattle.port_trait.specs.Number.{link}
+use Rattle.port_trait.specs.Each.{Each, TouchesRange}
 use Rattle.chor_xor.specs.Chosen.{combined, combined_at}
 use Rattle.wire_frames.specs.declared.header.QueryHeader.{QueryHeader}
 use Rattle.wire_frames.specs.Header.{answer_header}

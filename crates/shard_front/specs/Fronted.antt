@@ -1,9 +1,9 @@
 -- What a front does with the guest that is in.
 use Rattle.std.specs.Prelude.{◌≡◌, ◌⊎◌, ℕ, ◌<◌, List, [], ◌∷◌, length, take, IfSome}
-use Rattle.port_rules.specs.World.{World}
-use Rattle.port_rules.specs.Number.{GUEST, link}
-use Rattle.port_rules.specs.Moves.{RoseOnce, Touches, took, gave, counted}
-use Rattle.port_rules.specs.Touched.{One, From, TouchesOnly}
+use Rattle.port_trait.specs.World.{World}
+use Rattle.port_trait.specs.Number.{GUEST, link}
+use Rattle.port_trait.specs.Moves.{RoseOnce, Touches, took, gave, counted}
+use Rattle.port_trait.specs.Touched.{One, From, TouchesOnly}
 use Rattle.wire_frames.specs.declared.header.QueryHeader.{QueryHeader}
 use Rattle.serve_core.specs.Terms.{query_len_for}
 use Rattle.serve_core.specs.Taking.{BreaksTaking, Dismisses, IsGood, IsQueryOf}

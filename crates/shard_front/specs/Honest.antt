@@ -1,9 +1,9 @@
 -- Honest shards: where each link gives what a server of its rows replies, the guest gets what one server of all replies.
 use Rattle.std.specs.Prelude.{ℕ, ◌≡◌, ◌+◌, ◌<◌, List, ◌++◌, length, take, drop, Some}
 use Rattle.gf256.specs.Product.{IsMatrix}
-use Rattle.port_rules.specs.World.{World}
-use Rattle.port_rules.specs.Number.{GUEST, link}
-use Rattle.port_rules.specs.Moves.{Rose}
+use Rattle.port_trait.specs.World.{World}
+use Rattle.port_trait.specs.Number.{GUEST, link}
+use Rattle.port_trait.specs.Moves.{Rose}
 use Rattle.wire_frames.specs.declared.header.QueryHeader.{QueryHeader}
 use Rattle.wire_frames.specs.declared.scheme.TheConstants.{SHAMIR}
 use Rattle.serve_core.specs.Service.{Service}

@@ -1,8 +1,8 @@
 -- What a front makes of the bytes of a guest, by what the links to the shards hold, and which of them fail.
 use Rattle.std.specs.Prelude.{ℕ, ◌≡◌, ◌⊎◌, ◌+◌, ◌*◌, ◌<◌, List, [], ◌++◌, length, take, Bool, true, false, Option, Some, None, slice_index_or}
-use Rattle.port_rules.specs.World.{World}
-use Rattle.port_rules.specs.Number.{GUEST, link}
-use Rattle.port_rules.specs.Moves.{RoseOnce}
+use Rattle.port_trait.specs.World.{World}
+use Rattle.port_trait.specs.Number.{GUEST, link}
+use Rattle.port_trait.specs.Moves.{RoseOnce}
 use Rattle.chor_xor.specs.Chosen.{combined}
 use Rattle.wire_frames.specs.declared.header.QueryHeader.{QueryHeader}
 use Rattle.wire_frames.specs.Answer.{usable}

@@ -1,7 +1,7 @@
 -- What one shard makes of its part of a query.
 use Rattle.std.specs.Prelude.{ℕ, ◌≡◌, ◌⊎◌, List, Bool, true, false, Some, None, slice_index}
 use Rattle.gf256.specs.Field.{◌⊕◌}
-use Rattle.port_rules.specs.World.{Cell}
+use Rattle.port_trait.specs.World.{Cell}
 use Rattle.wire_frames.specs.declared.header.QueryHeader.{QueryHeader}
 use Rattle.wire_frames.specs.Answer.{usable}
 use Rattle.shard_front.specs.Parts.{Part, part_answer_len, part_frame, part_header}

@@ -1,10 +1,10 @@
 -- The steps of a front: the shards are asked, the frame is given.
 use Rattle.std.specs.Prelude.{◌≡◌, ◌⊎◌, ℕ, List}
-use Rattle.port_rules.specs.World.{World}
-use Rattle.port_rules.specs.Number.{GUEST, link}
-use Rattle.port_rules.specs.Moves.{Touches, gave}
-use Rattle.port_rules.specs.Each.{TouchesRange}
-use Rattle.port_rules.specs.Whole.{FailsWithin}
+use Rattle.port_trait.specs.World.{World}
+use Rattle.port_trait.specs.Number.{GUEST, link}
+use Rattle.port_trait.specs.Moves.{Touches, gave}
+use Rattle.port_trait.specs.Each.{TouchesRange}
+use Rattle.port_trait.specs.Whole.{FailsWithin}
 use Rattle.shard_front.specs.declared.relayed.Relayed.{Relayed}
 use Rattle.shard_front.specs.declared.relayed.Relayed.TheVariants.{GuestFault}
 use Rattle.shard_front.specs.RelayedQuery.{RelayedQuery}

@@ -9,7 +9,7 @@ use crate::relayed::Relayed;
 use crate::room::Room;
 use crate::serve::serve_within;
 use crate::spread::Spread;
-use port_rules::Ports;
+use port_trait::Ports;
 use std::alloc::{AllocError, Global};
 use std::marker::Model;
 

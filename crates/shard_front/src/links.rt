@@ -1,11 +1,11 @@
 //! The link to one shard.
 ghost use Rattle.std.specs.Prelude.{◌<◌, ◌≤◌, length, take, IfSome};
 ghost use Rattle.std.specs.Option.{option_map};
-ghost use Rattle.port_rules.specs.Number.{link};
-ghost use Rattle.port_rules.specs.Moves.{Touches};
+ghost use Rattle.port_trait.specs.Number.{link};
+ghost use Rattle.port_trait.specs.Moves.{Touches};
 ghost use Rattle.shard_front.specs.Link.{LinkAsked};
 
-use port_rules::{Filled, Port, Ports, read_exactly, write_all};
+use port_trait::{Filled, Port, Ports, read_exactly, write_all};
 
 /// Asks over one link: opens it, sends it the frame, and fills `answer` with what comes, up to its end. It says
 /// how many bytes came, and `None` where a call on the link failed.

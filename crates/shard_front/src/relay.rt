@@ -7,7 +7,7 @@ use crate::query::RelayedQuery;
 use crate::room::ShardRoom;
 use crate::shard::add_shard;
 use gf256::rows::clear;
-use port_rules::Ports;
+use port_trait::Ports;
 
 /// Asks each shard for its part of a query, in their order, and sums the payloads of their answers. It
 /// stops at the first that is lost, and says its number.

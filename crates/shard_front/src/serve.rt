@@ -1,7 +1,7 @@
 //! Serves the guest that is in, by asking the shards.
 ghost use Rattle.std.specs.Prelude.{◌≡◌, ◌<◌, length, map, string_bytes};
-ghost use Rattle.port_rules.specs.Number.{GUEST};
-ghost use Rattle.port_rules.specs.Moves.{Touches};
+ghost use Rattle.port_trait.specs.Number.{GUEST};
+ghost use Rattle.port_trait.specs.Moves.{Touches};
 ghost use Rattle.wire_frames.specs.Header.{answer_header};
 ghost use Rattle.wire_frames.specs.Limits.{IsQuery};
 ghost use Rattle.serve_core.specs.Taking.{IsGood};
@@ -22,7 +22,7 @@ use crate::relay::ask_shards;
 use crate::relayed::Relayed;
 use crate::room::{Room, ShardRoom};
 use crate::spread::Spread;
-use port_rules::{Failed, Port, Ports, write_all};
+use port_trait::{Failed, Port, Ports, write_all};
 use serve_core::{Taken, take_query};
 use wire_frames::{
     FRAME_HEADER_LEN, QueryHeader, SHAMIR, answer_len, write_answer_header, write_query_header,

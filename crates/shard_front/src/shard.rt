@@ -1,7 +1,7 @@
 //! Asks one shard, and adds its answer to the sum.
 ghost use Rattle.std.specs.Prelude.{◌≡◌, ◌+◌, ◌*◌, ◌<◌, length};
-ghost use Rattle.port_rules.specs.Number.{link};
-ghost use Rattle.port_rules.specs.Moves.{Touches};
+ghost use Rattle.port_trait.specs.Number.{link};
+ghost use Rattle.port_trait.specs.Moves.{Touches};
 ghost use Rattle.shard_front.specs.Spread.{shards};
 ghost use Rattle.shard_front.specs.Parts.{part_at};
 ghost use Rattle.shard_front.specs.Room.{FitsShard, most_answer_for, most_part_for};
@@ -11,7 +11,7 @@ use crate::links::ask;
 use crate::query::RelayedQuery;
 use crate::room::ShardRoom;
 use chor_xor::combine_into;
-use port_rules::Ports;
+use port_trait::Ports;
 use wire_frames::{QueryHeader, Scheme, answer_len, query_len, usable_answer};
 
 /// Adds the payload to the sum, where the bytes are a usable answer to the query with this header, and says

@@ -1,10 +1,10 @@
 -- What a splitting did, carried over what was done to Database before it.
 use Rattle.std.proofs.Common.{◌≡◌, inl, ℕ, ◌+◌, ◌*◌, ◌<◌, List, [], length, slice_index_or, lit<, subst, ◌∙◌, arith}
-use Rattle.port_rules.specs.World.{Cell, World}
-use Rattle.port_rules.specs.Number.{COINS, DATABASE, share_file}
-use Rattle.port_rules.specs.Moves.{Touches, named}
-use Rattle.port_rules.specs.Tossed.{Tossed}
-use Rattle.port_rules.proofs.Ranges.{each_before}
+use Rattle.port_trait.specs.World.{Cell, World}
+use Rattle.port_trait.specs.Number.{COINS, DATABASE, share_file}
+use Rattle.port_trait.specs.Moves.{Touches, named}
+use Rattle.port_trait.specs.Tossed.{Tossed}
+use Rattle.port_trait.proofs.Ranges.{each_before}
 use Rattle.share_files.specs.Sharing.{share_of}
 use Rattle.share_files.specs.SplitPlan.{SplitPlan, share_names}
 use Rattle.share_files.specs.Splits.{IsShared, SharesEach, SplitsWhole, SplitsPart, Tosses, sharing_by}

@@ -6,7 +6,7 @@ use Rattle.std.specs.List.{concat}
 use Rattle.std.proofs.Math.Nat.{div-mul-le_self, mul-le-mul_right, lt_of_mul-lt-mul_right}
 use Rattle.std.proofs.lemmas.Nat.{le-div}
 use Rattle.std.proofs.lemmas.Grind.{div_ceil_times}
-use Rattle.port_rules.specs.World.{Cell}
+use Rattle.port_trait.specs.World.{Cell}
 use Rattle.quantity_limits.specs.declared.TheConstants.{MOST_ROWS, MOST_CELLS}
 use Rattle.block_matrix.specs.Database.{Database, database, filled_up, limit}
 use Rattle.block_matrix.specs.Loading.{Holds, HoldsMore, asked_for}

@@ -2,11 +2,11 @@
 use Rattle.std.proofs.Common.{◌≡◌, ◌∙◌, ℕ, ◌+◌, ◌*◌, ◌≤◌, List, ◌++◌, length, take, drop, sym, ap, subst}
 use Rattle.std.specs.List.{slice_range}
 use Rattle.std.proofs.lemmas.List.{take-append-drop}
-use Rattle.port_rules.specs.World.{World}
-use Rattle.port_rules.specs.Moves.{gave}
-use Rattle.port_rules.specs.Whole.{FailsWithin}
-use Rattle.port_rules.proofs.Cells.{gave-gave, fails_first, fails_next}
-use Rattle.port_rules.proofs.Pieces.{gave_none}
+use Rattle.port_trait.specs.World.{World}
+use Rattle.port_trait.specs.Moves.{gave}
+use Rattle.port_trait.specs.Whole.{FailsWithin}
+use Rattle.port_trait.proofs.Cells.{gave-gave, fails_first, fails_next}
+use Rattle.port_trait.proofs.Pieces.{gave_none}
 use Rattle.share_bytes.specs.Share.{share}
 use Rattle.share_bytes.proofs.Shares.{first_shares, first_shares_are, share_is, shares_none, shares_more}
 

@@ -2,13 +2,13 @@
 use Rattle.std.proofs.Common.{◌≡◌, ◌∙◌, inl, inr, ℕ, ◌+◌, ◌*◌, ◌<◌, ◌≤◌, List, [], length, take, slice_index_or, sym, ap, subst, arith}
 use Rattle.std.proofs.lemmas.List.FromFn.{length-map-range_with_len}
 use Rattle.quantity_limits.specs.declared.TheConstants.{MOST_SERVERS}
-use Rattle.port_rules.specs.World.{Cell, World}
-use Rattle.port_rules.specs.Number.{COINS, share_file}
-use Rattle.port_rules.specs.Moves.{RoseOnce, Touches, gave, named, counted}
-use Rattle.port_rules.specs.Each.{TouchesRange}
-use Rattle.port_rules.specs.Files.{Unwritten}
-use Rattle.port_rules.specs.Tossed.{Tossed}
-use Rattle.port_rules.proofs.Ranges.{each_after, each_before, each_more, range_more}
+use Rattle.port_trait.specs.World.{Cell, World}
+use Rattle.port_trait.specs.Number.{COINS, share_file}
+use Rattle.port_trait.specs.Moves.{RoseOnce, Touches, gave, named, counted}
+use Rattle.port_trait.specs.Each.{TouchesRange}
+use Rattle.port_trait.specs.Files.{Unwritten}
+use Rattle.port_trait.specs.Tossed.{Tossed}
+use Rattle.port_trait.proofs.Ranges.{each_after, each_before, each_more, range_more}
 use Rattle.share_files.specs.SplitPlan.{SplitPlan, share_name, share_names}
 use Rattle.share_files.specs.Sharing.{Sharing, share_of}
 use Rattle.share_files.specs.Splits.{IsShared, SharesEach, SharesSome, SplitsWhole, SplitsPart, Tosses, sharing_by}

@@ -1,9 +1,9 @@
 -- How large a database in shares may be.
 use Rattle.std.specs.Prelude.{◌≡◌, ℕ, ◌*◌, ◌/◌, ◌<◌, ◌≤◌, min, length, IfSome, Result, Ok, Err}
-use Rattle.port_rules.specs.World.{Cell, World}
-use Rattle.port_rules.specs.Number.{DATABASE}
-use Rattle.port_rules.specs.Moves.{took}
-use Rattle.port_rules.specs.Whole.{FailsShort}
+use Rattle.port_trait.specs.World.{Cell, World}
+use Rattle.port_trait.specs.Number.{DATABASE}
+use Rattle.port_trait.specs.Moves.{took}
+use Rattle.port_trait.specs.Whole.{FailsShort}
 use Rattle.quantity_limits.specs.declared.TheConstants.{MOST_ROWS, MOST_CELLS}
 use Rattle.block_matrix.specs.Database.{Database}
 use Rattle.block_matrix.specs.Loading.{Holds, HoldsNone, Stopped, asked_for}

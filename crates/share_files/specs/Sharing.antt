@@ -1,11 +1,11 @@
 -- What is shared, and what is done with the share of one server.
 use Rattle.std.specs.Prelude.{◌≡◌, ℕ, ◌*◌, ◌<◌, ◌≤◌, List, length}
 use Rattle.quantity_limits.specs.declared.TheConstants.{MOST_DEGREE}
-use Rattle.port_rules.specs.World.{World}
-use Rattle.port_rules.specs.Number.{share_file}
-use Rattle.port_rules.specs.Moves.{gave, named}
-use Rattle.port_rules.specs.Whole.{FailsWithin}
-use Rattle.port_rules.specs.Files.{Unwritten}
+use Rattle.port_trait.specs.World.{World}
+use Rattle.port_trait.specs.Number.{share_file}
+use Rattle.port_trait.specs.Moves.{gave, named}
+use Rattle.port_trait.specs.Whole.{FailsWithin}
+use Rattle.port_trait.specs.Files.{Unwritten}
 use Rattle.share_bytes.specs.Share.{share}
 
 -- the bytes that are shared, the coins for them, and how many there are for each byte: the degree of its polynomial

@@ -1,13 +1,13 @@
 -- What splitting a database into shares does.
 use Rattle.std.specs.Prelude.{◌≡◌, ℕ, ◌+◌, ◌*◌, ◌<◌, List, [], ◌∷◌, length, slice_index_or, Result, Ok, Err}
-use Rattle.port_rules.specs.World.{Cell, World}
-use Rattle.port_rules.specs.Number.{COINS, share_file}
-use Rattle.port_rules.specs.Moves.{Touches, gave, named}
-use Rattle.port_rules.specs.Each.{Each, TouchesRange}
-use Rattle.port_rules.specs.Touched.{One, From, TouchesOnly}
-use Rattle.port_rules.specs.Files.{Unread, Unwritten}
-use Rattle.port_rules.specs.Tossed.{Tossed, RunsOut}
-use Rattle.port_rules.specs.declared.port.Failed.{Failed}
+use Rattle.port_trait.specs.World.{Cell, World}
+use Rattle.port_trait.specs.Number.{COINS, share_file}
+use Rattle.port_trait.specs.Moves.{Touches, gave, named}
+use Rattle.port_trait.specs.Each.{Each, TouchesRange}
+use Rattle.port_trait.specs.Touched.{One, From, TouchesOnly}
+use Rattle.port_trait.specs.Files.{Unread, Unwritten}
+use Rattle.port_trait.specs.Tossed.{Tossed, RunsOut}
+use Rattle.port_trait.specs.declared.port.Failed.{Failed}
 use Rattle.share_files.specs.Sharing.{Sharing, share_of}
 use Rattle.share_files.specs.SplitPlan.{SplitPlan, share_names}
 use Rattle.share_files.specs.declared.fault.SplitFault.{SplitFault}

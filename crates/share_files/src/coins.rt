@@ -1,12 +1,12 @@
 //! The random bytes.
 
 ghost use Rattle.std.specs.Prelude.{◌<◌, length};
-ghost use Rattle.port_rules.specs.Number.{COINS};
-ghost use Rattle.port_rules.specs.Moves.{Touches};
+ghost use Rattle.port_trait.specs.Number.{COINS};
+ghost use Rattle.port_trait.specs.Moves.{Touches};
 ghost use Rattle.share_files.specs.Splits.{TakesCoins};
 
 use crate::fault::SplitFault;
-use port_rules::{Filled, Port, Ports, read_exactly};
+use port_trait::{Filled, Port, Ports, read_exactly};
 
 /// Opens Coins by this name, and fills `coins` from it.
 ///

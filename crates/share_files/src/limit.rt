@@ -1,13 +1,13 @@
 //! How large a database in shares may be.
 
 ghost use Rattle.std.specs.Prelude.{◌≡◌, ◌≤◌};
-ghost use Rattle.port_rules.specs.Number.{DATABASE};
-ghost use Rattle.port_rules.specs.Moves.{Touches};
+ghost use Rattle.port_trait.specs.Number.{DATABASE};
+ghost use Rattle.port_trait.specs.Moves.{Touches};
 ghost use Rattle.quantity_limits.specs.declared.TheConstants.{MOST_CELLS, MOST_WIDTH};
 ghost use Rattle.share_files.specs.Limit.{LoadsFew, shared_limit};
 
 use block_matrix::{LoadFault, Matrix, load};
-use port_rules::Ports;
+use port_trait::Ports;
 use quantity_limits::{MOST_CELLS, MOST_ROWS};
 use std::alloc::Global;
 

@@ -2,8 +2,8 @@
 
 ghost use Rattle.std.specs.Prelude.{◌≡◌, ◌≢◌, ◌*◌, ◌<◌, ◌≤◌, length, map, string_bytes, OnOk, OnErr};
 ghost use Rattle.std.specs.List.{concat};
-ghost use Rattle.port_rules.specs.Number.{share_file};
-ghost use Rattle.port_rules.specs.Moves.{Touches};
+ghost use Rattle.port_trait.specs.Number.{share_file};
+ghost use Rattle.port_trait.specs.Moves.{Touches};
 ghost use Rattle.quantity_limits.specs.declared.TheConstants.{MOST_SERVERS};
 ghost use Rattle.share_files.specs.SplitPlan.{share_names};
 ghost use Rattle.share_files.specs.Sharing.{CutsShare, GivesShare, LeavesShare, WritesShare};
@@ -15,7 +15,7 @@ use crate::names::names_of_shares;
 use crate::plan::SplitPlan;
 use crate::sharing::Sharing;
 use block_matrix::Matrix;
-use port_rules::{Failed, Port, Ports, write_all};
+use port_trait::{Failed, Port, Ports, write_all};
 use share_bytes::share_into;
 use std::alloc::Global;
 

@@ -14,7 +14,7 @@ use Rattle.wire_frames.specs.Layout.{IsHeader, IsRecordHeader, record_header}
 use Rattle.wire_frames.specs.Limits.{IsInRange}
 use Rattle.wire_frames.specs.Session.{Transcript, IsSession, Fits, header_bytes, record_bytes, records_bytes, session_bytes}
 use Rattle.wire_frames.proofs.Digits.{IsByte}
-use Rattle.wire_frames.proofs.Prefixes.{All-behind, starts-front}
+use Rattle.wire_frames.proofs.Prefixes.{All-behind, starts-prefix}
 use Rattle.wire_frames.proofs.Parsing.{same_parts, same_params, same_digits, differ, len_of, bytes_of, record-parts, length-header, length-record_header, rest_of, records_bytes-append}
 
 -- the records of a session so far
@@ -78,11 +78,11 @@ records_begin p done range fits few =
       whole = session_of p done absent range fits (All-replicate (Fits (answer_len p.count p.s)) (p.n - length done) None tt) (omega (arith, length-replicate {A = Option (List ℕ)} (p.n - length done) None));
     }
 
--- a front of bytes that begin with others, and are no more, is a front of these
-front_of : (front rest whole more : List ℕ) → length front ≤ length whole → front ++ rest ≡ whole ++ more → front ++ drop (length front) whole ≡ whole
-front_of front rest whole more short e =
-    let same : front ≡ take (length front) whole = sym (take-append_seam front rest) ∙ ap (take (length front)) e ∙ take-append-le (length front) whole more short in
-    ap (λ (l : List ℕ). l ++ drop (length front) whole) same ∙ take-append-drop (length front) whole
+-- a prefix of bytes that begin with others, and are no more, is a prefix of these
+prefix_of : (prefix rest whole more : List ℕ) → length prefix ≤ length whole → prefix ++ rest ≡ whole ++ more → prefix ++ drop (length prefix) whole ≡ whole
+prefix_of prefix rest whole more short e =
+    let same : prefix ≡ take (length prefix) whole = sym (take-append_seam prefix rest) ∙ ap (take (length prefix)) e ∙ take-append-le (length prefix) whole more short in
+    ap (λ (l : List ℕ). l ++ drop (length prefix) whole) same ∙ take-append-drop (length prefix) whole
 
 -- THE HEADER. What begins a header begins a session, and as long as it is no more than a header nothing else does.
 pub header_begins : (head : List ℕ) → Starts IsHeader head → Starts IsSession head
@@ -90,13 +90,13 @@ header_begins head s =
     let range = s.whole.range in
     let whole = records_begin s.value [] range (All-nil (Fits (answer_len s.value.count s.value.s))) (omega arith) in
     let split : session_bytes (so_far s.value []) ≡ head ++ s.rest = append-nil (header_bytes s.value) ∙ sym s.whole.spelled in
-    starts-front IsSession head s.rest (subst (Starts IsSession) split whole)
+    starts-prefix IsSession head s.rest (subst (Starts IsSession) split whole)
 
 pub header_part : (head : List ℕ) → length head ≤ SESSION_HEADER_LEN → Starts IsSession head → Starts IsHeader head
 header_part head short s = record {
   rest = drop (length head) (header_bytes s.value.params);
   value = s.value.params;
-  whole = record { range = s.whole.range; spelled = front_of head s.rest (header_bytes s.value.params) (records_bytes 1 s.value.records) short s.whole.spelled };
+  whole = record { range = s.whole.range; spelled = prefix_of head s.rest (header_bytes s.value.params) (records_bytes 1 s.value.records) short s.whole.spelled };
 }
 
 -- a record of which the header is known
@@ -130,7 +130,7 @@ record_begins p done head range fits few s =
     record-parts (1 + length done) x ∙ ap (λ (l : List ℕ). l ++ bytes_of x) header ∙ append_assoc head s.rest (bytes_of x) in
     let split : session_bytes (so_far p done) ++ record_bytes (1 + length done) x ≡ (session_bytes (so_far p done) ++ head) ++ (s.rest ++ bytes_of x) =
     ap (λ (l : List ℕ). session_bytes (so_far p done) ++ l) bytes ∙ sym (append_assoc (session_bytes (so_far p done)) head (s.rest ++ bytes_of x)) in
-    starts-front IsSession (session_bytes (so_far p done) ++ head) (s.rest ++ bytes_of x) (subst (Starts IsSession) split whole)
+    starts-prefix IsSession (session_bytes (so_far p done) ++ head) (s.rest ++ bytes_of x) (subst (Starts IsSession) split whole)
 
 -- what stands behind records begins a record
 pub record NextIs (p : SessionParams) (done : List (Option (List ℕ))) (tail : List ℕ) : Type 0 where
@@ -174,7 +174,7 @@ record_part p done head range fits few short s =
       value = len_of next.next;
       whole = record {
         short = short_of (answer_len p.count p.s) next.next next.fits;
-        spelled = front_of head s.rest header (bytes_of next.next ++ next.more) (omega (arith, length-record_header i (len_of next.next))) next.spelled;
+        spelled = prefix_of head s.rest header (bytes_of next.next ++ next.more) (omega (arith, length-record_header i (len_of next.next))) next.spelled;
       };
     }
 
@@ -189,9 +189,9 @@ bytes_begin p done bytes left range fits few all short =
     let whole = push_begins p done (Some (bytes ++ zeros)) range fits few (omega (arith, long), All-append IsByte bytes zeros all (All-replicate IsByte left 0 (omega arith))) in
     let spelled : record_bytes i (Some (bytes ++ zeros)) ≡ (record_header i (Some (length bytes + left)) ++ bytes) ++ zeros =
     ap (λ (n : ℕ). record_header i (Some n) ++ (bytes ++ zeros)) long ∙ sym (append_assoc (record_header i (Some (length bytes + left))) bytes zeros) in
-    let front = session_bytes (so_far p done) in
-    let split = ap (λ (l : List ℕ). front ++ l) spelled ∙ sym (append_assoc front (record_header i (Some (length bytes + left)) ++ bytes) zeros) in
-    starts-front IsSession (front ++ (record_header i (Some (length bytes + left)) ++ bytes)) zeros (subst (Starts IsSession) split whole)
+    let prefix = session_bytes (so_far p done) in
+    let split = ap (λ (l : List ℕ). prefix ++ l) spelled ∙ sym (append_assoc prefix (record_header i (Some (length bytes + left)) ++ bytes) zeros) in
+    starts-prefix IsSession (prefix ++ (record_header i (Some (length bytes + left)) ++ bytes)) zeros (subst (Starts IsSession) split whole)
 
 -- THE END. After the last record there is nothing.
 pub nothing_behind : (p : SessionParams) (done : List (Option (List ℕ))) (b : ℕ) (more : List ℕ) → IsInRange p → AllFit p done → length done ≡ p.n

@@ -9,22 +9,22 @@ use Rattle.wire_frames.specs.Field.{IsField, IsNumber}
 use Rattle.wire_frames.specs.Form.{Starts, StopsWithin, Reads}
 use Rattle.wire_frames.proofs.Digits.{number, number-digits}
 use Rattle.wire_frames.proofs.NumberPrefixes.{length_number}
-use Rattle.wire_frames.proofs.Prefixes.{starts-front, starts-whole, stops-at}
+use Rattle.wire_frames.proofs.Prefixes.{starts-prefix, starts-whole, stops-at}
 use Rattle.std.proofs.lemmas.List.{take-take}
 
 -- a number of a field, and then what is to follow that number
 pub record Then {A : Type 0} (f : Number) (next : ℕ → List ℕ → A → Type 0) (bytes : List ℕ) (value : A) : Type 0 where
   pub number : ℕ
-  pub front : List ℕ
+  pub prefix : List ℕ
   pub rest : List ℕ
-  pub split : bytes ≡ front ++ rest
-  pub field : IsNumber f front number
+  pub split : bytes ≡ prefix ++ rest
+  pub field : IsNumber f prefix number
   pub goes_on : next number rest value
 
 -- the one from its parts
-pub field_then : {A : Type 0} {f : Number} {next : ℕ → List ℕ → A → Type 0} {v : ℕ} {front : List ℕ} (rest : List ℕ) (value : A) → IsNumber f front v → next v rest value
-    → Then f next (front ++ rest) value
-field_then {A} {f} {next} {v} {front} rest value field goes_on = record { number = v; front = front; rest = rest; split = refl; field = field; goes_on = goes_on }
+pub field_then : {A : Type 0} {f : Number} {next : ℕ → List ℕ → A → Type 0} {v : ℕ} {prefix : List ℕ} (rest : List ℕ) (value : A) → IsNumber f prefix v → next v rest value
+    → Then f next (prefix ++ rest) value
+field_then {A} {f} {next} {v} {prefix} rest value field goes_on = record { number = v; prefix = prefix; rest = rest; split = refl; field = field; goes_on = goes_on }
 
 -- nothing more: the value is known
 pub record IsDone {A : Type 0} (known : A) (bytes : List ℕ) (value : A) : Type 0 where
@@ -38,7 +38,7 @@ some_spelling f next v least most s = record {
   value = s.value;
   whole = record {
     number = v;
-    front = bytes_high_first f.width v;
+    prefix = bytes_high_first f.width v;
     rest = s.rest;
     split = refl;
     field = record { least = least; most = most; spelled = refl };
@@ -62,34 +62,34 @@ pub leads-start : {A : Type 0} {F G : List ℕ → A → Type 0} (bytes : List �
 leads-start bytes into back = record { reach = omega arith; into = into; back = back }
 
 -- a field's number and the bytes behind it are told by the bytes
-pub same_number : (f : Number) (front front' rest rest' : List ℕ) (v v' : ℕ) → IsField f → IsNumber f front v → IsNumber f front' v' → front ++ rest ≡ front' ++ rest'
+pub same_number : (f : Number) (prefix prefix' rest rest' : List ℕ) (v v' : ℕ) → IsField f → IsNumber f prefix v → IsNumber f prefix' v' → prefix ++ rest ≡ prefix' ++ rest'
     → (v ≡ v') × (rest ≡ rest')
-same_number f front front' rest rest' v v' field h h' e =
-    let long = length_number f front v h ∙ sym (length_number f front' v' h') in
-    let fronts : front ≡ front' = sym (take-append_seam front rest) ∙ ap₂ take long e ∙ take-append_seam front' rest' in
-    let rests : rest ≡ rest' = sym (drop-append_seam front rest) ∙ ap₂ drop long e ∙ drop-append_seam front' rest' in
+same_number f prefix prefix' rest rest' v v' field h h' e =
+    let long = length_number f prefix v h ∙ sym (length_number f prefix' v' h') in
+    let prefixes : prefix ≡ prefix' = sym (take-append_seam prefix rest) ∙ ap₂ take long e ∙ take-append_seam prefix' rest' in
+    let rests : rest ≡ rest' = sym (drop-append_seam prefix rest) ∙ ap₂ drop long e ∙ drop-append_seam prefix' rest' in
     let below : v < 256 ^ f.width = omega (arith, h.most, field.fits) in
     let below' : v' < 256 ^ f.width = omega (arith, h'.most, field.fits) in
-    (sym (number-digits f.width v below) ∙ ap number (sym h.spelled ∙ fronts ∙ h'.spelled) ∙ number-digits f.width v' below', rests)
+    (sym (number-digits f.width v below) ∙ ap number (sym h.spelled ∙ prefixes ∙ h'.spelled) ∙ number-digits f.width v' below', rests)
 
 -- a field is read
 pub leads-on : {A : Type 0} {F : List ℕ → A → Type 0} {f : Number} {next : ℕ → List ℕ → A → Type 0} {at : ℕ} {bytes : List ℕ} {v : ℕ} → IsField f
     → Leads F (Then f next) at bytes → IsNumber f (take f.width (drop at bytes)) v → Leads F (next v) (at + f.width) bytes
 leads-on {A} {F} {f} {next} {at} {bytes} {v} field leads h =
-    let front = take f.width (drop at bytes) in
-    let long : length front ≡ f.width = length_number f front v h in
+    let prefix = take f.width (drop at bytes) in
+    let long : length prefix ≡ f.width = length_number f prefix v h in
     let reach : f.width ≤ length (drop at bytes) = omega (arith, long, length-take f.width (drop at bytes)) in
-    let split : (tail : List ℕ) → take (at + f.width) bytes ++ tail ≡ take at bytes ++ (front ++ tail) =
-    λ tail. ap (λ (l : List ℕ). l ++ tail) (take-add at f.width bytes) ∙ append_assoc (take at bytes) front tail in
+    let split : (tail : List ℕ) → take (at + f.width) bytes ++ tail ≡ take at bytes ++ (prefix ++ tail) =
+    λ tail. ap (λ (l : List ℕ). l ++ tail) (take-add at f.width bytes) ∙ append_assoc (take at bytes) prefix tail in
     record {
       reach = omega (arith, reach, length-drop at bytes, leads.reach);
       into = λ tail value whole.
-          let parts = leads.into (front ++ tail) value (subst (λ (l : List ℕ). F l value) (split tail) whole) in
-          let same = same_number f front parts.front tail parts.rest v parts.number field h parts.field parts.split in
+          let parts = leads.into (prefix ++ tail) value (subst (λ (l : List ℕ). F l value) (split tail) whole) in
+          let same = same_number f prefix parts.prefix tail parts.rest v parts.number field h parts.field parts.split in
           subst (λ (l : List ℕ). next v l value) (sym same.1) (subst (λ (n : ℕ). next n parts.rest value) (sym same.0) parts.goes_on);
       back = λ tail value goes_on.
           subst (λ (l : List ℕ). F l value) (sym (split tail))
-          (leads.back (front ++ tail) value record { number = v; front = front; rest = tail; split = refl; field = h; goes_on = goes_on });
+          (leads.back (prefix ++ tail) value record { number = v; prefix = prefix; rest = tail; split = refl; field = h; goes_on = goes_on });
     }
 
 -- the bytes behind a field's place, up to another
@@ -102,13 +102,13 @@ take-behind at place bytes h =
 starts-field : {A : Type 0} (f : Number) (next : ℕ → List ℕ → A → Type 0) (part rest : List ℕ) (value : A) → length part ≤ f.width → Then f next (part ++ rest) value
     → Starts (IsNumber f) part
 starts-field f next part rest value short h =
-    let long = length_number f h.front h.number h.field in
-    let same : part ≡ take (length part) h.front =
-    sym (take-append_seam part rest) ∙ ap (take (length part)) h.split ∙ take-append-le (length part) h.front h.rest (omega arith) in
-    let whole = starts-whole (IsNumber f) h.front h.number h.field in
-    let again : h.front ≡ part ++ drop (length part) h.front =
-    sym (take-append-drop (length part) h.front) ∙ ap (λ (l : List ℕ). l ++ drop (length part) h.front) (sym same) in
-    starts-front (IsNumber f) part (drop (length part) h.front) (subst (Starts (IsNumber f)) again whole)
+    let long = length_number f h.prefix h.number h.field in
+    let same : part ≡ take (length part) h.prefix =
+    sym (take-append_seam part rest) ∙ ap (take (length part)) h.split ∙ take-append-le (length part) h.prefix h.rest (omega arith) in
+    let whole = starts-whole (IsNumber f) h.prefix h.number h.field in
+    let again : h.prefix ≡ part ++ drop (length part) h.prefix =
+    sym (take-append-drop (length part) h.prefix) ∙ ap (λ (l : List ℕ). l ++ drop (length part) h.prefix) (sym same) in
+    starts-prefix (IsNumber f) part (drop (length part) h.prefix) (subst (Starts (IsNumber f)) again whole)
 
 -- where a field is right up to a place, so is the form that leads to it
 stop-begins : {A : Type 0} (F : List ℕ → A → Type 0) (f : Number) (next : ℕ → List ℕ → A → Type 0) (at : ℕ) (bytes part : List ℕ)
@@ -121,7 +121,7 @@ stop-begins F f next at bytes part leads some s =
       value = more.value;
       whole = simp append_assoc (simp append_assoc at (leads.back ((part ++ s.rest) ++ more.rest) more.value record {
         number = s.value;
-        front = part ++ s.rest;
+        prefix = part ++ s.rest;
         rest = more.rest;
         split = refl;
         field = s.whole;
@@ -158,8 +158,8 @@ leads-stop {A} {F} {f} {next} {at} {bytes} {place} leads some w =
           at_field n (omega arith) (omega (arith, w.before, w.after)) (omega (arith, behind, w.after)) s.rest s.value whole),
       λ value whole.
           let parts = leads.into (drop at bytes) value (subst (λ (l : List ℕ). F l value) (sym (take-append-drop at bytes)) whole) in
-          let long = length_number f parts.front parts.number parts.field in
-          let inside : f.width ≤ length (drop at bytes) = omega (arith, ap length parts.split, length-append parts.front parts.rest, long) in
+          let long = length_number f parts.prefix parts.number parts.field in
+          let inside : f.width ≤ length (drop at bytes) = omega (arith, ap length parts.split, length-append parts.prefix parts.rest, long) in
           let again : bytes ≡ take at bytes ++ (take f.width field ++ drop f.width (drop at bytes)) =
           sym (ap (λ (l : List ℕ). take at bytes ++ (l ++ drop f.width (drop at bytes))) (take-take f.width f.width (drop at bytes) (omega arith))
           ∙ ap (λ (l : List ℕ). take at bytes ++ l) (take-append-drop f.width (drop at bytes)) ∙ take-append-drop at bytes) in

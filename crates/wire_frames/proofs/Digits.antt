@@ -107,7 +107,7 @@ number-digits k v h =
     let same : v ≡ 0 * 256 ^ k + v = omega arith in
     ap (λ (x : ℕ). number (bytes_high_first k x)) same ∙ number-digits_under k 0 v h
 
--- bytes in front stand above the places of those behind
+-- bytes in prefix stand above the places of those behind
 pub number-append : (xs ys : List ℕ) → number (xs ++ ys) ≡ number xs * 256 ^ length ys + number ys
 number-append [] ys = omega arith
 number-append (x ∷ xs) ys =

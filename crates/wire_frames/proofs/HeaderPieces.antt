@@ -12,7 +12,7 @@ use Rattle.wire_frames.proofs.Beginnings.{header_begins, header_part}
 use Rattle.wire_frames.proofs.PartialHeaders.{IsBehind, place_behind, head_refuses, head_goes_on, refuses_more}
 use Rattle.wire_frames.proofs.Parsing.{length-header}
 
--- at the front of a session stands its header
+-- at the prefix of a session stands its header
 header_behind : IsBehind IsHeader 28 []
 header_behind = record {
   sized = λ bytes p h. ap length h.spelled ∙ length-header p;

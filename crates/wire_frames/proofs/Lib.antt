@@ -23,4 +23,4 @@ mod SessionStates
 pub mod Spans
 pub mod UnderWay
 pub mod OneSession
-pub mod Fronts
+pub mod Places

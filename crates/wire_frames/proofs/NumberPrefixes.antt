@@ -90,16 +90,16 @@ floor_none f bytes field = record {
 pub worth_more : (width : ℕ) (bytes : List ℕ) (i floor : ℕ) → i < width → i < length bytes → floor ≡ number (take i bytes) * 256 ^ (width - i)
     → floor + get_or bytes i 0 * 256 ^ (width - 1 - i) ≡ number (take (i + 1) bytes) * 256 ^ (width - (i + 1))
 worth_more width bytes i floor lt inside worth =
-    let front = take i bytes in
+    let prefix = take i bytes in
     let b = get_or bytes i 0 in
     let k = width - (i + 1) in
-    let more : take (i + 1) bytes ≡ front ++ b ∷ [] = take_more bytes i 0 inside in
-    let value : number (front ++ b ∷ []) ≡ number front * 256 + b = number-append front (b ∷ []) ∙ omega arith in
+    let more : take (i + 1) bytes ≡ prefix ++ b ∷ [] = take_more bytes i 0 inside in
+    let value : number (prefix ++ b ∷ []) ≡ number prefix * 256 + b = number-append prefix (b ∷ []) ∙ omega arith in
     let same : width - 1 - i ≡ k = omega arith in
     let before : width - i ≡ suc k = omega arith in
-    let up : number front * 256 ^ suc k ≡ number front * 256 * 256 ^ k = ap (λ (x : ℕ). number front * x) (pow_up k) ∙ sym (mul_assoc (number front) 256 (256 ^ k)) in
-    let split = add-mul (number front * 256) b (256 ^ k) in
-    let was : floor ≡ number front * 256 ^ suc k = worth ∙ ap (λ (x : ℕ). number front * 256 ^ x) before in
+    let up : number prefix * 256 ^ suc k ≡ number prefix * 256 * 256 ^ k = ap (λ (x : ℕ). number prefix * x) (pow_up k) ∙ sym (mul_assoc (number prefix) 256 (256 ^ k)) in
+    let split = add-mul (number prefix * 256) b (256 ^ k) in
+    let was : floor ≡ number prefix * 256 ^ suc k = worth ∙ ap (λ (x : ℕ). number prefix * 256 ^ x) before in
     rw (same, more, value) (omega arith)
 
 -- the numbers that begin with the bytes so far have no more bytes than the field

@@ -13,10 +13,10 @@ use Rattle.wire_frames.specs.Session.{Fits, header_bytes, record_bytes, records_
 use Rattle.wire_frames.proofs.Counts.{same_count}
 use Rattle.wire_frames.proofs.Digits.{number, number-digits}
 
--- two lists with fronts of one length: the fronts are equal, and the rests
-pub same_parts : (front front' rest rest' : List ℕ) → length front ≡ length front' → front ++ rest ≡ front' ++ rest' → (front ≡ front') × (rest ≡ rest')
-same_parts front front' rest rest' long e =
-    (sym (take-append_seam front rest) ∙ ap₂ take long e ∙ take-append_seam front' rest', sym (drop-append_seam front rest) ∙ ap₂ drop long e ∙ drop-append_seam front' rest')
+-- two lists with prefixes of one length: the prefixes are equal, and the rests
+pub same_parts : (prefix prefix' rest rest' : List ℕ) → length prefix ≡ length prefix' → prefix ++ rest ≡ prefix' ++ rest' → (prefix ≡ prefix') × (rest ≡ rest')
+same_parts prefix prefix' rest rest' long e =
+    (sym (take-append_seam prefix rest) ∙ ap₂ take long e ∙ take-append_seam prefix' rest', sym (drop-append_seam prefix rest) ∙ ap₂ drop long e ∙ drop-append_seam prefix' rest')
 
 -- a number is told by its bytes
 pub same_digits : (width v v' : ℕ) → v < 256 ^ width → v' < 256 ^ width → bytes_high_first width v ≡ bytes_high_first width v' → v ≡ v'

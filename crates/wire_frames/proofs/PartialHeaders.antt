@@ -9,10 +9,10 @@ use Rattle.wire_frames.specs.Session.{IsSession}
 use Rattle.std.proofs.lemmas.List.{take-take}
 
 -- what stands behind these bytes in a session has this form, as far as so many bytes go
-pub record IsBehind {A : Type 0} (F : List ℕ → A → Type 0) (size : ℕ) (front : List ℕ) : Type 0 where
+pub record IsBehind {A : Type 0} (F : List ℕ → A → Type 0) (size : ℕ) (prefix : List ℕ) : Type 0 where
   pub sized : (bytes : List ℕ) (value : A) → F bytes value → length bytes ≡ size
-  pub begins : (head : List ℕ) → Starts F head → Starts IsSession (front ++ head)
-  pub part : (head : List ℕ) → length head ≤ size → Starts IsSession (front ++ head) → Starts F head
+  pub begins : (head : List ℕ) → Starts F head → Starts IsSession (prefix ++ head)
+  pub part : (head : List ℕ) → length head ≤ size → Starts IsSession (prefix ++ head) → Starts F head
 
 -- a place behind the first part of some bytes
 take-behind_first : (first more : List ℕ) (n : ℕ) → length first ≤ n → take n (first ++ more) ≡ first ++ take (n - length first) more
@@ -35,15 +35,15 @@ place_behind {A} {F} head more place right stops = elim (cases_lt place (length 
 ]
 
 -- a header that stops being right within a piece
-pub head_refuses : {A : Type 0} {F : List ℕ → A → Type 0} (size : ℕ) (front head piece : List ℕ) (count place : ℕ) → IsBehind F size front → count ≤ length piece → length head + count ≤ size
-    → Starts F head → StopsAt F (head ++ take count piece) place → place < length (head ++ take count piece) → Refuses (front ++ head) piece (place - length head)
-head_refuses {A} {F} size front head piece count place behind inside short right stops before =
+pub head_refuses : {A : Type 0} {F : List ℕ → A → Type 0} (size : ℕ) (prefix head piece : List ℕ) (count place : ℕ) → IsBehind F size prefix → count ≤ length piece → length head + count ≤ size
+    → Starts F head → StopsAt F (head ++ take count piece) place → place < length (head ++ take count piece) → Refuses (prefix ++ head) piece (place - length head)
+head_refuses {A} {F} size prefix head piece count place behind inside short right stops before =
     let after : length head ≤ place = place_behind head (take count piece) place right stops in
     let i = place - length head in
     let long = length-append head (take count piece) in
     let taken = length-take-le count piece inside in
-    let regroup : (n : ℕ) → n ≤ count → (front ++ head) ++ take n piece ≡ front ++ (head ++ take n (take count piece)) =
-    λ n le. append_assoc front head (take n piece) ∙ ap (λ (l : List ℕ). front ++ (head ++ l)) (sym (take-take n count piece le)) in
+    let regroup : (n : ℕ) → n ≤ count → (prefix ++ head) ++ take n piece ≡ prefix ++ (head ++ take n (take count piece)) =
+    λ n le. append_assoc prefix head (take n piece) ∙ ap (λ (l : List ℕ). prefix ++ (head ++ l)) (sym (take-take n count piece le)) in
     let here : take place (head ++ take count piece) ≡ head ++ take i (take count piece) = take-behind_first head (take count piece) place after in
     let next_is : suc place - length head ≡ i + 1 = omega (arith, after) in
     let there : take (suc place) (head ++ take count piece) ≡ head ++ take (i + 1) (take count piece) =

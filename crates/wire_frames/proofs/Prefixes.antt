@@ -11,19 +11,19 @@ use Rattle.wire_frames.specs.Form.{Starts, StopsAt, Reads}
 pub All-behind : {X : Type 0} (P : X → Type 0) (xs ys : List X) → All P (xs ++ ys) → All P ys
 All-behind P xs ys h = subst (All P) (drop-append_seam xs ys) (All-drop P (length xs) (xs ++ ys) h)
 
--- a front of a right prefix is right
-pub starts-front : {A : Type 0} (F : List ℕ → A → Type 0) (front more : List ℕ) → Starts F (front ++ more) → Starts F front
-starts-front F front more s = record {
+-- a prefix of a right prefix is right
+pub starts-prefix : {A : Type 0} (F : List ℕ → A → Type 0) (prefix more : List ℕ) → Starts F (prefix ++ more) → Starts F prefix
+starts-prefix F prefix more s = record {
   rest = more ++ s.rest;
   value = s.value;
-  whole = subst (λ (bytes : List ℕ). F bytes s.value) (append_assoc front more s.rest) s.whole;
+  whole = subst (λ (bytes : List ℕ). F bytes s.value) (append_assoc prefix more s.rest) s.whole;
 }
 
 -- what begins a spelling goes on doing so when its end is cut off
 pub starts-shorter : {A : Type 0} (F : List ℕ → A → Type 0) (m n : ℕ) (l : List ℕ) → m ≤ n → Starts F (take n l) → Starts F (take m l)
 starts-shorter F m n l h s =
     let split : take n l ≡ take m l ++ drop m (take n l) = sym (take-append-drop m (take n l)) ∙ ap (λ (xs : List ℕ). xs ++ drop m (take n l)) (take-take m n l h) in
-    starts-front F (take m l) (drop m (take n l)) (subst (Starts F) split s)
+    starts-prefix F (take m l) (drop m (take n l)) (subst (Starts F) split s)
 
 -- a value's whole spelling begins it
 pub starts-whole : {A : Type 0} (F : List ℕ → A → Type 0) (bytes : List ℕ) (value : A) → F bytes value → Starts F bytes

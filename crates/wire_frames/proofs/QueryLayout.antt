@@ -23,7 +23,7 @@ use Rattle.wire_frames.proofs.Chains.{Then, Leads, field_then, leads-start, lead
 use Rattle.wire_frames.proofs.Digits.{IsByte, number, number_below, digits-number}
 use Rattle.wire_frames.proofs.Prefixes.{starts-whole}
 use Rattle.wire_frames.proofs.ShapeFields.{at_session, shape_bytes, shape_into, shape_back, some_session}
-use Rattle.wire_frames.proofs.Spellings.{only, byte_is, number_is, byte_front, only_front, joined, is_field}
+use Rattle.wire_frames.proofs.Spellings.{only, byte_is, number_is, byte_prefix, only_prefix, joined, is_field}
 
 -- a query, from its header
 abbrev pub query_of : ℕ → ℕ → ℕ → ℕ → ℕ → ℕ → ℕ → QueryHeader
@@ -86,12 +86,12 @@ query_back bytes q magic =
     let v = version.number in
     let shaped = shape_back (query_of v scheme.number index.number (count_of count.number)) (count_of count.number) count.rest q (omega arith) count.goes_on in
     let byte_is = byte_told v count.number version.field.least version.field.most count.field.least count.field.most in
-    let count_front = byte_front (count_byte v 1) (count_byte v MOST_BLOCKS) count.number count.front (omega (arith, byte_most v MOST_BLOCKS)) count.field in
-    let count_is = joined index.rest count.front count.rest (count_byte v (count_of count.number) ∷ []) _ count.split (count_front ∙ ap (λ (b : ℕ). b ∷ []) byte_is) shaped.spelled in
-    let index_is = joined scheme.rest index.front index.rest (index.number ∷ []) _ index.split (byte_front 1 255 index.number index.front (lit< tt) index.field) count_is in
-    let scheme_is = joined version.rest scheme.front scheme.rest (scheme.number ∷ []) _ scheme.split (byte_front SHAMIR XOR scheme.number scheme.front (lit< tt) scheme.field) index_is in
-    let version_is = joined magic.rest version.front version.rest (v ∷ []) _ version.split (byte_front SINGLE SEVERAL v version.front (lit< tt) version.field) scheme_is in
-    let whole = joined bytes magic.front magic.rest (bytes_high_first 4 QUERY_MAGIC) _ magic.split (only_front 4 QUERY_MAGIC magic.number magic.front magic.field) version_is in
+    let count_prefix = byte_prefix (count_byte v 1) (count_byte v MOST_BLOCKS) count.number count.prefix (omega (arith, byte_most v MOST_BLOCKS)) count.field in
+    let count_is = joined index.rest count.prefix count.rest (count_byte v (count_of count.number) ∷ []) _ count.split (count_prefix ∙ ap (λ (b : ℕ). b ∷ []) byte_is) shaped.spelled in
+    let index_is = joined scheme.rest index.prefix index.rest (index.number ∷ []) _ index.split (byte_prefix 1 255 index.number index.prefix (lit< tt) index.field) count_is in
+    let scheme_is = joined version.rest scheme.prefix scheme.rest (scheme.number ∷ []) _ scheme.split (byte_prefix SHAMIR XOR scheme.number scheme.prefix (lit< tt) scheme.field) index_is in
+    let version_is = joined magic.rest version.prefix version.rest (v ∷ []) _ version.split (byte_prefix SINGLE SEVERAL v version.prefix (lit< tt) version.field) scheme_is in
+    let whole = joined bytes magic.prefix magic.rest (bytes_high_first 4 QUERY_MAGIC) _ magic.split (only_prefix 4 QUERY_MAGIC magic.number magic.prefix magic.field) version_is in
     subst (IsQueryHeader bytes) shaped.same (record {
       range = record {
         some_scheme = scheme.field.least;
@@ -152,32 +152,32 @@ to_session {bytes} {version} {scheme} {index} {v} leads h =
 any_session : (bytes : List ℕ) (at : ℕ) → All IsByte bytes → at + 8 ≤ length bytes
     → (length (take 8 (drop at bytes)) ≡ 8) × IsNumber session_field (take 8 (drop at bytes)) (number (take 8 (drop at bytes)))
 any_session bytes at all enough =
-    let front = take 8 (drop at bytes) in
-    let long : length front ≡ 8 = length-take 8 (drop at bytes) ∙ omega (arith, length-drop at bytes) in
+    let prefix = take 8 (drop at bytes) in
+    let long : length prefix ≡ 8 = length-take 8 (drop at bytes) ∙ omega (arith, length-drop at bytes) in
     let are = All-take IsByte 8 (drop at bytes) (All-drop IsByte at bytes all) in
-    let below : number front < 18446744073709551616 = subst (λ (k : ℕ). number front < 256 ^ k) long (number_below front are) in (
+    let below : number prefix < 18446744073709551616 = subst (λ (k : ℕ). number prefix < 256 ^ k) long (number_below prefix are) in (
       long,
       record {
         least = omega arith;
         most = omega arith;
-        spelled = sym (digits-number front are) ∙ ap (λ (k : ℕ). bytes_high_first k (number front)) long;
+        spelled = sym (digits-number prefix are) ∙ ap (λ (k : ℕ). bytes_high_first k (number prefix)) long;
       },
     )
 
 -- so they never stop being one
 pub session_goes_on : (bytes : List ℕ) (at place : ℕ) → All IsByte bytes → at + 8 ≤ length bytes → StopsWithin (IsNumber session_field) at 8 bytes place → ⊥
 session_goes_on bytes at place all enough w =
-    let front = take 8 (drop at bytes) in
+    let prefix = take 8 (drop at bytes) in
     let any = any_session bytes at all enough in
-    let whole : take 8 front ≡ front = take_all 8 front (omega (arith, any.0)) in
+    let whole : take 8 prefix ≡ prefix = take_all 8 prefix (omega (arith, any.0)) in
     w.stops.longest 8 (omega (arith, w.after, w.before)) (omega (arith, any.0))
-    (subst (Starts (IsNumber session_field)) (sym whole) (starts-whole (IsNumber session_field) front (number front) any.1))
+    (subst (Starts (IsNumber session_field)) (sym whole) (starts-whole (IsNumber session_field) prefix (number prefix) any.1))
 
 -- the version that is read stands at its place
 pub version_at : (bytes : List ℕ) {version : ℕ} → IsNumber version_field (take 1 (drop FRAME_VERSION_PLACE bytes)) version → get_or bytes FRAME_VERSION_PLACE 0 ≡ version
 version_at bytes {version} h =
-    let front = byte_front SINGLE SEVERAL version _ (lit< tt) h in
-    sym (get_or-drop FRAME_VERSION_PLACE bytes 0 0) ∙ sym (get_or-take 1 (drop FRAME_VERSION_PLACE bytes) 0 0 (lit< tt)) ∙ ap (λ (l : List ℕ). get_or l 0 0) front
+    let prefix = byte_prefix SINGLE SEVERAL version _ (lit< tt) h in
+    sym (get_or-drop FRAME_VERSION_PLACE bytes 0 0) ∙ sym (get_or-take 1 (drop FRAME_VERSION_PLACE bytes) 0 0 (lit< tt)) ∙ ap (λ (l : List ℕ). get_or l 0 0) prefix
 
 -- a field stops being right: so does the header, in that field
 pub stops_in : {f : Number} {next : ℕ → List ℕ → QueryHeader → Type 0} {bytes : List ℕ} {fault : FrameFault} (field : Field) → first_place field + f.width ≡ end_place field

@@ -6,7 +6,7 @@ use Rattle.wire_frames.specs.Field.{IsNumber}
 use Rattle.wire_frames.specs.Form.{Starts}
 use Rattle.wire_frames.specs.Layout.{IsRecordHeader, record_header}
 use Rattle.wire_frames.proofs.Chains.{Then, IsDone, Leads, field_then, leads-start, leads-on, some_spelling, no_more}
-use Rattle.wire_frames.proofs.Spellings.{only, byte_is, byte_front, number_is, only_front, joined, is_field}
+use Rattle.wire_frames.proofs.Spellings.{only, byte_is, byte_prefix, number_is, only_prefix, joined, is_field}
 
 -- the length of a record that is absent, or present
 abbrev pub at_len : ℕ → ℕ → List ℕ → Option ℕ → Type 0
@@ -36,10 +36,10 @@ record_into i most fits bytes (Some n) h =
 len_back : (i most present : ℕ) (rest : List ℕ) (len : Option ℕ) → present ≤ 1 → at_len most present rest len
     → IfSome len (λ n. n ≤ most) × (i ∷ present ∷ rest ≡ record_header i len)
 len_back i most zero rest len le h =
-    let spelled = joined rest h.front h.rest (bytes_high_first 4 0) [] h.split (only_front 4 0 h.number h.front h.field) h.goes_on.none in
+    let spelled = joined rest h.prefix h.rest (bytes_high_first 4 0) [] h.split (only_prefix 4 0 h.number h.prefix h.field) h.goes_on.none in
     subst (λ (o : Option ℕ). IfSome o (λ n. n ≤ most) × (i ∷ 0 ∷ rest ≡ record_header i o)) h.goes_on.same (tt, ap (λ (l : List ℕ). i ∷ 0 ∷ l) spelled)
 len_back i most (suc zero) rest len le h =
-    let spelled = joined rest h.front h.rest (bytes_high_first 4 h.number) [] h.split h.field.spelled h.goes_on.none in
+    let spelled = joined rest h.prefix h.rest (bytes_high_first 4 h.number) [] h.split h.field.spelled h.goes_on.none in
     subst (λ (o : Option ℕ). IfSome o (λ n. n ≤ most) × (i ∷ 1 ∷ rest ≡ record_header i o)) h.goes_on.same (h.field.most, ap (λ (l : List ℕ). i ∷ 1 ∷ l) spelled)
 len_back i most (suc (suc k)) rest len le h = absurd (omega arith)
 
@@ -48,10 +48,10 @@ pub record_back : (i most : ℕ) → i < 256 → (bytes : List ℕ) (len : Optio
 record_back i most fits bytes len index =
     let present = index.goes_on in
     let end = len_back i most present.number present.rest len present.field.most present.goes_on in
-    let present_is = joined index.rest present.front present.rest (present.number ∷ []) _ present.split (byte_front 0 1 present.number present.front (lit< tt) present.field) refl in
+    let present_is = joined index.rest present.prefix present.rest (present.number ∷ []) _ present.split (byte_prefix 0 1 present.number present.prefix (lit< tt) present.field) refl in
     let index_number : index.number ≡ i = omega (arith, index.field.least, index.field.most) in
-    let index_front = byte_front i i index.number index.front fits index.field ∙ ap (λ (v : ℕ). v ∷ []) index_number in
-    let whole = joined bytes index.front index.rest (i ∷ []) _ index.split index_front present_is in
+    let index_prefix = byte_prefix i i index.number index.prefix fits index.field ∙ ap (λ (v : ℕ). v ∷ []) index_number in
+    let whole = joined bytes index.prefix index.rest (i ∷ []) _ index.split index_prefix present_is in
     record { short = end.0; spelled = whole ∙ end.1 }
 
 -- whatever came before, a record's header can be completed

@@ -83,13 +83,13 @@ open_whole r is_open all = elim is_open.part [
   | inl part ↦
       let steady = is_open.steady in
       let same : length r.records.closed ≡ r.params.n = omega (arith, all, steady.few) in
-      let front = session_bytes (so_far r.params r.records.closed) in (
+      let prefix = session_bytes (so_far r.params r.records.closed) in (
         under_way_whole r.params r.records steady.range same steady.fits part.none_begun,
         record {
           range = steady.range;
           all = same;
           fits = steady.fits;
-          spelled = seen_header r part.none_begun ∙ ap (λ (l : List ℕ). front ++ l) (part.nothing same) ∙ append-nil front;
+          spelled = seen_header r part.none_begun ∙ ap (λ (l : List ℕ). prefix ++ l) (part.nothing same) ∙ append-nil prefix;
         },
       )
   | inr part ↦ absurd (omega (arith, part.0.few, all))
@@ -198,13 +198,13 @@ pub record IsPiece (r : RecordsReader) (piece : List ℕ) (count : ℕ) (head : 
 pub header_taken : (r : RecordsReader) (piece : List ℕ) (count : ℕ) (head : List ℕ) → IsPiece r piece count head → 0 < length piece
     → Advances (bytes_so_far r) piece (Ok count) (bytes_so_far (record r { head = head }))
 header_taken r piece count head t some =
-    let front = session_bytes (so_far r.params r.records.closed) in
+    let prefix = session_bytes (so_far r.params r.records.closed) in
     let old = seen_header r t.part.none_begun in
     let new = seen_header (record r { head = head }) t.part.none_begun in
-    let behind = last_behind front r.head (take count piece) in (
+    let behind = last_behind prefix r.head (take count piece) in (
       omega (arith, some, t.count_is, t.part.short),
       omega (arith, t.count_is),
-      new ∙ (ap (λ (l : List ℕ). front ++ l) t.head_is ∙ (behind ∙ ap (λ (l : List ℕ). l ++ take count piece) (sym old))),
+      new ∙ (ap (λ (l : List ℕ). prefix ++ l) t.head_is ∙ (behind ∙ ap (λ (l : List ℕ). l ++ take count piece) (sym old))),
     )
 
 -- it is read under the index of the next record
@@ -225,9 +225,9 @@ pub header_refuses : (r : RecordsReader) (piece : List ℕ) (count i before : �
     → before ≡ length r.head → Reads (IsRecordHeader (i + 1) (answer_len r.params.count r.params.s)) read (Err place) → place < length head → Refuses (bytes_so_far r) piece (place - before)
 header_refuses r piece count i before head read place t is_index is_head is_before h within =
     let stops = header_reads r i read (r.head ++ take count piece) (Err place) is_index (is_head ∙ t.head_is) h in
-    let front = session_bytes (so_far r.params r.records.closed) in
+    let prefix = session_bytes (so_far r.params r.records.closed) in
     let behind = record_behind r.params r.records.closed t.steady.range t.steady.fits t.few in
-    let refuses = head_refuses 6 front r.head piece count place behind (omega (arith, t.count_is)) (omega (arith, t.count_is, t.part.short)) (t.part.right t.few) stops.0
+    let refuses = head_refuses 6 prefix r.head piece count place behind (omega (arith, t.count_is)) (omega (arith, t.count_is, t.part.short)) (t.part.right t.few) stops.0
     (subst (λ (l : List ℕ). place < length l) t.head_is within) in
     subst (λ (n : ℕ). Refuses (bytes_so_far r) piece (place - n)) (sym is_before)
     (subst (λ (l : List ℕ). Refuses l piece (place - length r.head)) (sym (seen_header r t.part.none_begun)) refuses)
@@ -289,8 +289,8 @@ extended_part r kept bytes left part all is_kept =
 pub extended_bytes : (r : RecordsReader) (kept : Kept) (bytes : List ℕ) (left : ℕ) → kept ≡ extended bytes r.records
     → bytes_so_far (record r { records = kept; left = left }) ≡ bytes_so_far r ++ bytes
 extended_bytes r kept bytes left is_kept =
-    let front = session_bytes (so_far r.params r.records.closed) in
-    let behind = last_behind_two front r.head r.records.current bytes in
+    let prefix = session_bytes (so_far r.params r.records.closed) in
+    let behind = last_behind_two prefix r.head r.records.current bytes in
     ap (λ (k : Kept). session_bytes (so_far r.params k.closed) ++ (r.head ++ k.current)) is_kept ∙ behind
 
 -- there is room for what is left of the next record

@@ -18,7 +18,7 @@ use Rattle.wire_frames.proofs.Counts.{byte_most, byte-mono, byte_told, count_in,
 use Rattle.wire_frames.proofs.QueryLayout.{version_field}
 use Rattle.wire_frames.proofs.Servers.{few_agree, few_servers, some_servers, at_most_servers, one_number, servers_are, a_scheme, scheme_in}
 use Rattle.wire_frames.proofs.ShapeFields.{at_session, shape_bytes, shape_into, shape_back, some_session}
-use Rattle.wire_frames.proofs.Spellings.{only, byte_is, number_is, byte_front, only_front, joined, is_field}
+use Rattle.wire_frames.proofs.Spellings.{only, byte_is, number_is, byte_prefix, only_prefix, joined, is_field}
 
 -- the numbers of a session, from its header
 abbrev pub params_of : ℕ → ℕ → ℕ → ℕ → ℕ → ℕ → ℕ → ℕ → ℕ → SessionParams
@@ -101,16 +101,16 @@ header_back bytes p magic =
     let most_agree : most_servers (scheme_of scheme.number) (t.number + 1) < 256 = omega (arith, few_servers (scheme_of scheme.number) (t.number + 1) (omega (arith, t.field.most))) in
     let most : most_servers (scheme_of scheme.number) h.number ≤ MOST_SERVERS = few_servers (scheme_of scheme.number) h.number few in
     let shaped = shape_back (params_of v scheme.number t.number h.number n.number (count_of count.number)) (count_of count.number) zero.rest p (omega arith) zero.goes_on in
-    let zero_is = joined count.rest zero.front zero.rest (bytes_high_first 2 0) _ zero.split (only_front 2 0 zero.number zero.front zero.field) shaped.spelled in
+    let zero_is = joined count.rest zero.prefix zero.rest (bytes_high_first 2 0) _ zero.split (only_prefix 2 0 zero.number zero.prefix zero.field) shaped.spelled in
     let byte_is = byte_told v count.number version.field.least version.field.most count.field.least count.field.most in
-    let count_front = byte_front (count_byte v 1) (count_byte v MOST_BLOCKS) count.number count.front (omega (arith, byte_most v MOST_BLOCKS)) count.field in
-    let count_is = joined n.rest count.front count.rest (count_byte v (count_of count.number) ∷ []) _ count.split (count_front ∙ ap (λ (b : ℕ). b ∷ []) byte_is) zero_is in
-    let n_is = joined h.rest n.front n.rest (n.number ∷ []) _ n.split (byte_front h.number (most_servers (scheme_of scheme.number) h.number) n.number n.front (omega (arith, most)) n.field) count_is in
-    let h_is = joined t.rest h.front h.rest (h.number ∷ []) _ h.split (byte_front (t.number + 1) (most_servers (scheme_of scheme.number) (t.number + 1)) h.number h.front most_agree h.field) n_is in
-    let t_is = joined scheme.rest t.front t.rest (t.number ∷ []) _ t.split (byte_front 1 MOST_DEGREE t.number t.front (lit< tt) t.field) h_is in
-    let scheme_is = joined version.rest scheme.front scheme.rest (scheme.number ∷ []) _ scheme.split (byte_front SHAMIR XOR scheme.number scheme.front (lit< tt) scheme.field) t_is in
-    let version_is = joined magic.rest version.front version.rest (v ∷ []) _ version.split (byte_front SINGLE SEVERAL v version.front (lit< tt) version.field) scheme_is in
-    let whole = joined bytes magic.front magic.rest (bytes_high_first 4 SESSION_MAGIC) _ magic.split (only_front 4 SESSION_MAGIC magic.number magic.front magic.field) version_is in
+    let count_prefix = byte_prefix (count_byte v 1) (count_byte v MOST_BLOCKS) count.number count.prefix (omega (arith, byte_most v MOST_BLOCKS)) count.field in
+    let count_is = joined n.rest count.prefix count.rest (count_byte v (count_of count.number) ∷ []) _ count.split (count_prefix ∙ ap (λ (b : ℕ). b ∷ []) byte_is) zero_is in
+    let n_is = joined h.rest n.prefix n.rest (n.number ∷ []) _ n.split (byte_prefix h.number (most_servers (scheme_of scheme.number) h.number) n.number n.prefix (omega (arith, most)) n.field) count_is in
+    let h_is = joined t.rest h.prefix h.rest (h.number ∷ []) _ h.split (byte_prefix (t.number + 1) (most_servers (scheme_of scheme.number) (t.number + 1)) h.number h.prefix most_agree h.field) n_is in
+    let t_is = joined scheme.rest t.prefix t.rest (t.number ∷ []) _ t.split (byte_prefix 1 MOST_DEGREE t.number t.prefix (lit< tt) t.field) h_is in
+    let scheme_is = joined version.rest scheme.prefix scheme.rest (scheme.number ∷ []) _ scheme.split (byte_prefix SHAMIR XOR scheme.number scheme.prefix (lit< tt) scheme.field) t_is in
+    let version_is = joined magic.rest version.prefix version.rest (v ∷ []) _ version.split (byte_prefix SINGLE SEVERAL v version.prefix (lit< tt) version.field) scheme_is in
+    let whole = joined bytes magic.prefix magic.rest (bytes_high_first 4 SESSION_MAGIC) _ magic.split (only_prefix 4 SESSION_MAGIC magic.number magic.prefix magic.field) version_is in
     subst (IsHeader bytes) shaped.same (record {
       range = record {
         scheme = a_scheme scheme.number scheme.field.least scheme.field.most;

@@ -87,8 +87,8 @@ pub shape_back : {A : Type 0} (make : ℕ → ℕ → ℕ → A) (count : ℕ) (
 shape_back make count bytes value asked session =
     let r = session.goes_on in
     let s = r.goes_on in
-    let s_is = joined r.rest s.front s.rest (bytes_high_first 4 s.number) [] s.split s.field.spelled s.goes_on.none in
-    let r_is = joined session.rest r.front r.rest (bytes_high_first 4 r.number) _ r.split r.field.spelled s_is in
+    let s_is = joined r.rest s.prefix s.rest (bytes_high_first 4 s.number) [] s.split s.field.spelled s.goes_on.none in
+    let r_is = joined session.rest r.prefix r.rest (bytes_high_first 4 r.number) _ r.split r.field.spelled s_is in
     record {
       session = session.number;
       r = r.number;
@@ -96,7 +96,7 @@ shape_back make count bytes value asked session =
       below = omega (arith, session.field.most);
       shape = shape_is count r.number s.number asked r.field.least r.field.most s.field.least s.field.most;
       blocks = blocks_are count r.number s.number s.field.most;
-      spelled = joined bytes session.front session.rest (bytes_high_first 8 session.number) _ session.split session.field.spelled r_is;
+      spelled = joined bytes session.prefix session.rest (bytes_high_first 8 session.number) _ session.split session.field.spelled r_is;
       same = s.goes_on.same;
     }
 

@@ -34,18 +34,18 @@ pub number_is : (width least v most : ℕ) → least ≤ v → v ≤ most → Is
 number_is width least v most low high = record { least = low; most = high; spelled = refl }
 
 -- a field of one byte is its number
-pub byte_front : (least most v : ℕ) (front : List ℕ) → most < 256 → IsNumber (record { width = 1; least = least; most = most }) front v → front ≡ v ∷ []
-byte_front least most v front fits h = h.spelled ∙ sym (one_byte v (omega (arith, h.most)))
+pub byte_prefix : (least most v : ℕ) (prefix : List ℕ) → most < 256 → IsNumber (record { width = 1; least = least; most = most }) prefix v → prefix ≡ v ∷ []
+byte_prefix least most v prefix fits h = h.spelled ∙ sym (one_byte v (omega (arith, h.most)))
 
 -- a field of one value is that value's bytes
-pub only_front : (width value v : ℕ) (front : List ℕ) → IsNumber (only width value) front v → front ≡ bytes_high_first width value
-only_front width value v front h =
+pub only_prefix : (width value v : ℕ) (prefix : List ℕ) → IsNumber (only width value) prefix v → prefix ≡ bytes_high_first width value
+only_prefix width value v prefix h =
     let same : v ≡ value = omega (arith, h.least, h.most) in
     h.spelled ∙ ap (bytes_high_first width) same
 
 -- a split, where both parts are known
-pub joined : (bytes front rest front' rest' : List ℕ) → bytes ≡ front ++ rest → front ≡ front' → rest ≡ rest' → bytes ≡ front' ++ rest'
-joined bytes front rest front' rest' split e e' = split ∙ ap₂ (λ (x y : List ℕ). x ++ y) e e'
+pub joined : (bytes prefix rest prefix' rest' : List ℕ) → bytes ≡ prefix ++ rest → prefix ≡ prefix' → rest ≡ rest' → bytes ≡ prefix' ++ rest'
+joined bytes prefix rest prefix' rest' split e e' = split ∙ ap₂ (λ (x y : List ℕ). x ++ y) e e'
 
 -- no number is below zero
 pub from_zero : (n : ℕ) → 0 ≤ n

@@ -45,14 +45,14 @@ in_turn-more n m gives e = ap (λ k. in_turn k gives) next
     next = omega (arith, e)
 
 -- the pieces one behind another are the whole
-front_pieces : (n size : ℕ) (bytes : List ℕ) → in_turn n (λ i. piece size i bytes) ≡ take (n * size) bytes
+first_pieces : (n size : ℕ) (bytes : List ℕ) → in_turn n (λ i. piece size i bytes) ≡ take (n * size) bytes
 unfolding in_turn
-front_pieces zero size bytes = sym (ap (λ (j : ℕ). take j bytes) (zero-mul size))
-front_pieces (suc n) size bytes =
-    ap (λ l. l ++ piece size n bytes) (front_pieces n size bytes) ∙ sym (take-add (n * size) size bytes) ∙ ap (λ (j : ℕ). take j bytes) (sym (suc-mul n size))
+first_pieces zero size bytes = sym (ap (λ (j : ℕ). take j bytes) (zero-mul size))
+first_pieces (suc n) size bytes =
+    ap (λ l. l ++ piece size n bytes) (first_pieces n size bytes) ∙ sym (take-add (n * size) size bytes) ∙ ap (λ (j : ℕ). take j bytes) (sym (suc-mul n size))
 
 pub in_turn-pieces : (n size : ℕ) (bytes : List ℕ) → length bytes ≡ n * size → in_turn n (λ i. piece size i bytes) ≡ bytes
-in_turn-pieces n size bytes whole = front_pieces n size bytes ∙ take_all (n * size) bytes (omega (arith, whole))
+in_turn-pieces n size bytes whole = first_pieces n size bytes ∙ take_all (n * size) bytes (omega (arith, whole))
 
 -- bytes are all that is given, one behind another, where each piece is what is given in its turn
 pub in_turn-of-pieces : (n size : ℕ) (bytes : List ℕ) (gives : ℕ → List ℕ) → length bytes ≡ n * size
@@ -108,12 +108,12 @@ pub turn_written : (out row done : List ℕ) (start n m k width : ℕ) → start
     → take (m * width) (put_mid start k out row) ≡ done ++ row
 turn_written out row done start n m k width at e room size written =
     let step : m * width ≡ n * width + width = ap (λ k. k * width) next ∙ suc-mul n width in
-    let front = take start out in
+    let prefix = take start out in
     let rest = drop k (drop start out) in
-    let long : length front ≡ n * width = length-take-le start out (omega (arith, room, step, at)) ∙ at in
-    let both : length (front ++ row) ≡ m * width = length-append front row ∙ omega (arith, long, size, step) in
-    ap (take (m * width)) (sym (append_assoc front row rest))
-    ∙ take_at (front ++ row) rest (m * width) both
+    let long : length prefix ≡ n * width = length-take-le start out (omega (arith, room, step, at)) ∙ at in
+    let both : length (prefix ++ row) ≡ m * width = length-append prefix row ∙ omega (arith, long, size, step) in
+    ap (take (m * width)) (sym (append_assoc prefix row rest))
+    ∙ take_at (prefix ++ row) rest (m * width) both
     ∙ ap (λ (l : List ℕ). l ++ row) (ap (λ (j : ℕ). take j out) at ∙ written)
   where
     next : m ≡ suc n

@@ -35,7 +35,7 @@ asked p i = record {
   s = p.s;
 }
 
--- the answers with that of server i in front, where it is usable
+-- the answers with that of server i before them, where it is usable
 abbrev pub with_answer : ℕ → Option (List ℕ) → List Answer → List Answer
 with_answer i None rest = rest
 with_answer i (Some payload) rest = record { index = i; payload = payload } ∷ rest

@@ -56,7 +56,7 @@ pub record Refuses (bytes piece : List ℕ) (right : ℕ) : Type 0 where
   pub begins : Starts IsSession (bytes ++ take right piece)
   pub longest : Starts IsSession (bytes ++ take (right + 1) piece) → ⊥
 
--- how many bytes are taken from the front of a piece, or how many of it are right
+-- how many bytes are taken from the start of a piece, or how many of it are right
 abbrev pub Advances : List ℕ → List ℕ → Result ℕ ℕ → List ℕ → Type 0
 Advances old piece (Ok count) new =
     (0 < count) × (count ≤ length piece) × (new ≡ old ++ take count piece)

@@ -47,7 +47,7 @@ impl Head {
         &self.bytes[..self.len]
     }
 
-    /// Takes bytes from the front of the piece until there are `size`, and says how many it took.
+    /// Takes bytes from the start of the piece until there are `size`, and says how many it took.
     pub(crate) fn fill(&mut self, piece: &[u8], size: usize) -> usize
         requires { size ≤ SESSION_HEADER_LEN }
         ensures count { result ≡ min (size - length self.old) (length piece.now) }

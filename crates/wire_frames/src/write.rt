@@ -1,9 +1,9 @@
 //! Writes the file of a session, in pieces, with no memory taken.
 ghost use Rattle.std.specs.Prelude.{◌≡◌, ◌<◌, ◌^◌, length, IfSome};
 ghost use Rattle.std.specs.Option.{option_copied};
-ghost use Rattle.port_rules.specs.Number.{RECORD};
-ghost use Rattle.port_rules.specs.Moves.{Touches};
-ghost use Rattle.port_rules.specs.Written.{Written};
+ghost use Rattle.port_trait.specs.Number.{RECORD};
+ghost use Rattle.port_trait.specs.Moves.{Touches};
+ghost use Rattle.port_trait.specs.Written.{Written};
 ghost use Rattle.wire_frames.specs.Layout.{record_header};
 ghost use Rattle.wire_frames.specs.Limits.{IsInRange};
 ghost use Rattle.wire_frames.specs.Session.{IsSession, header_bytes, record_bytes, records_bytes, session_bytes};
@@ -19,7 +19,7 @@ use crate::session::{Session, SessionParams};
 use crate::sizes::{RECORD_HEADER_LEN, SESSION_HEADER_LEN};
 use crate::version::count_byte;
 use byteorder::{BigEndian, ByteOrder};
-use port_rules::{Failed, Port, Ports, write_all};
+use port_trait::{Failed, Port, Ports, write_all};
 
 /// The header of a session with these numbers.
 fn header_of(params: &SessionParams) -> [u8; SESSION_HEADER_LEN]
@@ -103,7 +103,7 @@ fn write_records<P: Ports>(ports: &mut P, session: &Session) -> Result<(), Faile
 ///
 /// # Errors
 ///
-/// `Failed` exactly where the count of Record rose; then Record took a proper front of the file.
+/// `Failed` exactly where the count of Record rose; then Record took a proper prefix of the file.
 pub fn write_session<P: Ports>(ports: &mut P, session: &Session) -> Result<(), Failed>
     requires { length session.now.records ≡ session.now.params.n }
     ensures written { Written RECORD (session_bytes session.now) result

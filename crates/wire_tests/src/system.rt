@@ -2,10 +2,10 @@
 //! and one function makes the ports of the system, so that little is proved of these alone.
 
 ghost use Rattle.std.specs.Prelude.{◌<◌, ◌≢◌, length};
-ghost use Rattle.port_rules.specs.Number.{GUEST, number};
+ghost use Rattle.port_trait.specs.Number.{GUEST, number};
 
 use os_ports::{OsPorts, System};
-use port_rules::{Filled, Port, Ports, read_exactly, write_all};
+use port_trait::{Filled, Port, Ports, read_exactly, write_all};
 use std::alloc::{AllocError, Global};
 use std::io::{Print, Read, Write};
 use std::net::{Ipv4Addr, Net, OpenListener, TcpListener, TcpStream};

@@ -1,9 +1,9 @@
 use Rattle.std.proofs.Common.{◌∙◌, sym, ap, subst, arith}
 use Rattle.std.proofs.lemmas.Result.{IfOk-from_err, err_from_is_err_and}
-use Rattle.port_rules.specs.World.{Cell}
-use Rattle.port_rules.specs.Number.{INPUT}
-use Rattle.port_rules.specs.Moves.{RoseOnce, counted}
-use Rattle.port_rules.proofs.Cells.{touches_more}
+use Rattle.port_trait.specs.World.{Cell}
+use Rattle.port_trait.specs.Number.{INPUT}
+use Rattle.port_trait.specs.Moves.{RoseOnce, counted}
+use Rattle.port_trait.proofs.Cells.{touches_more}
 use Rattle.wire_frames.specs.Reading.{Reading}
 use Rattle.replay.specs.Replayed.{Spells}
 use Rattle.replay.proofs.Readings.{HasSeen, seen_by, seen_nothing, seen_stops, seen_whole, seen_short, seen_more, seen_grows}
@@ -42,7 +42,7 @@ returns-in-Err-clause-read g c =
       read = seen_by c.pieces.reader;
       begins = held.begins;
       cell = failed.cell ∙ ap (λ (x : Cell). counted (end.at INPUT).faults x) held.reads.cell;
-      front = held.reads.told;
+      prefix = held.reads.told;
       rose = subst (λ (x : Cell). RoseOnce x.faults (end.at INPUT).faults) held.reads.cell failed.rose;
     }
 

@@ -2,9 +2,9 @@ use Rattle.std.proofs.Common.{[], ◌∷◌, ◌++◌}
 use Rattle.std.specs.Prelude.{codes}
 use Rattle.std.proofs.lemmas.Result.{err_from_is_err_and}
 use Rattle.wire_frames.specs.Answer.{answers}
-use Rattle.port_rules.proofs.Pieces.{written_next, written_cut, written_both}
+use Rattle.port_trait.proofs.Pieces.{written_next, written_cut, written_both}
 use Rattle.block_decoder.specs.Text.{words_of}
-use Rattle.port_rules.proofs.Cells.{touches_more, fails_first}
+use Rattle.port_trait.proofs.Cells.{touches_more, fails_first}
 use Rattle.block_decoder.proofs.liars.write_line.Goals as goal
 
 pub returns-in_err-write_all-clause-written : goal.returns-in_err-write_all-clause-written

@@ -1,9 +1,9 @@
 use Rattle.std.proofs.Common.{◌∙◌, ℕ, List, [], true, false, sym, ap, subst}
 use Rattle.wire_frames.specs.Answer.{with_answer}
-use Rattle.port_rules.specs.Number.{OUTPUT}
-use Rattle.port_rules.specs.Moves.{gave}
-use Rattle.port_rules.specs.Written.{Written}
-use Rattle.port_rules.proofs.Pieces.{gave_none}
+use Rattle.port_trait.specs.Number.{OUTPUT}
+use Rattle.port_trait.specs.Moves.{gave}
+use Rattle.port_trait.specs.Written.{Written}
+use Rattle.port_trait.proofs.Pieces.{gave_none}
 use Rattle.block_decoder.specs.Usable.{payload_of}
 use Rattle.block_decoder.proofs.FirstAnswers.{words-one}
 use Rattle.block_decoder.proofs.liars.write_other.Goals as goal

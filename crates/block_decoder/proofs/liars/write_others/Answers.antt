@@ -1,9 +1,9 @@
 use Rattle.std.proofs.Common.{◌∙◌, ap, sym, refl, arith}
 use Rattle.std.proofs.lemmas.Result.{err_from_is_err_and}
-use Rattle.port_rules.specs.Number.{OUTPUT}
-use Rattle.port_rules.specs.Moves.{gave}
-use Rattle.port_rules.proofs.Cells.{gave-gave, touches_more}
-use Rattle.port_rules.proofs.Pieces.{gave_none, written_cut}
+use Rattle.port_trait.specs.Number.{OUTPUT}
+use Rattle.port_trait.specs.Moves.{gave}
+use Rattle.port_trait.proofs.Cells.{gave-gave, touches_more}
+use Rattle.port_trait.proofs.Pieces.{gave_none, written_cut}
 use Rattle.block_decoder.specs.Text.{words_of}
 use Rattle.block_decoder.proofs.FirstAnswers.{first_of-all, words-none, words-more, words-pieces}
 use Rattle.block_decoder.proofs.liars.write_others.Goals as goal

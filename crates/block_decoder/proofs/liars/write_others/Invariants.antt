@@ -1,6 +1,6 @@
 use Rattle.std.proofs.Common.{◌≡◌}
-use Rattle.port_rules.specs.Number.{OUTPUT}
-use Rattle.port_rules.specs.Moves.{Touches, gave}
+use Rattle.port_trait.specs.Number.{OUTPUT}
+use Rattle.port_trait.specs.Moves.{Touches, gave}
 use Rattle.block_decoder.specs.Text.{words_of}
 use Rattle.block_decoder.proofs.FirstAnswers.{first_of}
 use Rattle.block_decoder.proofs.liars.write_others.Given as goal

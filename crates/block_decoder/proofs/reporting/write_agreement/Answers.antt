@@ -2,8 +2,8 @@ use Rattle.std.proofs.Common.{[], ◌∷◌, ◌++◌, ap}
 use Rattle.std.specs.Prelude.{flat_map, codes}
 use Rattle.std.proofs.lemmas.Result.{err_from_is_err_and}
 use Rattle.hex.specs.Hex.{encode_lower}
-use Rattle.port_rules.proofs.Cells.{fails_next, touches_more, fails_first}
-use Rattle.port_rules.proofs.Pieces.{written_next, written_cut, written_both}
+use Rattle.port_trait.proofs.Cells.{fails_next, touches_more, fails_first}
+use Rattle.port_trait.proofs.Pieces.{written_next, written_cut, written_both}
 use Rattle.block_decoder.specs.Text.{agree_line, number_word, line_of}
 use Rattle.block_decoder.proofs.reporting.write_agreement.Goals as goal
 

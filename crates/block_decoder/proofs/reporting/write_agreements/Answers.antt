@@ -1,10 +1,10 @@
 use Rattle.std.proofs.Common.{◌∙◌, ap, sym, ◌++◌, take}
 use Rattle.std.specs.Prelude.{flat_map}
 use Rattle.std.proofs.lemmas.Result.{err_from_is_err_and}
-use Rattle.port_rules.specs.Number.{OUTPUT}
-use Rattle.port_rules.specs.Moves.{gave}
-use Rattle.port_rules.proofs.Cells.{gave-gave, touches_more}
-use Rattle.port_rules.proofs.Pieces.{written_cut}
+use Rattle.port_trait.specs.Number.{OUTPUT}
+use Rattle.port_trait.specs.Moves.{gave}
+use Rattle.port_trait.proofs.Cells.{gave-gave, touches_more}
+use Rattle.port_trait.proofs.Pieces.{written_cut}
 use Rattle.block_decoder.specs.Text.{agree_line}
 use Rattle.block_decoder.proofs.TextLines.{flat_map-take_more, flat_map-pieces}
 use Rattle.block_decoder.proofs.reporting.write_agreements.Goals as goal

@@ -1,7 +1,7 @@
 use Rattle.std.proofs.Common.{◌≡◌, take}
 use Rattle.std.specs.Prelude.{flat_map}
-use Rattle.port_rules.specs.Number.{OUTPUT}
-use Rattle.port_rules.specs.Moves.{Touches, gave}
+use Rattle.port_trait.specs.Number.{OUTPUT}
+use Rattle.port_trait.specs.Moves.{Touches, gave}
 use Rattle.block_decoder.specs.Text.{number_word}
 use Rattle.block_decoder.proofs.reporting.write_indices.Given as goal
 

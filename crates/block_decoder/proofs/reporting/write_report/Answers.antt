@@ -2,13 +2,13 @@ use Rattle.std.proofs.Common.{ℕ, List, ◌∙◌, ap, subst}
 use Rattle.std.specs.Prelude.{flat_map}
 use Rattle.std.proofs.lemmas.Result.{err_from_is_err_and}
 use Rattle.wire_frames.specs.Answer.{answers}
-use Rattle.port_rules.specs.Number.{OUTPUT}
-use Rattle.port_rules.specs.Moves.{gave}
-use Rattle.port_rules.specs.Written.{Written}
-use Rattle.port_rules.proofs.Pieces.{written_next}
+use Rattle.port_trait.specs.Number.{OUTPUT}
+use Rattle.port_trait.specs.Moves.{gave}
+use Rattle.port_trait.specs.Written.{Written}
+use Rattle.port_trait.proofs.Pieces.{written_next}
 use Rattle.block_decoder.specs.Report.{Agreement}
 use Rattle.block_decoder.specs.Text.{agree_line, liars_line, report_text}
-use Rattle.port_rules.proofs.Cells.{touches_more, fails_first}
+use Rattle.port_trait.proofs.Cells.{touches_more, fails_first}
 use Rattle.block_decoder.proofs.reporting.write_report.Goals as goal
 
 pub returns-in_err-write_agreements-clause-written : goal.returns-in_err-write_agreements-clause-written

@@ -1,9 +1,9 @@
 use Rattle.std.proofs.Common.{[], ◌∷◌}
 use Rattle.hex.specs.Hex.{encode_lower}
 use Rattle.block_decoder.specs.Text.{block_line}
-use Rattle.port_rules.proofs.Pieces.{written_next, written_both}
+use Rattle.port_trait.proofs.Pieces.{written_next, written_both}
 use Rattle.std.proofs.lemmas.Result.{err_from_is_err_and}
-use Rattle.port_rules.proofs.Cells.{touches_more, fails_first}
+use Rattle.port_trait.proofs.Cells.{touches_more, fails_first}
 use Rattle.block_decoder.proofs.write.write_block.Goals as goal
 
 pub returns-clause-written : goal.returns-clause-written

@@ -1,10 +1,10 @@
 use Rattle.std.proofs.Common.{◌≡◌, ◌+◌, ◌-◌, ◌∙◌, ap, sym, take, drop, arith, refl}
 use Rattle.hex.specs.Hex.{encode_lower}
-use Rattle.port_rules.specs.Moves.{gave}
-use Rattle.port_rules.proofs.Cells.{gave-gave, touches_more}
-use Rattle.port_rules.proofs.Pieces.{gave_none, written_cut}
+use Rattle.port_trait.specs.Moves.{gave}
+use Rattle.port_trait.proofs.Cells.{gave-gave, touches_more}
+use Rattle.port_trait.proofs.Pieces.{gave_none, written_cut}
 use Rattle.std.proofs.lemmas.Result.{err_from_is_err_and}
-use Rattle.port_rules.specs.Number.{OUTPUT}
+use Rattle.port_trait.specs.Number.{OUTPUT}
 use Rattle.block_decoder.proofs.HexText.{encode_lower-nil, encode_lower-take, encode_lower-pieces}
 use Rattle.block_decoder.proofs.write.write_hex.Goals as goal
 

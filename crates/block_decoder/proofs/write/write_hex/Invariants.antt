@@ -1,7 +1,7 @@
 use Rattle.std.proofs.Common.{◌≡◌, ◌-◌, ◌≤◌, length, take}
-use Rattle.port_rules.specs.Number.{OUTPUT}
+use Rattle.port_trait.specs.Number.{OUTPUT}
 use Rattle.hex.specs.Hex.{encode_lower}
-use Rattle.port_rules.specs.Moves.{Touches, gave}
+use Rattle.port_trait.specs.Moves.{Touches, gave}
 use Rattle.block_decoder.proofs.write.write_hex.Given as goal
 
 abbrev pub invariant-pieces : goal.invariant-pieces

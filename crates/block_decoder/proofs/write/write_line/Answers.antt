@@ -1,9 +1,9 @@
 use Rattle.std.proofs.Common.{[], ◌∷◌, ◌++◌}
 use Rattle.std.specs.Prelude.{flat_map}
 use Rattle.std.proofs.lemmas.Result.{err_from_is_err_and}
-use Rattle.port_rules.proofs.Pieces.{written_next, written_cut, written_both}
+use Rattle.port_trait.proofs.Pieces.{written_next, written_cut, written_both}
 use Rattle.block_decoder.specs.Text.{number_word, line_of}
-use Rattle.port_rules.proofs.Cells.{touches_more, fails_first}
+use Rattle.port_trait.proofs.Cells.{touches_more, fails_first}
 use Rattle.block_decoder.proofs.write.write_line.Goals as goal
 
 pub returns-in_err-write_all-clause-written : goal.returns-in_err-write_all-clause-written

@@ -1,11 +1,11 @@
 use Rattle.std.proofs.Common.{◌∙◌, ap, subst, [], ◌∷◌, List, ℕ, length}
 use Rattle.std.specs.Prelude.{flat_map}
-use Rattle.port_rules.specs.Number.{OUTPUT}
-use Rattle.port_rules.specs.Moves.{gave}
-use Rattle.port_rules.specs.Written.{Written}
-use Rattle.port_rules.proofs.Pieces.{written_next}
+use Rattle.port_trait.specs.Number.{OUTPUT}
+use Rattle.port_trait.specs.Moves.{gave}
+use Rattle.port_trait.specs.Written.{Written}
+use Rattle.port_trait.proofs.Pieces.{written_next}
 use Rattle.block_decoder.specs.Text.{block_line, line_of}
-use Rattle.port_rules.proofs.Cells.{touches_more, fails_first}
+use Rattle.port_trait.proofs.Cells.{touches_more, fails_first}
 use Rattle.std.proofs.lemmas.Result.{err_from_is_err_and}
 use Rattle.block_decoder.proofs.write.write_listing.Goals as goal
 

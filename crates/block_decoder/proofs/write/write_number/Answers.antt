@@ -1,8 +1,8 @@
 use Rattle.std.proofs.Common.{[], ◌∷◌, decimal}
 use Rattle.std.proofs.lemmas.Result.{err_from_is_err_and}
-use Rattle.port_rules.proofs.Pieces.{written_next, written_both}
+use Rattle.port_trait.proofs.Pieces.{written_next, written_both}
 use Rattle.block_decoder.specs.Text.{number_word}
-use Rattle.port_rules.proofs.Cells.{touches_more, fails_first}
+use Rattle.port_trait.proofs.Cells.{touches_more, fails_first}
 use Rattle.block_decoder.proofs.write.write_number.Goals as goal
 
 pub returns-clause-written : goal.returns-clause-written

@@ -2,11 +2,11 @@ use Rattle.std.proofs.Common.{length-drop, ◌≡◌, ◌∙◌, ◌+◌, ◌≤
 use Rattle.std.specs.Prelude.{Vec, Result, Ok, Err}
 use Rattle.std.specs.Result.{IsErrAnd}
 use Rattle.std.specs.declared.alloc.Global.{Global}
-use Rattle.port_rules.specs.World.{World}
-use Rattle.port_rules.specs.Number.{DATABASE}
-use Rattle.port_rules.specs.Moves.{Hands}
-use Rattle.port_rules.specs.Whole.{Reads, Ends}
-use Rattle.port_rules.proofs.Cells.{touches_more}
+use Rattle.port_trait.specs.World.{World}
+use Rattle.port_trait.specs.Number.{DATABASE}
+use Rattle.port_trait.specs.Moves.{Hands}
+use Rattle.port_trait.specs.Whole.{Reads, Ends}
+use Rattle.port_trait.proofs.Cells.{touches_more}
 use Rattle.block_matrix.specs.Loading.{Lengthens, ReadsOr, ReadsUpTo}
 use Rattle.block_matrix.specs.declared.matrix.LoadFault.{LoadFault}
 use Rattle.block_matrix.specs.declared.matrix.LoadFault.TheVariants.{EmptyFile, TooBig, ReadFault, Memory}
@@ -93,8 +93,8 @@ returns-in-Ended-clause-read g c =
     let still : take (length read) after ≡ take (length read) before = subst (λ (k : ℕ). take k after ≡ take k before) filled c.in-Ended.ensures.kept in
     let ends = subst (λ (k : ℕ). Ends DATABASE c.in-Ended.n (drop k before) (drop k after) v u) filled c.in-Ended.ensures.rest in
     let all = whole_again c.lengthen.new.bytes.len after c.lengthen.new.bytes.items (c.fill_rest.auto.bytes ∙ c.deref_mut.ensures.len) (sym c.lengthen.new.bytes.ok.0) in
-    let first : take (length read + c.in-Ended.n) after ≡ c.front.result.items =
-    sym (c.front.ensures ∙ ap (take (c.len-filled.result + c.in-Ended.n)) all ∙ ap (λ (k : ℕ). take (k + c.in-Ended.n) after) filled) in
+    let first : take (length read + c.in-Ended.n) after ≡ c.prefix.result.items =
+    sym (c.prefix.ensures ∙ ap (take (c.len-filled.result + c.in-Ended.n)) all ∙ ap (λ (k : ℕ). take (k + c.in-Ended.n) after) filled) in
     subst (λ (l : List ℕ). ReadsUpTo c.args.most l (g.P.Ports.world c.args.ports.now) u) first
     (reads_ended c.args.most c.in-Ended.n read before after _ v u kept still c.fill_rest.auto.bytes
     (omega (arith, c.deref_mut.ensures.len, c.lengthen.new.bytes.ok.0, c.in_ok-lengthen.ensures.within)) c.pieces.invariant.so_far ends)

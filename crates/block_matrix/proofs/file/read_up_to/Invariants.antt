@@ -1,7 +1,7 @@
 use Rattle.std.proofs.Common.{◌-◌, ◌≤◌, vec_len}
-use Rattle.port_rules.specs.Number.{DATABASE}
-use Rattle.port_rules.specs.Moves.{Touches}
-use Rattle.port_rules.specs.Whole.{Reads}
+use Rattle.port_trait.specs.Number.{DATABASE}
+use Rattle.port_trait.specs.Moves.{Touches}
+use Rattle.port_trait.specs.Whole.{Reads}
 use Rattle.block_matrix.proofs.file.read_up_to.Given as goal
 
 abbrev pub invariant-pieces : goal.invariant-pieces

@@ -1,5 +1,5 @@
 use Rattle.std.proofs.Common.{◌+◌, ◌∙◌, ap, map, string_bytes, subst, arith}
-use Rattle.port_rules.specs.Children.{Starts}
+use Rattle.port_trait.specs.Children.{Starts}
 use Rattle.commands.proofs.Children.{starts_more, starts_some}
 use Rattle.commands.proofs.demo_command.start_children.Goals as goal
 

@@ -1,5 +1,5 @@
 use Rattle.std.proofs.Common.{refl}
-use Rattle.port_rules.proofs.Cells.{touches_more}
+use Rattle.port_trait.proofs.Cells.{touches_more}
 use Rattle.commands.proofs.fetch_command.record_session.Goals as goal
 
 pub returns-in_default-clause-others : goal.returns-in_default-clause-others

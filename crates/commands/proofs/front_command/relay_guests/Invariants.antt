@@ -1,5 +1,5 @@
 use Rattle.std.proofs.Common.{◌≡◌, map, string_bytes}
-use Rattle.port_rules.specs.Number.{DOOR, GUEST}
+use Rattle.port_trait.specs.Number.{DOOR, GUEST}
 use Rattle.shard_front.specs.Spread.{shards}
 use Rattle.commands.specs.FrontAnswers.{FrontsGuests}
 use Rattle.commands.specs.FrontSteps.{FrontsInTurn, TouchesRelaying}

@@ -1,6 +1,6 @@
 use Rattle.std.proofs.Common.{◌∙◌, inl, lit<, sym, subst, arith}
 use Rattle.std.specs.Prelude.{Err}
-use Rattle.port_rules.specs.Number.{COINS, OUTPUT}
+use Rattle.port_trait.specs.Number.{COINS, OUTPUT}
 use Rattle.key_fetches.specs.LookedUp.{LooksUp}
 use Rattle.commands.specs.Faults.{of_fetch}
 use Rattle.commands.specs.LookUpOrder.{LookUpOrder}
@@ -9,10 +9,10 @@ use Rattle.commands.specs.declared.status.Status.{Status}
 use Rattle.commands.proofs.LookingUp.{ends_with_end, ends_with_fault}
 use Rattle.commands.proofs.lookup_command.look_up_row.Goals as goal
 
-pub returns-in-Ok-look_up_once-clause-ends : goal.returns-in-Ok-look_up_once-clause-ends
-returns-in-Ok-look_up_once-clause-ends g c =
-    let looked = rw (← c.order.view_is) at c.in-Ok-look_up_once.ensures.looked in
-    let links = rw (← c.order.view_is) at c.look_up_once.ensures.others in
+pub returns-in-Ok-look_up_uncounted-clause-ends : goal.returns-in-Ok-look_up_uncounted-clause-ends
+returns-in-Ok-look_up_uncounted-clause-ends g c =
+    let looked = rw (← c.order.view_is) at c.in-Ok-look_up_uncounted.ensures.looked in
+    let links = rw (← c.order.view_is) at c.look_up_uncounted.ensures.others in
     subst (λ (o : LookUpOrder). LookUpEnds o c.report_end.result (g.P.Ports.world c.args.ports.now) (g.P.Ports.world c.report_end.new.ports)) c.order.view_is
     (ends_with_end _ _ _ _ c.order.invariant.0 c.in-Ok.ensures.ok c.open.ensures.others links _ _ _ looked c.report_end.ensures.told c.report_end.ensures.others)
 
@@ -20,10 +20,10 @@ pub returns-in-Err-clause-ends : goal.returns-in-Err-clause-ends
 returns-in-Err-clause-ends g c =
     let opened = g.P.Ports.world c.open.new.self in
     let looked = subst (λ (o : LookUpOrder). LooksUp (key_request_by o) (Err c.in-Err.fault) (opened.at COINS) opened
-    (g.P.Ports.world c.look_up_once.new.ports)) (sym c.order.view_is) c.in-Err.ensures.looked in
-    let links = rw (← c.order.view_is) at c.look_up_once.ensures.others in
+    (g.P.Ports.world c.look_up_uncounted.new.ports)) (sym c.order.view_is) c.in-Err.ensures.looked in
+    let links = rw (← c.order.view_is) at c.look_up_uncounted.ensures.others in
     let old = g.P.Ports.world c.args.ports.now in
-    let new = g.P.Ports.world c.look_up_once.new.ports in
+    let new = g.P.Ports.world c.look_up_uncounted.new.ports in
     subst (λ (s : Status). LookUpEnds c.args.order.now s old new) (sym c.into.ensures)
     (subst (λ (o : LookUpOrder). LookUpEnds o (of_fetch c.in-Err.fault) old new) c.order.view_is
     (ends_with_fault _ _ _ _ c.order.invariant.0 c.in-Ok.ensures.ok c.open.ensures.others links c.in-Err.fault looked))
@@ -42,17 +42,17 @@ returns-in_default-clause-others g c =
 pub returns-in-Err-clause-others : goal.returns-in-Err-clause-others
 returns-in-Err-clause-others g c =
     let first = c.open.ensures.others in
-    let asked = c.look_up_once.ensures.others in
+    let asked = c.look_up_uncounted.ensures.others in
     record {
       others = λ q l to_tell to_toss to_ask. asked.others q l to_toss to_ask ∙ first.others q l to_toss;
       crowd = asked.crowd ∙ first.crowd;
       started = asked.started ∙ first.started;
     }
 
-pub returns-in-Ok-look_up_once-clause-others : goal.returns-in-Ok-look_up_once-clause-others
-returns-in-Ok-look_up_once-clause-others g c =
+pub returns-in-Ok-look_up_uncounted-clause-others : goal.returns-in-Ok-look_up_uncounted-clause-others
+returns-in-Ok-look_up_uncounted-clause-others g c =
     let first = c.open.ensures.others in
-    let asked = c.look_up_once.ensures.others in
+    let asked = c.look_up_uncounted.ensures.others in
     let told = c.report_end.ensures.others in
     record {
       others = λ q l to_tell to_toss to_ask. told.others q l to_tell ∙ asked.others q l to_toss to_ask ∙ first.others q l to_toss;

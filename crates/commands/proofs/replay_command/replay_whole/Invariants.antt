@@ -1,7 +1,7 @@
 use Rattle.commands.proofs.replay_command.replay_whole.Given as goal
 
-abbrev pub ghosts-replay_whole_once-C-Ledger : goal.ghosts-replay_whole_once-C-Ledger
-ghosts-replay_whole_once-C-Ledger g a = record { name = a.cols.name; parts = a.cols.parts }
+abbrev pub ghosts-replay_whole_uncounted-C-Ledger : goal.ghosts-replay_whole_uncounted-C-Ledger
+ghosts-replay_whole_uncounted-C-Ledger g a = record { name = a.cols.name; parts = a.cols.parts }
 
-abbrev pub ghosts-replay_whole_once-N-Ledger : goal.ghosts-replay_whole_once-N-Ledger
-ghosts-replay_whole_once-N-Ledger g a = record { name = a.nodes.name; parts = a.nodes.parts }
+abbrev pub ghosts-replay_whole_uncounted-N-Ledger : goal.ghosts-replay_whole_uncounted-N-Ledger
+ghosts-replay_whole_uncounted-N-Ledger g a = record { name = a.nodes.name; parts = a.nodes.parts }

@@ -1,6 +1,6 @@
 use Rattle.std.proofs.lemmas.Result.{err_from_is_err_and}
-use Rattle.port_rules.proofs.Cells.{touches_more, fails_first}
-use Rattle.port_rules.proofs.Pieces.{written_next}
+use Rattle.port_trait.proofs.Cells.{touches_more, fails_first}
+use Rattle.port_trait.proofs.Pieces.{written_next}
 use Rattle.block_decoder.specs.Text.{report_text, text}
 use Rattle.commands.proofs.report.write_both.Goals as goal
 

@@ -1,7 +1,7 @@
 use Rattle.std.proofs.Common.{◌≡◌, ◌∙◌, ◌++◌, ℕ, List, refl, sym, subst}
-use Rattle.port_rules.specs.Number.{OUTPUT}
-use Rattle.port_rules.specs.Moves.{gave}
-use Rattle.port_rules.specs.Whole.{FailsWithin}
+use Rattle.port_trait.specs.Number.{OUTPUT}
+use Rattle.port_trait.specs.Moves.{gave}
+use Rattle.port_trait.specs.Whole.{FailsWithin}
 use Rattle.block_decoder.specs.Text.{text}
 use Rattle.commands.specs.SelfrunOutcome.{SelfrunEnds}
 use Rattle.commands.specs.declared.status.Status.{Status}

@@ -3,10 +3,10 @@ use Rattle.std.specs.Bool.{◌==◌}
 use Rattle.std.proofs.lemmas.List.{append-nil}
 use Rattle.std.proofs.lemmas.Result.{err_from_is_err_and}
 use Rattle.block_decoder.specs.Text.{text}
-use Rattle.port_rules.specs.Number.{OUTPUT}
-use Rattle.port_rules.specs.Moves.{gave}
-use Rattle.port_rules.proofs.Cells.{touches_more, fails_first}
-use Rattle.port_rules.proofs.Pieces.{written_both, written_next}
+use Rattle.port_trait.specs.Number.{OUTPUT}
+use Rattle.port_trait.specs.Moves.{gave}
+use Rattle.port_trait.proofs.Cells.{touches_more, fails_first}
+use Rattle.port_trait.proofs.Pieces.{written_both, written_next}
 use Rattle.commands.proofs.selfrun_command.write_report.Goals as goal
 
 -- nothing follows

@@ -7,7 +7,7 @@ use Rattle.commands.specs.ServeOrder.{ServeOrder}
 use Rattle.commands.specs.ServeSteps.{OpensDesk}
 use Rattle.commands.specs.declared.status.Status.{Status}
 use Rattle.commands.specs.declared.status.Status.TheVariants.{Memory}
-use Rattle.port_rules.proofs.Cells.{touches_more}
+use Rattle.port_trait.proofs.Cells.{touches_more}
 use Rattle.commands.proofs.Loading.{desk_opened, desk_unloaded, desk_unmade, desk_unopened}
 use Rattle.commands.proofs.serve_command.open_desk.Goals as goal
 

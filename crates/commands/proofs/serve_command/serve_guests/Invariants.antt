@@ -1,5 +1,5 @@
 use Rattle.std.proofs.Common.{◌≡◌}
-use Rattle.port_rules.specs.Number.{DOOR, GUEST}
+use Rattle.port_trait.specs.Number.{DOOR, GUEST}
 use Rattle.commands.specs.ServeSteps.{AttendsInTurn, ServesGuests, TouchesGuests}
 use Rattle.commands.proofs.Serving.{Replying}
 use Rattle.commands.proofs.serve_command.serve_guests.Given as goal

@@ -1,4 +1,4 @@
-use Rattle.port_rules.specs.Number.{COINS}
+use Rattle.port_trait.specs.Number.{COINS}
 use Rattle.query_rounds.specs.Gathered.{TouchesLinks}
 use Rattle.key_fetches.proofs.Progress.{InTurns}
 use Rattle.key_fetches.proofs.turns.look_up.Given as goal

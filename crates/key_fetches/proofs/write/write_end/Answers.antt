@@ -1,7 +1,7 @@
 use Rattle.std.proofs.Common.{List, ℕ, subst}
-use Rattle.port_rules.specs.Number.{OUTPUT}
-use Rattle.port_rules.specs.Written.{Written}
-use Rattle.port_rules.proofs.Pieces.{written_both}
+use Rattle.port_trait.specs.Number.{OUTPUT}
+use Rattle.port_trait.specs.Written.{Written}
+use Rattle.port_trait.proofs.Pieces.{written_both}
 use Rattle.key_fetches.specs.Text.{absent_line}
 use Rattle.key_fetches.proofs.Ends.{absent_text, found_text, verdict_text}
 use Rattle.key_fetches.proofs.write.write_end.Goals as goal

@@ -1,7 +1,7 @@
 use Rattle.std.proofs.Common.{codes}
 use Rattle.std.proofs.lemmas.Result.{err_from_is_err_and}
-use Rattle.port_rules.proofs.Cells.{fails_first}
-use Rattle.port_rules.proofs.Pieces.{written_next}
+use Rattle.port_trait.proofs.Cells.{fails_first}
+use Rattle.port_trait.proofs.Pieces.{written_next}
 use Rattle.block_decoder.specs.Text.{block_line}
 use Rattle.key_fetches.specs.Text.{found_line}
 use Rattle.key_fetches.proofs.write.write_found.Goals as goal

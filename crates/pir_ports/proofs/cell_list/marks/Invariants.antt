@@ -1,6 +1,6 @@
 use Rattle.std.proofs.Common.{ℕ, ◌<◌, ◌≡◌, length, get_or}
-use Rattle.port_rules.specs.declared.port.TheConstants.{LINK_COUNT}
-use Rattle.port_rules.specs.Number.{link}
+use Rattle.port_trait.specs.declared.port.TheConstants.{LINK_COUNT}
+use Rattle.port_trait.specs.Number.{link}
 use Rattle.pir_ports.specs.MemoryCell.{empty_cell}
 use Rattle.pir_ports.specs.Marks.{Marks, no_mark}
 use Rattle.pir_ports.proofs.cell_list.marks.Given as goal

@@ -2,11 +2,11 @@ use Rattle.std.proofs.Common.{◌≡◌, ◌∙◌, ◌<◌, ℕ, Fits, w8, List
 use Rattle.std.specs.Prelude.{Option, Some, None, IfSome}
 use Rattle.std.proofs.lemmas.List.{take_all}
 use Rattle.std.proofs.lemmas.List.Elements.{All-from_get_or}
-use Rattle.port_rules.specs.World.{World}
-use Rattle.port_rules.specs.Number.{COINS}
-use Rattle.port_rules.specs.Moves.{Came, Hands}
-use Rattle.port_rules.specs.Tossed.{RunsOut, Tossed}
-use Rattle.port_rules.specs.Whole.{Ends}
+use Rattle.port_trait.specs.World.{World}
+use Rattle.port_trait.specs.Number.{COINS}
+use Rattle.port_trait.specs.Moves.{Came, Hands}
+use Rattle.port_trait.specs.Tossed.{RunsOut, Tossed}
+use Rattle.port_trait.specs.Whole.{Ends}
 use Rattle.query_rounds.proofs.coins.take_coins.Goals as goal
 
 -- the coins that came are the first that were held

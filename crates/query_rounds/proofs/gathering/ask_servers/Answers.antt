@@ -2,10 +2,10 @@ use Rattle.std.proofs.Common.{◌≡◌, ◌∙◌, ℕ, List, ◌++◌, length,
 use Rattle.std.specs.Prelude.{Bool, Result, Ok, Err}
 use Rattle.std.specs.Result.{IsErrAnd}
 use Rattle.std.proofs.lemmas.List.{take-append-le, take_all}
-use Rattle.port_rules.specs.World.{World}
-use Rattle.port_rules.specs.Number.{COINS, link}
-use Rattle.port_rules.specs.Each.{TouchesRange}
-use Rattle.port_rules.specs.Moves.{Touches}
+use Rattle.port_trait.specs.World.{World}
+use Rattle.port_trait.specs.Number.{COINS, link}
+use Rattle.port_trait.specs.Each.{TouchesRange}
+use Rattle.port_trait.specs.Moves.{Touches}
 use Rattle.wire_frames.specs.Session.{Transcript}
 use Rattle.wire_frames.specs.Sizes.{answer_len}
 use Rattle.query_rounds.specs.declared.plan.FetchFault.{FetchFault}

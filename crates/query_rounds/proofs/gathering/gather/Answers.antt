@@ -1,7 +1,7 @@
 use Rattle.std.proofs.Common.{◌≡◌, ◌∙◌, ℕ, List, inl, refl, ap, sym, subst}
 use Rattle.std.specs.Prelude.{Result, Ok, Err}
 use Rattle.std.specs.Result.{IsErrAnd}
-use Rattle.port_rules.specs.World.{World}
+use Rattle.port_trait.specs.World.{World}
 use Rattle.wire_frames.specs.Session.{Transcript}
 use Rattle.query_rounds.specs.declared.plan.FetchFault.{FetchFault}
 use Rattle.query_rounds.specs.declared.plan.FetchFault.TheVariants.{CoinsFault, CoinsEnded, Memory}

@@ -1,6 +1,6 @@
 use Rattle.std.proofs.Common.{length, sym, subst}
 use Rattle.std.specs.Prelude.{Bool, None}
-use Rattle.port_rules.specs.Number.{link}
+use Rattle.port_trait.specs.Number.{link}
 use Rattle.query_rounds.specs.Link.{LinkTaken}
 use Rattle.query_rounds.proofs.Asking.{fails_to_hand}
 use Rattle.query_rounds.proofs.links.take_answer.Goals as goal

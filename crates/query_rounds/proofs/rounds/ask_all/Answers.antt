@@ -1,7 +1,7 @@
 use Rattle.std.proofs.Common.{◌≡◌, ◌∙◌, ℕ, ◌<◌, ◌≤◌, subst, arith}
-use Rattle.port_rules.specs.Number.{link}
-use Rattle.port_rules.specs.Each.{TouchesRange}
-use Rattle.port_rules.proofs.Ranges.{each_none, range_none, range_more}
+use Rattle.port_trait.specs.Number.{link}
+use Rattle.port_trait.specs.Each.{TouchesRange}
+use Rattle.port_trait.proofs.Ranges.{each_none, range_none, range_more}
 use Rattle.quantity_limits.specs.declared.TheConstants.{MOST_SERVERS}
 use Rattle.query_rounds.specs.Rounds.{SentEach}
 use Rattle.query_rounds.proofs.Asking.{all_asked, sent_more, within}

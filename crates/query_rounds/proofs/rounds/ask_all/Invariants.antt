@@ -1,5 +1,5 @@
-use Rattle.port_rules.specs.Number.{link}
-use Rattle.port_rules.specs.Each.{TouchesRange}
+use Rattle.port_trait.specs.Number.{link}
+use Rattle.port_trait.specs.Each.{TouchesRange}
 use Rattle.query_rounds.specs.Rounds.{SentEach}
 use Rattle.query_rounds.proofs.rounds.ask_all.Given as goal
 

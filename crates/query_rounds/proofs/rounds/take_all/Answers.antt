@@ -1,10 +1,10 @@
 use Rattle.std.proofs.Common.{◌≡◌, ◌∙◌, ◌++◌, ◌∷◌, [], ℕ, ◌+◌, ◌<◌, List, length, ap, sym, subst, arith, length-append, refl}
 use Rattle.std.specs.Prelude.{Option}
-use Rattle.port_rules.specs.Number.{link}
-use Rattle.port_rules.specs.Moves.{Touches}
-use Rattle.port_rules.specs.Each.{TouchesRange}
-use Rattle.port_rules.specs.World.{World}
-use Rattle.port_rules.proofs.Ranges.{each_none, range_none, range_more}
+use Rattle.port_trait.specs.Number.{link}
+use Rattle.port_trait.specs.Moves.{Touches}
+use Rattle.port_trait.specs.Each.{TouchesRange}
+use Rattle.port_trait.specs.World.{World}
+use Rattle.port_trait.proofs.Ranges.{each_none, range_none, range_more}
 use Rattle.quantity_limits.specs.declared.TheConstants.{MOST_SERVERS}
 use Rattle.wire_frames.specs.Sizes.{answer_len}
 use Rattle.wire_frames.specs.Session.{Transcript}

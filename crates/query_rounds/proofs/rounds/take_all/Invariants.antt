@@ -1,6 +1,6 @@
 use Rattle.std.proofs.Common.{◌≡◌, length}
-use Rattle.port_rules.specs.Number.{link}
-use Rattle.port_rules.specs.Each.{TouchesRange}
+use Rattle.port_trait.specs.Number.{link}
+use Rattle.port_trait.specs.Each.{TouchesRange}
 use Rattle.query_rounds.specs.Rounds.{TakenEach}
 use Rattle.query_rounds.proofs.rounds.take_all.Given as goal
 

@@ -1,7 +1,7 @@
 use Rattle.std.proofs.Common.{◌≡◌, ◌≤◌, ◌∙◌, ℕ, List, length, subst, sym, refl, arith}
 use Rattle.std.proofs.lemmas.List.{take_at}
-use Rattle.port_rules.specs.Number.{GUEST}
-use Rattle.port_rules.proofs.Cells.{touches_more}
+use Rattle.port_trait.specs.Number.{GUEST}
+use Rattle.port_trait.proofs.Cells.{touches_more}
 use Rattle.serve_core.specs.Service.{terms_of}
 use Rattle.serve_core.specs.Terms.{most_payload_for}
 use Rattle.serve_core.specs.Taking.{BreaksTaking, Dismisses, TakesQuery}

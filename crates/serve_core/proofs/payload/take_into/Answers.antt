@@ -1,7 +1,7 @@
 use Rattle.std.proofs.Common.{◌≤◌, ◌∙◌, ℕ, List, true, inl, inr, refl, sym, subst, arith}
-use Rattle.port_rules.specs.Number.{GUEST}
-use Rattle.port_rules.specs.Whole.{FailsShort}
-use Rattle.port_rules.proofs.Cells.{touches_more}
+use Rattle.port_trait.specs.Number.{GUEST}
+use Rattle.port_trait.specs.Whole.{FailsShort}
+use Rattle.port_trait.proofs.Cells.{touches_more}
 use Rattle.wire_frames.specs.declared.header.QueryHeader.{QueryHeader}
 use Rattle.wire_frames.specs.Limits.{IsQuery}
 use Rattle.serve_core.specs.Case.{IsShaped}

@@ -1,6 +1,6 @@
 use Rattle.std.proofs.Common.{◌≡◌, ◌≤◌, ◌∙◌, ℕ, List, ◌++◌, length, drop, subst, sym, arith}
 use Rattle.std.proofs.lemmas.List.{length-take-le, take_at}
-use Rattle.port_rules.specs.World.{World}
+use Rattle.port_trait.specs.World.{World}
 use Rattle.wire_frames.specs.declared.header.QueryHeader.{QueryHeader}
 use Rattle.serve_core.specs.Terms.{payload_len_for}
 use Rattle.serve_core.specs.Taking.{payload_in}

@@ -1,6 +1,6 @@
 use Rattle.std.proofs.Common.{refl, arith}
-use Rattle.port_rules.specs.Number.{GUEST}
-use Rattle.port_rules.proofs.Cells.{touches_more}
+use Rattle.port_trait.specs.Number.{GUEST}
+use Rattle.port_trait.proofs.Cells.{touches_more}
 use Rattle.serve_core.proofs.Taking.{breaks_first, ends_first, takes_payload, takes_refusal}
 use Rattle.serve_core.proofs.take.take_on.Goals as goal
 

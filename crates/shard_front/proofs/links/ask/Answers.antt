@@ -1,6 +1,6 @@
 use Rattle.std.proofs.Common.{inl, arith}
-use Rattle.port_rules.specs.Number.{link}
-use Rattle.port_rules.proofs.Cells.{touches_more}
+use Rattle.port_trait.specs.Number.{link}
+use Rattle.port_trait.proofs.Cells.{touches_more}
 use Rattle.shard_front.proofs.Linking.{answers_short, answers_whole, breaks_giving, breaks_reading}
 use Rattle.shard_front.proofs.links.ask.Goals as goal
 

@@ -1,7 +1,7 @@
 use Rattle.std.proofs.Common.{◌≡◌, ℕ, ◌+◌, ◌<◌, refl, subst, arith}
-use Rattle.port_rules.specs.Number.{link}
-use Rattle.port_rules.specs.declared.port.TheConstants.{PORT_COUNT}
-use Rattle.port_rules.proofs.Ranges.{range_more}
+use Rattle.port_trait.specs.Number.{link}
+use Rattle.port_trait.specs.declared.port.TheConstants.{PORT_COUNT}
+use Rattle.port_trait.proofs.Ranges.{range_more}
 use Rattle.shard_front.specs.Spread.{shards}
 use Rattle.shard_front.specs.Asked.{SumsFirst}
 use Rattle.shard_front.proofs.Summing.{lost_next, sums_more, sums_none}

@@ -1,7 +1,7 @@
 use Rattle.std.proofs.Common.{◌≡◌, ◌∙◌, ℕ, ◌+◌, ◌*◌, ◌<◌, ◌≤◌, length, take, refl, sym, ap, ap₂, subst, arith}
 use Rattle.std.proofs.lemmas.List.{length-take-le}
-use Rattle.port_rules.specs.Number.{link}
-use Rattle.port_rules.specs.Moves.{Touches}
+use Rattle.port_trait.specs.Number.{link}
+use Rattle.port_trait.specs.Moves.{Touches}
 use Rattle.wire_frames.specs.declared.header.QueryHeader.{QueryHeader}
 use Rattle.wire_frames.specs.declared.scheme.Scheme.TheVariants.{Shamir}
 use Rattle.wire_frames.specs.declared.sizes.TheConstants.{FRAME_HEADER_LEN}

@@ -2,12 +2,12 @@ use Rattle.std.proofs.Common.{◌≡◌, ◌∙◌, ℕ, ◌<◌, List, get_or, 
 use Rattle.std.specs.Prelude.{IfSome}
 use Rattle.std.proofs.lemmas.List.{get_or_default, take_all}
 use Rattle.std.proofs.lemmas.Option.{IfSome_then}
-use Rattle.port_rules.specs.World.{Cell, World}
-use Rattle.port_rules.specs.Number.{COINS}
-use Rattle.port_rules.specs.Moves.{Came, Hands, RoseOnce, named, took, counted}
-use Rattle.port_rules.specs.Whole.{Ends, FailsShort}
-use Rattle.port_rules.specs.Files.{Unread}
-use Rattle.port_rules.specs.Tossed.{Tossed, RunsOut}
+use Rattle.port_trait.specs.World.{Cell, World}
+use Rattle.port_trait.specs.Number.{COINS}
+use Rattle.port_trait.specs.Moves.{Came, Hands, RoseOnce, named, took, counted}
+use Rattle.port_trait.specs.Whole.{Ends, FailsShort}
+use Rattle.port_trait.specs.Files.{Unread}
+use Rattle.port_trait.specs.Tossed.{Tossed, RunsOut}
 use Rattle.share_files.proofs.coins.take_coins.Goals as goal
 
 -- bytes, by each of them

@@ -2,8 +2,8 @@ use Rattle.std.proofs.Common.{◌≡◌, ◌+◌, ◌-◌, ◌*◌, ◌≤◌, �
 use Rattle.std.specs.List.{slice_range}
 use Rattle.std.proofs.Math.Nat.{mul-le-mul_right}
 use Rattle.std.proofs.lemmas.List.{length-take-le}
-use Rattle.port_rules.specs.Number.{share_file}
-use Rattle.port_rules.proofs.Cells.{at_err, touches_more}
+use Rattle.port_trait.specs.Number.{share_file}
+use Rattle.port_trait.proofs.Cells.{at_err, touches_more}
 use Rattle.share_bytes.specs.Share.{share}
 use Rattle.share_bytes.proofs.Shares.{length-share, length-slice}
 use Rattle.share_files.specs.Sharing.{CutsShare, GivesShare, Sharing}

@@ -1,6 +1,6 @@
 use Rattle.std.proofs.Common.{◌≡◌, ◌-◌, ◌≤◌, length}
-use Rattle.port_rules.specs.Number.{share_file}
-use Rattle.port_rules.specs.Moves.{Touches, gave}
+use Rattle.port_trait.specs.Number.{share_file}
+use Rattle.port_trait.specs.Moves.{Touches, gave}
 use Rattle.share_bytes.proofs.Shares.{first_shares}
 use Rattle.share_files.proofs.splitting.give_share.Given as goal
 

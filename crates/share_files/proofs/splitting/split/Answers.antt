@@ -1,6 +1,6 @@
 use Rattle.std.proofs.Common.{◌≡◌, ◌∙◌, ℕ, ◌*◌, List, Result, Err, length, map, string_bytes, refl, sym, ap, subst, arith}
 use Rattle.std.proofs.lemmas.Result.{err_from_is_err_and}
-use Rattle.port_rules.specs.World.{World}
+use Rattle.port_trait.specs.World.{World}
 use Rattle.share_files.specs.SplitPlan.{SplitPlan, share_names}
 use Rattle.share_files.specs.Splits.{Splits, TouchesShares}
 use Rattle.share_files.specs.declared.fault.SplitFault.{SplitFault}

@@ -1,10 +1,10 @@
 use Rattle.std.proofs.Common.{◌≡◌, ◌∙◌, ℕ, ◌*◌, ◌<◌, List, length, map, string_bytes, sym, subst, rules, arith}
 use Rattle.std.specs.Prelude.{Result, Ok, Err}
 use Rattle.std.specs.Result.{IsErrAnd}
-use Rattle.port_rules.specs.World.{World}
-use Rattle.port_rules.specs.Number.{COINS, share_file}
-use Rattle.port_rules.specs.Moves.{Touches}
-use Rattle.port_rules.specs.Each.{TouchesRange}
+use Rattle.port_trait.specs.World.{World}
+use Rattle.port_trait.specs.Number.{COINS, share_file}
+use Rattle.port_trait.specs.Moves.{Touches}
+use Rattle.port_trait.specs.Each.{TouchesRange}
 use Rattle.share_files.specs.SplitPlan.{SplitPlan, share_names}
 use Rattle.share_files.specs.Splits.{Splits, SplitsWhole, SplitsPart, TakesCoins, TouchesShares}
 use Rattle.share_files.specs.declared.fault.SplitFault.{SplitFault}

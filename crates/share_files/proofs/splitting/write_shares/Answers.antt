@@ -1,11 +1,11 @@
 use Rattle.std.proofs.Common.{◌≡◌, ◌≢◌, ◌∙◌, ◌+◌, ◌-◌, ◌<◌, ◌≤◌, ℕ, List, [], length, map, string_bytes}
 use Rattle.std.proofs.Common.{slice_index_or, refl, sym, ap, ap₂, subst, rules, arith}
 use Rattle.std.proofs.lemmas.List.{length-map, get_or-map}
-use Rattle.port_rules.specs.Number.{share_file}
-use Rattle.port_rules.specs.Moves.{gave, named}
-use Rattle.port_rules.specs.Each.{TouchesRange}
-use Rattle.port_rules.specs.Files.{Unwritten}
-use Rattle.port_rules.proofs.Ranges.{range_none}
+use Rattle.port_trait.specs.Number.{share_file}
+use Rattle.port_trait.specs.Moves.{gave, named}
+use Rattle.port_trait.specs.Each.{TouchesRange}
+use Rattle.port_trait.specs.Files.{Unwritten}
+use Rattle.port_trait.proofs.Ranges.{range_none}
 use Rattle.quantity_limits.specs.declared.TheConstants.{MOST_SERVERS}
 use Rattle.share_files.specs.Sharing.{share_of}
 use Rattle.share_files.specs.Splits.{SharesEach}

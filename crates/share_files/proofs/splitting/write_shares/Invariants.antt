@@ -1,6 +1,6 @@
 use Rattle.std.proofs.Common.{◌≡◌, ◌<◌, length, map, string_bytes}
-use Rattle.port_rules.specs.Number.{share_file}
-use Rattle.port_rules.specs.Each.{TouchesRange}
+use Rattle.port_trait.specs.Number.{share_file}
+use Rattle.port_trait.specs.Each.{TouchesRange}
 use Rattle.share_files.specs.Splits.{SharesEach}
 use Rattle.share_files.proofs.splitting.write_shares.Given as goal
 

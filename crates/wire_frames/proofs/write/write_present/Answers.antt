@@ -2,11 +2,11 @@ use Rattle.std.proofs.Common.{◌≡◌, ◌∙◌, ◌++◌, [], ◌∷◌, Lis
 use Rattle.std.proofs.lemmas.List.{append-nil}
 use Rattle.std.specs.Prelude.{◌==◌, Some}
 use Rattle.std.proofs.lemmas.Result.{err_from_is_err_and}
-use Rattle.port_rules.specs.Number.{RECORD}
-use Rattle.port_rules.specs.Moves.{gave}
-use Rattle.port_rules.specs.Whole.{FailsWithin}
-use Rattle.port_rules.proofs.Cells.{fails_first}
-use Rattle.port_rules.proofs.Pieces.{written_next, written_both}
+use Rattle.port_trait.specs.Number.{RECORD}
+use Rattle.port_trait.specs.Moves.{gave}
+use Rattle.port_trait.specs.Whole.{FailsWithin}
+use Rattle.port_trait.proofs.Cells.{fails_first}
+use Rattle.port_trait.proofs.Pieces.{written_next, written_both}
 use Rattle.wire_frames.specs.Layout.{record_header}
 use Rattle.wire_frames.proofs.write.write_present.Goals as goal
 

@@ -4,10 +4,10 @@ use Rattle.std.specs.Option.{option_copied}
 use Rattle.std.proofs.lemmas.List.{take_all}
 use Rattle.std.proofs.lemmas.List.Elements.{All-get_or}
 use Rattle.std.proofs.lemmas.Result.{err_from_is_err_and}
-use Rattle.port_rules.specs.Number.{RECORD}
-use Rattle.port_rules.specs.Moves.{gave}
-use Rattle.port_rules.proofs.Cells.{gave-gave, touches_more}
-use Rattle.port_rules.proofs.Pieces.{gave_none, written_cut}
+use Rattle.port_trait.specs.Number.{RECORD}
+use Rattle.port_trait.specs.Moves.{gave}
+use Rattle.port_trait.proofs.Cells.{gave-gave, touches_more}
+use Rattle.port_trait.proofs.Pieces.{gave_none, written_cut}
 use Rattle.wire_frames.specs.Sizes.{answer_len}
 use Rattle.wire_frames.specs.Session.{Fits, records_bytes}
 use Rattle.wire_frames.proofs.Filing.{records_more, records_pieces}

@@ -1,6 +1,6 @@
 use Rattle.std.proofs.Common.{◌≡◌, take}
-use Rattle.port_rules.specs.Number.{RECORD}
-use Rattle.port_rules.specs.Moves.{Touches, gave}
+use Rattle.port_trait.specs.Number.{RECORD}
+use Rattle.port_trait.specs.Moves.{Touches, gave}
 use Rattle.wire_frames.specs.Session.{records_bytes}
 use Rattle.wire_frames.proofs.write.write_records.Given as goal
 

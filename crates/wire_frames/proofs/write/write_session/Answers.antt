@@ -1,10 +1,10 @@
 use Rattle.std.proofs.Common.{◌∙◌, List, ℕ, ap, subst, refl}
 use Rattle.std.proofs.lemmas.Result.{err_from_is_err_and}
-use Rattle.port_rules.specs.Number.{RECORD}
-use Rattle.port_rules.specs.Moves.{gave}
-use Rattle.port_rules.specs.Whole.{FailsWithin}
-use Rattle.port_rules.proofs.Cells.{fails_first}
-use Rattle.port_rules.proofs.Pieces.{written_next}
+use Rattle.port_trait.specs.Number.{RECORD}
+use Rattle.port_trait.specs.Moves.{gave}
+use Rattle.port_trait.specs.Whole.{FailsWithin}
+use Rattle.port_trait.proofs.Cells.{fails_first}
+use Rattle.port_trait.proofs.Pieces.{written_next}
 use Rattle.wire_frames.specs.Session.{header_bytes, records_bytes}
 use Rattle.wire_frames.proofs.write.write_session.Goals as goal
 

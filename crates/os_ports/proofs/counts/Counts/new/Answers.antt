@@ -1,5 +1,5 @@
 use Rattle.std.proofs.Common.{◌≡◌, ◌∙◌, ℕ, zero, suc, List, slice_index, replicate, refl, ap}
-use Rattle.port_rules.specs.declared.port.TheConstants.{PORT_COUNT}
+use Rattle.port_trait.specs.declared.port.TheConstants.{PORT_COUNT}
 use Rattle.os_ports.proofs.counts.Counts.new.Goals as goal
 
 -- a list of zeros has 0 everywhere

@@ -1,4 +1,4 @@
-use Rattle.port_rules.specs.Number.{number}
+use Rattle.port_trait.specs.Number.{number}
 use Rattle.os_ports.proofs.Told.{fails, gives, handed_on, touches}
 use Rattle.os_ports.proofs.ports.OsPortsPorts.give.Goals as goal
 

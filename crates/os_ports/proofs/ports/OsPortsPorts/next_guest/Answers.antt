@@ -1,4 +1,4 @@
-use Rattle.port_rules.specs.Number.{DOOR}
+use Rattle.port_trait.specs.Number.{DOOR}
 use Rattle.os_ports.proofs.Told.{fails, meets, touches_failed}
 use Rattle.os_ports.proofs.ports.OsPortsPorts.next_guest.Goals as goal
 

@@ -1,4 +1,4 @@
-use Rattle.port_rules.specs.Number.{child}
+use Rattle.port_trait.specs.Number.{child}
 use Rattle.os_ports.proofs.Told.{fails, starts, touches_failed}
 use Rattle.os_ports.proofs.ports.OsPortsPorts.start_child.Goals as goal
 

@@ -1,5 +1,5 @@
 use Rattle.std.proofs.lemmas.Result.{IfOk-weaker}
-use Rattle.port_rules.specs.Number.{number}
+use Rattle.port_trait.specs.Number.{number}
 use Rattle.os_ports.proofs.Told.{fails, hands, handed_on, touches}
 use Rattle.os_ports.proofs.ports.OsPortsPorts.take.Goals as goal
 

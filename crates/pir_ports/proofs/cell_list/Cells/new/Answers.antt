@@ -1,6 +1,6 @@
 use Rattle.std.proofs.Common.{◌≡◌, ◌∙◌, ap, arith, map, replicate}
 use Rattle.pir_ports.specs.MemoryCell.{empty_cell}
-use Rattle.port_rules.specs.declared.port.TheConstants.{PORT_COUNT}
+use Rattle.port_trait.specs.declared.port.TheConstants.{PORT_COUNT}
 use Rattle.pir_ports.specs.Marks.{links_by}
 use Rattle.pir_ports.proofs.cell_list.Cells.new.Goals as goal
 

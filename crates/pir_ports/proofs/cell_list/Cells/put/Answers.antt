@@ -2,7 +2,7 @@ use Rattle.std.proofs.Common.{◌≡◌, ◌<◌, ◌∙◌, ap, subst, sym, len
 use Rattle.std.proofs.lemmas.List.{get_or_read}
 use Rattle.pir_ports.specs.MemoryCell.{MemoryCell, empty_cell, put}
 use Rattle.pir_ports.specs.CellList.{CellList}
-use Rattle.port_rules.proofs.Cells.{at_err}
+use Rattle.port_trait.proofs.Cells.{at_err}
 use Rattle.pir_ports.proofs.MarksStay.{Extends, one_changed, one_same, port_extends, still_extends, rows_lie}
 use Rattle.pir_ports.proofs.cell_list.Cells.put.Goals as goal
 

@@ -1,7 +1,7 @@
 use Rattle.std.proofs.Common.{◌≡◌, ◌+◌, ℕ, List, get_or, ap, sym, ◌∙◌, arith}
 use Rattle.std.specs.Prelude.{Some, slice_get}
 use Rattle.std.proofs.lemmas.List.{get_or_read}
-use Rattle.port_rules.specs.World.{everyone}
+use Rattle.port_trait.specs.World.{everyone}
 use Rattle.pir_ports.specs.MemoryCell.{MemoryCell, empty_cell}
 use Rattle.pir_ports.specs.Memory.{Memory, cell_at}
 use Rattle.pir_ports.specs.PortsInside.{memory_of}

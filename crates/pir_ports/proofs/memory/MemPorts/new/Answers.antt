@@ -1,7 +1,7 @@
 use Rattle.std.proofs.Common.{◌≡◌, ◌∙◌, ℕ, zero, suc, [], ap, refl, replicate, get_or}
 use Rattle.pir_ports.specs.MemoryCell.{empty_cell}
 use Rattle.pir_ports.specs.Memory.{Memory, told, world_of}
-use Rattle.port_rules.specs.declared.port.TheConstants.{PORT_COUNT}
+use Rattle.port_trait.specs.declared.port.TheConstants.{PORT_COUNT}
 use Rattle.pir_ports.proofs.memory.MemPorts.new.Goals as goal
 
 -- each of so many empty ports is one

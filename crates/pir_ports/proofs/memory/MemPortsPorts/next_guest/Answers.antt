@@ -1,6 +1,6 @@
 use Rattle.std.proofs.Common.{◌≡◌, ◌<◌, ◌++◌, ◌∷◌, ℕ, [], length, drop, get_or, inl, inr, refl, ap, sym, subst, ◌∙◌, arith, rules, length-drop}
 use Rattle.std.proofs.lemmas.List.{drop_all, get_or_read}
-use Rattle.port_rules.specs.Guests.{Meets}
+use Rattle.port_trait.specs.Guests.{Meets}
 use Rattle.pir_ports.specs.MemoryCell.{MemoryCell, empty_cell, came_in}
 use Rattle.pir_ports.specs.CellList.{CellList, with_cell, with_links}
 use Rattle.pir_ports.specs.Memory.{Memory, world_of, called, met}

@@ -1,6 +1,6 @@
 use Rattle.std.proofs.Common.{◌≡◌, ℕ, ap, sym, subst, ◌∙◌, inl, inr, refl, rules}
-use Rattle.port_rules.specs.Number.{number}
-use Rattle.port_rules.specs.Moves.{Touches, named}
+use Rattle.port_trait.specs.Number.{number}
+use Rattle.port_trait.specs.Moves.{Touches, named}
 use Rattle.pir_ports.specs.NameLog.{NameLog, with_name}
 use Rattle.pir_ports.specs.Memory.{Memory, world_from, world_of, crowd_of}
 use Rattle.pir_ports.specs.PortsInside.{memory_of}

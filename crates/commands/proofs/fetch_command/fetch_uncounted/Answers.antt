@@ -1,0 +1,25 @@
+use Rattle.commands.proofs.fetch_command.fetch_uncounted.Goals as goal
+
+pub new-cols-requires-clause-name : goal.new-cols-requires-clause-name
+new-cols-requires-clause-name g c = c.requires.cols.0
+
+pub new-cols-requires-clause-parts : goal.new-cols-requires-clause-parts
+new-cols-requires-clause-parts g c = c.requires.cols.1
+
+pub new-cols-requires-clause-some : goal.new-cols-requires-clause-some
+new-cols-requires-clause-some g c = c.requires.cols.2
+
+pub new-nodes-requires-clause-name : goal.new-nodes-requires-clause-name
+new-nodes-requires-clause-name g c = c.requires.nodes.0
+
+pub new-nodes-requires-clause-parts : goal.new-nodes-requires-clause-parts
+new-nodes-requires-clause-parts g c = c.requires.nodes.1
+
+pub new-nodes-requires-clause-some : goal.new-nodes-requires-clause-some
+new-nodes-requires-clause-some g c = c.requires.nodes.2
+
+pub returns-clause-fetched : goal.returns-clause-fetched
+returns-clause-fetched g c = c.fetch_counted.ensures.fetched
+
+pub returns-clause-others : goal.returns-clause-others
+returns-clause-others g c = c.fetch_counted.ensures.others
