@@ -70,6 +70,7 @@ front_byte g (suc k) i first lt ilt =
 
 -- ---- pieces of a stream
 
+-- n bytes of a stream are n
 pub length-stream_bytes : (key : List ℕ) (i n : ℕ) → length (stream_bytes key i n) ≡ n
 unfolding stream_bytes
 length-stream_bytes key i n = length-map-range_with_len (stream_byte key) i n

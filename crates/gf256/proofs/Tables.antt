@@ -24,18 +24,22 @@ plain x = x
 abbrev shifted : ℕ → ℕ
 shifted x = x * 16
 
+-- the three tables, by whole computation: the small one has the products of two low halves
 small_low : Holds SMALL plain plain
 unfolding all_below ◌⊗◌ ◌⊕◌ carryless reduced
 small_low = refl
 
+-- the middle one those of a high half for its row with a low one
 middle_low : Holds MIDDLE shifted plain
 unfolding all_below ◌⊗◌ ◌⊕◌ carryless reduced
 middle_low = refl
 
+-- and those of a low half for its row with a high one
 middle_high : Holds MIDDLE plain shifted
 unfolding all_below ◌⊗◌ ◌⊕◌ carryless reduced
 middle_high = refl
 
+-- the large one those of two high halves
 large_high : Holds LARGE shifted shifted
 unfolding all_below ◌⊗◌ ◌⊕◌ carryless reduced
 large_high = refl
@@ -71,8 +75,10 @@ rows_are low high f b size_low size_high byte is_low is_high =
     ∙ ap (λ z. z ⊗ b k) (add_comm (f % 16) (f / 16 * 16) ∙ add_parts (f / 16) (f % 16) 4 below ∙ omega arith)
     ∙ sym (get_or-map-range_with_len (λ i. f ⊗ b i) 0 16 k k d (omega arith) (omega arith)))
 
+-- a factor's products with the low halves are the sum of its two rows, one of the small and one of the middle table
 pub low_rows : (f : ℕ) → f < 256 → zip2 bit_xor (chunk (bit_and f 15 * 16) 16 SMALL) (chunk (f / 16 * 16) 16 MIDDLE) ≡ map (λ i. f ⊗ i) (range_with_len 0 16)
 low_rows f byte = rows_are SMALL MIDDLE f plain refl refl byte small_low middle_low
 
+-- those with the high halves, of the middle and the large table
 pub high_rows : (f : ℕ) → f < 256 → zip2 bit_xor (chunk (bit_and f 15 * 16) 16 MIDDLE) (chunk (f / 16 * 16) 16 LARGE) ≡ map (λ i. f ⊗ (i * 16)) (range_with_len 0 16)
 high_rows f byte = rows_are MIDDLE LARGE f shifted refl refl byte middle_high large_high

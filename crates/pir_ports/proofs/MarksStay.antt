@@ -117,5 +117,6 @@ row_kept cells rows now room row list marks is view =
       room = room - 1;
     }) ∙ ap with_links view
 
+-- where the marks of each row lie within their cells, they do with one row more
 pub row_lies_too : (cells : List MemoryCell) (rows : List (List Mark)) (row : List Mark) → All (LiesAmong cells) rows → MarksEach cells row → All (LiesAmong cells) (rows ++ row ∷ [])
 row_lies_too cells rows row lie marks = All-push (LiesAmong cells) rows row lie (row_in cells row marks)

@@ -39,6 +39,7 @@ refused (Some os) next bytes piece (BadSession place) new all feeds =
     record { place_is = there; none = stops-none IsSession os place there (omega (arith, feeds.1, size, length-take (length (bytes ++ piece)) os)) }
 refused (Some os) next bytes piece NoMemory new all feeds = tt
 
+-- where a piece is refused, the bytes so far and it are read as that fault
 pub seen_stops : (reader new : Reading) (old left next : Option (List ℕ)) (piece : List ℕ) (fault : FeedFault)
     → HasSeen reader old left → Consumes left next piece → Feeds reader piece (Err fault) new → ReadsAs old (Err (of_feed fault))
 seen_stops reader new old left next piece fault seen more feeds =

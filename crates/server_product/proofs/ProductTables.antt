@@ -71,6 +71,7 @@ low-table table f at byte e has =
     get_or-chunk at 16 table k d small ∙ ap (λ p. get_or table p d) place ∙ get_or_default table (f * 32 + k) d 0 within ∙ has.low f k byte small
     ∙ sym (get_or-map-range_with_len (λ i. f ⊗ i) 0 16 k k d small (omega arith)))
 
+-- the next 16 bytes of a factor's table are its products with the high halves
 pub high-table : (table : List ℕ) (f at : ℕ) → f < 256 → at ≡ f * 32 → HasProducts table 256
     → chunk (at + 16) 16 table ≡ map (λ i. f ⊗ (i * 16)) (range_with_len 0 16)
 high-table table f at byte e has =

@@ -17,6 +17,7 @@ term polynomials factors e j = coef (get_or polynomials j []) e ⊗ get_or facto
 pub combined : List (List ℕ) → List ℕ → ℕ → List ℕ
 combined polynomials factors n = map (λ e. sum_to (term polynomials factors e) (length polynomials)) (range_with_len 0 n)
 
+-- it has n coefficients
 pub length-combined : (polynomials : List (List ℕ)) (factors : List ℕ) (n : ℕ) → length (combined polynomials factors n) ≡ n
 unfolding combined
 length-combined polynomials factors n = length-map-range_with_len (λ e. sum_to (term polynomials factors e) (length polynomials)) 0 n

@@ -3,7 +3,7 @@ use Rattle.std.proofs.lemmas.Bool.{cases_eq}
 use Rattle.gf256.specs.Field.{◌⊗◌}
 use Rattle.gf256.specs.Polynomial.{val}
 use Rattle.uni_poly.specs.Product.{vanishing}
-use Rattle.column_runs.proofs.Weights.{vanishing_none, vanishing_drop-more}
+use Rattle.uni_poly.proofs.VanishingPolynomial.{vanishing_none, vanishing_drop-more}
 use Rattle.column_runs.proofs.lagrange.multiply_by_those_behind.Goals as goal
 
 pub loop-i-init : goal.loop-i-init

@@ -3,9 +3,8 @@ use Rattle.gf256.specs.Field.{◌⊗◌}
 use Rattle.gf256.specs.Polynomial.{val}
 use Rattle.uni_poly.specs.Product.{vanishing}
 use Rattle.uni_poly.proofs.LinearFactor.{val-product_linear}
-use Rattle.uni_poly.proofs.VanishingPolynomial.{vanishing_more}
+use Rattle.uni_poly.proofs.VanishingPolynomial.{vanishing_more, vanishing_none}
 use Rattle.column_runs.proofs.Pushed.{each_more}
-use Rattle.column_runs.proofs.Weights.{vanishing_none}
 use Rattle.column_runs.proofs.lagrange.times_those_before.Goals as goal
 
 pub loop-i-init : goal.loop-i-init
