@@ -8,7 +8,7 @@ use Rattle.wire_frames.specs.declared.reader.FeedFault.{FeedFault}
 use Rattle.wire_frames.specs.declared.reader.FeedFault.TheVariants.{BadSession, Memory as NoMemory}
 use Rattle.wire_frames.specs.Reading.{Reading, SoFar, Feeds}
 use Rattle.wire_frames.specs.Session.{IsSession}
-use Rattle.wire_frames.proofs.Places.{stops-prefix, stops-none}
+use Rattle.wire_frames.proofs.StopPlaces.{stops-prefix, stops-none}
 use Rattle.pir_show.specs.Reading.{ReadsAs, of_feed}
 
 -- the reader has seen the bytes by which what a source has left is less than it was

@@ -23,4 +23,4 @@ mod SessionStates
 pub mod Spans
 pub mod UnderWay
 pub mod OneSession
-pub mod Places
+pub mod StopPlaces
