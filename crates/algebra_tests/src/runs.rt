@@ -2,7 +2,7 @@
 ghost use Rattle.std.specs.Prelude.{◌≡◌, ◌≢◌, ◌+◌, ◌<◌, ◌≤◌, length, map, All, AllPairs, IsTrue};
 
 use crate::lists::{ascends, listed_by_koetter, next};
-use column_lists::decode_run;
+use column_lists::{Columns, decode_run};
 use column_runs::plain::plain_run;
 use std::alloc::{AllocError, Global};
 use std::marker::Brand;
@@ -23,22 +23,24 @@ fn are_wide(rows: &[&[u8]], width: usize) -> bool
 }
 
 /// Whether there is a run in rows of this width.
-fn admits(xs: &[u8], rows: &[&[u8]], t: u32, width: usize) -> bool
-    ensures enough { IsTrue result → t < length xs.now }
-    ensures rows { IsTrue result → length rows.now ≡ length xs.now }
-    ensures distinct { IsTrue result → AllPairs (λ x y. x ≢ y) xs.now }
-    ensures widths { IsTrue result → All (λ row. width ≤ length row) (map (λ row. row.now) rows.now) }
+fn admits(columns: &Columns<'_>, width: usize) -> bool
+    ensures enough { IsTrue result → columns.now.t < length columns.now.xs.now }
+    ensures rows { IsTrue result → length columns.now.rows.now ≡ length columns.now.xs.now }
+    ensures distinct { IsTrue result → AllPairs (λ x y. x ≢ y) columns.now.xs.now }
+    ensures widths { IsTrue result → All (λ row. width ≤ length row) (map (λ row. row.now) columns.now.rows.now) }
 {
-    (t as usize) < xs.len() && rows.len() == xs.len() && ascends(xs) && are_wide(rows, width)
+    let count = columns.xs.len();
+    (columns.t as usize) < count
+        && columns.rows.len() == count
+        && ascends(columns.xs)
+        && are_wide(columns.rows, width)
 }
 
 /// The length of the run, where the counter is that of the blank's ledger; `None` where the numbers don't admit one.
 fn run_in_steps<C: Ledger>(
     cols: Blank,
     alloc: Global,
-    xs: &[u8],
-    rows: &[&[u8]],
-    t: u32,
+    columns: &Columns<'_>,
     from: usize,
     out: &mut [u8],
 ) -> Result<Option<usize>, AllocError>
@@ -47,41 +49,37 @@ fn run_in_steps<C: Ledger>(
     let Some(width) = from.checked_add(out.len()) else {
         return Ok(None);
     };
-    if !admits(xs, rows, t, width) {
+    if !admits(columns, width) {
         return Ok(None);
     }
     let mut cols: Steps<C> = Steps::new(cols);
-    let columns = decode_run(alloc, xs, rows, t, from, out, &mut cols)?;
-    Ok(Some(columns))
+    Ok(Some(decode_run(alloc, columns, from, out, &mut cols)?))
 }
 
+/// The same by a caller that counts nothing.
 fn run_at_once(
     alloc: Global,
-    xs: &[u8],
-    rows: &[&[u8]],
-    t: u32,
+    columns: &Columns<'_>,
     from: usize,
     out: &mut [u8],
 ) -> Result<Option<usize>, AllocError> {
-    run_in_steps::<Brand>(Blank::new(1), alloc, xs, rows, t, from, out)
+    run_in_steps::<Brand>(Blank::new(1), alloc, columns, from, out)
 }
 
 /// The same by the plain body.
 fn run_plainly(
     alloc: Global,
-    xs: &[u8],
-    rows: &[&[u8]],
-    t: u32,
+    columns: &Columns<'_>,
     from: usize,
     out: &mut [u8],
 ) -> Result<Option<usize>, AllocError> {
     let Some(width) = from.checked_add(out.len()) else {
         return Ok(None);
     };
-    if !admits(xs, rows, t, width) {
+    if !admits(columns, width) {
         return Ok(None);
     }
-    Ok(Some(plain_run(alloc, xs, rows, t, from, out)?))
+    Ok(Some(plain_run(alloc, columns, from, out)?))
 }
 
 /// A run to be found in drawn rows.
@@ -192,11 +190,14 @@ fn is_found(alloc: Global, case: Case, state: &mut u32) -> Result<bool, AllocErr
     }
     let mut out = vec![in alloc; 0; case.width]?;
     let mut plain = vec![in alloc; 0; case.width]?;
-    let found = run_at_once(alloc, &xs, &rows, case.t, case.from, &mut out)?;
+    let columns = Columns {
+        xs: &xs,
+        rows: &rows,
+        t: case.t,
+    };
+    let found = run_at_once(alloc, &columns, case.from, &mut out)?;
     let length = case.wrong.unwrap_or(case.width);
-    if found != Some(length)
-        || run_plainly(alloc, &xs, &rows, case.t, case.from, &mut plain)? != found
-    {
+    if found != Some(length) || run_plainly(alloc, &columns, case.from, &mut plain)? != found {
         return Ok(false);
     }
     let (Some(constants), Some(same)) = (out.get(..length), plain.get(..length)) else {

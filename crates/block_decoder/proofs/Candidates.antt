@@ -20,7 +20,7 @@ use Rattle.column_runs.specs.Run.{IsConstant}
 use Rattle.block_decoder.specs.Agreed.{constants_of, holds_first, weight, HasColumns}
 use Rattle.block_decoder.specs.Decoding.{Counters}
 use Rattle.block_decoder.specs.Gains.{Gains}
-use Rattle.block_decoder.specs.Narrowing.{agreement_on, holding, meets, nexts_of, points_of, AreFarIn, HaveParted, IsCandidate, IsCandidateOf, IsRunOf, ListsIn, ContinuesFrom, ContinuesBy, CountsFrom, CountsBy}
+use Rattle.block_decoder.specs.Narrowing.{agreement_on, holding, holds_at, nexts_of, points_of, AreFarIn, HaveParted, IsCandidate, IsCandidateOf, IsRunOf, ListsIn, ContinuesFrom, ContinuesBy, CountsFrom, CountsBy}
 use Rattle.block_decoder.specs.Report.{Agreement, indices_of}
 use Rattle.block_decoder.specs.declared.candidate.Candidate.{Candidate}
 use Rattle.block_decoder.specs.declared.candidate.Parting.{Parting}
@@ -206,7 +206,7 @@ module _ (d : Decoding) (columns : HasColumns d.width d.answers) (parting : Part
     (at : HaveParted d parting) (listed : Contains (nexts_of parting) p) where
   -- enough of the answers lie on it
   pub next_enough : (old : List ℕ) (c : IsCandidateOf d parting.candidate old)
-      → d.agreement ≤ length (filter (meets p parting.candidate.column) parting.candidate.kept.now)
+      → d.agreement ≤ length (filter (holds_at p parting.candidate.column) parting.candidate.kept.now)
   next_enough old c =
       let kept = parting.candidate.kept.now in
       let column = parting.candidate.column in
@@ -215,7 +215,7 @@ module _ (d : Decoding) (columns : HasColumns d.width d.answers) (parting : Part
       let heavy = weight-more d.answers d.width column c.polynomials p columns.filled c.one_a_column at.short in
       let points = ap (λ (part : List Answer). agreements p (points_of part column)) c.held in
       let size = length-filter (holds_first (c.polynomials ++ p ∷ [])) d.answers in
-      let held = ap length (ap (filter (meets p column)) c.held ∙ sym (holding-more d.answers d.width column c.polynomials p columns.filled c.one_a_column at.short)) in
+      let held = ap length (ap (filter (holds_at p column)) c.held ∙ sym (holding-more d.answers d.width column c.polynomials p columns.filled c.one_a_column at.short)) in
       omega (arith, many, heavy, points, size, held)
 
   -- its constant is the next byte
@@ -229,7 +229,7 @@ module _ (d : Decoding) (columns : HasColumns d.width d.answers) (parting : Part
 
   -- so those on it are a candidate of the next column
   abbrev pub with_next : (part : List Answer) (next : ℕ) (old block stored : List ℕ)
-      → part ≡ filter (meets p parting.candidate.column) parting.candidate.kept.now
+      → part ≡ filter (holds_at p parting.candidate.column) parting.candidate.kept.now
       → next ≡ parting.candidate.column + 1 → (c : IsCandidateOf d parting.candidate old)
       → take parting.candidate.column block ≡ take parting.candidate.column old
       → take (parting.candidate.column + 1) stored ≡ take parting.candidate.column block ++ get_or p 0 0 ∷ []
@@ -241,24 +241,24 @@ module _ (d : Decoding) (columns : HasColumns d.width d.answers) (parting : Part
         one_a_column = length-append c.polynomials (p ∷ []) ∙ ap (λ m. m + 1) c.one_a_column ∙ sym next_is;
         degree = All-append (IsPolynomial d.degree) c.polynomials (p ∷ []) c.degree
             (All-cons (IsPolynomial d.degree) p [] ((at.lists.exact p).0 listed).0 (All-nil (IsPolynomial d.degree)));
-        held = part_is ∙ ap (filter (meets p column)) c.held
+        held = part_is ∙ ap (filter (holds_at p column)) c.held
             ∙ sym (holding-more d.answers d.width column c.polynomials p columns.filled c.one_a_column at.short);
         enough = subst (λ (l : List Answer). d.agreement ≤ length l) (sym part_is) (next_enough old c);
         constants = ap (λ (m : ℕ). take m stored) next_is ∙ next_constants old block stored c same put;
       }
 
   -- since the points lie on no one polynomial, fewer are kept
-  pub fewer : (part : List Answer) → part ≡ filter (meets p parting.candidate.column) parting.candidate.kept.now
+  pub fewer : (part : List Answer) → part ≡ filter (holds_at p parting.candidate.column) parting.candidate.kept.now
       → length part < length parting.candidate.kept.now
   fewer part part_is =
       let kept = parting.candidate.kept.now in
       let column = parting.candidate.column in
       let size = ap length part_is in
-      elim (cases_lt (length (filter (meets p column) kept)) (length kept)) [
+      elim (cases_lt (length (filter (holds_at p column) kept)) (length kept)) [
         | inl less ↦ omega (arith, less, size)
         | inr all ↦
-            let count = length-filter (meets p column) kept in
-            let full = all_pass (meets p column) kept (omega (arith, all, count)) in
+            let count = length-filter (holds_at p column) kept in
+            let full = all_pass (holds_at p column) kept (omega (arith, all, count)) in
             absurd (at.apart (
               p,
               ((at.lists.exact p).0 listed).0,

@@ -7,7 +7,7 @@ use Rattle.gf256.specs.Polynomial.{val}
 use Rattle.wire_frames.specs.Answer.{Answer}
 use Rattle.column_lists.specs.Agreement.{agreements}
 use Rattle.block_decoder.specs.Agreed.{Filled, holds_first, weight}
-use Rattle.block_decoder.specs.Narrowing.{holding, meets, points_of}
+use Rattle.block_decoder.specs.Narrowing.{holding, holds_at, points_of}
 use Rattle.block_decoder.proofs.Counting.{one_if, count-cons}
 use Rattle.block_decoder.proofs.Weight.{holds_first-more}
 
@@ -43,12 +43,12 @@ count_by-image test f (x ∷ xs) =
 
 -- ---- one column more
 
--- the longer vector holds where the next polynomial meets the column, among the answers at which the shorter holds
+-- the longer vector holds where the next polynomial does in its column, among the answers at which the shorter holds
 pub holding-more : (answers : List Answer) (width column : ℕ) (v : List (List ℕ)) (p : List ℕ)
     → Filled width answers → length v ≡ column → column < width
-    → holding (v ++ p ∷ []) answers ≡ filter (meets p column) (holding v answers)
+    → holding (v ++ p ∷ []) answers ≡ filter (holds_at p column) (holding v answers)
 holding-more answers width column v p filled size short =
-    filter-both (holds_first (v ++ p ∷ [])) (holds_first v) (meets p column) answers
+    filter-both (holds_first (v ++ p ∷ [])) (holds_first v) (holds_at p column) answers
     (λ i d l. holds_first-more v p (get_or answers i d) column size (let w = filled i d l in omega (arith, w, short)))
 
 -- so it is heavy by as many as agree with it there
@@ -58,12 +58,12 @@ pub weight-more : (answers : List Answer) (width column : ℕ) (v : List (List �
 unfolding agreements
 weight-more answers width column v p filled size short =
     sym (length-filter (holds_first (v ++ p ∷ [])) answers) ∙ ap length (holding-more answers width column v p filled size short)
-    ∙ length-filter (meets p column) (holding v answers)
+    ∙ length-filter (holds_at p column) (holding v answers)
     ∙ sym (count_by-image (λ (q : ℕ × ℕ). val p q.0 == q.1) (λ (a : Answer). (a.index, get_or a.payload column 0)) (holding v answers))
 
--- none is lost where all meet the polynomial
+-- none is lost where the polynomial holds at all
 pub holding-same : (answers : List Answer) (width column : ℕ) (v : List (List ℕ)) (p : List ℕ)
     → Filled width answers → length v ≡ column → column < width
-    → All (λ a. meets p column a ≡ true) (holding v answers) → holding (v ++ p ∷ []) answers ≡ holding v answers
+    → All (λ a. holds_at p column a ≡ true) (holding v answers) → holding (v ++ p ∷ []) answers ≡ holding v answers
 holding-same answers width column v p filled size short all =
-    holding-more answers width column v p filled size short ∙ filter-all (meets p column) (holding v answers) all
+    holding-more answers width column v p filled size short ∙ filter-all (holds_at p column) (holding v answers) all

@@ -10,7 +10,7 @@ use Rattle.wire_frames.specs.Answer.{Answer}
 use Rattle.column_runs.specs.Run.{IsConstant}
 use Rattle.column_lists.proofs.OnOne.{lists_one}
 use Rattle.block_decoder.specs.Agreed.{constants_of, holds_first, weight, HasColumns}
-use Rattle.block_decoder.specs.Narrowing.{agreement_on, holding, meets, points_of, IsPart, IsCandidate, ListsIn, ContinuesFrom, IsVisited, AreVisited}
+use Rattle.block_decoder.specs.Narrowing.{agreement_on, holding, holds_at, points_of, IsPart, IsCandidate, ListsIn, ContinuesFrom, IsVisited, AreVisited}
 use Rattle.block_decoder.specs.Report.{Agreement}
 use Rattle.block_decoder.specs.declared.decoding.Decoding.{Decoding}
 use Rattle.block_decoder.proofs.Holding.{holding-same}
@@ -90,7 +90,7 @@ module _ (d : Decoding) (columns : HasColumns d.width d.answers) (more_than : d.
       let e : w ++ p ∷ [] ≡ v ++ (r.more ++ p ∷ []) = append_assoc v r.more (p ∷ []) in
       let point : Answer → ℕ × ℕ = λ a. (a.index, get_or a.payload (length w) 0) in
       let size = length-map (holding w d.answers) point in
-      let meet : All (λ a. meets p (length w) a ≡ true) (holding w d.answers) =
+      let all : All (λ a. holds_at p (length w) a ≡ true) (holding w d.answers) =
       λ i z l. eq-eqb _ _ (subst (λ (q : ℕ × ℕ). val p q.0 ≡ q.1) (get_or-map point (holding w d.answers) i z (0, 0) l) (on i (0, 0) (omega (arith, size, l)))) in
       let one = continues-one (agreement_on d.answers) d w columns.filled room p lists in
       let count = r.count in
@@ -99,7 +99,7 @@ module _ (d : Decoding) (columns : HasColumns d.width d.answers) (more_than : d.
         more = r.more ++ p ∷ [];
         size = length-append r.more (p ∷ []) ∙ ap (λ m. m + 1) r.size;
         degree = All-append (IsPolynomial d.degree) r.more (p ∷ []) r.degree (All-cons (IsPolynomial d.degree) p [] constant.degree (All-nil (IsPolynomial d.degree)));
-        held = ap (λ u. holding u d.answers) (sym e) ∙ holding-same d.answers d.width (length w) w p columns.filled refl room meet ∙ r.held;
+        held = ap (λ u. holding u d.answers) (sym e) ∙ holding-same d.answers d.width (length w) w p columns.filled refl room all ∙ r.held;
         constants = take_more bytes n 0 within ∙ ap₂ (λ (bs : List ℕ) (b : ℕ). bs ++ b ∷ []) r.constants (sym constant.constant) ∙ sym (map-append (λ p. coef p 0) r.more (p ∷ []));
         same = λ b. subst (λ u. ContinuesFrom (agreement_on d.answers) d u b
             ↔ ContinuesFrom (agreement_on d.answers) d v b) e

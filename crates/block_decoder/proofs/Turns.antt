@@ -8,7 +8,7 @@ use Rattle.column_runs.specs.OnOne.{LieOnOne}
 use Rattle.block_decoder.specs.Agreed.{holds_first, Filled, HasColumns}
 use Rattle.block_decoder.specs.Decoding.{Counters}
 use Rattle.block_decoder.specs.Gains.{Gains}
-use Rattle.block_decoder.specs.Narrowing.{agreement_on, list_nodes, meets, nexts_of, points_of, AreFarIn, CountsBy, IsCandidate, IsCandidateOf, IsCounted, IsExtended, IsPart, ContinuesFrom, ContinuesBy, HaveParted, ListsIn, progress, Progress, TurnsCounted, TurnsGained}
+use Rattle.block_decoder.specs.Narrowing.{agreement_on, list_nodes, holds_at, nexts_of, points_of, AreFarIn, CountsBy, IsCandidate, IsCandidateOf, IsCounted, IsExtended, IsPart, ContinuesFrom, ContinuesBy, HaveParted, ListsIn, progress, Progress, TurnsCounted, TurnsGained}
 use Rattle.block_decoder.specs.Report.{Agreement, indices_of}
 use Rattle.block_decoder.specs.declared.candidate.Candidate.{Candidate}
 use Rattle.block_decoder.specs.declared.candidate.Parting.{Parting}
@@ -85,7 +85,7 @@ module _ (d : Decoding) (parting : Parting) (at : HaveParted d parting) (i : ℕ
 
   -- fewer answers are kept
   pub next-fewer : HasColumns d.width d.answers → (part : List Answer)
-      → part ≡ filter (meets p parting.candidate.column) parting.candidate.kept.now
+      → part ≡ filter (holds_at p parting.candidate.column) parting.candidate.kept.now
       → length part < length parting.candidate.kept.now
   next-fewer columns part part_is = fewer d columns parting p at listed part part_is
 
@@ -93,7 +93,7 @@ module _ (d : Decoding) (parting : Parting) (at : HaveParted d parting) (i : ℕ
       (same : take parting.candidate.column block ≡ take parting.candidate.column first)
       (put : take (parting.candidate.column + 1) stored ≡ take parting.candidate.column block ++ get_or p 0 0 ∷ []) where
     -- these are a candidate
-    pub next-candidate : (part : List Answer) → part ≡ filter (meets p parting.candidate.column) parting.candidate.kept.now
+    pub next-candidate : (part : List Answer) → part ≡ filter (holds_at p parting.candidate.column) parting.candidate.kept.now
         → IsCandidateOf d parting.candidate first → IsCandidate d part (parting.candidate.column + 1) stored
     next-candidate part part_is c =
         with_next d columns parting p at listed part (parting.candidate.column + 1) first block stored part_is refl c same put
@@ -101,7 +101,7 @@ module _ (d : Decoding) (parting : Parting) (at : HaveParted d parting) (i : ℕ
     -- what is counted below it is counted as well
     pub counted-more : (next : Candidate) (a b e : Counters)
         → TurnsCounted (take i (nexts_of parting)) d parting first a b → IsCounted d next stored b e
-        → next.kept.now ≡ filter (meets p parting.candidate.column) parting.candidate.kept.now
+        → next.kept.now ≡ filter (holds_at p parting.candidate.column) parting.candidate.kept.now
         → next.column ≡ parting.candidate.column + 1
         → TurnsCounted (take (i + 1) (nexts_of parting)) d parting first a e
     counted-more next a b e before below part_is column_is =
@@ -125,7 +125,7 @@ module _ (d : Decoding) (parting : Parting) (at : HaveParted d parting) (i : ℕ
     pub gained-more : (next : Candidate) (current new : List ℕ) (r0 r1 r2 : List Agreement) (c0 c1 c2 : ℕ) → c0 ≤ c1 → c1 ≤ c2
         → TurnsGained (take i (nexts_of parting)) d parting (progress first r0 c0) (progress current r1 c1)
         → IsExtended d next (progress stored r1 c1) (progress new r2 c2)
-        → next.kept.now ≡ filter (meets p parting.candidate.column) parting.candidate.kept.now
+        → next.kept.now ≡ filter (holds_at p parting.candidate.column) parting.candidate.kept.now
         → next.column ≡ parting.candidate.column + 1
         → TurnsGained (take (i + 1) (nexts_of parting)) d parting (progress first r0 c0) (progress new r2 c2)
     gained-more next current new r0 r1 r2 c0 c1 c2 up upper before extended part_is column_is =

@@ -35,9 +35,9 @@ agreement_on answers polynomials =
 abbrev pub points_of : List Answer → ℕ → List (ℕ × ℕ)
 points_of answers column = map (λ a. (a.index, slice_index a.payload column)) answers
 
--- whether the polynomial takes the answer's byte in a column
-abbrev pub meets : List ℕ → ℕ → Answer → Bool
-meets polynomial column answer = val polynomial answer.index == slice_index answer.payload column
+-- whether the polynomial holds at the answer in a column: it takes the answer's byte there
+abbrev pub holds_at : List ℕ → ℕ → Answer → Bool
+holds_at polynomial column answer = val polynomial answer.index == slice_index answer.payload column
 
 -- some of the answers: those that pass a test
 pub record IsPart (answers part : List Answer) : Type 0 where

@@ -2,7 +2,7 @@
 
 ghost use Rattle.std.specs.Prelude.{◌≡◌, ◌<◌, [], ◌∷◌, ◌++◌, length, map, All, IfOk, OnOk};
 ghost use Rattle.std.specs.List.{filter};
-ghost use Rattle.block_decoder.specs.Narrowing.{meets, points_of};
+ghost use Rattle.block_decoder.specs.Narrowing.{holds_at, points_of};
 
 use crate::answers::Answer;
 use std::alloc::{AllocError, Global};
@@ -83,15 +83,15 @@ impl<'a> AnswerSet<'a> {
         Ok(points)
     }
 
-    /// The answers whose byte in the column the polynomial takes.
-    pub fn meeting(
+    /// The answers at which the polynomial holds in the column: those whose byte it takes there.
+    pub fn holding(
         &self,
         alloc: Global,
         polynomial: &[u8],
         column: usize,
     ) -> Result<Self, AllocError>
         requires { All (λ a. column < length a.payload) self.now }
-        ensures { IfOk result (λ set. set ≡ filter (meets polynomial.now column) self.now) }
+        ensures { IfOk result (λ set. set ≡ filter (holds_at polynomial.now column) self.now) }
     {
         let mut kept = AnswerSet::with_room(alloc, self.len())?;
         for answer in &self.answers {

@@ -7,14 +7,14 @@ ghost use Rattle.column_runs.specs.Rows.{lists_of};
 ghost use Rattle.quantity_limits.specs.declared.TheConstants.{MOST_SERVERS};
 ghost use Rattle.block_decoder.specs.Agreed.{HasColumns};
 ghost use Rattle.block_decoder.specs.Decoding.{counters, most_columns_of, most_nodes_of, IsReportOf};
-ghost use Rattle.block_decoder.specs.Narrowing.{meets, points_of as points_in, nodes_at, progress, AreFarIn, CanBeListed, HaveCounted, HaveExtended, HaveParted, IsCandidateOf, IsCheap, IsCounted, IsExtended, IsRunOf, IsStrong, ListsIn};
+ghost use Rattle.block_decoder.specs.Narrowing.{holds_at, points_of as points_in, nodes_at, progress, AreFarIn, CanBeListed, HaveCounted, HaveExtended, HaveParted, IsCandidateOf, IsCheap, IsCounted, IsExtended, IsRunOf, IsStrong, ListsIn};
 ghost use Rattle.block_decoder.specs.Report.{agreement_cmp};
 
 use crate::agreements::Report;
 use crate::answer_set::AnswerSet;
 use crate::candidate::{Candidate, Parting};
 use crate::decoding::Decoding;
-use column_lists::{close_list, column_list, decode_run};
+use column_lists::{Columns, close_list, column_list, decode_run};
 use interpolation::Interpolate;
 use std::alloc::{AllocError, Global};
 use std::sync::ledger::Ledger;
@@ -234,7 +234,12 @@ fn decode_into<C: Ledger>(
 {
     let indices = kept.indices(alloc)?;
     let payloads = kept.payloads(alloc)?;
-    decode_run(alloc, &indices, &payloads, t, column, out, cols)
+    let columns = Columns {
+        xs: &indices,
+        rows: &payloads,
+        t,
+    };
+    decode_run(alloc, &columns, column, out, cols)
 }
 
 /// Puts the constant of a column's polynomial into the block, and has the answers that lie on the polynomial.
@@ -250,8 +255,8 @@ fn follow<'a>(
     requires widths { All (λ a. column < length a.payload) kept.now }
     ensures size { length block.new ≡ length block.old }
     ensures block { take (column + 1) block.new ≡ take column block.old ++ slice_index polynomial.now 0 ∷ [] }
-    ensures answers { IfOk result (λ set. set ≡ filter (meets polynomial.now column) kept.now) }
+    ensures answers { IfOk result (λ set. set ≡ filter (holds_at polynomial.now column) kept.now) }
 {
     block[column] = polynomial[0];
-    kept.meeting(alloc, polynomial, column)
+    kept.holding(alloc, polynomial, column)
 }

@@ -11,6 +11,7 @@
 #![tactic(auto)]
 
 mod close;
+mod columns;
 mod lagrange;
 pub mod one_polynomial;
 pub mod plain;
@@ -19,4 +20,5 @@ mod run;
 mod tile;
 
 pub use close::{close_polynomial, least_misses};
+pub use columns::Columns;
 pub use run::decode_run;

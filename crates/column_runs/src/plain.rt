@@ -4,6 +4,7 @@ ghost use Rattle.std.specs.Prelude.{◌≡◌, ◌≢◌, ◌+◌, ◌<◌, ◌�
 ghost use Rattle.column_runs.specs.Rows.{rows_of};
 ghost use Rattle.column_runs.specs.Run.{points_at, IsRun};
 
+use crate::columns::Columns;
 use crate::one_polynomial::{lie_on, through_first};
 use crate::rows::row_from;
 use std::alloc::{AllocError, Global};
@@ -16,21 +17,19 @@ use std::alloc::{AllocError, Global};
 /// `AllocError` where there is no memory for the points of a column, or to interpolate.
 pub fn plain_run(
     alloc: Global,
-    xs: &[u8],
-    rows: &[&[u8]],
-    t: u32,
+    columns: &Columns<'_>,
     from: usize,
     out: &mut [u8],
 ) -> Result<usize, AllocError>
-    requires enough { t < length xs.now }
-    requires rows { length rows.now ≡ length xs.now }
-    requires widths { All (λ row. from + length out.old ≤ length row) (rows_of rows.now) }
-    requires distinct { AllPairs (λ x y. x ≢ y) xs.now }
-    ensures { IfOk result (λ n. IsRun xs.now (rows_of rows.now) t from out.new n) }
+    requires enough { columns.now.t < length columns.now.xs.now }
+    requires rows { length columns.now.rows.now ≡ length columns.now.xs.now }
+    requires widths { All (λ row. from + length out.old ≤ length row) (rows_of columns.now.rows.now) }
+    requires distinct { AllPairs (λ x y. x ≢ y) columns.now.xs.now }
+    ensures { IfOk result (λ n. IsRun columns.now.xs.now (rows_of columns.now.rows.now) columns.now.t from out.new n) }
 {
     for column in 0..out.len() {
-        let points = points_at(alloc, xs, rows, from, column)?;
-        let through = through_first(alloc, &points, t)?;
+        let points = points_at(alloc, columns.xs, columns.rows, from, column)?;
+        let through = through_first(alloc, &points, columns.t)?;
         if !lie_on(&through, &points) {
             return Ok(column);
         }

@@ -20,14 +20,14 @@ pub(crate) fn rows_are_bytes(rows: &[&[u8]])
     ensures sizes { All (λ row. length row < 2 ^ 64) (rows_of rows.now) }
 {
     for place in 0..rows.len() {
-        is_row(rows[place]);
+        are_bytes(rows[place]);
     }
 }
 
-/// A row has bytes, and fits into memory.
-fn is_row(row: &[u8])
-    ensures bytes { All (λ b. b < 256) row.now }
-    ensures size { length row.now < 2 ^ 64 }
+/// These are bytes, and fit into memory.
+pub(crate) fn are_bytes(bytes: &[u8])
+    ensures bytes { All (λ b. b < 256) bytes.now }
+    ensures size { length bytes.now < 2 ^ 64 }
 {
-    let _size = row.len();
+    let _size = bytes.len();
 }

@@ -6,8 +6,9 @@ ghost use Rattle.column_runs.specs.Rows.{lists_of, rows_of};
 ghost use Rattle.column_runs.specs.Run.{IsRun};
 ghost use Rattle.column_runs.specs.Tile.{IsTile};
 
+use crate::columns::Columns;
 use crate::lagrange::{Factors, factors_by_first};
-use crate::rows::rows_are_bytes;
+use crate::rows::{are_bytes, rows_are_bytes};
 use crate::tile::decode_tile;
 use std::alloc::{AllocError, Global};
 use std::sync::ledger::Ledger;
@@ -17,9 +18,8 @@ use uni_poly::steps::Steps;
 const TILE: usize = 1024;
 
 /// The longest run of columns, from column `from` on, in each of which the points lie on one polynomial of degree at most
-/// `t`. The points of a column are each of the `xs` with the byte of its row there. The constants of these polynomials go
-/// into `out`, and their number is returned; there are no more of them than `out` has places, and what stands behind them in
-/// `out` is not said.
+/// `t`. The constants of these polynomials go into `out`, and their number is returned; there are no more of them than `out`
+/// has places, and what stands behind them in `out` is not said.
 ///
 /// There are more than `t` of the `xs`, no two of them equal, and for each a row that has a byte for each place of `out`,
 /// from column `from` on.
@@ -34,27 +34,33 @@ const TILE: usize = 1024;
 /// `AllocError` where there is no memory, before the first column.
 pub fn decode_run<C: Ledger>(
     alloc: Global,
-    xs: &[u8],
-    rows: &[&[u8]],
-    t: u32,
+    columns: &Columns<'_>,
     from: usize,
     out: &mut [u8],
     cols: &mut Steps<C>,
 ) -> Result<usize, AllocError>
-    requires enough { t < length xs.now }
-    requires rows { length rows.now ≡ length xs.now }
-    requires widths { All (λ row. from + length out.old ≤ length row) (rows_of rows.now) }
-    requires distinct { AllPairs (λ x y. x ≢ y) xs.now }
-    ensures run { IfOk result (λ n. IsRun xs.now (rows_of rows.now) t from out.new n) }
+    requires enough { columns.now.t < length columns.now.xs.now }
+    requires rows { length columns.now.rows.now ≡ length columns.now.xs.now }
+    requires widths { All (λ row. from + length out.old ≤ length row) (rows_of columns.now.rows.now) }
+    requires distinct { AllPairs (λ x y. x ≢ y) columns.now.xs.now }
+    ensures run { IfOk result (λ n. IsRun columns.now.xs.now (rows_of columns.now.rows.now) columns.now.t from out.new n) }
     ensures cols { MatchResult result (λ n. cols.new ≡ cols.old + n) (λ _. cols.new ≡ cols.old) }
 {
-    let factors = factors_by_first(alloc, xs, t)?;
-    let mut differences = rows_of_zeros(alloc, t as usize, TILE)?;
+    let factors = factors_by_first(alloc, columns.xs, columns.t)?;
+    let mut differences = rows_of_zeros(alloc, columns.t as usize, TILE)?;
     let mut sums = vec![in alloc; 0; TILE]?;
-    rows_are_bytes(rows);
-    let columns = decode_tiles(rows, from, &factors, &mut differences, &mut sums, out);
-    count(columns, cols);
-    Ok(columns)
+    are_bytes(columns.xs);
+    rows_are_bytes(columns.rows);
+    let done = decode_tiles(
+        columns.rows,
+        from,
+        &factors,
+        &mut differences,
+        &mut sums,
+        out,
+    );
+    count(done, cols);
+    Ok(done)
 }
 
 /// So many rows of zeros, of so many columns each.

@@ -11,10 +11,9 @@ use Rattle.port_trait.specs.Guests.{Meets}
 use Rattle.port_trait.proofs.Served.{answers_push}
 use Rattle.port_trait.proofs.Links.{by_links-at, by_links-same}
 use Rattle.quantity_limits.specs.declared.TheConstants.{MOST_SHARDS}
-use Rattle.shard_front.specs.declared.spread.Spread.{Spread}
 use Rattle.shard_front.specs.declared.relayed.Relayed.{Relayed}
 use Rattle.shard_front.specs.declared.relayed.Relayed.TheVariants.{Served, Refused, Gone, GuestFault, ShardLost}
-use Rattle.shard_front.specs.Spread.{shards}
+use Rattle.shard_front.specs.Spread.{Spread, shards}
 use Rattle.shard_front.specs.Fronted.{Fronts, TouchesFirst}
 use Rattle.shard_front.specs.Relay.{Counts, FrontsTold, GivesRelay, Visit, visit_of}
 use Rattle.commands.specs.FrontAnswers.{FrontsGuests, Fronting, IsFronted, of_link, visit_at}

@@ -9,10 +9,9 @@ use Rattle.port_trait.specs.Guests.{Meets}
 use Rattle.port_trait.proofs.Rises.{at_most_once, at_most_still, once_rose}
 use Rattle.pir_words.specs.FrontForm.{IsFront}
 use Rattle.quantity_limits.specs.declared.TheConstants.{MOST_SHARDS}
-use Rattle.shard_front.specs.declared.spread.Spread.{Spread}
 use Rattle.shard_front.specs.declared.relayed.Relayed.{Relayed}
 use Rattle.shard_front.specs.declared.relayed.Relayed.TheVariants.{Served, Refused, Gone, GuestFault, ShardLost}
-use Rattle.shard_front.specs.Spread.{IsSpread, shards}
+use Rattle.shard_front.specs.Spread.{IsSpread, Spread, shards}
 use Rattle.shard_front.specs.Fronted.{Fronts, Relays, TouchesFirst}
 use Rattle.shard_front.specs.Relay.{FrontsTold}
 use Rattle.shard_front.proofs.Counting.{guest_once, link_once}

@@ -2,9 +2,8 @@
 use Rattle.std.specs.Prelude.{◌≡◌, ℕ, ◌+◌, ◌<◌, ◌≤◌, Bool, List, [], ◌∷◌, ◌++◌, length, drop, get_or, Some, None}
 use Rattle.port_trait.specs.World.{LinkThen, World, answered, links_now}
 use Rattle.port_trait.specs.Number.{GUEST}
-use Rattle.shard_front.specs.declared.spread.Spread.{Spread}
 use Rattle.shard_front.specs.declared.relayed.Relayed.{Relayed}
-use Rattle.shard_front.specs.Spread.{shards}
+use Rattle.shard_front.specs.Spread.{Spread, shards}
 use Rattle.shard_front.specs.Relay.{Counts, GivesRelay, Visit}
 
 -- what is told of the link with this number

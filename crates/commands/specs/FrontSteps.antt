@@ -5,9 +5,8 @@ use Rattle.port_trait.specs.Number.{DOOR, GUEST, link}
 use Rattle.port_trait.specs.Guests.{Meets}
 use Rattle.port_trait.specs.Moves.{Fails, RoseAtMost, Touches, counted}
 use Rattle.port_trait.specs.Touched.{One, From, Crowd, TouchesOnly}
-use Rattle.shard_front.specs.declared.spread.Spread.{Spread}
 use Rattle.shard_front.specs.declared.relayed.Relayed.{Relayed}
-use Rattle.shard_front.specs.Spread.{shards}
+use Rattle.shard_front.specs.Spread.{Spread, shards}
 use Rattle.shard_front.specs.Fronted.{Fronts, TouchesFirst}
 use Rattle.shard_front.specs.Relay.{FrontsTold}
 use Rattle.commands.specs.Told.{DidRiseOnce}

@@ -2,7 +2,7 @@
 
 ghost use Rattle.std.specs.Prelude.{◌≡◌, IfErr, OnOk, OnErr, length, map, string_bytes};
 ghost use Rattle.port_trait.specs.Number.{DOOR, GUEST};
-ghost use Rattle.shard_front.specs.Spread.{IsSpread, shards};
+ghost use Rattle.shard_front.specs.Spread.{shards};
 ghost use Rattle.commands.specs.FrontAnswers.{FrontsGuests};
 ghost use Rattle.commands.specs.FrontSteps.{FrontRunsDry, FrontsInTurn, TouchesRelaying};
 ghost use Rattle.commands.specs.FrontOutcome.{FrontEnds, FrontedAll, TouchesFront};
@@ -26,8 +26,7 @@ fn relay_guests<P: Ports>(
     conns: u32,
     ports: &mut P,
 ) -> Result<(), Failed>
-    requires spread { IsSpread front.old }
-    requires addresses { length addresses.now ≡ shards front.old }
+    requires { length addresses.now ≡ shards front.old }
     ensures turns { OnOk result (FrontsInTurn front.old (map string_bytes addresses.now) conns
         (P.world ports.old) (P.world ports.new)) }
     ensures guests { OnOk result (FrontsGuests front.old conns (P.world ports.old) (P.world ports.new)) }

@@ -134,7 +134,7 @@ impl Search {
     {
         self.turn += 1;
         match answer {
-            Some(row) => self.meet(row),
+            Some(row) => self.compare(row),
             None => self.is_lost = true,
         }
     }
@@ -166,7 +166,7 @@ impl Search {
     }
 
     /// Leaves the rows after the middle one or before it, as the row told begins with less or more than the key.
-    fn meet(&mut self, row: &[u8])
+    fn compare(&mut self, row: &[u8])
         requires { length row.now ≡ self.old.width }
         ensures { self.new ≡ standing_by (key_order self.old.key row.now) row.now self.old }
     {

@@ -1,4 +1,5 @@
 //! What went over a link, and why that is no usable answer.
+ghost use Rattle.std.specs.Prelude.{◌≡◌, None, false, true};
 
 use std::fmt::{self, Display, Formatter, Write};
 use wire_frames::{AnswerField, Cause, FRAME_HEADER_LEN, answer_len, read_query_header, why};
@@ -12,13 +13,16 @@ struct Flow {
 
 impl Flow {
     /// Nothing went so far.
-    fn new() -> Self {
+    fn new() -> Self
+        ensures { result.len ≡ 0 }
+    {
         Flow {
             start: [0; FRAME_HEADER_LEN],
             len: 0,
         }
     }
 
+    /// These bytes went too.
     fn add(&mut self, bytes: &[u8]) {
         let mut place = self.len;
         for byte in bytes {
@@ -39,7 +43,7 @@ impl Flow {
 
 /// What went over a link since it was opened.
 #[derive(Clone, Copy)]
-pub struct Exchange {
+pub(crate) struct Exchange {
     link: u8,
     query: Flow,
     answer: Flow,
@@ -48,7 +52,7 @@ pub struct Exchange {
 
 /// Why what a link gave is no usable answer.
 #[derive(Clone, Copy, Debug, PartialEq, Eq)]
-pub enum AnswerFault {
+pub(crate) enum AnswerFault {
     /// It ended too early.
     Ended { came: usize, whole: usize },
     /// The server refused the query, with this status.
@@ -59,7 +63,10 @@ pub enum AnswerFault {
 
 impl Exchange {
     /// Nothing went over the link so far.
-    pub fn new(link: u8) -> Self {
+    pub(crate) fn new(link: u8) -> Self
+        ensures link { result.link ≡ link }
+        ensures nothing { (result.query.len ≡ 0) × (result.answer.len ≡ 0) × (result.has_failed ≡ false) }
+    {
         Exchange {
             link,
             query: Flow::new(),
@@ -69,28 +76,38 @@ impl Exchange {
     }
 
     /// The number of the link.
-    pub fn link(&self) -> u8 {
+    pub(crate) fn link(&self) -> u8
+        ensures { result ≡ self.now.link }
+    {
         self.link
     }
 
     /// The link took these bytes.
-    pub fn add_query(&mut self, bytes: &[u8]) {
+    pub(crate) fn add_query(&mut self, bytes: &[u8])
+        ensures { self.new ≡ record self.old { query = self.new.query } }
+    {
         self.query.add(bytes);
     }
 
     /// The link gave these bytes.
-    pub fn add_answer(&mut self, bytes: &[u8]) {
+    pub(crate) fn add_answer(&mut self, bytes: &[u8])
+        ensures { self.new ≡ record self.old { answer = self.new.answer } }
+    {
         self.answer.add(bytes);
     }
 
     /// A call on the link failed.
-    pub fn fail(&mut self) {
+    pub(crate) fn fail(&mut self)
+        ensures { self.new ≡ record self.old { has_failed = true } }
+    {
         self.has_failed = true;
     }
 
     /// Why what the link gave is no usable answer to what it was asked; `None` where it is one, where it was asked for
     /// nothing, and where it gave nothing since a call failed, which the ports explain.
-    pub fn fault(&self) -> Option<AnswerFault> {
+    pub(crate) fn fault(&self) -> Option<AnswerFault>
+        ensures silent { self.now.has_failed ≡ true → self.now.answer.len ≡ 0 → result ≡ None }
+    {
         let nothing_came = self.has_failed && self.answer.len == 0;
         if nothing_came || self.query.len < FRAME_HEADER_LEN {
             return None;

@@ -1,4 +1,6 @@
 //! Ports that note what each link gave, for whoever asks why a run ended as it did.
+ghost use Rattle.std.specs.Prelude.{◌≡◌, [], None, string_bytes};
+ghost use Rattle.std.specs.Option.{option_copied, option_map};
 
 use crate::exchange::Exchange;
 use port_trait::{Failed, Port, Ports};
@@ -24,7 +26,10 @@ fn has_port(address: &str) -> bool {
 
 impl Notes {
     /// Nothing is noted so far.
-    pub fn new(alloc: Global) -> Self {
+    pub fn new(alloc: Global) -> Self
+        ensures links { result.exchanges.items ≡ [] }
+        ensures names { (result.portless ≡ None) × (result.session_file ≡ None) }
+    {
         Notes {
             alloc,
             exchanges: Vec::new(alloc),
@@ -34,17 +39,23 @@ impl Notes {
     }
 
     /// What went over each link that was opened.
-    pub(crate) fn exchanges(&self) -> &[Exchange] {
+    pub(crate) fn exchanges(&self) -> &[Exchange]
+        ensures { result.now ≡ self.now.exchanges.items }
+    {
         &self.exchanges
     }
 
     /// The first address without a port that couldn't be opened.
-    pub(crate) fn portless(&self) -> Option<&str> {
+    pub(crate) fn portless(&self) -> Option<&str>
+        ensures { option_copied result ≡ option_map string_bytes self.now.portless }
+    {
         Some(self.portless.as_ref()?.as_str())
     }
 
     /// The file of the session that is read or recorded.
-    pub(crate) fn session_file(&self) -> Option<&str> {
+    pub(crate) fn session_file(&self) -> Option<&str>
+        ensures { option_copied result ≡ option_map string_bytes self.now.session_file }
+    {
         Some(self.session_file.as_ref()?.as_str())
     }
 

@@ -5,10 +5,9 @@ use Rattle.quantity_limits.specs.declared.TheConstants.{MOST_SHARDS}
 use Rattle.port_trait.specs.World.{Cell, World}
 use Rattle.port_trait.specs.Number.{GUEST, link}
 use Rattle.port_trait.specs.Moves.{RoseOnce, Touches}
-use Rattle.shard_front.specs.declared.spread.Spread.{Spread}
 use Rattle.shard_front.specs.declared.relayed.Relayed.{Relayed}
 use Rattle.shard_front.specs.declared.relayed.Relayed.TheVariants.{Served, Refused, Gone, GuestFault, ShardLost}
-use Rattle.shard_front.specs.Spread.{shards}
+use Rattle.shard_front.specs.Spread.{Spread, shards}
 use Rattle.shard_front.specs.RelayedQuery.{relayed_over}
 use Rattle.shard_front.specs.Parts.{Part, part_at}
 use Rattle.shard_front.specs.Shard.{ShardAnswers, ShardIsLost}

@@ -11,10 +11,9 @@ use Rattle.wire_frames.specs.declared.header.QueryHeader.{QueryHeader}
 use Rattle.wire_frames.specs.Header.{answer_header}
 use Rattle.serve_core.specs.Terms.{query_len_for}
 use Rattle.serve_core.specs.Taking.{TakesQuery}
-use Rattle.shard_front.specs.declared.spread.Spread.{Spread}
 use Rattle.shard_front.specs.declared.relayed.Relayed.{Relayed}
 use Rattle.shard_front.specs.declared.relayed.Relayed.TheVariants.{Served, Refused, Gone, GuestFault, ShardLost}
-use Rattle.shard_front.specs.Spread.{IsSpread, shards, terms_of}
+use Rattle.shard_front.specs.Spread.{IsSpread, Spread, shards, terms_of}
 use Rattle.shard_front.specs.RelayedQuery.{RelayedQuery, taken_from}
 use Rattle.shard_front.specs.Parts.{part_at}
 use Rattle.shard_front.specs.Shard.{ShardAnswers, ShardIsLost}

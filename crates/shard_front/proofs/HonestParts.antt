@@ -22,8 +22,7 @@ use Rattle.serve_core.specs.Reply.{Replies, answer_frame, answers}
 use Rattle.serve_core.specs.Taking.{IsGood, IsQueryOf}
 use Rattle.serve_core.specs.declared.met.Met.TheVariants.{Served as IsServed}
 use Rattle.serve_core.proofs.OneReply.{one_reply}
-use Rattle.shard_front.specs.declared.spread.Spread.{Spread}
-use Rattle.shard_front.specs.Spread.{IsSpread, rows_in, shards, terms_of}
+use Rattle.shard_front.specs.Spread.{IsSpread, Spread, rows_in, shards, terms_of}
 use Rattle.shard_front.specs.Parts.{header_to, part_for, slice_at, slices_for}
 use Rattle.shard_front.specs.Honest.{BeginsWithReply, rows_at, server_of}
 use Rattle.shard_front.proofs.ShardProducts.{length-product, length-rows_at, payload_of}

@@ -15,10 +15,9 @@ use Rattle.serve_core.specs.Case.{IsCut, Refuses}
 use Rattle.serve_core.specs.Reply.{Replies}
 use Rattle.serve_core.specs.Taking.{IsGood, IsQueryOf}
 use Rattle.serve_core.specs.declared.met.Met.TheVariants.{Served as IsServed, Refused as IsRefused, Gone as IsGone}
-use Rattle.shard_front.specs.declared.spread.Spread.{Spread}
 use Rattle.shard_front.specs.declared.relayed.Relayed.{Relayed}
 use Rattle.shard_front.specs.declared.relayed.Relayed.TheVariants.{Served, Refused, Gone, GuestFault, ShardLost}
-use Rattle.shard_front.specs.Spread.{IsSpread, shards, terms_of}
+use Rattle.shard_front.specs.Spread.{IsSpread, Spread, shards, terms_of}
 use Rattle.shard_front.specs.Relay.{Counts, FrontsTold, GivesRelay, IsRelay, Links, RelaysLoss, RelaysSum, Visit, payload_at, payload_from, visit_of}
 use Rattle.shard_front.specs.Honest.{AreHonest, HonestTold, IsReplyOf, server_of}
 use Rattle.shard_front.proofs.HonestParts.{honest_payload, honest_usable, length-vectors, replies_products}

@@ -3,8 +3,7 @@ use Rattle.std.proofs.Common.{◌≡◌, ◌∙◌, ℕ, ◌+◌, ◌-◌, ◌<�
 use Rattle.wire_frames.specs.declared.sizes.TheConstants.{FRAME_HEADER_LEN}
 use Rattle.wire_frames.specs.declared.header.QueryHeader.{QueryHeader}
 use Rattle.wire_frames.specs.Header.{query_header}
-use Rattle.shard_front.specs.declared.spread.Spread.{Spread}
-use Rattle.shard_front.specs.Spread.{first_row, rows_in}
+use Rattle.shard_front.specs.Spread.{Spread, first_row, rows_in}
 use Rattle.shard_front.specs.Parts.{header_to, part_for, slice_for, slices_for}
 
 -- a slice, by the places where it begins and ends

@@ -4,8 +4,7 @@ use Rattle.std.proofs.Math.Nat.{mul-le-mul_left, mul-le-mul_right}
 use Rattle.wire_frames.specs.Scheme.{scheme_of}
 use Rattle.wire_frames.specs.Sizes.{answer_len}
 use Rattle.serve_core.specs.Terms.{most_blocks_for, payload_len_for}
-use Rattle.shard_front.specs.declared.spread.Spread.{Spread}
-use Rattle.shard_front.specs.Spread.{rows_in, terms_of}
+use Rattle.shard_front.specs.Spread.{Spread, rows_in, terms_of}
 use Rattle.shard_front.specs.Parts.{part_len}
 use Rattle.shard_front.specs.Room.{most_answer_for, most_part_for}
 

@@ -12,8 +12,7 @@ use Rattle.gf256.proofs.RunSums.{run-all, run-join, run-none}
 use Rattle.chor_xor.specs.Chosen.{combined, combined_at}
 use Rattle.wire_frames.specs.Turns.{in_turn, piece}
 use Rattle.wire_frames.proofs.Turns.{in_turn-of-pieces, length-piece, piece-in_turn, piece_fits}
-use Rattle.shard_front.specs.declared.spread.Spread.{Spread}
-use Rattle.shard_front.specs.Spread.{IsSpread, first_row, rows_in, shards}
+use Rattle.shard_front.specs.Spread.{IsSpread, Spread, first_row, rows_in, shards}
 use Rattle.shard_front.specs.Parts.{slice_at, slice_for}
 use Rattle.shard_front.specs.Honest.{rows_at}
 use Rattle.shard_front.proofs.Spreads.{starts_within}

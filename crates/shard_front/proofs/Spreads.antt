@@ -1,13 +1,18 @@
 -- Shards and their rows.
-use Rattle.std.proofs.Common.{ℕ, ◌+◌, ◌*◌, ◌<◌, ◌≤◌, arith, suc-mul}
+use Rattle.std.proofs.Common.{◌≡◌, ℕ, ◌+◌, ◌*◌, ◌<◌, ◌≤◌, ap₂, arith, suc-mul}
 use Rattle.std.proofs.Math.Nat.{mul-le-mul_right}
 use Rattle.std.proofs.lemmas.Grind.{div_ceil_times}
 use Rattle.wire_frames.specs.declared.header.QueryHeader.{QueryHeader}
 use Rattle.wire_frames.specs.Limits.{IsQuery}
 use Rattle.serve_core.specs.Taking.{IsGood}
-use Rattle.shard_front.specs.declared.spread.Spread.{Spread}
-use Rattle.shard_front.specs.Spread.{IsSpread, first_row, rows_in, shards, terms_of}
+use Rattle.shard_front.specs.Spread.{IsSpread, Spread, first_row, rows_in, shards, terms_of}
 use Rattle.shard_front.specs.Parts.{header_to}
+
+-- so many rows of so many bytes as it has, over shards as they are, are itself
+pub spread_by : (spread : Spread) (rows width : ℕ) → rows ≡ spread.rows → width ≡ spread.width
+    → (let made : Spread = record { rows = rows; width = width; shard = spread.shard } in made) ≡ spread
+spread_by spread rows width r w =
+    ap₂ (λ (a b : ℕ). let made : Spread = record { rows = a; width = b; shard = spread.shard } in made) r w
 
 module _ (spread : Spread) (is : IsSpread spread) (i : ℕ) (there : i < shards spread) where
   -- a shard begins at a row of the database

@@ -13,10 +13,9 @@ use Rattle.wire_frames.specs.declared.header.QueryHeader.{QueryHeader}
 use Rattle.wire_frames.specs.Answer.{usable}
 use Rattle.serve_core.specs.Taking.{BreaksTaking, Dismisses, IsBrokenTaking, IsDismissal, IsGood, IsQueryOf}
 use Rattle.serve_core.specs.declared.met.Met.TheVariants.{Refused as IsRefused, Gone as IsGone}
-use Rattle.shard_front.specs.declared.spread.Spread.{Spread}
 use Rattle.shard_front.specs.declared.relayed.Relayed.{Relayed}
 use Rattle.shard_front.specs.declared.relayed.Relayed.TheVariants.{Served, Refused, Gone, GuestFault, ShardLost}
-use Rattle.shard_front.specs.Spread.{IsSpread, shards, terms_of}
+use Rattle.shard_front.specs.Spread.{IsSpread, Spread, shards, terms_of}
 use Rattle.shard_front.specs.RelayedQuery.{RelayedQuery, relayed_over}
 use Rattle.shard_front.specs.Parts.{Part, part_answer_len, part_at, part_header}
 use Rattle.shard_front.specs.Shard.{ShardAnswers, ShardIsLost}

@@ -6,10 +6,9 @@ use Rattle.port_trait.specs.Each.{Each, TouchesRange}
 use Rattle.chor_xor.specs.Chosen.{combined, combined_at}
 use Rattle.wire_frames.specs.declared.header.QueryHeader.{QueryHeader}
 use Rattle.wire_frames.specs.Header.{answer_header}
-use Rattle.shard_front.specs.declared.spread.Spread.{Spread}
 use Rattle.shard_front.specs.declared.relayed.Relayed.{Relayed}
 use Rattle.shard_front.specs.declared.relayed.Relayed.TheVariants.{Served, Refused, Gone, GuestFault, ShardLost}
-use Rattle.shard_front.specs.Spread.{shards}
+use Rattle.shard_front.specs.Spread.{Spread, shards}
 use Rattle.shard_front.specs.RelayedQuery.{RelayedQuery}
 use Rattle.shard_front.specs.Parts.{part_at}
 use Rattle.shard_front.specs.Shard.{ShardAnswers, ShardIsLost}

@@ -8,10 +8,9 @@ use Rattle.wire_frames.specs.declared.header.QueryHeader.{QueryHeader}
 use Rattle.serve_core.specs.Terms.{query_len_for}
 use Rattle.serve_core.specs.Taking.{BreaksTaking, Dismisses, IsGood, IsQueryOf}
 use Rattle.serve_core.specs.declared.met.Met.TheVariants.{Refused as IsRefused, Gone as IsGone}
-use Rattle.shard_front.specs.declared.spread.Spread.{Spread}
 use Rattle.shard_front.specs.declared.relayed.Relayed.{Relayed}
 use Rattle.shard_front.specs.declared.relayed.Relayed.TheVariants.{Served, Refused, Gone, GuestFault, ShardLost}
-use Rattle.shard_front.specs.Spread.{terms_of}
+use Rattle.shard_front.specs.Spread.{Spread, terms_of}
 use Rattle.shard_front.specs.RelayedQuery.{relayed_over}
 use Rattle.shard_front.specs.Asked.{Asks, asked_for}
 

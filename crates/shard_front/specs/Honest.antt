@@ -11,10 +11,9 @@ use Rattle.serve_core.specs.Reply.{Replies}
 use Rattle.serve_core.specs.Taking.{IsGood, IsQueryOf}
 use Rattle.serve_core.specs.declared.met.Met.{Met}
 use Rattle.serve_core.specs.declared.met.Met.TheVariants.{Served as IsServed, Refused as IsRefused, Gone as IsGone, GuestFault as IsFault}
-use Rattle.shard_front.specs.declared.spread.Spread.{Spread}
 use Rattle.shard_front.specs.declared.relayed.Relayed.{Relayed}
 use Rattle.shard_front.specs.declared.relayed.Relayed.TheVariants.{Served, Refused, Gone, GuestFault}
-use Rattle.shard_front.specs.Spread.{first_row, rows_in, shards, terms_of}
+use Rattle.shard_front.specs.Spread.{Spread, first_row, rows_in, shards, terms_of}
 use Rattle.shard_front.specs.Parts.{part_for}
 
 -- the rows of the shard at place i, of the rows of a matrix

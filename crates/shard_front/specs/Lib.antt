@@ -9,4 +9,3 @@ pub mod Stages
 pub mod Fronted
 pub mod Relay
 pub mod Honest
-pub mod FrontInside

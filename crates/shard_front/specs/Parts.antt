@@ -5,8 +5,7 @@ use Rattle.wire_frames.specs.declared.scheme.Scheme.TheVariants.{Shamir}
 use Rattle.wire_frames.specs.Header.{query_header}
 use Rattle.wire_frames.specs.Sizes.{answer_len, query_len}
 use Rattle.wire_frames.specs.Turns.{in_turn, piece}
-use Rattle.shard_front.specs.declared.spread.Spread.{Spread}
-use Rattle.shard_front.specs.Spread.{first_row, rows_in}
+use Rattle.shard_front.specs.Spread.{Spread, first_row, rows_in}
 use Rattle.shard_front.specs.RelayedQuery.{RelayedQuery}
 
 -- the header of the query to the shard at place i: the guest's, for the rows of the shard

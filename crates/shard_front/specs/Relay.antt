@@ -10,10 +10,9 @@ use Rattle.wire_frames.specs.Header.{answer_header, answer_to}
 use Rattle.wire_frames.specs.Sizes.{answer_len}
 use Rattle.serve_core.specs.Case.{IsCut, Refuses, header_of}
 use Rattle.serve_core.specs.Taking.{IsGood, IsQueryOf}
-use Rattle.shard_front.specs.declared.spread.Spread.{Spread}
 use Rattle.shard_front.specs.declared.relayed.Relayed.{Relayed}
 use Rattle.shard_front.specs.declared.relayed.Relayed.TheVariants.{Served, Refused, Gone, GuestFault, ShardLost}
-use Rattle.shard_front.specs.Spread.{shards, terms_of}
+use Rattle.shard_front.specs.Spread.{Spread, shards, terms_of}
 use Rattle.shard_front.specs.Parts.{header_to}
 use Rattle.shard_front.specs.Asked.{lost_frame}
 

@@ -2,8 +2,7 @@
 use Rattle.std.specs.Prelude.{ℕ, ◌≡◌, ◌*◌, List, length}
 use Rattle.wire_frames.specs.declared.header.QueryHeader.{QueryHeader}
 use Rattle.serve_core.specs.Taking.{IsGood, payload_in}
-use Rattle.shard_front.specs.declared.spread.Spread.{Spread}
-use Rattle.shard_front.specs.Spread.{IsSpread, shards, terms_of}
+use Rattle.shard_front.specs.Spread.{IsSpread, Spread, shards, terms_of}
 
 -- over which shards it is relayed, at which addresses, its header, and its vectors, one behind another
 pub record RelayedQuery : Type 0 where

@@ -3,10 +3,9 @@ use Rattle.std.specs.Prelude.{◌≡◌, ℕ, vec_len}
 use Rattle.wire_frames.specs.Sizes.{answer_len, query_len}
 use Rattle.wire_frames.specs.declared.scheme.Scheme.TheVariants.{Shamir}
 use Rattle.serve_core.specs.Terms.{most_blocks_for, most_payload_for}
-use Rattle.shard_front.specs.declared.spread.Spread.{Spread}
 use Rattle.shard_front.specs.declared.room.Room.{Room}
 use Rattle.shard_front.specs.declared.room.ShardRoom.{ShardRoom}
-use Rattle.shard_front.specs.Spread.{terms_of}
+use Rattle.shard_front.specs.Spread.{Spread, terms_of}
 
 -- how many bytes the part of a query for one shard has at most
 abbrev pub most_part_for : Spread → ℕ

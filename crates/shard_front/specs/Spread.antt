@@ -5,7 +5,12 @@ use Rattle.quantity_limits.specs.Shape.{IsShape}
 use Rattle.wire_frames.specs.declared.scheme.TheConstants.{SHAMIR}
 use Rattle.serve_core.specs.declared.terms.Terms.{Terms}
 use Rattle.quantity_limits.specs.declared.TheConstants.{MOST_SHARDS}
-use Rattle.shard_front.specs.declared.spread.Spread.{Spread}
+
+-- how many rows a database has, of how many bytes, and how many of them each shard has: the last may have fewer
+pub record Spread : Type 0 where
+  pub rows : ℕ
+  pub width : ℕ
+  pub shard : ℕ
 
 -- how many shards there are
 abbrev pub shards : Spread → ℕ

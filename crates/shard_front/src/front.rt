@@ -30,14 +30,14 @@ pub struct Front {
 }
 
 impl Model for Front {
-    ghost use Rattle.shard_front.specs.declared.spread.Spread.{Spread};
-    ghost use Rattle.shard_front.specs.FrontInside.{IsSound};
+    ghost use Rattle.shard_front.specs.Room.{Fits};
+    ghost use Rattle.shard_front.specs.Spread.{Spread};
 
     ghost Value = { Spread };
 
     ghost view = { λ f. f.spread };
 
-    ghost invariant = { IsSound };
+    ghost invariant = { λ f. Fits f.spread f.room };
 }
 
 impl Front {
@@ -54,7 +54,7 @@ impl Front {
         ensures { IfOk result (λ front.
             front ≡ record { rows = rows; width = width; shard = shard }) }
     {
-        let spread = Spread { rows, width, shard };
+        let spread = Spread::new(rows, width, shard);
         let room = Room::new(alloc, spread)?;
         Ok(Front { spread, room })
     }
@@ -62,6 +62,7 @@ impl Front {
     /// Serves the guest that is in.
     pub(crate) fn serve<P: Ports>(&mut self, addresses: &[String], ports: &mut P) -> Relayed
         requires { length addresses.now ≡ shards self.old }
+        ensures spread { IsSpread self.old }
         ensures fronts { Fronts self.old (map string_bytes addresses.now) result
             (P.world ports.old) (P.world ports.new) }
         ensures told { FrontsTold self.old result (P.world ports.old) (P.world ports.new) }

@@ -1,7 +1,6 @@
 //! The room that a front takes.
 ghost use Rattle.std.specs.Prelude.{IfOk};
 ghost use Rattle.shard_front.specs.Room.{Fits};
-ghost use Rattle.shard_front.specs.Spread.{IsSpread};
 
 use crate::spread::Spread;
 use std::alloc::{AllocError, Global};
@@ -31,17 +30,16 @@ impl Room {
     /// `AllocError` for want of memory.
     #[tactic(auto, unfolding(wire_frames::specs::Scheme::scheme_of))]
     pub(crate) fn new(alloc: Global, spread: Spread) -> Result<Room, AllocError>
-        requires { IsSpread spread }
         ensures { IfOk result (Fits spread) }
     {
         let most = spread.most_blocks();
         Ok(Room {
-            query: vec![in alloc; 0; usize::from(most) * spread.rows as usize]?,
+            query: vec![in alloc; 0; usize::from(most) * spread.rows() as usize]?,
             shard: ShardRoom {
-                part: vec![in alloc; 0; query_len(Scheme::Shamir, most, spread.shard)]?,
-                answer: vec![in alloc; 0; answer_len(most, spread.width)]?,
+                part: vec![in alloc; 0; query_len(Scheme::Shamir, most, spread.shard())]?,
+                answer: vec![in alloc; 0; answer_len(most, spread.width())]?,
             },
-            frame: vec![in alloc; 0; answer_len(most, spread.width)]?,
+            frame: vec![in alloc; 0; answer_len(most, spread.width())]?,
         })
     }
 }

@@ -97,7 +97,6 @@ fn relay_query<P: Ports>(
     room: &mut Room,
     ports: &mut P,
 ) -> Relayed
-    requires spread { IsSpread spread }
     requires addresses { length addresses.now ≡ shards spread }
     requires good { IsGood (terms_of spread) asked.now }
     requires fits { Fits spread room.old }
@@ -111,7 +110,7 @@ fn relay_query<P: Ports>(
         spread,
         addresses,
         header: *asked,
-        vectors: &query[..usize::from(asked.count) * spread.rows as usize],
+        vectors: &query[..usize::from(asked.count) * spread.rows() as usize],
     };
     relay_in(&relay, &mut room.shard, frame, ports)
 }
@@ -123,15 +122,15 @@ pub(crate) fn serve_within<P: Ports>(
     addresses: &[String],
     ports: &mut P,
 ) -> Relayed
-    requires spread { IsSpread spread }
     requires fits { Fits spread room.old }
     requires addresses { length addresses.now ≡ shards spread }
+    ensures spread { IsSpread spread }
     ensures fits { Fits spread room.new }
     ensures fronts { Fronts spread (map string_bytes addresses.now) result
         (P.world ports.old) (P.world ports.new) }
 {
     let query = room.query.as_mut_slice();
-    match take_query(SHAMIR, spread.rows, spread.width, query, ports) {
+    match take_query(SHAMIR, spread.rows(), spread.width(), query, ports) {
         Taken::Query(asked) => relay_query(spread, addresses, &asked, room, ports),
         Taken::Refused(status) => Relayed::Refused(status),
         Taken::Gone => Relayed::Gone,
@@ -152,9 +151,10 @@ pub(crate) fn serve_within<P: Ports>(
 /// it is given the frame of status 0 with the sum of the answers. Where each link gives what an honest server
 /// of its shard's rows replies, and no call fails, that is the reply of one server of all rows. Where a call on
 /// the guest fails, it was given nothing unless all that the reply takes was taken, and then a proper prefix of
-/// its frame. The front is the same after every guest. No memory is taken.
+/// its frame. The front is the same after every guest, over shards that it may ask. No memory is taken.
 pub fn front_one<P: Ports>(front: &mut Front, addresses: &[String], ports: &mut P) -> Relayed
     requires { length addresses.now ≡ shards front.old }
+    ensures spread { IsSpread front.old }
     ensures fronts { Fronts front.old (map string_bytes addresses.now) result
         (P.world ports.old) (P.world ports.new) }
     ensures told { FrontsTold front.old result (P.world ports.old) (P.world ports.new) }

@@ -17,18 +17,18 @@ each_more Is out n x room here before =
 
 pub through_first-requires-clause-enough : goal.through_first-requires-clause-enough
 through_first-requires-clause-enough c =
-    let rows = map (λ row. row.now) c.args.rows.now in
-    let n = length-rows c.args.rows.now in
+    let rows = map (λ row. row.now) c.args.columns.now.rows.now in
+    let n = length-rows c.args.columns.now.rows.now in
     let size = ap length (c.deref.ensures.value ∙ c.in_ok-points.ensures) in
-    let m = length-points c.args.xs.now rows (n ∙ c.requires.rows) (c.args.from + c.loop-column.column) in
+    let m = length-points c.args.columns.now.xs.now rows (n ∙ c.requires.rows) (c.args.from + c.loop-column.column) in
     omega (arith, size, m, c.requires.enough)
 
 pub through_first-requires-clause-distinct : goal.through_first-requires-clause-distinct
 through_first-requires-clause-distinct c =
-    let rows = map (λ row. row.now) c.args.rows.now in
-    let n = length-rows c.args.rows.now in
+    let rows = map (λ row. row.now) c.args.columns.now.rows.now in
+    let n = length-rows c.args.columns.now.rows.now in
     subst (AllPairs (λ p q. p.0 ≢ q.0)) (sym (c.deref.ensures.value ∙ c.in_ok-points.ensures))
-    (points_differ c.args.xs.now rows (n ∙ c.requires.rows) (c.args.from + c.loop-column.column) c.requires.distinct)
+    (points_differ c.args.columns.now.xs.now rows (n ∙ c.requires.rows) (c.args.from + c.loop-column.column) c.requires.distinct)
 
 pub returns-then-not-lie_on : goal.returns-then-not-lie_on
 returns-then-not-lie_on c =
@@ -39,17 +39,17 @@ returns-then-not-lie_on c =
       within = omega arith;
       constants = c.loop-column.invariant;
       longest = λ l.
-          subst (λ points. ¬ LieOnOne points c.args.t) (c.deref-in-loop-column-2.ensures.value ∙ c.in_ok-points.ensures)
-          (off_one c.deref-in-loop-column.result.now points c.args.t c.lie_on.result c.if-not-lie_on.true c.lie_on.ensures
+          subst (λ points. ¬ LieOnOne points c.args.columns.now.t) (c.deref-in-loop-column-2.ensures.value ∙ c.in_ok-points.ensures)
+          (off_one c.deref-in-loop-column.result.now points c.args.columns.now.t c.lie_on.result c.if-not-lie_on.true c.lie_on.ensures
           (λ psi poly on. c.in_ok-through.ensures.only psi poly (subst (All (λ p. val psi p.0 ≡ p.1)) same on) ∙ sym is));
     }
 
 pub loop-column-preserved : goal.loop-column-preserved
 loop-column-preserved c =
     let phi = c.in_ok-through.through.items in
-    let t = c.args.t in
+    let t = c.args.columns.now.t in
     let column = c.loop-column.column in
-    let at = λ (n : ℕ). points_at c.args.xs.now (map (λ row. row.now) c.args.rows.now) (c.args.from + n) in
+    let at = λ (n : ℕ). points_at c.args.columns.now.xs.now (map (λ row. row.now) c.args.columns.now.rows.now) (c.args.from + n) in
     let on = c.lie_on.ensures.0 c.if-not-lie_on.false in
     let points = c.deref-in-loop-column-2.ensures.value ∙ c.in_ok-points.ensures in
     let first = c.index.ensures ∙ get_or_default phi 0 _ 0 (let size = c.in_ok-through.ensures.polynomial.size in omega (arith, size)) in

@@ -10,7 +10,7 @@ loop-place-preserved c = λ k d l.
     let Is = λ (row : List ℕ). All (λ b. b < 256) row × (length row < 2 ^ 64) in
     let here = get_or-map (λ (row : Bor (List ℕ)). row.now) c.args.rows.now n _ d c.loop-place-test.true in
     below_more (λ k. Is (get_or rows k d)) n (λ k l. c.loop-place.invariant k d l)
-    (subst Is (sym here) (c.is_row.ensures.bytes, c.is_row.ensures.size)) k l
+    (subst Is (sym here) (c.are_bytes.ensures.bytes, c.are_bytes.ensures.size)) k l
 
 pub returns-clause-bytes : goal.returns-clause-bytes
 returns-clause-bytes c =

@@ -1,12 +1,12 @@
 use Rattle.std.proofs.Common.{◌∙◌, Err, inr, ap, subst, sym}
 use Rattle.std.specs.Prelude.{Result, IfErr}
 use Rattle.std.proofs.lemmas.Result.{err_from_is_err_and}
-use Rattle.shard_front.specs.Spread.{IsSpread, shards}
+use Rattle.shard_front.specs.Spread.{shards}
 use Rattle.commands.specs.FrontOrder.{FrontOrder}
 use Rattle.commands.specs.FrontOutcome.{FrontEnds, FrontedAll, FrontedSome}
 use Rattle.commands.specs.declared.status.Status.{Status}
 use Rattle.commands.proofs.Serving.{unnamed_by_door}
-use Rattle.commands.proofs.Fronting.{front_not_ready, front_spread, front_touches, front_touches_door, fronted_all, fronted_some}
+use Rattle.commands.proofs.Fronting.{front_not_ready, front_touches, front_touches_door, fronted_all, fronted_some}
 use Rattle.commands.proofs.front_command.relay_from.Goals as goal
 
 pub returns-in_err-listen-clause-ends : goal.returns-in_err-listen-clause-ends
@@ -25,13 +25,8 @@ returns-in_err-listen-clause-others g c = front_touches_door _ _ _ c.listen.ensu
 pub returns-in_err-listen-clause-unnamed : goal.returns-in_err-listen-clause-unnamed
 returns-in_err-listen-clause-unnamed g c = unnamed_by_door _ _ c.listen.ensures.others
 
-pub relay_guests-requires-clause-spread : goal.relay_guests-requires-clause-spread
-relay_guests-requires-clause-spread g c =
-    let is = c.requires ∙ ap (λ (o : FrontOrder). o.spread) (sym c.order.view_is) in
-    subst IsSpread (sym is) (front_spread _ _ _ _ _ c.order.invariant)
-
-pub relay_guests-requires-clause-addresses : goal.relay_guests-requires-clause-addresses
-relay_guests-requires-clause-addresses g c =
+pub relay_guests-requires : goal.relay_guests-requires
+relay_guests-requires g c =
     let is = c.requires ∙ ap (λ (o : FrontOrder). o.spread) (sym c.order.view_is) in
     c.order.invariant.one_for_each ∙ ap shards (sym is)
 

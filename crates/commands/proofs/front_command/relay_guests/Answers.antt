@@ -1,5 +1,5 @@
 use Rattle.std.proofs.Common.{◌≡◌, ◌∙◌, ℕ, map, string_bytes, refl, subst, arith}
-use Rattle.shard_front.specs.Spread.{shards}
+use Rattle.shard_front.specs.Spread.{IsSpread, shards}
 use Rattle.commands.specs.FrontAnswers.{FrontsGuests}
 use Rattle.commands.specs.FrontSteps.{FrontsInTurn, FrontsNext}
 use Rattle.commands.proofs.FrontAnswers.{fronts_none}
@@ -26,11 +26,12 @@ guests-preserved g c =
     let meets = c.in-Ok.ensures.ok in
     let addresses = map string_bytes c.args.addresses.now in
     let next : FrontsNext c.args.front.now addresses c.front_one.result before after = fronts_next _ _ addresses c.front_one.result before met after i.front meets c.front_one.ensures.fronts c.front_one.ensures.told in
+    let few = (subst IsSpread i.front c.front_one.ensures.spread).few in
     let touches = fronted_touch c.args.front.now _ addresses c.front_one.result met after i.front c.front_one.ensures.fronts in
     record {
       front = c.front_one.ensures.kept ∙ i.front;
-      turns = fronted_more c.args.front.now addresses c.guests.counter c.front_one.result start before after c.requires.spread.few i.turns next;
-      guests = fronted_guests c.args.front.now _ addresses c.front_one.result c.guests.counter start before met after c.requires.spread.few i.front i.guests meets c.front_one.ensures.fronts c.front_one.ensures.told;
+      turns = fronted_more c.args.front.now addresses c.guests.counter c.front_one.result start before after few i.turns next;
+      guests = fronted_guests c.args.front.now _ addresses c.front_one.result c.guests.counter start before met after few i.front i.guests meets c.front_one.ensures.fronts c.front_one.ensures.told;
       unnamed = fronted_unnamed _ addresses c.front_one.result met after c.front_one.ensures.fronts ∙ meets.opened ∙ i.unnamed;
       door = relaying_door (shards c.args.front.now) start before met after i.door meets touches;
       others = relaying_touch (shards c.args.front.now) start before met after i.others meets touches;

@@ -30,7 +30,7 @@ loop-v-preserved c =
     let next : v + 1 ≡ suc v = omega arith in
     let step : (v + 1) * size ≡ v * size + size = ap (λ (k : ℕ). k * size) next ∙ suc-mul v size in
     let fits : (v + 1) * size ≤ c.args.count * size = piece_fits v c.args.count size (omega (arith, c.loop-v-test.true, c.from-v-end.ensures)) in
-    let is : row ≡ slices v = c.write_slice.ensures ∙ ap (slice_for spread place) (piece_between v spread.rows spread.rows c.args.vectors.now refl) in
+    let is : row ≡ slices v = c.write_slice.ensures ∙ ap (slice_for spread place) (piece_between v c.rows-rows.result spread.rows c.args.vectors.now c.rows-rows.ensures.is) in
     let long : length row ≡ size = omega (arith, c.write_slice.auto.out, start, end, step, fits, so_far.size) in
     record {
       written = turn_written out row (in_turn v slices) (v * given) v (v + 1) ((v + 1) * given - v * given) size start refl
@@ -50,13 +50,14 @@ write_slice-requires-clause-room c =
 pub write_slice-requires-clause-vector : goal.write_slice-requires-clause-vector
 write_slice-requires-clause-vector c =
     let fits = piece_fits c.loop-v.v c.args.count c.args.spread.rows (omega (arith, c.loop-v-test.true, c.from-v-end.ensures)) in
-    ap length (piece_between c.loop-v.v c.args.spread.rows c.args.spread.rows c.args.vectors.now refl)
+    ap length (piece_between c.loop-v.v c.rows-rows.result c.args.spread.rows c.args.vectors.now c.rows-rows.ensures.is)
     ∙ length-piece c.args.spread.rows c.loop-v.v c.args.vectors.now (omega (arith, fits, c.requires.vectors))
 
 pub overflow_mul-vector-in-loop-v : goal.overflow_mul-vector-in-loop-v
 overflow_mul-vector-in-loop-v c =
     let fits = piece_fits c.loop-v.v c.args.count c.args.spread.rows (omega (arith, c.loop-v-test.true, c.from-v-end.ensures)) in
-    omega (arith, fits, c.requires.vectors)
+    let end = ap (λ (w : ℕ). (c.loop-v.v + 1) * w) c.rows-rows.ensures.is in
+    omega (arith, end, fits, c.requires.vectors)
 
 pub overflow_mul-slice-in-loop-v : goal.overflow_mul-slice-in-loop-v
 overflow_mul-slice-in-loop-v c =

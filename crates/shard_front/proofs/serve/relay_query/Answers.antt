@@ -1,11 +1,10 @@
-use Rattle.std.proofs.Common.{◌≡◌, ◌∙◌, ◌*◌, ◌≤◌, ℕ, List, length, map, take, string_bytes, sym, ap, ap₂, subst, arith}
+use Rattle.std.proofs.Common.{◌≡◌, ◌∙◌, ◌*◌, ◌≤◌, ℕ, List, length, map, take, string_bytes, sym, ap₂, subst, arith}
 use Rattle.std.proofs.lemmas.List.{length-take-le}
 use Rattle.wire_frames.specs.declared.header.QueryHeader.{QueryHeader}
 use Rattle.serve_core.specs.Taking.{IsGood}
 use Rattle.serve_core.specs.Terms.{most_payload_for}
 use Rattle.serve_core.proofs.RoomFor.{payload_fits}
-use Rattle.shard_front.specs.declared.spread.Spread.{Spread}
-use Rattle.shard_front.specs.Spread.{terms_of}
+use Rattle.shard_front.specs.Spread.{Spread, terms_of}
 use Rattle.shard_front.specs.RelayedQuery.{relayed_over}
 use Rattle.shard_front.specs.Stages.{RelaysQuery}
 use Rattle.shard_front.proofs.Rooms.{vectors_len}
@@ -19,19 +18,19 @@ vectors_there spread asked long room good is whole =
 
 pub slice_bounds-relay-end : goal.slice_bounds-relay-end
 slice_bounds-relay-end g c =
-    let n = c.from.result * c.args.spread.rows in
+    let n = c.from.result * c.rows.result in
     let there = vectors_there c.args.spread c.args.asked.now n (length c.as_slice-query.result.now) c.requires.good
-    (ap (λ (k : ℕ). k * c.args.spread.rows) c.from.ensures) (c.as_slice-query.ensures.len ∙ c.requires.fits.query) in
+    (ap₂ (λ (k r : ℕ). k * r) c.from.ensures c.rows.ensures.is) (c.as_slice-query.ensures.len ∙ c.requires.fits.query) in
     sym (length-take-le n c.as_slice-query.result.now there)
 
 pub invariant_of-relay : goal.invariant_of-relay
 invariant_of-relay g c =
-    let n = c.from.result * c.args.spread.rows in
-    let size = ap (λ (k : ℕ). k * c.args.spread.rows) c.from.ensures in
+    let n = c.from.result * c.rows.result in
+    let size = ap₂ (λ (k r : ℕ). k * r) c.from.ensures c.rows.ensures.is in
     let there = vectors_there c.args.spread c.args.asked.now n (length c.as_slice-query.result.now) c.requires.good
     size (c.as_slice-query.ensures.len ∙ c.requires.fits.query) in
     record {
-      spread = c.requires.spread;
+      spread = c.rows.ensures.spread;
       addresses = c.requires.addresses;
       good = c.requires.good;
       vectors = length-take-le n c.as_slice-query.result.now there ∙ size;
@@ -47,6 +46,6 @@ returns-clause-relays g c =
     let addresses = map string_bytes c.args.addresses.now in
     let old = g.P.Ports.world c.args.ports.now in
     let new = g.P.Ports.world c.relay_in.new.ports in
-    let size = ap (λ (k : ℕ). k * spread.rows) c.from.ensures ∙ sym (vectors_len spread asked.count) in
+    let size = ap₂ (λ (k r : ℕ). k * r) c.from.ensures c.rows.ensures.is ∙ sym (vectors_len spread asked.count) in
     subst (λ (l : List ℕ). RelaysQuery (relayed_over spread addresses asked l) c.relay_in.result old new)
     (ap₂ (λ (n : ℕ) (l : List ℕ). take n l) size c.as_slice-query.ensures.value) c.relay_in.ensures.relays

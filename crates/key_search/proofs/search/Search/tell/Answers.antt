@@ -15,15 +15,15 @@ invariant_of-self c = c.self.invariant
 pub invariant_of-self-in-None : goal.invariant_of-self-in-None
 invariant_of-self-in-None c = c.self.invariant
 
-pub meet-requires : goal.meet-requires
-meet-requires c =
+pub compare-requires : goal.compare-requires
+compare-requires c =
     subst (λ a. IfSome a (λ row. length row.now ≡ c.args.self.now.width)) c.in-Some.is c.requires.width
     ∙ sym (ap (λ (s : Standing). s.width) c.self.view_is)
 
--- the standing after a row, by what `meet` makes of it
+-- the standing after a row, by what `compare` makes of it
 pub returns-in-Some-clause-standing : goal.returns-in-Some-clause-standing
 returns-in-Some-clause-standing c =
-    c.meet.ensures ∙ ap (λ s. standing_after s (Some c.in-Some.row.now)) c.self.view_is
+    c.compare.ensures ∙ ap (λ s. standing_after s (Some c.in-Some.row.now)) c.self.view_is
     ∙ ap (λ a. standing_after c.args.self.now (option_copied a)) (sym c.in-Some.is)
 
 pub returns-in-Some-clause-turn : goal.returns-in-Some-clause-turn

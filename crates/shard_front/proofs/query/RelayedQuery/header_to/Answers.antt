@@ -3,8 +3,7 @@ use Rattle.wire_frames.specs.declared.header.QueryHeader.{QueryHeader}
 use Rattle.wire_frames.specs.Limits.{IsQuery}
 use Rattle.serve_core.specs.Terms.{most_blocks_for}
 use Rattle.serve_core.proofs.RoomFor.{few_blocks}
-use Rattle.shard_front.specs.declared.spread.Spread.{Spread}
-use Rattle.shard_front.specs.Spread.{rows_in, shards, terms_of}
+use Rattle.shard_front.specs.Spread.{Spread, rows_in, shards, terms_of}
 use Rattle.shard_front.specs.RelayedQuery.{RelayedQuery}
 use Rattle.shard_front.specs.Parts.{header_to, part_at, part_header}
 use Rattle.shard_front.proofs.Spreads.{header_range}
@@ -15,11 +14,8 @@ for_rows : (spread : Spread) (query : QueryHeader) (place rows : ℕ) → rows �
     → (let made : QueryHeader = record query { r = rows } in made) ≡ header_to spread query place
 for_rows spread query place rows is = ap (λ (n : ℕ). let made : QueryHeader = record query { r = n } in made) is
 
-pub rows_in-requires-clause-spread : goal.rows_in-requires-clause-spread
-rows_in-requires-clause-spread c = c.self.invariant.spread
-
-pub rows_in-requires-clause-there : goal.rows_in-requires-clause-there
-rows_in-requires-clause-there c =
+pub rows_in-requires : goal.rows_in-requires
+rows_in-requires c =
     subst (λ (q : RelayedQuery). c.args.place < shards q.spread) (sym c.self.view_is) c.requires
 
 pub returns-clause-is : goal.returns-clause-is

@@ -16,9 +16,6 @@ returns c =
     part_is relay.spread relay.header relay.vectors place c.write_query_header.new.out out
     (c.write_query_header.ensures ∙ ap (λ (h : QueryHeader). query_header h) c.header_to.ensures.is) slices
 
-pub write_slices-requires-clause-spread : goal.write_slices-requires-clause-spread
-write_slices-requires-clause-spread c = c.self.invariant.spread
-
 pub write_slices-requires-clause-there : goal.write_slices-requires-clause-there
 write_slices-requires-clause-there c =
     subst (λ (q : RelayedQuery). c.args.place < shards q.spread) (sym c.self.view_is) c.requires.there

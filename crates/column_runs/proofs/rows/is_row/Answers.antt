@@ -1,6 +1,0 @@
-use Rattle.std.proofs.Common.{◌<◌, ℕ, subst}
-use Rattle.std.proofs.lemmas.List.{get_or_default}
-use Rattle.column_runs.proofs.rows.is_row.Goals as goal
-
-pub returns-clause-bytes : goal.returns-clause-bytes
-returns-clause-bytes c = λ k d l. subst (λ (b : ℕ). b < 256) (get_or_default c.args.row.now k 0 d l) (c.type_inv.row k).fits
