@@ -16,13 +16,13 @@ use anyhow::{Context, Result};
 use block_matrix::Matrix;
 use chor_xor::answer_into;
 use quantity_limits::{MOST_BLOCKS, MOST_WORKERS};
-use server_answer::answers_into;
 use server_product::OpenGate;
 use std::alloc::Global;
 use std::io::Print;
 use std::rt::Clock;
 use std::thread::Threads;
 use std::time::Instant;
+use xor_answers::answers_into;
 
 /// The best time of so many answers, in nanoseconds. The last one stays in `out`.
 fn best_answer<R: Clock>(

@@ -2,11 +2,11 @@
 use crate::matrices::{matrix_of, scattered};
 use block_matrix::Matrix;
 use chor_xor::answer_into;
-use server_answer::answers_into;
 use server_product::{Gate, OpenGate, plain_into, products_into};
 use std::alloc::Global;
 use std::test::Fail;
 use std::thread::Threads;
+use xor_answers::answers_into;
 
 /// The products of so many queries by so many workers.
 fn products<R: Threads + Sync>(

@@ -4,7 +4,7 @@ use Rattle.wire_frames.specs.declared.scheme.Scheme.{Scheme}
 use Rattle.wire_frames.specs.Scheme.{scheme_of, payload_len}
 use Rattle.wire_frames.specs.Turns.{piece}
 use Rattle.wire_frames.proofs.Turns.{in_turn-of-pieces, piece-range}
-use Rattle.server_product.specs.Queries.{piece as range_piece}
+use Rattle.row_workers.specs.Pieces.{piece as range_piece}
 use Rattle.block_matrix.specs.Database.{Database}
 use Rattle.serve_core.specs.Service.{Service}
 use Rattle.serve_core.specs.Reply.{answer, answers, answer_at}

@@ -24,10 +24,10 @@ use crate::met::Met;
 use crate::room::Room;
 use crate::service::Service;
 use port_trait::Ports;
-use server_answer::answers_into;
 use server_product::{Gate, products_into};
 use std::thread::Threads;
 use wire_frames::{FRAME_HEADER_LEN, QueryHeader, Scheme, write_answer_header, write_query_header};
+use xor_answers::answers_into;
 
 /// A query that was taken: its header, and its vectors, one behind another.
 #[derive(Drop)]

@@ -59,6 +59,7 @@ waiting-none q rows c (suc n) = waiting-none q rows c n
 -- those that don't wait are of any factor
 pub none-are : (q : List ℕ) (f n : ℕ) → FewAreOf q f (slice_index_or (replicate n Empty) f Empty)
 none-are q f n = subst (FewAreOf q f) (sym (none_at n f)) (record {}) where
+  -- each place of a list of nothing has nothing
   none_at : (n f : ℕ) → slice_index_or (replicate n Empty) f Empty ≡ Empty
   none_at zero f = refl
   none_at (suc n) zero = refl

@@ -5,4 +5,3 @@ pub mod BlockSums
 pub mod ProductTables
 pub mod TrioSums
 pub mod Gathering
-pub mod Workers

@@ -1,13 +1,14 @@
 -- Sums over runs of rows.
-use Rattle.std.proofs.Common.{◌≡◌, ℕ, zero, suc, ◌+◌, ◌*◌, ◌<◌, ◌≤◌, List, [], length, get_or, slice_index, slice_index_or, take, replicate, refl, sym, ap, ap₂, ◌∙◌, arith, add-one}
-use Rattle.std.proofs.lemmas.List.{same_lists, get_or_default, length-take-le, length-replicate}
+use Rattle.std.proofs.Common.{◌≡◌, ℕ, ◌+◌, ◌*◌, ◌<◌, List, [], length, get_or, slice_index, slice_index_or, sym, ap, ap₂, ◌∙◌, arith, add-one}
+use Rattle.std.proofs.lemmas.List.{same_lists, get_or_default}
 use Rattle.std.proofs.lemmas.List.FromFn.{length-map-range_with_len, get_or-map-range_with_len}
 use Rattle.gf256.specs.Field.{◌⊕◌, ◌⊗◌}
 use Rattle.gf256.specs.Sums.{sum_to, run_sum}
 use Rattle.gf256.specs.Product.{product_at, product}
 use Rattle.gf256.proofs.Xor.{add_zero, add_swap}
-use Rattle.gf256.proofs.RunSums.{run-none, run-next, run-join, run-all}
+use Rattle.gf256.proofs.RunSums.{run-all}
 use Rattle.server_product.specs.Runs.{term}
+use Rattle.row_workers.proofs.RunSums.{none_yet, one_more, part_follows}
 
 -- all rows
 pub run-product : (q : List ℕ) (rows : List (List ℕ)) (c : ℕ) → run_sum (term q rows c) 0 (length rows) ≡ product_at q rows c
@@ -21,10 +22,6 @@ sixths f from sixth n =
     ⊕ run_sum f (from + 2 * sixth) (from + 2 * sixth + n) ⊕ run_sum f (from + 3 * sixth) (from + 3 * sixth + n)
     ⊕ run_sum f (from + 4 * sixth) (from + 4 * sixth + n) ⊕ run_sum f (from + 5 * sixth) (from + 5 * sixth + n)
 
--- no terms of a run that begins anywhere
-pub none_yet : (f : ℕ → ℕ) (from : ℕ) → run_sum f from (from + 0) ≡ 0
-none_yet f from = let e : from + 0 ≡ from = omega arith in ap (run_sum f from) e ∙ run-none f from
-
 -- no terms of each
 pub sixths-none : (f : ℕ → ℕ) (from sixth : ℕ) → sixths f from sixth 0 ≡ 0
 sixths-none f from sixth =
@@ -32,12 +29,6 @@ sixths-none f from sixth =
     (none_yet f from) (none_yet f (from + sixth))) (none_yet f (from + 2 * sixth))) (none_yet f (from + 3 * sixth)))
     (none_yet f (from + 4 * sixth))) (none_yet f (from + 5 * sixth))
     ∙ (let e : 0 ⊕ 0 ⊕ 0 ⊕ 0 ⊕ 0 ⊕ 0 ≡ 0 = simp add_zero in e)
-
--- one more term of a run
-pub one_more : (f : ℕ → ℕ) (from n : ℕ) → run_sum f from (from + (n + 1)) ≡ run_sum f from (from + n) ⊕ f (from + n)
-one_more f from n =
-    let e : from + (n + 1) ≡ from + n + 1 = omega arith in
-    ap (run_sum f from) e ∙ run-next f from (from + n) (omega arith)
 
 -- six sums of two as two sums of six
 in_pairs : (a b c d e f u v w x y z : ℕ)
@@ -60,14 +51,6 @@ sixths-next f from sixth n =
     (one_more f (from + 4 * sixth) n)) (one_more f (from + 5 * sixth) n)
     ∙ in_pairs _ _ _ _ _ _ _ _ _ _ _ _
 
--- a part that follows the terms before it
-pub part_follows : (f : ℕ → ℕ) (from m k n : ℕ) → m + n ≡ k
-    → run_sum f from (from + m) ⊕ run_sum f (from + m) (from + m + n) ≡ run_sum f from (from + k)
-part_follows f from m k n e =
-    let end : from + m + n ≡ from + k = omega arith in
-    ap (λ t. run_sum f from (from + m) ⊕ run_sum f (from + m) t) end
-    ∙ run-join f from (from + m) (from + k) (omega arith) (omega arith)
-
 -- whole parts are one run
 pub sixths-all : (f : ℕ → ℕ) (from sixth : ℕ) → sixths f from sixth sixth ≡ run_sum f from (from + 6 * sixth)
 sixths-all f from sixth =
@@ -77,19 +60,6 @@ sixths-all f from sixth =
     ∙ ap (λ s. s ⊕ P (4 * sixth) ⊕ P (5 * sixth)) (part_follows f from (3 * sixth) (4 * sixth) sixth (omega arith))
     ∙ ap (λ s. s ⊕ P (5 * sixth)) (part_follows f from (4 * sixth) (5 * sixth) sixth (omega arith))
     ∙ part_follows f from (5 * sixth) (6 * sixth) sixth (omega arith)
-
--- a place of the front of a list of zeros
-pub zeros-at : (n m k : ℕ) → slice_index (take n (replicate m 0)) k ≡ 0
-zeros-at zero m k = refl
-zeros-at (suc n) zero k = refl
-zeros-at (suc n) (suc m) zero = refl
-zeros-at (suc n) (suc m) (suc k) = zeros-at n m k
-
--- how long the front of a list of zeros is
-pub zeros-long : (n m : ℕ) → n ≤ m → length {A = ℕ} (take n (replicate m 0)) ≡ n
-zeros-long n m l =
-    let long : length {A = ℕ} (replicate m 0) ≡ m = length-replicate m 0 in
-    length-take-le n (replicate m 0) (omega (arith, long))
 
 -- one more row of all
 pub term-next : (q : List ℕ) (rows : List (List ℕ)) (c j sum next : ℕ) → sum ≡ sum_to (term q rows c) j

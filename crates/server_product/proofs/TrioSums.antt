@@ -20,6 +20,7 @@ trio-past trio n ea eb ec k l =
     ap (◌⊗◌ trio.factor)
     (ap₂ ◌⊕◌ (ap₂ ◌⊕◌ (get_or_past trio.a.now k 0 (omega arith)) (get_or_past trio.b.now k 0 (omega arith))) (get_or_past trio.c.now k 0 (omega arith)))
     ∙ nothing trio.factor where
+      -- a factor times nothing
       nothing : (f : ℕ) → f ⊗ (0 ⊕ 0 ⊕ 0) ≡ 0
       nothing f = simp (add_zero, mul_zero)
 

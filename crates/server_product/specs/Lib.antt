@@ -1,10 +1,7 @@
-pub mod RowSums
 pub mod SixRows
 pub mod Runs
 pub mod Queries
 pub mod Blocks
-pub mod Group
 pub mod Tables
-pub mod Parts
 pub mod Trios
 pub mod Gathered

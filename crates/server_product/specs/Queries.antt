@@ -1,12 +1,9 @@
 -- Several queries and what they give, one after the other in one list.
-use Rattle.std.specs.Prelude.{◌≡◌, ℕ, ◌<◌, List, [], ◌+◌, ◌*◌, ◌/◌, ◌%◌, length, slice_index, slice_index_or, slice_range}
+use Rattle.std.specs.Prelude.{◌≡◌, ℕ, ◌<◌, List, [], ◌+◌, ◌*◌, ◌/◌, ◌%◌, length, slice_index, slice_index_or}
 use Rattle.gf256.specs.Field.{◌⊗◌}
 use Rattle.gf256.specs.Product.{product}
 use Rattle.block_matrix.specs.Database.{Database}
-
--- piece v of a list of pieces that are so long
-abbrev pub piece : ℕ → List ℕ → ℕ → List ℕ
-piece size xs v = slice_range xs (v * size) ((v + 1) * size)
+use Rattle.row_workers.specs.Pieces.{piece}
 
 -- what row j gives to place p of the sums of several queries, which has the columns of the first
 -- query, then those of the second, and so on

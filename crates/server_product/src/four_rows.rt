@@ -1,48 +1,17 @@
 //! Four rows at once for several queries: the bytes of a row are cut into their halves once for all
 //! queries, and the sums are read and written once for the four.
 
-ghost use Rattle.std.specs.Prelude.{◌≡◌, ℕ, [], ◌+◌, ◌*◌, ◌<◌, ◌≤◌, length, slice_index_or};
+ghost use Rattle.std.specs.Prelude.{◌≡◌, ◌+◌, ◌*◌, ◌<◌, ◌≤◌, length};
 ghost use Rattle.std.specs.Int.{div_ceil};
 ghost use Rattle.quantity_limits.specs.declared.TheConstants.{MOST_WIDTH};
-ghost use Rattle.server_product.specs.RowSums.{AddsBelow};
-ghost use Rattle.server_product.specs.Blocks.{IsAddedInBlock, four_at};
+ghost use Rattle.row_workers.specs.RowSums.{AddsBelow};
+ghost use Rattle.row_workers.specs.Blocks.{IsAddedInBlock};
+ghost use Rattle.server_product.specs.Blocks.{four_at};
 
-use crate::blocks::start_of;
 use crate::tables::{Halves, Tables};
-use block_matrix::Matrix;
+use row_workers::FourRows;
+use row_workers::blocks::start_of;
 use std::simd::prelude::*;
-
-/// Four rows of one width.
-#[derive(Clone, Copy, Drop)]
-pub struct FourRows<'a> {
-    pub a: &'a [u8],
-    pub b: &'a [u8],
-    pub c: &'a [u8],
-    pub d: &'a [u8],
-}
-
-/// Row `j` and the three that follow each so many rows after the one before.
-#[inline(always)]
-pub fn four_apart<'a>(matrix: &'a Matrix, j: u32, apart: u32) -> FourRows<'a>
-    requires { j + 3 * apart < length matrix.now.rows }
-    ensures a { result.a.now ≡ slice_index_or matrix.now.rows j [] }
-    ensures b { result.b.now ≡ slice_index_or matrix.now.rows (j + apart) [] }
-    ensures c { result.c.now ≡ slice_index_or matrix.now.rows (j + 2 * apart) [] }
-    ensures d { result.d.now ≡ slice_index_or matrix.now.rows (j + 3 * apart) [] }
-    ensures width_a { length result.a.now ≡ matrix.now.width }
-    ensures width_b { length result.b.now ≡ matrix.now.width }
-    ensures width_c { length result.c.now ≡ matrix.now.width }
-    ensures width_d { length result.d.now ≡ matrix.now.width }
-{
-    // Its contract bounds the number of rows.
-    let _rows = matrix.rows();
-    FourRows {
-        a: matrix.row(j),
-        b: matrix.row(j + apart),
-        c: matrix.row(j + 2 * apart),
-        d: matrix.row(j + 3 * apart),
-    }
-}
 
 /// Adds four rows, each times a factor, to the sums in blocks of so many queries: `factors` has four
 /// for each query.

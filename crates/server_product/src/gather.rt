@@ -5,7 +5,7 @@
 //! (1976). What is left over at the end is added six rows at once.
 
 ghost use Rattle.std.specs.Prelude.{◌≡◌, ℕ, ◌<◌, ◌≤◌, List, length, replicate, slice_index, slice_index_or};
-ghost use Rattle.server_product.specs.RowSums.{Adds};
+ghost use Rattle.row_workers.specs.RowSums.{Adds};
 ghost use Rattle.server_product.specs.Runs.{run_term};
 ghost use Rattle.server_product.specs.Trios.{trio_at};
 ghost use Rattle.server_product.specs.Gathered.{

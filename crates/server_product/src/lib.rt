@@ -4,8 +4,8 @@
 //! Promised: [`product_into`] gives exactly this product, for each shape of a database and each
 //! number of workers from 1 to 16; it is the product that [`plain_into`] computes byte by byte.
 //! [`products_into`] gives this product for each of up to 16 queries. [`mul_add_row`] adds one row
-//! times one byte. No call takes memory, and none can fail. [`blocks`], [`run_on_parts`],
-//! [`rows_of`], [`share_of`], [`four_apart`] and [`lanes_of`] serve the XOR scheme's answers too.
+//! times one byte. No call takes memory, and none can fail. The workers, and what else the answers
+//! of the XOR scheme have too, are [`row_workers`]'; it hands the gate on.
 //!
 //! Not promised: that each worker passes the gate, which is tested, that the workers run at the same
 //! time, that the database is read once for a group of queries, as it is, or anything of time. Each
@@ -13,12 +13,9 @@
 //! bytes.
 #![tactic(auto)]
 
-pub mod blocks;
 mod four_rows;
-mod gate;
 mod gather;
 mod group;
-mod parts;
 mod plain;
 mod queries;
 mod rows;
@@ -29,11 +26,7 @@ mod tables;
 mod trios;
 mod whole;
 
-pub use four_rows::{FourRows, four_apart};
-pub use gate::{Gate, OpenGate};
-pub use parts::{Task, rows_of, run_on_parts};
 pub use plain::plain_into;
+pub use row_workers::{Gate, OpenGate};
 pub use rows::mul_add_row;
-pub use sixths::share_of;
-pub use trios::lanes_of;
 pub use whole::{product_into, products_into};

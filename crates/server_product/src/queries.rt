@@ -2,7 +2,7 @@
 
 ghost use Rattle.std.specs.Prelude.{◌≡◌, ◌+◌, ◌*◌, ◌<◌, ◌≤◌, length};
 ghost use Rattle.std.specs.Int.{div_ceil};
-ghost use Rattle.server_product.specs.RowSums.{AreSums};
+ghost use Rattle.row_workers.specs.RowSums.{AreSums};
 ghost use Rattle.server_product.specs.Queries.{entry_of};
 ghost use Rattle.quantity_limits.specs.declared.TheConstants.{MOST_BLOCKS, MOST_WIDTH};
 ghost use Rattle.server_product.specs.declared.group.TheConstants.{MOST_LANES};
@@ -10,13 +10,6 @@ ghost use Rattle.server_product.specs.declared.group.TheConstants.{MOST_LANES};
 use crate::group::{MOST_LANES, sum_group};
 use crate::runs::sum_rows;
 use block_matrix::Matrix;
-
-/// How many bytes the sums of so many queries have.
-pub fn places_of(matrix: &Matrix, count: u8) -> usize
-    ensures { result ≡ count * matrix.now.width }
-{
-    count as usize * matrix.width() as usize
-}
 
 /// Makes `sums` the sums over the rows from `from` up to `to` for each of so many queries, those of
 /// the first query first. It goes over the rows once for each group of queries whose sums a near

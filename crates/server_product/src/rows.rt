@@ -2,7 +2,7 @@
 
 ghost use Rattle.std.specs.Prelude.{◌≡◌, ℕ, [], ◌<◌, length, slice_index, slice_index_or};
 ghost use Rattle.gf256.specs.Field.{◌⊕◌, ◌⊗◌};
-ghost use Rattle.server_product.specs.RowSums.{Adds};
+ghost use Rattle.row_workers.specs.RowSums.{Adds};
 ghost use Rattle.server_product.specs.Runs.{term};
 ghost use Rattle.server_product.specs.SixRows.{scaled_at};
 

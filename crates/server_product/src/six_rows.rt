@@ -3,13 +3,13 @@
 
 ghost use Rattle.std.specs.Prelude.{◌≡◌, ◌+◌, ◌≤◌, length};
 ghost use Rattle.gf256.specs.Rows.{AreLanes};
-ghost use Rattle.server_product.specs.RowSums.{Adds};
+ghost use Rattle.row_workers.specs.RowSums.{Adds};
 ghost use Rattle.server_product.specs.SixRows.{scaled_at, six_at, AreProductsOf};
 
 use crate::rows::Scaled;
-use crate::trios::lanes_of;
 use gf256::mul;
 use gf256::rows::Products;
+use row_workers::lanes_of;
 use std::simd::prelude::*;
 
 /// Six rows, each with the factor that it is multiplied by.

@@ -6,8 +6,8 @@ ghost use Rattle.std.specs.Simd.Lanes.{chunk};
 ghost use Rattle.gf256.specs.Field.{◌⊗◌};
 ghost use Rattle.server_product.specs.Tables.{HasProducts, AreHalves};
 
-use crate::trios::lanes_of;
 use gf256::rows::Products;
+use row_workers::lanes_of;
 use std::marker::Model;
 use std::simd::prelude::*;
 

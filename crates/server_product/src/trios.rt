@@ -2,13 +2,13 @@
 //! three.
 
 ghost use Rattle.std.specs.Prelude.{◌≡◌, ℕ, ◌+◌, ◌≤◌, length, slice_index};
-ghost use Rattle.std.specs.Simd.Lanes.{chunk};
 ghost use Rattle.gf256.specs.Field.{◌⊕◌, ◌⊗◌};
 ghost use Rattle.gf256.specs.Rows.{IsAdded};
 ghost use Rattle.server_product.specs.Trios.{trio_at, AddsTrios};
 
 use gf256::mul;
 use gf256::rows::Products;
+use row_workers::lanes_of;
 use std::simd::prelude::*;
 
 /// How many columns the second of two trios stays behind the first: half a page of 4096 bytes.
@@ -21,15 +21,6 @@ pub struct Trio<'a> {
     pub b: &'a [u8],
     pub c: &'a [u8],
     pub factor: u8,
-}
-
-/// The 16 bytes of the row from place `at` on.
-#[inline(always)]
-pub fn lanes_of(row: &[u8], at: usize) -> u8x16
-    requires { at + 16 ≤ length row.now }
-    ensures { result ≡ chunk at 16 row.now }
-{
-    u8x16::from_slice(&row[at..])
 }
 
 /// Adds the products of 16 places of the rows, from place `at` on, to those of `acc`.

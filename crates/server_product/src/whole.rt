@@ -1,18 +1,13 @@
 //! The products in parts, each on a thread of its own.
 
-ghost use Rattle.std.specs.Prelude.{◌≡◌, ℕ, ◌≤◌, ◌<◌, ◌+◌, ◌*◌, ◌^◌, length, slice_index};
-ghost use Rattle.gf256.specs.Field.{◌⊕◌};
-ghost use Rattle.quantity_limits.specs.declared.TheConstants.{MOST_WORKERS};
+ghost use Rattle.std.specs.Prelude.{◌≡◌, ◌≤◌, ◌*◌, length};
+ghost use Rattle.quantity_limits.specs.declared.TheConstants.{MOST_BLOCKS, MOST_WORKERS};
 ghost use Rattle.gf256.specs.Product.{product};
-ghost use Rattle.server_product.specs.Parts.{part};
-ghost use Rattle.server_product.specs.Queries.{AreProducts, entry};
-ghost use Rattle.quantity_limits.specs.declared.TheConstants.{MOST_BLOCKS};
+ghost use Rattle.server_product.specs.Queries.{AreProducts, entry_of};
 
-use crate::gate::Gate;
-use crate::parts::{Task, rows_of, run_on_parts};
-use crate::queries::{places_of, sum_queries};
+use crate::queries::sum_queries;
 use block_matrix::Matrix;
-use gf256::rows::{add_row, clear};
+use row_workers::{Gate, RowSums, sum_in_parts};
 use std::thread::Threads;
 
 /// Makes `out` the product of the query `q`, a byte for each row, and the matrix: a byte for each
@@ -66,45 +61,37 @@ pub fn products_into<R: Threads + Sync, G: Gate + Sync>(
     requires room { length out.old ≡ count * matrix.now.width }
     ensures { AreProducts matrix.now count queries.now out.new }
 {
-    let places = places_of(matrix, count);
-    let sums = Sums {
+    let sums = ProductSums {
         matrix,
         queries,
         count,
-        workers,
-        gate,
     };
-    run_on_parts(rt, &sums, workers, places, scratch);
-    clear(out);
-    for worker in 0..u32::from(workers) {
-        let start = worker as usize * places;
-        add_row(out, &scratch[start..start + places]);
-    }
+    sum_in_parts(rt, &sums, workers, scratch, gate, out);
 }
 
-/// What the workers add up, and their gate.
+/// So many queries, one after the other, and the matrix whose products with them are summed.
 #[derive(Drop)]
-struct Sums<'a, G> {
+struct ProductSums<'a> {
     matrix: &'a Matrix,
     queries: &'a [u8],
     count: u8,
-    workers: u8,
-    gate: &'a G,
 }
 
-impl<G: Gate> Task for Sums<'_, G> {
-    ghost accepts = { λ sums worker places. (sums.workers ≤ MOST_WORKERS) × (worker < sums.workers)
-        × (sums.count ≤ MOST_BLOCKS)
-        × (length sums.queries.now ≡ sums.count * length sums.matrix.now.rows)
-        × (places ≡ sums.count * sums.matrix.now.width) };
+impl RowSums for ProductSums<'_> {
+    ghost row_count = { λ sums. length sums.matrix.now.rows };
 
-    ghost leaves = { λ sums worker own. (p : ℕ) → p < sums.count * sums.matrix.now.width
-        → slice_index own p ≡ part (entry sums.queries.now sums.matrix.now.rows sums.matrix.now.width)
-        (length sums.matrix.now.rows) sums.workers worker p };
+    ghost places = { λ sums. sums.count * sums.matrix.now.width };
 
-    fn run(&self, worker: u8, part: &mut [u8]) {
-        self.gate.pass(worker);
-        let (from, to) = rows_of(self.matrix.rows(), self.workers, worker);
-        sum_queries(self.matrix, self.queries, self.count, from, to, part);
+    ghost gives = { λ sums. entry_of sums.queries.now sums.matrix.now };
+
+    ghost ready = { λ sums. (sums.count ≤ MOST_BLOCKS)
+        × (length sums.queries.now ≡ sums.count * length sums.matrix.now.rows) };
+
+    fn rows(&self) -> u32 {
+        self.matrix.rows()
+    }
+
+    fn sum(&self, from: u32, to: u32, sums: &mut [u8]) {
+        sum_queries(self.matrix, self.queries, self.count, from, to, sums);
     }
 }

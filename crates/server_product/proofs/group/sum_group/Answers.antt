@@ -1,60 +1,29 @@
-use Rattle.std.proofs.Common.{◌≡◌, ◌≤◌, ℕ, ◌*◌, ◌∙◌, ap, arith, sym}
-use Rattle.std.specs.Int.{div_ceil}
-use Rattle.server_product.proofs.RunSums.{zeros-at, zeros-long}
+use Rattle.std.proofs.Common.{arith}
 use Rattle.server_product.proofs.group.sum_group.Goals as goal
 
--- the stack has room for the blocks
-blocks_fit : (d lanes n : ℕ) → d ≡ lanes → n * lanes ≤ 4096 → 16 * (d * n) ≤ 65536
-blocks_fit d lanes n e fits = omega (arith, ap (λ k. k * n) e)
+pub sum_group-requires-clause-some : goal.sum_group-requires-clause-some
+sum_group-requires-clause-some c = c.requires.some
 
-pub overflow_mul-size : goal.overflow_mul-size
-overflow_mul-size c =
-    omega (arith, blocks_fit c.div_ceil.result _ c.args.count (c.div_ceil.ensures ∙ ap (λ w. div_ceil w 16) c.width.ensures.is) c.requires.fits)
+pub sum_group-requires-clause-few : goal.sum_group-requires-clause-few
+sum_group-requires-clause-few c = c.requires.few
 
-pub overflow_mul-size-2 : goal.overflow_mul-size-2
-overflow_mul-size-2 c =
-    omega (arith, blocks_fit c.div_ceil.result _ c.args.count (c.div_ceil.ensures ∙ ap (λ w. div_ceil w 16) c.width.ensures.is) c.requires.fits)
+pub sum_group-requires-clause-wide : goal.sum_group-requires-clause-wide
+sum_group-requires-clause-wide c = c.requires.wide
 
-pub slice_bounds-stack-end : goal.slice_bounds-stack-end
-slice_bounds-stack-end c =
-    blocks_fit c.div_ceil.result _ c.args.count (c.div_ceil.ensures ∙ ap (λ w. div_ceil w 16) c.width.ensures.is) c.requires.fits
+pub sum_group-requires-clause-fits : goal.sum_group-requires-clause-fits
+sum_group-requires-clause-fits c = omega (arith, c.requires.fits)
 
-pub sum_in_blocks-requires-clause-zeros : goal.sum_in_blocks-requires-clause-zeros
-sum_in_blocks-requires-clause-zeros c = zeros-at (16 * (c.div_ceil.result * c.args.count)) 65536
+pub sum_group-requires-clause-order : goal.sum_group-requires-clause-order
+sum_group-requires-clause-order c = c.requires.order
 
-pub div_ceil-requires : goal.div_ceil-requires
-div_ceil-requires c = omega arith
+pub sum_group-requires-clause-within : goal.sum_group-requires-clause-within
+sum_group-requires-clause-within c = c.requires.within
 
-pub overflow_cast-size : goal.overflow_cast-size
-overflow_cast-size c = omega arith
+pub sum_group-requires-clause-queries : goal.sum_group-requires-clause-queries
+sum_group-requires-clause-queries c = c.requires.queries
 
-pub sum_in_blocks-requires-clause-some : goal.sum_in_blocks-requires-clause-some
-sum_in_blocks-requires-clause-some c = c.requires.some
+pub sum_group-requires-clause-room : goal.sum_group-requires-clause-room
+sum_group-requires-clause-room c = c.requires.room
 
-pub sum_in_blocks-requires-clause-few : goal.sum_in_blocks-requires-clause-few
-sum_in_blocks-requires-clause-few c = c.requires.few
-
-pub sum_in_blocks-requires-clause-wide : goal.sum_in_blocks-requires-clause-wide
-sum_in_blocks-requires-clause-wide c = c.requires.wide
-
-pub sum_in_blocks-requires-clause-order : goal.sum_in_blocks-requires-clause-order
-sum_in_blocks-requires-clause-order c = c.requires.order
-
-pub sum_in_blocks-requires-clause-within : goal.sum_in_blocks-requires-clause-within
-sum_in_blocks-requires-clause-within c = c.requires.within
-
-pub sum_in_blocks-requires-clause-queries : goal.sum_in_blocks-requires-clause-queries
-sum_in_blocks-requires-clause-queries c = c.requires.queries
-
-pub sum_in_blocks-requires-clause-room : goal.sum_in_blocks-requires-clause-room
-sum_in_blocks-requires-clause-room c = c.requires.room
-
-pub slice_bounds-sum_in_blocks-end : goal.slice_bounds-sum_in_blocks-end
-slice_bounds-sum_in_blocks-end c =
-    sym (zeros-long (16 * (c.div_ceil.result * c.args.count)) 65536 (blocks_fit c.div_ceil.result _ c.args.count (c.div_ceil.ensures ∙ ap (λ w. div_ceil w 16) c.width.ensures.is) c.requires.fits))
-
-pub sum_in_blocks-requires-clause-blocks : goal.sum_in_blocks-requires-clause-blocks
-sum_in_blocks-requires-clause-blocks c =
-    let is = c.div_ceil.ensures ∙ ap (λ w. div_ceil w 16) c.width.ensures.is in
-    zeros-long (16 * (c.div_ceil.result * c.args.count)) 65536 (blocks_fit c.div_ceil.result _ c.args.count is c.requires.fits)
-    ∙ ap (λ d. 16 * (d * c.args.count)) is
+pub returns : goal.returns
+returns c = c.sum_group.ensures

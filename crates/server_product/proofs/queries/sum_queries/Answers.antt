@@ -2,7 +2,8 @@ use Rattle.std.proofs.Common.{◌≡◌, ◌≤◌, ℕ, List, ◌+◌, ◌-◌,
 use Rattle.std.specs.Int.{div_ceil}
 use Rattle.std.proofs.Math.Nat.{mul-le-mul_right}
 use Rattle.std.proofs.lemmas.List.{length-take-le}
-use Rattle.server_product.proofs.QuerySums.{part_fits, group-more}
+use Rattle.row_workers.proofs.PieceSums.{part_fits}
+use Rattle.server_product.proofs.QuerySums.{group-more}
 use Rattle.server_product.proofs.queries.sum_queries.Goals as goal
 
 -- what some queries have, from query n on

@@ -3,7 +3,7 @@ use Rattle.gf256.specs.Field.{◌⊕◌}
 use Rattle.gf256.proofs.Xor.{zero_add}
 use Rattle.gf256.specs.Sums.{run_sum}
 use Rattle.server_product.specs.Runs.{term}
-use Rattle.server_product.proofs.RunSums.{zeros-at, zeros-long}
+use Rattle.row_workers.proofs.RunSums.{zeros-at, zeros-long}
 use Rattle.server_product.proofs.runs.sum_rows.Goals as goal
 
 pub returns-then-width-ge-WIDE : goal.returns-then-width-ge-WIDE

@@ -1,55 +1,15 @@
-use Rattle.std.proofs.Common.{◌≡◌, ◌*◌, length, ap, arith, slice_index}
-use Rattle.server_product.specs.Queries.{entry}
-use Rattle.gf256.proofs.FlatRows.{row_within}
-use Rattle.server_product.proofs.Workers.{none-added, part-added, all-added}
+use Rattle.std.proofs.Common.{◌*◌, ◌∙◌, ap, sym}
 use Rattle.server_product.proofs.QuerySums.{products-are}
 use Rattle.server_product.proofs.whole.products_into.Goals as goal
-
-pub loop-worker-init : goal.loop-worker-init
-loop-worker-init g c = λ p lt.
-    let matrix = c.args.matrix.now in
-    none-added (entry c.args.queries.now matrix.rows matrix.width) (length matrix.rows) c.args.workers p (slice_index c.clear.new.row p) (c.clear.ensures p)
-
-pub loop-worker-preserved : goal.loop-worker-preserved
-loop-worker-preserved g c = λ p lt.
-    let matrix = c.args.matrix.now in
-    let worker = c.loop-worker.worker in
-    part-added (entry c.args.queries.now matrix.rows matrix.width) (length matrix.rows) c.args.workers worker p c.places_of-places.result c.run_on_parts.new.parts
-    (slice_index c.add_row.new.acc p) (slice_index c.loop-worker.out p) (c.add_row.ensures p) (c.loop-worker.invariant p lt) (c.run_on_parts.ensures worker (omega arith) p lt)
 
 pub returns : goal.returns
 returns g c =
     let matrix = c.args.matrix.now in
-    let worker = c.loop-worker.worker in
-    let end : worker ≡ c.args.workers = omega arith in
-    products-are c.args.queries.now c.loop-worker.out matrix.rows matrix.width c.args.count (omega (arith, c.requires.room)) (omega (arith, c.requires.queries))
-    (λ p lt.
-    all-added (entry c.args.queries.now matrix.rows matrix.width) (length matrix.rows) c.args.workers worker p (slice_index c.loop-worker.out p) end c.requires.some
-    (c.loop-worker.invariant p lt))
+    products-are c.args.queries.now c.sum_in_parts.new.out matrix.rows matrix.width c.args.count
+    (c.sum_in_parts.auto.out ∙ c.requires.room) c.requires.queries c.sum_in_parts.ensures
 
-pub overflow_cast-start : goal.overflow_cast-start
-overflow_cast-start g c = omega arith
+pub sum_in_parts-requires-clause-ready : goal.sum_in_parts-requires-clause-ready
+sum_in_parts-requires-clause-ready g c κs within = (c.requires.few_queries, c.requires.queries)
 
-pub slice_bounds-add_row-count : goal.slice_bounds-add_row-count
-slice_bounds-add_row-count g c = omega arith
-
-pub slice_bounds-add_row-start : goal.slice_bounds-add_row-start
-slice_bounds-add_row-start g c = omega arith
-
-pub add_row-requires : goal.add_row-requires
-add_row-requires g c = omega arith
-
-pub overflow_mul-start : goal.overflow_mul-start
-overflow_mul-start g c =
-    let places = ap (λ p. c.args.workers * p) c.places_of-places.ensures in
-    omega (arith, row_within c.loop-worker.worker c.args.workers c.places_of-places.result (omega arith), places, c.requires.scratch)
-
-pub overflow_add-start : goal.overflow_add-start
-overflow_add-start g c =
-    let places = ap (λ p. c.args.workers * p) c.places_of-places.ensures in
-    omega (arith, row_within c.loop-worker.worker c.args.workers c.places_of-places.result (omega arith), places, c.requires.scratch)
-
-pub slice_bounds-add_row-end : goal.slice_bounds-add_row-end
-slice_bounds-add_row-end g c =
-    let places = ap (λ p. c.args.workers * p) c.places_of-places.ensures in
-    omega (arith, row_within c.loop-worker.worker c.args.workers c.places_of-places.result (omega arith), places, c.requires.scratch)
+pub sum_in_parts-requires-clause-scratch : goal.sum_in_parts-requires-clause-scratch
+sum_in_parts-requires-clause-scratch g c κs within = c.requires.scratch ∙ ap (λ n. c.args.workers * n) (sym c.requires.room)

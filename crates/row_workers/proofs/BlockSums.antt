@@ -1,0 +1,144 @@
+-- The sums of several queries in blocks.
+use Rattle.std.proofs.Common.{◌≡◌, ℕ, ◌+◌, ◌-◌, ◌*◌, ◌/◌, ◌%◌, ◌≤◌, ◌<◌, List, length, get_or, slice_index, refl, sym, ap, ap₂, ◌∙◌, arith}
+use Rattle.std.specs.Simd.Lanes.{chunk}
+use Rattle.std.specs.Int.{div_ceil}
+use Rattle.std.proofs.lemmas.Nat.{div-mul-add, mod-mul-add, mul-add-lt, div-add-mod', div_below, mod_below}
+use Rattle.std.proofs.lemmas.Simd.{length-chunk, get_or-chunk}
+use Rattle.gf256.specs.Field.{◌⊕◌}
+use Rattle.gf256.specs.Rows.{AreLanes}
+use Rattle.gf256.specs.Sums.{run_sum}
+use Rattle.gf256.proofs.Xor.{add_assoc, add_zero, add_swap, zero_add}
+use Rattle.gf256.proofs.RunSums.{run-join}
+use Rattle.row_workers.specs.Blocks.{block_start, column_at, query_at, place_of, laid_at, four_of}
+use Rattle.row_workers.proofs.RunSums.{none_yet, one_more, part_follows}
+
+-- the place of lane k of block i for query v
+module _ (n i v k p : ℕ) (few : v < n) (small : k < 16) (is : p ≡ 16 * (i * n + v) + k) where
+  -- its block, counted over all queries
+  block_is : p / 16 ≡ i * n + v
+  block_is = omega arith
+
+  -- its lane
+  pub lane-is : p % 16 ≡ k
+  lane-is = omega arith
+
+  -- its query
+  pub query-is : query_at n p ≡ v
+  query-is = ap (λ b. b % n) block_is ∙ mod-mul-add i n v few
+
+  -- its column
+  pub column-is : (width : ℕ) → column_at width n p ≡ block_start width i + k
+  column-is width = ap₂ (λ b l. block_start width (b / n) + l) block_is lane-is ∙ ap (λ b. block_start width b + k) (div-mul-add i n v few)
+
+-- 16 bytes of a row at places that begin elsewhere
+pub lanes-from : (row : List ℕ) (start at : ℕ) → start + 16 ≤ length row → AreLanes (chunk start 16 row) (λ p. get_or row (start + (p - at)) 0) at
+lanes-from row start at room = record {
+  size = length-chunk start 16 row room;
+  each = λ k l. let back : k ≡ at + k - at = omega arith in get_or-chunk start 16 row k 0 l ∙ ap (λ j. get_or row (start + j) 0) back;
+}
+
+-- five terms, one by one or as one more
+pub plus_four : (x a b c d : ℕ) → x ⊕ a ⊕ b ⊕ c ⊕ d ≡ x ⊕ (a ⊕ b ⊕ c ⊕ d)
+plus_four x a b c d = simp add_assoc
+
+-- the first n terms of each of four parts, of so many terms
+abbrev pub quarters : (ℕ → ℕ) → ℕ → ℕ → ℕ → ℕ
+quarters f from quarter n =
+    run_sum f from (from + n) ⊕ run_sum f (from + quarter) (from + quarter + n)
+    ⊕ run_sum f (from + 2 * quarter) (from + 2 * quarter + n) ⊕ run_sum f (from + 3 * quarter) (from + 3 * quarter + n)
+
+-- no terms of each
+pub quarters-none : (f : ℕ → ℕ) (from quarter : ℕ) → quarters f from quarter 0 ≡ 0
+quarters-none f from quarter =
+    ap₂ ◌⊕◌ (ap₂ ◌⊕◌ (ap₂ ◌⊕◌ (none_yet f from) (none_yet f (from + quarter))) (none_yet f (from + 2 * quarter))) (none_yet f (from + 3 * quarter))
+    ∙ (let e : 0 ⊕ 0 ⊕ 0 ⊕ 0 ≡ 0 = simp add_zero in e)
+
+-- one more term of each
+quarters-next : (f : ℕ → ℕ) (from quarter n : ℕ) → quarters f from quarter (n + 1)
+    ≡ quarters f from quarter n
+    ⊕ (f (from + n) ⊕ f (from + quarter + n) ⊕ f (from + 2 * quarter + n) ⊕ f (from + 3 * quarter + n))
+quarters-next f from quarter n =
+    ap₂ ◌⊕◌ (ap₂ ◌⊕◌ (ap₂ ◌⊕◌ (one_more f from n) (one_more f (from + quarter) n)) (one_more f (from + 2 * quarter) n)) (one_more f (from + 3 * quarter) n)
+    ∙ in_pairs _ _ _ _ _ _ _ _
+  where
+    -- four sums of two as two sums of four
+    in_pairs : (a b c d u v w x : ℕ) → (a ⊕ u) ⊕ (b ⊕ v) ⊕ (c ⊕ w) ⊕ (d ⊕ x) ≡ (a ⊕ b ⊕ c ⊕ d) ⊕ (u ⊕ v ⊕ w ⊕ x)
+    in_pairs a b c d u v w x =
+        ap (λ s. s ⊕ (c ⊕ w) ⊕ (d ⊕ x)) (add_swap a u b v)
+        ∙ ap (λ s. s ⊕ (d ⊕ x)) (add_swap (a ⊕ b) (u ⊕ v) c w)
+        ∙ add_swap (a ⊕ b ⊕ c) (u ⊕ v ⊕ w) d x
+
+-- whole parts are one run
+pub quarters-all : (f : ℕ → ℕ) (from quarter : ℕ) → quarters f from quarter quarter ≡ run_sum f from (from + 4 * quarter)
+quarters-all f from quarter =
+    let P = λ (m : ℕ). run_sum f (from + m) (from + m + quarter) in
+    ap (λ s. s ⊕ P (2 * quarter) ⊕ P (3 * quarter)) (part_follows f from quarter (2 * quarter) quarter (omega arith))
+    ∙ ap (λ s. s ⊕ P (3 * quarter)) (part_follows f from (2 * quarter) (3 * quarter) quarter (omega arith))
+    ∙ part_follows f from (3 * quarter) (4 * quarter) quarter (omega arith)
+
+-- the sums after four rows more
+pub four-more : (f : ℕ → ℕ) (new mid old from quarter i : ℕ) → mid ≡ old ⊕ quarters f from quarter i
+    → new ≡ mid ⊕ four_of f (from + i) quarter → new ≡ old ⊕ quarters f from quarter (i + 1)
+four-more f new mid old from quarter i before more =
+    let second : from + i + quarter ≡ from + quarter + i = omega arith in
+    let third : from + i + 2 * quarter ≡ from + 2 * quarter + i = omega arith in
+    let fourth : from + i + 3 * quarter ≡ from + 3 * quarter + i = omega arith in
+    let turned : four_of f (from + i) quarter ≡ f (from + i) ⊕ f (from + quarter + i) ⊕ f (from + 2 * quarter + i) ⊕ f (from + 3 * quarter + i) =
+    ap₂ ◌⊕◌ (ap₂ ◌⊕◌ (ap (◌⊕◌ (f (from + i))) (ap f second)) (ap f third)) (ap f fourth) in
+    more ∙ ap₂ ◌⊕◌ before turned ∙ add_assoc old (quarters f from quarter i) _ ∙ ap (◌⊕◌ old) (sym (quarters-next f from quarter i))
+
+-- the column of a place is one of the row's
+pub column-within : (width n p : ℕ) → 16 ≤ width → column_at width n p < width
+column-within width n p wide = omega arith
+
+-- where the sum of query v in column c stands
+module _ (width n v c : ℕ) (few : v < n) (wide : 16 ≤ width) (within : c < width) where
+  -- its lane
+  abbrev lane : ℕ
+  lane = c - block_start width (c / 16)
+
+  -- which is one of 16
+  lane_lt : lane < 16
+  lane_lt = omega arith
+
+  -- the column that this lane stands for
+  lane_in : block_start width (c / 16) + lane ≡ c
+  lane_in = omega arith
+
+  -- it is a place of this query
+  pub place-query : query_at n (place_of width n v c) ≡ v
+  place-query = query-is n (c / 16) v lane (place_of width n v c) few lane_lt refl
+
+  -- and of this column
+  pub place-column : column_at width n (place_of width n v c) ≡ c
+  place-column = column-is n (c / 16) v lane (place_of width n v c) few lane_lt refl width ∙ lane_in
+
+  -- and within the blocks
+  pub place-within : place_of width n v c < 16 * (div_ceil width 16 * n)
+  place-within =
+      let block : c / 16 < div_ceil width 16 = omega arith in
+      let h = mul-add-lt (c / 16) n v (div_ceil width 16) block few in
+      let l = lane_lt in
+      omega (arith, h, l)
+
+-- the sums of a group, from those in blocks and the rows that are left over
+pub group-sums : (f : ℕ → ℕ → ℕ) (zeros blocks laid sums : List ℕ) (width n from mid to : ℕ)
+    → 16 ≤ width → from ≤ mid → mid ≤ to → ((p : ℕ) → slice_index zeros p ≡ 0)
+    → ((p : ℕ) → p < 16 * (div_ceil width 16 * n) → slice_index blocks p ≡ slice_index zeros p ⊕ run_sum (f (laid_at width n p)) from mid)
+    → ((v c : ℕ) → v < n → c < width → slice_index laid (v * width + c) ≡ slice_index blocks (place_of width n v c))
+    → ((p : ℕ) → p < n * width → slice_index sums p ≡ slice_index laid p ⊕ run_sum (f p) mid to)
+    → (p : ℕ) → p < n * width → slice_index sums p ≡ run_sum (f p) from to
+group-sums f zeros blocks laid sums width n from mid to wide le lt none in_blocks laid_is more p l =
+    let v = p / width in
+    let c = p % width in
+    let some : 0 < width = omega arith in
+    let within : c < width = mod_below p width some in
+    let few : v < n = div_below p width n some l in
+    let place = div-add-mod' p width in
+    let at = place_of width n v c in
+    let back : laid_at width n at ≡ p = ap₂ (λ u k. u * width + k) (place-query width n v c few wide within) (place-column width n v c few wide within) ∙ place in
+    let first : slice_index laid p ≡ run_sum (f p) from mid =
+    ap (slice_index laid) (sym place) ∙ laid_is v c few within ∙ in_blocks at (place-within width n v c few wide within)
+    ∙ ap (λ x. x ⊕ run_sum (f (laid_at width n at)) from mid) (none at) ∙ zero_add _
+    ∙ ap (λ q. run_sum (f q) from mid) back in
+    more p l ∙ ap (λ x. x ⊕ run_sum (f p) mid to) first ∙ run-join (f p) from mid to le lt

@@ -1,0 +1,4 @@
+pub mod RunSums
+pub mod Workers
+pub mod PieceSums
+pub mod BlockSums

@@ -1,0 +1,60 @@
+use Rattle.std.proofs.Common.{◌≡◌, ◌≤◌, ℕ, ◌*◌, ◌∙◌, ap, arith, sym}
+use Rattle.std.specs.Int.{div_ceil}
+use Rattle.row_workers.proofs.RunSums.{zeros-at, zeros-long}
+use Rattle.row_workers.proofs.group.sum_group.Goals as goal
+
+-- the stack has room for the blocks
+blocks_fit : (d lanes n : ℕ) → d ≡ lanes → n * lanes ≤ 4112 → 16 * (d * n) ≤ 65792
+blocks_fit d lanes n e fits = omega (arith, ap (λ k. k * n) e)
+
+pub overflow_mul-size : goal.overflow_mul-size
+overflow_mul-size g c =
+    omega (arith, blocks_fit c.div_ceil.result _ c.args.group.count (c.div_ceil.ensures ∙ ap (λ w. div_ceil w 16) c.width.ensures.is) c.requires.fits)
+
+pub overflow_mul-size-2 : goal.overflow_mul-size-2
+overflow_mul-size-2 g c =
+    omega (arith, blocks_fit c.div_ceil.result _ c.args.group.count (c.div_ceil.ensures ∙ ap (λ w. div_ceil w 16) c.width.ensures.is) c.requires.fits)
+
+pub slice_bounds-stack-end : goal.slice_bounds-stack-end
+slice_bounds-stack-end g c =
+    blocks_fit c.div_ceil.result _ c.args.group.count (c.div_ceil.ensures ∙ ap (λ w. div_ceil w 16) c.width.ensures.is) c.requires.fits
+
+pub sum_in_blocks-requires-clause-zeros : goal.sum_in_blocks-requires-clause-zeros
+sum_in_blocks-requires-clause-zeros g c = zeros-at (16 * (c.div_ceil.result * c.args.group.count)) 65792
+
+pub div_ceil-requires : goal.div_ceil-requires
+div_ceil-requires g c = omega arith
+
+pub overflow_cast-size : goal.overflow_cast-size
+overflow_cast-size g c = omega arith
+
+pub sum_in_blocks-requires-clause-some : goal.sum_in_blocks-requires-clause-some
+sum_in_blocks-requires-clause-some g c = c.requires.some
+
+pub sum_in_blocks-requires-clause-few : goal.sum_in_blocks-requires-clause-few
+sum_in_blocks-requires-clause-few g c = c.requires.few
+
+pub sum_in_blocks-requires-clause-wide : goal.sum_in_blocks-requires-clause-wide
+sum_in_blocks-requires-clause-wide g c = c.requires.wide
+
+pub sum_in_blocks-requires-clause-order : goal.sum_in_blocks-requires-clause-order
+sum_in_blocks-requires-clause-order g c = c.requires.order
+
+pub sum_in_blocks-requires-clause-within : goal.sum_in_blocks-requires-clause-within
+sum_in_blocks-requires-clause-within g c = c.requires.within
+
+pub sum_in_blocks-requires-clause-queries : goal.sum_in_blocks-requires-clause-queries
+sum_in_blocks-requires-clause-queries g c = c.requires.queries
+
+pub sum_in_blocks-requires-clause-room : goal.sum_in_blocks-requires-clause-room
+sum_in_blocks-requires-clause-room g c = c.requires.room
+
+pub slice_bounds-sum_in_blocks-end : goal.slice_bounds-sum_in_blocks-end
+slice_bounds-sum_in_blocks-end g c =
+    sym (zeros-long (16 * (c.div_ceil.result * c.args.group.count)) 65792 (blocks_fit c.div_ceil.result _ c.args.group.count (c.div_ceil.ensures ∙ ap (λ w. div_ceil w 16) c.width.ensures.is) c.requires.fits))
+
+pub sum_in_blocks-requires-clause-blocks : goal.sum_in_blocks-requires-clause-blocks
+sum_in_blocks-requires-clause-blocks g c =
+    let is = c.div_ceil.ensures ∙ ap (λ w. div_ceil w 16) c.width.ensures.is in
+    zeros-long (16 * (c.div_ceil.result * c.args.group.count)) 65792 (blocks_fit c.div_ceil.result _ c.args.group.count is c.requires.fits)
+    ∙ ap (λ d. 16 * (d * c.args.group.count)) is

@@ -1,0 +1,36 @@
+-- A group of queries, and what the rows of a matrix give to its sums.
+use Rattle.std.specs.Prelude.{◌≡◌, ℕ, ◌+◌, ◌*◌, ◌<◌, List, length, slice_index}
+use Rattle.gf256.specs.Field.{◌⊕◌}
+use Rattle.gf256.specs.Sums.{run_sum}
+use Rattle.block_matrix.specs.Database.{Database}
+use Rattle.row_workers.specs.RowSums.{AddsBelow, AddsSums}
+use Rattle.row_workers.specs.Blocks.{laid_at, four_of}
+use Rattle.row_workers.specs.declared.group.Group.{Group}
+
+-- what row j gives to place p of the sums, query after query
+abbrev pub group_gives : (List ℕ → Database → ℕ → ℕ → ℕ) → Group → ℕ → ℕ → ℕ
+group_gives gives group = gives group.queries.now group.matrix.now
+
+-- how many places these sums have
+abbrev pub group_places : Group → ℕ
+group_places group = group.count * group.matrix.now.width
+
+-- what row j gives to place p of the sums in blocks
+abbrev pub block_gives : (List ℕ → Database → ℕ → ℕ → ℕ) → Group → ℕ → ℕ → ℕ
+block_gives gives group p = group_gives gives group (laid_at group.matrix.now.width group.count p)
+
+-- sums in blocks get row j and the three that follow each so many rows after the one before
+abbrev pub AddsFour : (List ℕ → Database → ℕ → ℕ → ℕ) → Group → ℕ → ℕ → List ℕ → List ℕ → Type 0
+AddsFour gives group j apart old new =
+    AddsBelow (λ p. four_of (block_gives gives group p) j apart) (length old) old new
+
+-- sums in blocks get the rows of four quarters, of so many rows each, from row `from` on
+abbrev pub AddsQuarters : (List ℕ → Database → ℕ → ℕ → ℕ) → Group → ℕ → ℕ → List ℕ → List ℕ → Type 0
+AddsQuarters gives group from quarter old new =
+    AddsSums (block_gives gives group) (length old) from (from + 4 * quarter) old new
+
+-- the sums of query v get the rows from `from` up to `to`
+abbrev pub AddsForQuery : (List ℕ → Database → ℕ → ℕ → ℕ) → Group → ℕ → ℕ → ℕ → List ℕ → List ℕ → Type 0
+AddsForQuery gives group v from to old new = (c : ℕ) → c < group.matrix.now.width
+    → slice_index new c
+    ≡ slice_index old c ⊕ run_sum (group_gives gives group (v * group.matrix.now.width + c)) from to

@@ -1,9 +1,0 @@
-use Rattle.std.proofs.Common.{◌≡◌, ℕ, ◌+◌, ◌*◌, ◌<◌, slice_index}
-use Rattle.gf256.specs.Sums.{run_sum}
-use Rattle.server_product.specs.Queries.{piece}
-use Rattle.chor_xor.specs.Chosen.{given}
-use Rattle.server_answer.proofs.bitmaps.sum_each.Given as goal
-
-abbrev pub invariant-loop-v : goal.invariant-loop-v
-invariant-loop-v l = (v c : ℕ) → v < l.v → c < l.width
-    → slice_index l.sums (v * l.width + c) ≡ run_sum (given (piece l.size l.bitmaps v) l.matrix.rows c) l.from l.to

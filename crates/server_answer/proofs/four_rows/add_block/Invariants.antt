@@ -1,8 +1,0 @@
-use Rattle.std.proofs.Common.{◌+◌, ◌*◌}
-use Rattle.gf256.specs.Rows.{IsAdded}
-use Rattle.server_answer.specs.Masked.{masked_at}
-use Rattle.server_answer.proofs.four_rows.add_block.Given as goal
-
-abbrev pub invariant-loop-v : goal.invariant-loop-v
-invariant-loop-v l =
-    IsAdded l.sums l.initial.sums (masked_at l.rows l.masks l.count) (16 * (l.i * l.count)) (16 * (l.i * l.count + l.v))

@@ -1,5 +1,0 @@
-use Rattle.server_answer.proofs.WaitingSums.{IsGiven}
-use Rattle.server_answer.proofs.gather.add_to_asked.Given as goal
-
-abbrev pub invariant-loop-v : goal.invariant-loop-v
-invariant-loop-v l = IsGiven l.sums l.fn.sums l.row l.width l.count l.pattern l.v

@@ -1,7 +1,0 @@
-use Rattle.std.proofs.Common.{◌≡◌, ℕ, ◌<◌, slice_index}
-use Rattle.gf256.specs.Field.{◌⊕◌}
-use Rattle.server_answer.specs.Waiting.{four_sum}
-use Rattle.server_answer.proofs.gather.put_eight.Given as goal
-
-abbrev pub invariant-loop-i : goal.invariant-loop-i
-invariant-loop-i l = (k : ℕ) → k < l.i → slice_index l.sum k ≡ four_sum l.first k ⊕ four_sum l.second k

@@ -1,7 +1,0 @@
-use Rattle.std.proofs.Common.{◌≡◌, ℕ, ◌<◌, slice_index}
-use Rattle.gf256.specs.Sums.{sum_to}
-use Rattle.server_answer.specs.Patterns.{from_pattern}
-use Rattle.server_answer.proofs.sets.spread_to.Given as goal
-
-abbrev pub invariant-loop-pattern : goal.invariant-loop-pattern
-invariant-loop-pattern l = (k : ℕ) → k < l.width → slice_index l.sums k ≡ sum_to (from_pattern l.patterns l.width l.place k) l.pattern

@@ -1,5 +1,0 @@
-pub mod Asked
-pub mod Group
-pub mod Masked
-pub mod Patterns
-pub mod Waiting

@@ -1,6 +1,0 @@
-use Rattle.std.proofs.Common.{◌≡◌, ℕ, ◌<◌, slice_index}
-use Rattle.server_product.specs.Blocks.{place_of}
-use Rattle.server_product.proofs.blocks.lay_out_one.Given as goal
-
-abbrev pub invariant-loop-c : goal.invariant-loop-c
-invariant-loop-c l = (c : ℕ) → c < l.c → slice_index l.sums c ≡ slice_index l.blocks (place_of l.width l.count l.v c)

@@ -1,0 +1,7 @@
+use Rattle.std.proofs.Common.{◌*◌}
+use Rattle.gf256.specs.Rows.{IsAdded}
+use Rattle.xor_answers.specs.Masked.{masked_at}
+use Rattle.xor_answers.proofs.four_rows.add_four_rows.Given as goal
+
+abbrev pub invariant-loop-i : goal.invariant-loop-i
+invariant-loop-i l = IsAdded l.sums l.initial.sums (masked_at l.rows l.masks l.count) 0 (16 * (l.i * l.count))

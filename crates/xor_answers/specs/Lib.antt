@@ -1,0 +1,4 @@
+pub mod Asked
+pub mod Masked
+pub mod Patterns
+pub mod Waiting
