@@ -108,7 +108,7 @@ pub fn judge_with<I: Interpolate, C: Ledger, N: Ledger>(
     ensures { JudgesWith wanted session.now result (counters cols.old nodes.old) (counters cols.new nodes.new) }
 {
     let params = session.params();
-    match Scheme::of(params.scheme) {
+    match params.scheme() {
         Scheme::Shamir => {
             let usable = usable_answers(alloc, session)?;
             let decoding = Decoding {

@@ -5,17 +5,18 @@ use Rattle.gf256.specs.Product.{product}
 use Rattle.shamir_share.specs.Query.{query}
 use Rattle.wire_frames.specs.Answer.{Answer}
 use Rattle.wire_frames.specs.Limits.{IsInRange}
+use Rattle.wire_frames.specs.Version.{number_of}
 use Rattle.drawn_workload.specs.declared.order.TheConstants.{NUMBER_LEN}
 use Rattle.drawn_workload.specs.declared.order.Workload.{Workload}
 use Rattle.wire_frames.specs.declared.scheme.TheConstants.{SHAMIR}
-use Rattle.wire_frames.specs.declared.version.TheConstants.{SINGLE}
+use Rattle.wire_frames.specs.declared.version.Version.TheVariants.{Single}
 use Rattle.block_matrix.specs.Database.{Database, database}
 use Rattle.drawn_workload.specs.Stream.{drawn}
 
 -- its numbers are those of a session of Shamir's scheme, and of the servers some may lie
 pub record IsWorkload (w : Workload) : Type 0 where
   pub numbers : IsInRange (record {
-    version = SINGLE;
+    version = number_of Single;
     scheme = SHAMIR;
     t = w.degree;
     h = w.agree;

@@ -1,6 +1,6 @@
 //! What is shown of a session.
 ghost use Rattle.std.specs.Prelude.{◌≡◌, ◌≤◌, ◌++◌, length, string_bytes, IfOk, OnOk};
-ghost use Rattle.wire_frames.specs.Scheme.{scheme_of};
+ghost use Rattle.wire_frames.specs.Limits.{IsInRange};
 ghost use Rattle.pir_show.specs.Text.{cause_words, field_words, number_line, number_lines, refusal_words, scheme_word};
 ghost use Rattle.pir_show.specs.Text.{server_line, server_words, session_text, told_of};
 
@@ -8,11 +8,11 @@ use std::alloc::{AllocError, Global};
 use std::fmt::Write;
 use wire_frames::{AnswerField, Cause, Scheme, Session, SessionParams, why};
 
-/// The scheme of this number, as words of the command line name it.
-fn scheme_word(number: u8) -> &'static str
-    ensures { result.now ≡ scheme_word (scheme_of number) }
+/// A scheme, as words of the command line name it.
+fn scheme_word(scheme: Scheme) -> &'static str
+    ensures { result.now ≡ scheme_word scheme }
 {
-    match Scheme::of(number) {
+    match scheme {
         Scheme::Shamir => "shamir",
         Scheme::Xor => "xor",
     }
@@ -30,9 +30,10 @@ fn add_number(text: &mut String, name: &str, number: u32) -> Result<(), AllocErr
 /// The numbers of a session but its own, a line each.
 #[tactic(auto, unfolding(crate::specs::Text::number_lines))]
 fn number_lines(alloc: Global, params: &SessionParams) -> Result<String, AllocError>
+    requires { IsInRange params.now }
     ensures { IfOk result (λ text. string_bytes text ≡ number_lines params.now) }
 {
-    let scheme = scheme_word(params.scheme);
+    let scheme = scheme_word(params.scheme());
     let mut text = format!(in alloc; "scheme {scheme}\n")?;
     add_number(&mut text, "degree", u32::from(params.t))?;
     add_number(&mut text, "agreement", u32::from(params.h))?;

@@ -3,8 +3,9 @@ use Rattle.std.specs.Prelude.{ℕ, ◌*◌, ◌&&◌, if◌then◌else◌, List,
 use Rattle.std.specs.Str.{bytes_eq}
 use Rattle.clap.specs.Words.{Row, Text, first_of}
 use Rattle.wire_frames.specs.Limits.{IsInRange}
+use Rattle.wire_frames.specs.Version.{number_of}
 use Rattle.quantity_limits.specs.declared.TheConstants.{LEAST_SERVERS, MOST_DEGREE, MOST_SERVERS, MOST_ROWS, MOST_WIDTH, MOST_CELLS, MOST_WORKERS}
-use Rattle.wire_frames.specs.declared.version.TheConstants.{SINGLE}
+use Rattle.wire_frames.specs.declared.version.Version.TheVariants.{Single}
 use Rattle.wire_frames.specs.declared.scheme.Scheme.{Scheme}
 use Rattle.wire_frames.specs.declared.scheme.Scheme.TheVariants.{Shamir, Xor}
 use Rattle.pir_words.specs.Chain.{◌>>=◌, ◌>>◌}
@@ -68,7 +69,7 @@ sharing_of t h = record { degree = t; agree = h }
 abbrev pub FitsSession : ℕ → Sharing → ℕ → Sizes → Type 0
 FitsSession scheme sharing n sizes =
     IsInRange (record {
-      version = SINGLE;
+      version = number_of Single;
       scheme = scheme;
       t = sharing.degree;
       h = sharing.agree;

@@ -4,15 +4,17 @@ use Rattle.std.specs.Prelude.{◌==◌}
 use Rattle.std.proofs.lemmas.Bool.{cond_both, eqb-true}
 use Rattle.std.proofs.lemmas.List.Elements.{All-cons, All-nil}
 use Rattle.quantity_limits.specs.declared.TheConstants.{MOST_BLOCKS, MOST_WIDTH}
-use Rattle.wire_frames.specs.declared.version.TheConstants.{SINGLE, SEVERAL}
+use Rattle.wire_frames.specs.declared.version.Version.{Version}
+use Rattle.wire_frames.specs.declared.version.Version.TheVariants.{Single, Several}
 use Rattle.wire_frames.specs.Limits.{IsCount, IsInRange}
+use Rattle.wire_frames.specs.Version.{number_of}
 use Rattle.query_rounds.specs.declared.plan.FetchPlan.{FetchPlan}
 use Rattle.query_rounds.specs.Plan.{AreBlocks, IsPlan, params_of, version_for}
 
 -- a version says for so many blocks
-count_for : (n s : ℕ) → 1 ≤ n → n ≤ MOST_BLOCKS → n * s ≤ MOST_WIDTH → IsCount (version_for n) n s
+count_for : (n s : ℕ) → 1 ≤ n → n ≤ MOST_BLOCKS → n * s ≤ MOST_WIDTH → IsCount (number_of (version_for n)) n s
 unfolding version_for
-count_for n s some few bytes = cond_both (n == 1) SINGLE SEVERAL (λ v. IsCount v n s)
+count_for n s some few bytes = cond_both (n == 1) Single Several (λ (v : Version). IsCount (number_of v) n s)
     (λ one. record {
       some_version = omega arith;
       two_versions = omega arith;

@@ -5,21 +5,23 @@ use Rattle.wire_frames.specs.declared.scheme.TheConstants.{XOR}
 use Rattle.wire_frames.specs.declared.scheme.Scheme.{Scheme}
 use Rattle.wire_frames.specs.declared.scheme.Scheme.TheVariants.{Shamir, Xor}
 use Rattle.wire_frames.specs.Limits.{IsInRange}
-use Rattle.wire_frames.specs.declared.version.TheConstants.{SINGLE, SEVERAL}
+use Rattle.wire_frames.specs.declared.version.Version.{Version}
+use Rattle.wire_frames.specs.declared.version.Version.TheVariants.{Single, Several}
 use Rattle.quantity_limits.specs.declared.TheConstants.{MOST_BLOCKS, MOST_WIDTH}
 use Rattle.wire_frames.specs.Scheme.{scheme_of, payload_len}
+use Rattle.wire_frames.specs.Version.{number_of}
 use Rattle.query_rounds.specs.declared.coins.TheConstants.{NUMBER_LEN}
 use Rattle.query_rounds.specs.declared.plan.FetchPlan.{FetchPlan}
 
 -- the version in which so many blocks are asked for: 1 for one
-unfoldable pub version_for : ℕ → ℕ
-version_for count = if count == 1 then SINGLE else SEVERAL
+unfoldable pub version_for : ℕ → Version
+version_for count = if count == 1 then Single else Several
 
 -- the numbers of the session in which so many blocks are fetched by a plan, which has this number. The degree of its answers is
 -- that of the queries and that of the shares of the database together
 abbrev pub params_of : FetchPlan → ℕ → ℕ → SessionParams
 params_of p count number = record {
-  version = version_for count;
+  version = number_of (version_for count);
   scheme = p.scheme;
   t = p.t + p.tau;
   h = p.h;
@@ -40,7 +42,7 @@ query_params p count number = with_degree p.t (params_of p count number)
 
 -- its numbers are those of a session, its queries hide the block, and in the XOR scheme the database isn't shared
 pub record IsPlan (p : FetchPlan) : Type 0 where
-  pub numbers : IsInRange (record (params_of p 1 0) { version = SINGLE })
+  pub numbers : IsInRange (record (params_of p 1 0) { version = number_of Single })
   pub private : 1 ≤ p.t
   pub held_whole : p.scheme ≡ XOR → p.tau ≡ 0
 

@@ -1,5 +1,7 @@
 -- What the servers of a fetch are asked.
 use Rattle.std.specs.Prelude.{ℕ, ◌≡◌, List, length}
+use Rattle.wire_frames.specs.declared.scheme.Scheme.{Scheme}
+use Rattle.wire_frames.specs.Scheme.{scheme_of}
 use Rattle.query_rounds.specs.declared.plan.FetchPlan.{FetchPlan}
 use Rattle.query_rounds.specs.Plan.{AreBlocks, IsPlan, need}
 use Rattle.query_rounds.specs.Request.{Request}
@@ -11,9 +13,11 @@ pub record Queries : Type 0 where
   pub addresses : List (List ℕ)
   pub coins : List ℕ
 
--- it is a plan, the blocks may be asked for, each server has an address, and there are as many coins as that needs
-pub record AreQueries (q : Queries) : Type 0 where
+-- it is a plan in this scheme, the blocks may be asked for, each server has an address, and there are as many coins as that
+-- needs
+pub record AreQueries (q : Queries) (scheme : Scheme) : Type 0 where
   pub plan : IsPlan q.plan
+  pub scheme_is : scheme ≡ scheme_of q.plan.scheme
   pub blocks : AreBlocks q.plan q.blocks
   pub addresses : length q.addresses ≡ q.plan.n
   pub size : length q.coins ≡ need q.plan (length q.blocks)

@@ -3,12 +3,12 @@
 ghost use Rattle.std.specs.Prelude.{◌≡◌, ◌≤◌};
 ghost use Rattle.quantity_limits.specs.declared.TheConstants.{MOST_CELLS};
 ghost use Rattle.wire_frames.specs.Scheme.{scheme_of};
-ghost use Rattle.query_rounds.specs.Plan.{IsPlan, need, params_of, query_coins, query_params};
+ghost use Rattle.query_rounds.specs.Plan.{IsPlan, need, params_of, query_coins, query_params, version_for};
 
 use crate::coins::NUMBER_LEN;
 use std::alloc::AllocError;
 use thiserror::Error;
-use wire_frames::{SEVERAL, SINGLE, Scheme, SessionParams};
+use wire_frames::{Scheme, SessionParams, Version};
 
 /// What is to be fetched, and how.
 #[derive(Clone, Copy, Debug, PartialEq, Eq)]
@@ -31,15 +31,26 @@ pub struct FetchPlan {
     pub s: u32,
 }
 
+/// The version in which so many blocks are asked for.
+#[tactic(auto, unfolding(crate::specs::Plan::version_for))]
+fn version_for(count: u8) -> Version
+    ensures { result ≡ version_for count }
+{
+    if count == 1 {
+        Version::Single
+    } else {
+        Version::Several
+    }
+}
+
 impl FetchPlan {
     /// The numbers of the session in which so many blocks are fetched, but for the session's number, which is 0.
-    #[tactic(auto, unfolding(crate::specs::Plan::version_for))]
     pub(crate) fn params(&self, count: u8) -> SessionParams
         requires { IsPlan self.now }
         ensures { result ≡ params_of self.now count 0 }
     {
         SessionParams {
-            version: if count == 1 { SINGLE } else { SEVERAL },
+            version: version_for(count).number(),
             scheme: self.scheme,
             t: self.t + self.tau,
             h: self.h,
@@ -53,32 +64,34 @@ impl FetchPlan {
 
     /// The scheme that it is fetched in.
     pub(crate) fn scheme(&self) -> Scheme
+        requires { IsPlan self.now }
         ensures { result ≡ scheme_of self.now.scheme }
     {
         Scheme::of(self.scheme)
     }
 
-    /// How many coins the queries take for each block: `t` for each row or, in the XOR scheme, a bitmap for each server
-    /// but the last.
+    /// How many coins the queries take for each block, in the plan's scheme: `t` for each row or, in the XOR scheme, a
+    /// bitmap for each server but the last.
     #[tactic(auto, unfolding(crate::specs::Plan::query_coins))]
-    pub(crate) fn query_coins(&self) -> usize
-        requires { IsPlan self.now }
+    pub(crate) fn query_coins(&self, scheme: Scheme) -> usize
+        requires plan { IsPlan self.now }
+        requires scheme { scheme ≡ scheme_of self.now.scheme }
         ensures is { result ≡ query_coins (query_params self.now 1 0) }
         ensures few { result ≤ MOST_CELLS }
     {
-        let scheme = self.scheme();
         match scheme {
             Scheme::Shamir => self.r as usize * usize::from(self.t),
             Scheme::Xor => (usize::from(self.n) - 1) * scheme.payload_len(self.r),
         }
     }
 
-    /// How many coins it needs for so many blocks: those of the session's number, and those of the queries.
-    pub(crate) fn coins_len(&self, count: u8) -> usize
-        requires { IsPlan self.now }
+    /// How many coins it needs for so many blocks, in its scheme: those of the session's number, and those of the queries.
+    pub(crate) fn coins_len(&self, scheme: Scheme, count: u8) -> usize
+        requires plan { IsPlan self.now }
+        requires scheme { scheme ≡ scheme_of self.now.scheme }
         ensures { result ≡ need self.now count }
     {
-        NUMBER_LEN + usize::from(count) * self.query_coins()
+        NUMBER_LEN + usize::from(count) * self.query_coins(scheme)
     }
 }
 

@@ -23,10 +23,11 @@ use wire_frames::{
     FRAME_HEADER_LEN, Scheme, SessionParams, answer_len, query_len, write_query_header,
 };
 
-/// What the servers are asked: a plan, the blocks, the address of each server, and the coins for them, which are zeros
+/// What the servers are asked: a plan, its scheme, the blocks, the address of each server, and the coins for them, which are zeros
 /// until they are taken.
 pub struct Queries<'a> {
     plan: FetchPlan,
+    scheme: Scheme,
     blocks: &'a [u32],
     addresses: &'a [String],
     coins: Vec<u8>,
@@ -50,7 +51,7 @@ impl<'a> Model for Queries<'a> {
       blocks = q.blocks.now;
       addresses = map string_bytes q.addresses.now;
       coins = q.coins.items;
-    }) };
+    }) q.scheme };
 }
 
 impl<'a> Drop for Queries<'a> {
@@ -58,6 +59,7 @@ impl<'a> Drop for Queries<'a> {
     fn drop(self) {
         let Queries {
             plan: _,
+            scheme: _,
             blocks: _,
             addresses: _,
             mut coins,
@@ -83,11 +85,13 @@ impl<'a> Queries<'a> {
         requires addresses { length addresses.now ≡ plan.now.n }
         ensures { IfOk result (λ q. request_of q ≡ request plan.now blocks.now (map string_bytes addresses.now)) }
     {
+        let scheme = plan.scheme();
         Ok(Queries {
             plan: *plan,
+            scheme,
             blocks,
             addresses,
-            coins: vec![in alloc; 0; plan.coins_len(blocks.len() as u8)]?,
+            coins: vec![in alloc; 0; plan.coins_len(scheme, blocks.len() as u8)]?,
         })
     }
 
@@ -172,7 +176,7 @@ impl<'a> Queries<'a> {
     pub(crate) fn frame_len(&self) -> usize
         ensures { result ≡ frame_len (request_of self.now) }
     {
-        query_len(self.plan.scheme(), self.count(), self.plan.r)
+        query_len(self.scheme, self.count(), self.plan.r)
     }
 
     /// How many bytes a server answers, at most.
@@ -205,7 +209,7 @@ impl<'a> Queries<'a> {
         ensures { out.new ≡ payload_to (query_params self.now.plan 1 0) coins.now block index }
     {
         let FetchPlan { t, n, r, .. } = self.plan;
-        match self.plan.scheme() {
+        match self.scheme {
             Scheme::Shamir => query_into(coins, u32::from(t), r, block, index, out),
             Scheme::Xor => bitmap_into(coins, u32::from(n), r, block, index, out),
         }
@@ -219,8 +223,8 @@ impl<'a> Queries<'a> {
         ensures { out.new ≡ payload_of self.now index }
     {
         let coins = self.query_coins();
-        let own = self.plan.query_coins();
-        let size = self.plan.scheme().payload_len(self.plan.r);
+        let own = self.plan.query_coins(self.scheme);
+        let size = self.scheme.payload_len(self.plan.r);
         for i in 0..usize::from(self.count()) {
             let own_coins = &coins[i * own..(i + 1) * own];
             let vector = &mut out[i * size..(i + 1) * size];

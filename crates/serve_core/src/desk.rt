@@ -16,6 +16,7 @@ use server_product::Gate;
 use std::alloc::{AllocError, Global};
 use std::marker::Model;
 use std::thread::Threads;
+use wire_frames::Scheme;
 
 /// A database with all that it takes to serve it: room for the payload of a query, for the sums of
 /// each worker and for the frame of an answer. Contracts see the database, the scheme and the
@@ -64,7 +65,7 @@ impl Desk {
         ensures { IfOk result (λ d.
             d ≡ record { database = matrix; scheme = scheme; workers = workers }) }
     {
-        let service = Service::new(matrix, scheme, workers);
+        let service = Service::new(matrix, Scheme::of(scheme), workers);
         let room = Room::new(alloc, &service)?;
         Ok(Desk { service, room })
     }

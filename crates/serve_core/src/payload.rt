@@ -19,24 +19,26 @@ use port_trait::{Filled, Port, Ports, read_exactly};
 use wire_frames::{FRAME_HEADER_LEN, QueryHeader, Scheme};
 
 /// The i-th vector of the payload of a query for so many blocks, counted from 0.
-fn vector_at<'a>(terms: Terms, count: u8, query: &'a [u8], i: usize) -> &'a [u8]
+fn vector_at<'a>(terms: Terms, scheme: Scheme, count: u8, query: &'a [u8], i: usize) -> &'a [u8]
+    requires told { scheme ≡ scheme_of terms.scheme }
     requires few { count ≤ MOST_BLOCKS }
     requires there { i < count }
     requires size { length query.now ≡ payload_len_for terms count }
     ensures is { result.now ≡ piece (vector_len_for terms) i query.now }
     ensures size { length (piece (vector_len_for terms) i query.now) ≡ vector_len_for terms }
 {
-    let size = terms.vector_len();
+    let size = terms.vector_len(scheme);
     &query[i * size..(i + 1) * size]
 }
 
 /// Whether a vector of a query sets a bit past those of the rows.
-fn is_overfull(terms: Terms, vector: &[u8]) -> bool
+fn is_overfull(terms: Terms, scheme: Scheme, vector: &[u8]) -> bool
+    requires told { scheme ≡ scheme_of terms.scheme }
     requires some { 1 ≤ terms.rows }
     requires size { length vector.now ≡ vector_len_for terms }
     ensures { result ≡ sets_unused (scheme_of terms.scheme) terms.rows vector.now }
 {
-    match Scheme::of(terms.scheme) {
+    match scheme {
         Scheme::Shamir => false,
         Scheme::Xor => has_unused_bits(vector, terms.rows),
     }
@@ -44,7 +46,8 @@ fn is_overfull(terms: Terms, vector: &[u8]) -> bool
 
 /// Whether one of so many vectors of a query does.
 #[tactic(auto, unfolding(crate::specs::Case::some_sets_unused))]
-fn some_is_overfull(terms: Terms, count: u8, query: &[u8]) -> bool
+fn some_is_overfull(terms: Terms, scheme: Scheme, count: u8, query: &[u8]) -> bool
+    requires told { scheme ≡ scheme_of terms.scheme }
     requires some { 1 ≤ terms.rows }
     requires few { count ≤ MOST_BLOCKS }
     requires size { length query.now ≡ payload_len_for terms count }
@@ -52,7 +55,8 @@ fn some_is_overfull(terms: Terms, count: u8, query: &[u8]) -> bool
 {
     let mut overfull = false;
     for i in 0..usize::from(count) {
-        overfull = overfull || is_overfull(terms, vector_at(terms, count, query, i));
+        overfull = overfull
+            || is_overfull(terms, scheme, vector_at(terms, scheme, count, query, i));
     }
     overfull
 }
@@ -61,11 +65,13 @@ fn some_is_overfull(terms: Terms, count: u8, query: &[u8]) -> bool
 /// the payload.
 fn take_into<P: Ports>(
     terms: Terms,
+    scheme: Scheme,
     header: &[u8; FRAME_HEADER_LEN],
     asked: &QueryHeader,
     query: &mut [u8],
     ports: &mut P,
 ) -> Taken
+    requires told { scheme ≡ scheme_of terms.scheme }
     requires suited { IsSuited terms header.now asked.now }
     requires room { length query.old ≡ payload_len_for terms asked.now.count }
     ensures handles { HandlesPayload terms asked.now result query.new
@@ -74,14 +80,14 @@ fn take_into<P: Ports>(
 {
     let count = asked.count;
     // A query has a byte at least, since a database has a row.
-    let some = terms.payload_len(count) >= 1;
+    let some = terms.payload_len(scheme, count) >= 1;
     prove!(some);
     match read_exactly(ports, Port::Guest, query) {
         Filled::Full => {}
         Filled::Ended(_) => return Taken::Gone,
         Filled::Failed => return Taken::GuestFault,
     }
-    if some_is_overfull(terms, count, query) {
+    if some_is_overfull(terms, scheme, count, query) {
         return refuse(ports, header, Refusal::Malformed);
     }
     Taken::Query(*asked)
@@ -102,6 +108,7 @@ pub(crate) fn take_payload<P: Ports>(
     ensures fits { payload_len_for terms asked.now.count ≤ length query.old }
     ensures others { Touches GUEST (P.world ports.old) (P.world ports.new) }
 {
-    let payload = &mut query[..terms.payload_len(asked.count)];
-    take_into(terms, header, asked, payload, ports)
+    let scheme = Scheme::of(asked.scheme);
+    let payload = &mut query[..terms.payload_len(scheme, asked.count)];
+    take_into(terms, scheme, header, asked, payload, ports)
 }

@@ -1,7 +1,6 @@
 //! What is served.
-ghost use Rattle.std.specs.Prelude.{◌≡◌, ◌≤◌, ◌⊎◌};
-ghost use Rattle.wire_frames.specs.declared.scheme.TheConstants.{SHAMIR, XOR};
-ghost use Rattle.wire_frames.specs.Scheme.{scheme_of};
+ghost use Rattle.std.specs.Prelude.{◌≡◌, ◌≤◌};
+ghost use Rattle.wire_frames.specs.Scheme.{number_of, scheme_of};
 ghost use Rattle.quantity_limits.specs.declared.TheConstants.{MOST_BLOCKS, MOST_WORKERS};
 ghost use Rattle.serve_core.specs.Terms.{most_blocks_for, payload_len_for};
 ghost use Rattle.serve_core.specs.Service.{frame_len_for, sums_len_for, terms_of};
@@ -11,11 +10,11 @@ use block_matrix::Matrix;
 use std::marker::Model;
 use wire_frames::{Scheme, answer_len};
 
-/// A database, the number of the scheme in which it is served, and how many workers sum the rows.
+/// A database, the scheme in which it is served, and how many workers sum the rows.
 #[derive(Drop)]
 pub(crate) struct Service {
     matrix: Matrix,
-    scheme: u8,
+    scheme: Scheme,
     workers: u8,
 }
 
@@ -24,9 +23,10 @@ impl Model for Service {
 
     ghost Value = { Service };
 
+    ghost use Rattle.wire_frames.specs.Scheme.{number_of};
     ghost use Rattle.serve_core.specs.Servable.{IsServable};
 
-    ghost view = { λ s. record { database = s.matrix; scheme = s.scheme; workers = s.workers } };
+    ghost view = { λ s. record { database = s.matrix; scheme = number_of s.scheme; workers = s.workers } };
 
     ghost invariant = { IsServable };
 }
@@ -34,11 +34,10 @@ impl Model for Service {
 impl Service {
     /// A database that is served in a scheme, by from 1 to [`MOST_WORKERS`](wire_frames::MOST_WORKERS)
     /// workers.
-    pub(crate) fn new(matrix: Matrix, scheme: u8, workers: u8) -> Service
-        requires scheme { (scheme ≡ SHAMIR) ⊎ (scheme ≡ XOR) }
+    pub(crate) fn new(matrix: Matrix, scheme: Scheme, workers: u8) -> Service
         requires some { 1 ≤ workers }
         requires few { workers ≤ MOST_WORKERS }
-        ensures { result ≡ record { database = matrix; scheme = scheme; workers = workers } }
+        ensures { result ≡ record { database = matrix; scheme = number_of scheme; workers = workers } }
     {
         Service {
             matrix,
@@ -54,18 +53,11 @@ impl Service {
         &self.matrix
     }
 
-    /// The number of the scheme.
-    pub(crate) fn scheme_number(&self) -> u8
-        ensures { result ≡ self.now.scheme }
-    {
-        self.scheme
-    }
-
     /// The scheme.
     pub(crate) fn scheme(&self) -> Scheme
         ensures { result ≡ scheme_of self.now.scheme }
     {
-        Scheme::of(self.scheme)
+        self.scheme
     }
 
     /// How many workers sum the rows.
@@ -83,7 +75,7 @@ impl Service {
         ensures some { 1 ≤ result.width }
     {
         Terms {
-            scheme: self.scheme,
+            scheme: self.scheme.number(),
             rows: self.matrix.rows(),
             width: self.matrix.width(),
         }
@@ -93,7 +85,7 @@ impl Service {
     pub(crate) fn payload_len(&self, count: u8) -> usize
         ensures { result ≡ payload_len_for (terms_of self.now) count }
     {
-        self.terms().payload_len(count)
+        self.terms().payload_len(self.scheme(), count)
     }
 
     /// The most blocks that a query asks for.

@@ -1,6 +1,7 @@
 //! Which queries are taken.
 ghost use Rattle.std.specs.Prelude.{◌≡◌, ◌≤◌, ◌*◌};
 ghost use Rattle.quantity_limits.specs.declared.TheConstants.{MOST_BLOCKS};
+ghost use Rattle.wire_frames.specs.Scheme.{scheme_of};
 ghost use Rattle.serve_core.specs.Terms.{most_blocks_for, payload_len_for, vector_len_for};
 
 use wire_frames::{MOST_BLOCKS, MOST_WIDTH, Scheme};
@@ -8,7 +9,7 @@ use wire_frames::{MOST_BLOCKS, MOST_WIDTH, Scheme};
 /// Which queries are taken: those of a scheme, for a database of a shape.
 #[derive(Clone, Copy, Debug, PartialEq, Eq)]
 pub struct Terms {
-    /// The number of the scheme.
+    /// The number of the scheme. No query is of one with another number than 1 or 2.
     pub scheme: u8,
     /// How many rows the database has.
     pub rows: u32,
@@ -17,21 +18,23 @@ pub struct Terms {
 }
 
 impl Terms {
-    /// How many bytes a query has for each block.
-    pub(crate) fn vector_len(self) -> usize
+    /// How many bytes a query has for each block, in their scheme.
+    pub(crate) fn vector_len(self, scheme: Scheme) -> usize
+        requires told { scheme ≡ scheme_of self.scheme }
         ensures is { result ≡ vector_len_for self }
         ensures some { 1 ≤ self.rows → 1 ≤ result }
         ensures few { result ≤ self.rows }
     {
-        Scheme::of(self.scheme).payload_len(self.rows)
+        scheme.payload_len(self.rows)
     }
 
-    /// How many bytes the payload of a query for so many blocks has.
-    pub(crate) fn payload_len(self, count: u8) -> usize
+    /// How many bytes the payload of a query for so many blocks has, in their scheme.
+    pub(crate) fn payload_len(self, scheme: Scheme, count: u8) -> usize
+        requires told { scheme ≡ scheme_of self.scheme }
         ensures is { result ≡ payload_len_for self count }
         ensures some { 1 ≤ count → 1 ≤ self.rows → 1 ≤ result }
     {
-        usize::from(count) * self.vector_len()
+        usize::from(count) * self.vector_len(scheme)
     }
 
     /// The most blocks that a query asks for.

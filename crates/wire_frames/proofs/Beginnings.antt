@@ -36,6 +36,7 @@ pub record GoesOn (p : SessionParams) (done : List (Option (List ℕ))) (tail : 
 most_below : (p : SessionParams) → IsInRange p → answer_len p.count p.s < 256 ^ 4
 most_below p range = omega (arith, range.blocks.few_bytes)
 
+-- a file that begins with these records has more records behind them, which its other bytes spell
 pub goes_on : (p : SessionParams) (done : List (Option (List ℕ))) (tail : List ℕ) (t : Transcript) → IsInRange p → AllFit p done → IsSession (session_bytes (so_far p done) ++ tail) t
     → GoesOn p done tail t
 goes_on p done tail t range fits h =
@@ -92,6 +93,7 @@ header_begins head s =
     let split : session_bytes (so_far s.value []) ≡ head ++ s.rest = append-nil (header_bytes s.value) ∙ sym s.whole.spelled in
     starts-prefix IsSession head s.rest (subst (Starts IsSession) split whole)
 
+-- the first bytes of a session's file, up to a header's length, begin a header
 pub header_part : (head : List ℕ) → length head ≤ SESSION_HEADER_LEN → Starts IsSession head → Starts IsHeader head
 header_part head short s = record {
   rest = drop (length head) (header_bytes s.value.params);
@@ -104,10 +106,12 @@ abbrev filled : Option ℕ → Option (List ℕ)
 filled None = None
 filled (Some n) = Some (replicate n 0)
 
+-- a record filled with zeros fits where its length does
 fits_filled : (most : ℕ) (len : Option ℕ) → IfSome len (λ n. n ≤ most) → Fits most (filled len)
 fits_filled most None short = tt
 fits_filled most (Some n) short = (omega (arith, short, length-replicate {A = ℕ} n 0), All-replicate IsByte n 0 (omega arith))
 
+-- a record that is filled to a length has that length
 len_of-filled : (len : Option ℕ) → len_of (filled len) ≡ len
 len_of-filled None = refl
 len_of-filled (Some n) = ap (λ (k : ℕ). Some k) (length-replicate n 0)
@@ -139,6 +143,7 @@ pub record NextIs (p : SessionParams) (done : List (Option (List ℕ))) (tail : 
   pub fits : Fits (answer_len p.count p.s) next
   pub spelled : tail ≡ record_header (1 + length done) (len_of next) ++ (bytes_of next ++ more)
 
+-- where records are still to come, the bytes behind begin with the next of them
 next_of : (p : SessionParams) (done : List (Option (List ℕ))) (tail : List ℕ) (t : Transcript) → length done < p.n → GoesOn p done tail t → NextIs p done tail
 next_of p done tail t few g = from_list g.rest g.spelled g.fits g.all
   where
@@ -153,6 +158,7 @@ next_of p done tail t few g = from_list g.rest g.spelled g.fits g.all
           spelled = spelled ∙ ap (λ (l : List ℕ). l ++ records_bytes (i + 1) xs) (record-parts i x) ∙ append_assoc (record_header i (len_of x)) (bytes_of x) (records_bytes (i + 1) xs);
         }
 
+-- a record that fits has a length in range
 short_of : (most : ℕ) (x : Option (List ℕ)) → Fits most x → IfSome (len_of x) (λ n. n ≤ most)
 short_of most None fits = tt
 short_of most (Some bytes) fits = fits.0
@@ -163,6 +169,7 @@ next_in : (p : SessionParams) (done : List (Option (List ℕ))) (tail : List ℕ
 next_in p done tail range fits few rest t h =
     next_of p done (tail ++ rest) t few (goes_on p done (tail ++ rest) t range fits (subst (λ (l : List ℕ). IsSession l t) (append_assoc (session_bytes (so_far p done)) tail rest) h))
 
+-- the bytes behind the records so far, up to the length of a record's header, begin the header of the next
 pub record_part : (p : SessionParams) (done : List (Option (List ℕ))) (head : List ℕ) → IsInRange p → AllFit p done → length done < p.n → length head ≤ 6
     → Starts IsSession (session_bytes (so_far p done) ++ head) → Starts (IsRecordHeader (1 + length done) (answer_len p.count p.s)) head
 record_part p done head range fits few short s =
@@ -251,6 +258,7 @@ length-records most i (x ∷ xs) fits =
     one None fits_y = omega arith
     one (Some bytes) fits_y = omega (arith, fits_y.0)
 
+-- bytes that begin a session's file number at most 2^32
 pub begins_short : (bytes : List ℕ) → Starts IsSession bytes → length bytes ≤ 4294967296
 begins_short bytes s =
     let h = s.whole in

@@ -31,9 +31,11 @@ parts xs size =
 same_parts : (q : QueryHeader) (status : ℕ) → slice_range (answer_header q status) 8 16 ≡ slice_range (answer_header q 0) 8 16
 same_parts q status = refl
 
+-- the header of an answer has 24 bytes
 same_size : (q : QueryHeader) (status : ℕ) → length (answer_header q status) ≡ 24
 same_size q status = refl
 
+-- what is false when it is denied is true
 not_false : (b : Bool) → not b ≡ false → b ≡ true
 not_false true e = refl
 not_false false e = sym e
@@ -48,6 +50,7 @@ IsFull : Option AnswerField → Type 0
 IsFull None = ⊥
 IsFull (Some f) = Unit {0}
 
+-- a field is not the want of one
 some_none : (f : AnswerField) → Some f ≡ None → ⊥
 unfolding IsFull
 some_none f e = subst IsFull e tt
@@ -103,6 +106,7 @@ no_other q status =
       no_other_part a h 20 24 refl,
     ) refl
 
+-- equal numbers are found equal
 eqb-refl_of : (a b : ℕ) → a ≡ b → (a == b) ≡ true
 eqb-refl_of a b e = grind (arith, e)
 
@@ -120,6 +124,7 @@ told_by_zero bytes q status true z e not_usable =
     (ok, λ size. true≢false (sym (usable_when bytes q ok size) ∙ not_usable))
 told_by_zero bytes q status false z e not_usable = (λ is. true≢false (sym (eqb-refl_of status 0 is) ∙ z), e)
 
+-- the cause that is named for the first wrong field, or for the status, says what is so of the bytes
 told_by_field : (bytes : List ℕ) (q : QueryHeader) (o : Option AnswerField) → 24 ≤ length bytes
     → other_field (take 24 bytes) (answer_header q 0) ≡ o → is_some (usable bytes q) ≡ false
     → Tells (cause_by o (slice_index (take 24 bytes) 7)) bytes q
@@ -129,6 +134,7 @@ told_by_field bytes q None size e not_usable =
 told_by_field bytes q (Some field) size e not_usable =
     λ status is. some_none field (sym e ∙ ap (λ xs. other_field xs (answer_header q 0)) is ∙ no_other q status)
 
+-- and so does the one that is named by whether the bytes are fewer than a header
 told_by_size : (bytes : List ℕ) (q : QueryHeader) (short : Bool) → nat_lt (length bytes) 24 ≡ short → is_some (usable bytes q) ≡ false
     → Tells (if short then Cut else header_fault (take 24 bytes) q) bytes q
 unfolding header_fault

@@ -27,6 +27,7 @@ pub record IsHeaderPiece (old piece : List ℕ) (count : ℕ) (head : List ℕ) 
   pub count_is : count ≡ min (28 - length old) (length piece)
   pub head_is : head ≡ old ++ take count piece
 
+-- what is read of bytes is read of the same bytes under another name
 reads_same : (head read : List ℕ) (result : Result SessionParams ℕ) → read ≡ head → Reads IsHeader read result → Reads IsHeader head result
 reads_same head read result e h = subst (λ (l : List ℕ). Reads IsHeader l result) e h
 
@@ -68,15 +69,18 @@ pub record IsWhole (old piece : List ℕ) (count : ℕ) (head read seen : List �
   pub header : IsHeader read params
   pub seen_is : seen ≡ header_bytes params
 
+-- where a piece has the end of the header, the bytes seen are those before and the first of the piece
 whole_seen : (old piece : List ℕ) (count : ℕ) (head read seen : List ℕ) (params : SessionParams) → IsWhole old piece count head read seen params → seen ≡ old ++ take count piece
 whole_seen old piece count head read seen params t = t.seen_is ∙ sym t.header.spelled ∙ t.read_is ∙ t.piece_is.head_is
 
+-- and the rest of the piece behind them makes the bytes before and the whole piece
 pub whole_feeds : (old piece : List ℕ) (count : ℕ) (head read seen : List ℕ) (params : SessionParams) (new : List ℕ) → IsWhole old piece count head read seen params
     → new ≡ seen ++ take (length piece - count) (drop count piece) → new ≡ old ++ piece
 whole_feeds old piece count head read seen params new t more =
     more ∙ ap (λ (l : List ℕ). seen ++ l) (take_rest piece count) ∙ ap (λ (l : List ℕ). l ++ drop count piece) (whole_seen old piece count head read seen params t)
     ∙ append_assoc old (take count piece) (drop count piece) ∙ ap (λ (l : List ℕ). old ++ l) (take-append-drop count piece)
 
+-- and where that rest is refused at a place, so is the piece, as many places further on
 pub whole_refuses : (old piece : List ℕ) (count : ℕ) (head read seen : List ℕ) (params : SessionParams) (right : ℕ) → IsWhole old piece count head read seen params
     → Refuses seen (take (length piece - count) (drop count piece)) right → Refuses old piece (count + right)
 whole_refuses old piece count head read seen params right t h =

@@ -79,6 +79,7 @@ pub record IsFloor (f : Number) (bytes : List ℕ) (i floor : ℕ) : Type 0 wher
   pub worth : floor ≡ number (take i bytes) * 256 ^ (f.width - i)
   pub right : Starts (IsNumber f) (take i bytes)
 
+-- before the first byte is read the least number is 0
 pub floor_none : (f : Number) (bytes : List ℕ) → IsField f → IsFloor f bytes 0 0
 floor_none f bytes field = record {
   reach = omega arith;

@@ -17,6 +17,7 @@ same_records most i (x ∷ xs) (y ∷ ys) lt hx hy size same =
     ap₂ (λ (z : Option (List ℕ)) (l : List (Option (List ℕ))). z ∷ l) first.0
     (same_records most (i + 1) xs ys lt (All-tail (Fits most) x xs hx) (All-tail (Fits most) y ys hy) (omega arith) first.1)
 
+-- the same bytes are the file of one session alone
 pub one_session : (bytes : List ℕ) (t u : Transcript) → IsSession bytes t → IsSession bytes u → t ≡ u
 one_session bytes t u ht hu =
     let same = sym ht.spelled ∙ hu.spelled in

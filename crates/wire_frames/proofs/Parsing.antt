@@ -8,7 +8,7 @@ use Rattle.wire_frames.specs.declared.sizes.TheConstants.{SESSION_HEADER_LEN}
 use Rattle.wire_frames.specs.declared.session.SessionParams.{SessionParams}
 use Rattle.wire_frames.specs.Layout.{record_header}
 use Rattle.wire_frames.specs.Limits.{IsCount, IsInRange}
-use Rattle.wire_frames.specs.Version.{count_byte}
+use Rattle.wire_frames.specs.Version.{count_byte, version_of}
 use Rattle.wire_frames.specs.Session.{Fits, header_bytes, record_bytes, records_bytes}
 use Rattle.wire_frames.proofs.Counts.{same_count}
 use Rattle.wire_frames.proofs.Digits.{number, number-digits}
@@ -54,8 +54,8 @@ same_params p q hp hq e =
     let t = ap (λ (l : List ℕ). get_or l 6 0) e in
     let h = ap (λ (l : List ℕ). get_or l 7 0) e in
     let n = ap (λ (l : List ℕ). get_or l 8 0) e in
-    let byte : count_byte p.version p.count ≡ count_byte q.version q.count = ap (λ (l : List ℕ). get_or l 9 0) e in
-    let count = same_count p.version p.count q.count p.s q.s hp.blocks (subst (λ (v : ℕ). IsCount v q.count q.s) (sym version) hq.blocks) (subst (λ (v : ℕ). count_byte p.version p.count ≡ count_byte v q.count) (sym version) byte) in
+    let byte : count_byte (version_of p.version) p.count ≡ count_byte (version_of q.version) q.count = ap (λ (l : List ℕ). get_or l 9 0) e in
+    let count = same_count p.version p.count q.count p.s q.s hp.blocks (subst (λ (v : ℕ). IsCount v q.count q.s) (sym version) hq.blocks) (subst (λ (v : ℕ). count_byte (version_of p.version) p.count ≡ count_byte (version_of v) q.count) (sym version) byte) in
     let session = same_digits 8 p.session q.session (omega (arith, hp.session)) (omega (arith, hq.session)) (ap (λ (l : List ℕ). take 8 (drop 12 l)) e) in
     let r = same_digits 4 p.r q.r (omega (arith, hp.shape.few_rows)) (omega (arith, hq.shape.few_rows)) (ap (λ (l : List ℕ). take 4 (drop 20 l)) e) in
     let s = same_digits 4 p.s q.s (omega (arith, hp.shape.few_bytes)) (omega (arith, hq.shape.few_bytes)) (ap (λ (l : List ℕ). take 4 (drop 24 l)) e) in
@@ -107,6 +107,7 @@ pub record RestOf (done xs : List (Option (List ℕ))) (i : ℕ) (tail : List �
   pub parts : xs ≡ done ++ rest
   pub spelled : tail ≡ records_bytes (i + length done) rest
 
+-- where bytes begin with some records and are those of a list, the list begins with these records
 pub rest_of : (most i : ℕ) (done xs : List (Option (List ℕ))) (tail : List ℕ) → most < 256 ^ 4 → All (Fits most) done → All (Fits most) xs
     → records_bytes i done ++ tail ≡ records_bytes i xs → RestOf done xs i tail
 rest_of most i [] xs tail fits hd hx e = record { rest = xs; parts = refl; spelled = e ∙ ap (λ (n : ℕ). records_bytes n xs) (omega arith) }

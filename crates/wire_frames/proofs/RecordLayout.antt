@@ -59,6 +59,7 @@ pub some_len : (most present : ℕ) → Starts (at_len most present) []
 some_len most zero = some_spelling _ _ 0 (lit≤ tt) (lit≤ tt) (no_more _)
 some_len most (suc k) = some_spelling _ _ 0 (omega arith) (omega arith) (no_more _)
 
+-- behind an index a byte of presence can stand, and the rest of a record's header
 pub some_present : (most : ℕ) → Starts (at_present most) []
 some_present most = some_spelling _ _ 0 (lit≤ tt) (lit≤ tt) (some_len most 0)
 
@@ -66,6 +67,7 @@ some_present most = some_spelling _ _ 0 (lit≤ tt) (lit≤ tt) (some_len most 0
 pub to_present : (i most : ℕ) (bytes : List ℕ) (v : ℕ) → i < 256 → IsNumber (only 1 i) (take 1 (drop 0 bytes)) v → Leads (IsRecordHeader i most) (at_present most) 1 bytes
 to_present i most bytes v fits h = leads-on (is_field 1 i i (lit≤ tt) (omega arith) fits) (leads-start bytes (record_into i most fits) (record_back i most fits)) h
 
+-- the byte of presence was read, so the length comes next
 pub to_len : {i most : ℕ} {bytes : List ℕ} {v : ℕ} → Leads (IsRecordHeader i most) (at_present most) 1 bytes
     → IsNumber (record { width = 1; least = 0; most = 1 }) (take 1 (drop 1 bytes)) v → Leads (IsRecordHeader i most) (at_len most v) 2 bytes
 to_len leads h = leads-on (is_field 1 0 1 (lit≤ tt) (lit≤ tt) (lit< tt)) leads h

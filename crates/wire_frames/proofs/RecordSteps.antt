@@ -24,6 +24,7 @@ use Rattle.wire_frames.proofs.UnderWay.{under_way_whole}
 last_behind : (a b c : List ℕ) → a ++ (b ++ c) ≡ (a ++ b) ++ c
 last_behind a b c = simp append_assoc
 
+-- a fourth list stands behind the three before it, however they are joined
 last_behind_two : (a b c d : List ℕ) → a ++ (b ++ (c ++ d)) ≡ (a ++ (b ++ c)) ++ d
 last_behind_two a b c d = simp append_assoc
 
@@ -111,6 +112,7 @@ closed_steady r x steady few fits most =
       byte_room = omega (arith, width, steady.byte_room);
     }
 
+-- with one record more, and no byte of the next one, a reader is still open
 pub closed_open : (r : RecordsReader) (x : Option (List ℕ)) (kept : Kept) (head : List ℕ) → IsSteady r → length r.records.closed < r.params.n → r.left ≡ 0 → Fits (answer_len r.params.count r.params.s) x
     → length r.records.current ≤ answer_len r.params.count r.params.s → kept ≡ closed_by x r.records → head ≡ [] → IsOpen (record r { records = kept; head = head })
 closed_open r x kept head steady few none_left fits most is_kept is_head =
@@ -128,6 +130,7 @@ closed_open r x kept head steady few none_left fits most is_kept is_head =
     subst (λ (k : Kept). IsOpen (record r { records = k; head = head })) (sym is_kept)
     (subst (λ (l : List ℕ). IsOpen (record r { records = closed_by x r.records; head = l })) (sym is_head) canonical)
 
+-- closing a record whose header and bytes are all there leaves the bytes so far as they were
 pub closed_bytes : (r : RecordsReader) (x : Option (List ℕ)) (kept : Kept) (head : List ℕ) → record_bytes (1 + length r.records.closed) x ≡ r.head ++ r.records.current
     → kept ≡ closed_by x r.records → head ≡ [] → bytes_so_far (record r { records = kept; head = head }) ≡ bytes_so_far r
 closed_bytes r x kept head spelled is_kept is_head =
@@ -307,6 +310,7 @@ open_in_bytes r is_open some = elim is_open.part [
   | inr part ↦ part.0
 ]
 
+-- an open reader that waits for no byte of a record is in the header of one
 pub open_in_header : (r : RecordsReader) → IsOpen r → r.left ≤ 0 → IsInHeader r
 open_in_header r is_open none = elim is_open.part [
   | inl part ↦ part

@@ -17,10 +17,12 @@ pub shamir_is : (number : ℕ) → number ≡ SHAMIR → scheme_of number ≡ Sh
 unfolding scheme_of
 shamir_is number one = ap (λ (b : Bool). if b then Xor else Shamir) (ne_eqb number XOR (λ two. omega (arith, one, two)))
 
+-- a choice between the two schemes that gave the XOR scheme was taken
 told_xor : (b : Bool) → ◌≡◌ {A = Scheme} (cond b Xor Shamir) Xor → b ≡ true
 told_xor true e = refl
 told_xor false e = absurd (cc)
 
+-- and one that gave Shamir's was not
 told_shamir : (b : Bool) → ◌≡◌ {A = Scheme} (cond b Xor Shamir) Shamir → b ≡ false
 told_shamir true e = absurd (cc)
 told_shamir false e = refl

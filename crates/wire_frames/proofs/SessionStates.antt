@@ -43,6 +43,7 @@ sees_sound (Header head) bytes taken count sees = (count ∙ ap length (sym sees
 sees_sound (Records r) bytes taken count sees = (count ∙ ap length (sym sees.0), (refl, sees.1))
 sees_sound Stopped bytes taken count sees = absurd sees
 
+-- a state that stands for bytes is, to a caller, a reader of these bytes
 sees_reading : (state : State) (bytes : List ℕ) (taken : ℕ) → Sees state bytes → reading_of taken state ≡ SoFar bytes
 sees_reading (Header head) bytes taken sees = ap (λ (l : List ℕ). SoFar l) sees.0
 sees_reading (Records r) bytes taken sees = ap (λ (l : List ℕ). SoFar l) sees.0
@@ -54,21 +55,25 @@ pub record Takes (taken : ℕ) (old : State) (bytes piece : List ℕ) (new : Sta
   pub count : taken ≡ length bytes
   pub sees : Sees new (bytes ++ piece)
 
+-- a piece that was taken came behind bytes for which the old state stands
 takes_of : (taken : ℕ) (old : State) (piece : List ℕ) (new : State) → IsSound taken old → FeedsState old piece (Ok tt) new → (bytes : List ℕ) × Takes taken old bytes piece new
 takes_of taken (Header head) piece new sound fed = (head, record { reading = refl; count = sound.0; sees = fed })
 takes_of taken (Records r) piece new sound fed = (bytes_so_far r, record { reading = refl; count = sound.0; sees = fed })
 takes_of taken Stopped piece new sound fed = absurd cc
 
+-- the bytes taken with the piece number at most 2^32
 pub taken_fits : (taken : ℕ) (old : State) (piece : List ℕ) (new : State) → IsSound taken old → FeedsState old piece (Ok tt) new → taken + length piece ≤ 4294967296
 taken_fits taken old piece new sound fed =
     let t = takes_of taken old piece new sound fed in
     omega (arith, t.1.count, length-append t.0 piece, begins_short (t.0 ++ piece) (sees_begins new (t.0 ++ piece) t.1.sees))
 
+-- the new state stands for as many bytes as were taken
 pub taken_sound : (taken : ℕ) (old : State) (piece : List ℕ) (new : State) → IsSound taken old → FeedsState old piece (Ok tt) new → IsSound (taken + length piece) new
 taken_sound taken old piece new sound fed =
     let t = takes_of taken old piece new sound fed in
     sees_sound new (t.0 ++ piece) (taken + length piece) (omega (arith, t.1.count, length-append t.0 piece)) t.1.sees
 
+-- and a caller sees the piece behind the bytes so far
 pub taken_reads : (taken : ℕ) (old : State) (piece : List ℕ) (new : State) → IsSound taken old → FeedsState old piece (Ok tt) new
     → Feeds (reading_of taken old) piece (Ok tt) (reading_of (taken + length piece) new)
 taken_reads taken old piece new sound fed =
@@ -88,22 +93,26 @@ refuses_place bytes piece right h =
           h.longest (subst (Starts IsSession) (take-append-add bytes piece (right + 1)) next);
     }
 
+-- the place at which a piece is refused is at most 2^32
 refuses_short : (bytes piece : List ℕ) (right : ℕ) → Refuses bytes piece right → length bytes + right ≤ 4294967296
 refuses_short bytes piece right h =
     omega (arith, begins_short (bytes ++ take right piece) h.begins, length-append bytes (take right piece), length-take-le right piece (omega (arith, h.before)))
 
+-- a caller sees the reader refused at that place
 refuses_reads : (taken : ℕ) (bytes piece : List ℕ) (right : ℕ) → taken ≡ length bytes → Refuses bytes piece right
     → Feeds (SoFar bytes) piece (Err (BadSession (taken + right))) (Refused (taken + right))
 refuses_reads taken bytes piece right count h =
     let same : length bytes + right ≡ taken + right = omega arith in
     (subst (IsPlace (bytes ++ piece)) same (refuses_place bytes piece right h), omega (arith, h.before, length-append bytes piece), refl)
 
+-- where a piece is refused in some state, the count of bytes up to there doesn't wrap
 pub refused_fits : (taken : ℕ) (old : State) (piece : List ℕ) (right : ℕ) (new : State) → taken < 18446744073709551616 → IsSound taken old → FeedsState old piece (Err (Wrong right)) new
     → taken + right < 18446744073709551616
 refused_fits taken (Header head) piece right new small sound fed = omega (arith, refuses_short head piece right fed, sound.0)
 refused_fits taken (Records r) piece right new small sound fed = omega (arith, refuses_short (bytes_so_far r) piece right fed, sound.0)
 refused_fits taken Stopped piece right new small sound fed = let none : right ≡ 0 = cc in omega arith
 
+-- and a caller sees the reader refused there
 pub refused_reads : (taken : ℕ) (old : State) (piece : List ℕ) (right : ℕ) (new : State) → IsSound taken old → FeedsState old piece (Err (Wrong right)) new
     → Feeds (reading_of taken old) piece (Err (BadSession (taken + right))) (Refused (taken + right))
 refused_reads taken (Header head) piece right new sound fed = refuses_reads taken head piece right sound.0 fed
@@ -121,6 +130,7 @@ ends_at_length bytes s = record {
   longest = λ n more inside b. omega arith;
 }
 
+-- at the end of the bytes a reader of records has the session of which they are the file, or none is
 pub ends_records : (taken : ℕ) (r : RecordsReader) (session : Option Transcript) (result : Result Transcript SessionFault) → IsSound taken (Records r)
     → MatchOption session ((t : Transcript) → IsSession (bytes_so_far r) t → ⊥) (IsSession (bytes_so_far r)) → result ≡ ok_or session (record { place = taken })
     → Ends (SoFar (bytes_so_far r)) result
@@ -130,6 +140,7 @@ ends_records taken r None result sound none is =
     subst (Ends (SoFar bytes)) (sym is) (place, sound.0, none)
 ends_records taken r (Some t) result sound whole is = subst (Ends (SoFar (bytes_so_far r))) (sym is) whole
 
+-- in any state but that of records, the bytes so far are no session's file
 pub ends_before : (taken : ℕ) (state : State) → IsSound taken state → ((r : RecordsReader) → state ≡ Records r → ⊥) → Ends (reading_of taken state) (Err (record { place = taken }))
 ends_before taken (Header head) sound not =
     (subst (IsPlace head) (sym sound.0) (ends_at_length head (header_begins head sound.1.2)), sound.0, λ t h. header_short head t sound.1.1 h)

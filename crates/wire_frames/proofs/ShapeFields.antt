@@ -107,9 +107,11 @@ some_s make count r asked blocks some few =
     let row : 1 ≤ MOST_WIDTH / count = le-div 1 MOST_WIDTH count asked (omega (arith, blocks)) in
     some_spelling (width_field count r) _ 1 (omega arith) (omega (arith, room, row)) (no_more _)
 
+-- behind a session some number of rows can stand, and a width
 pub some_r : {A : Type 0} (make : ℕ → ℕ → A) (count : ℕ) → 1 ≤ count → count ≤ MOST_BLOCKS → Starts (at_r make count) []
 some_r make count asked blocks = some_spelling _ _ 1 (omega arith) (lit≤ tt) (some_s (make 1) count 1 asked blocks (omega arith) (lit≤ tt))
 
+-- behind the byte of blocks some session can stand, and a shape
 pub some_session : {A : Type 0} (make : ℕ → ℕ → ℕ → A) (count : ℕ) → 1 ≤ count → count ≤ MOST_BLOCKS → Starts (at_session make count) []
 some_session make count asked blocks = some_spelling _ _ 0 (omega arith) (omega arith) (some_r (make 0) count asked blocks)
 
@@ -118,6 +120,7 @@ pub to_r : {A : Type 0} {F : List ℕ → A → Type 0} {at : ℕ} {bytes : List
     → IsNumber session_field (take 8 (drop at bytes)) v → Leads F (at_r (make v) count) (at + 8) bytes
 to_r make count leads h = leads-on (is_field 8 0 18446744073709551615 (lit≤ tt) (lit≤ tt) (lit< tt)) leads h
 
+-- the rows were read, so the width comes next
 pub to_s : {A : Type 0} {F : List ℕ → A → Type 0} {at : ℕ} {bytes : List ℕ} {v : ℕ} (make : ℕ → ℕ → A) (count : ℕ) → Leads F (at_r make count) at bytes
     → IsNumber rows_field (take 4 (drop at bytes)) v → Leads F (at_s (make v) count v) (at + 4) bytes
 to_s make count leads h = leads-on (is_field 4 1 MOST_ROWS (lit≤ tt) (lit≤ tt) (lit< tt)) leads h

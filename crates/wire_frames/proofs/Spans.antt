@@ -80,5 +80,6 @@ room_kept len more room capacity new_len new_capacity is few fits grown = omega 
 pub has_room : (len more room capacity : ℕ) → more ≤ room → len + room ≤ capacity → capacity < len + more → ⊥
 has_room len more room capacity few fits full = omega (arith, few, fits, full)
 
+-- a capacity that is filled has no room for one more
 pub full_now : (len capacity : ℕ) → capacity ≤ len → capacity < len + 1
 full_now len capacity full = omega (arith, full)

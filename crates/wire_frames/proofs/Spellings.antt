@@ -18,6 +18,7 @@ is_field width least most narrow some fits = record { narrow = narrow; some = so
 pub number_as : {f g : Number} {v : ℕ} (at : ℕ) (bytes : List ℕ) → f ≡ g → IsNumber f (take f.width (drop at bytes)) v → IsNumber g (take g.width (drop at bytes)) v
 number_as {f} {g} {v} at bytes same h = subst (λ (m : Number). IsNumber m (take m.width (drop at bytes)) v) same h
 
+-- bytes stop being a number of a field where they stop being one of the same field
 pub stop_as : {f g : Number} {at place : ℕ} {bytes : List ℕ} → f ≡ g → StopsWithin (IsNumber f) at f.width bytes place → StopsWithin (IsNumber g) at g.width bytes place
 stop_as {f} {g} {at} {place} {bytes} same h = subst (λ (m : Number). StopsWithin (IsNumber m) at m.width bytes place) same h
 
@@ -55,6 +56,7 @@ from_zero n = omega arith
 pub fits_byte : {n m : ℕ} → n ≤ m → m < 2 ^ 8 → Fits w8 n
 fits_byte few small = omega (arith, few, small)
 
+-- a number that is at most one of 32 bits has 32 bits
 pub fits_word : {n m : ℕ} → n ≤ m → m < 2 ^ 32 → Fits w32 n
 fits_word few small = omega (arith, few, small)
 

@@ -51,6 +51,7 @@ first_pieces zero size bytes = sym (ap (λ (j : ℕ). take j bytes) (zero-mul si
 first_pieces (suc n) size bytes =
     ap (λ l. l ++ piece size n bytes) (first_pieces n size bytes) ∙ sym (take-add (n * size) size bytes) ∙ ap (λ (j : ℕ). take j bytes) (sym (suc-mul n size))
 
+-- the pieces of bytes, one behind another, are the bytes
 pub in_turn-pieces : (n size : ℕ) (bytes : List ℕ) → length bytes ≡ n * size → in_turn n (λ i. piece size i bytes) ≡ bytes
 in_turn-pieces n size bytes whole = first_pieces n size bytes ∙ take_all (n * size) bytes (omega (arith, whole))
 

@@ -5,6 +5,7 @@ use Rattle.quantity_limits.specs.declared.TheConstants.{MOST_SERVERS, MOST_BLOCK
 use Rattle.wire_frames.specs.declared.scheme.Scheme.{Scheme}
 use Rattle.wire_frames.specs.declared.scheme.Scheme.TheVariants.{Shamir, Xor}
 use Rattle.wire_frames.specs.declared.field.Number.{Number}
+use Rattle.wire_frames.specs.declared.version.Version.{Version}
 use Rattle.wire_frames.specs.Version.{count_byte}
 
 -- a range of numbers that has some, and none of more bytes than the field has
@@ -23,8 +24,8 @@ pub record IsNumber (field : Number) (bytes : List ℕ) (value : ℕ) : Type 0 w
 abbrev pub session_field : Number
 session_field = record { width = 8; least = 0; most = 2 ^ 64 - 1 }
 
--- the byte that says for how many blocks a query asks
-abbrev pub count_field : ℕ → Number
+-- the byte that says for how many blocks a query of a version asks
+abbrev pub count_field : Version → Number
 count_field version =
     record { width = 1; least = count_byte version 1; most = count_byte version MOST_BLOCKS }
 

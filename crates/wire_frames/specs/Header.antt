@@ -2,7 +2,7 @@
 use Rattle.std.specs.Prelude.{ℕ, ◌-◌, List, [], ◌∷◌, ◌++◌, codes, take, drop, get_or}
 use Rattle.std.specs.Int.{bytes_high_first}
 use Rattle.wire_frames.specs.declared.header.QueryHeader.{QueryHeader}
-use Rattle.wire_frames.specs.Version.{answer_version, count_byte, count_of}
+use Rattle.wire_frames.specs.Version.{answer_version, count_byte, count_of, number_of, version_of}
 use Rattle.wire_frames.specs.declared.places.TheConstants.{FRAME_VERSION_PLACE, FRAME_SCHEME_PLACE, FRAME_STATUS_PLACE, FRAME_SESSION_PLACE}
 
 -- four letters, the version, scheme and index, the status, and session, rows and width
@@ -13,7 +13,7 @@ frame_header magic q status =
 
 -- the header of a query: `PIRQ`, and for the status how many blocks it asks for, in version 1 a 0
 abbrev pub query_header : QueryHeader → List ℕ
-query_header q = frame_header (codes "PIRQ") q (count_byte q.version q.count)
+query_header q = frame_header (codes "PIRQ") q (count_byte (version_of q.version) q.count)
 
 -- for how many blocks the query with this header asks
 abbrev pub blocks_in : List ℕ → ℕ
@@ -28,6 +28,6 @@ answer_header q status = frame_header (codes "PIRA") q status
 -- from the session on
 abbrev pub answer_to : List ℕ → ℕ → List ℕ
 answer_to bytes status =
-    let version = answer_version (get_or bytes FRAME_VERSION_PLACE 0) in
+    let version = number_of (answer_version (get_or bytes FRAME_VERSION_PLACE 0)) in
     let scheme_and_index = take (FRAME_STATUS_PLACE - FRAME_SCHEME_PLACE) (drop FRAME_SCHEME_PLACE bytes) in
     codes "PIRA" ++ (version ∷ scheme_and_index) ++ (status ∷ drop FRAME_SESSION_PLACE bytes)

@@ -3,17 +3,18 @@ use Rattle.std.specs.Prelude.{ℕ, ◌+◌, ◌*◌, ◌^◌, ◌<◌, ◌≤◌
 use Rattle.quantity_limits.specs.declared.TheConstants.{MOST_DEGREE, MOST_SERVERS, MOST_BLOCKS, MOST_WIDTH}
 use Rattle.quantity_limits.specs.Shape.{IsShape}
 use Rattle.wire_frames.specs.declared.scheme.TheConstants.{SHAMIR, XOR}
-use Rattle.wire_frames.specs.declared.version.TheConstants.{SINGLE, SEVERAL}
+use Rattle.wire_frames.specs.declared.version.Version.TheVariants.{Single, Several}
 use Rattle.wire_frames.specs.declared.header.QueryHeader.{QueryHeader}
 use Rattle.wire_frames.specs.declared.session.SessionParams.{SessionParams}
+use Rattle.wire_frames.specs.Version.{number_of}
 
 -- a version, and for how many rows of so many bytes a query asks: in version 1 for one
 pub record IsCount (version count s : ℕ) : Type 0 where
-  pub some_version : SINGLE ≤ version
-  pub two_versions : version ≤ SEVERAL
+  pub some_version : number_of Single ≤ version
+  pub two_versions : version ≤ number_of Several
   pub some_blocks : 1 ≤ count
   pub few_blocks : count ≤ MOST_BLOCKS
-  pub one_block : version ≡ SINGLE → count ≡ 1
+  pub one_block : version ≡ number_of Single → count ≡ 1
   pub few_bytes : count * s ≤ MOST_WIDTH
 
 -- the numbers that a session may have: a scheme, with 1 <= t < h <= n; in the XOR scheme all

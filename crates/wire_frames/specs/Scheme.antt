@@ -5,7 +5,7 @@ use Rattle.wire_frames.specs.declared.scheme.TheConstants.{SHAMIR, XOR}
 use Rattle.wire_frames.specs.declared.scheme.Scheme.{Scheme}
 use Rattle.wire_frames.specs.declared.scheme.Scheme.TheVariants.{Shamir, Xor}
 
--- the scheme that a number stands for
+-- the scheme that a number stands for, which is SHAMIR or XOR
 unfoldable pub scheme_of : ℕ → Scheme
 scheme_of number = if number == XOR then Xor else Shamir
 

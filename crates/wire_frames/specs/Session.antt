@@ -2,7 +2,7 @@
 use Rattle.std.specs.Prelude.{◌≡◌, ℕ, ◌+◌, ◌*◌, ◌<◌, ◌≤◌, List, [], ◌∷◌, ◌++◌, length, codes, Option, Some, None, All, IfSome}
 use Rattle.std.specs.Int.{bytes_high_first}
 use Rattle.wire_frames.specs.Sizes.{answer_len}
-use Rattle.wire_frames.specs.Version.{count_byte}
+use Rattle.wire_frames.specs.Version.{count_byte, version_of}
 use Rattle.wire_frames.specs.declared.session.SessionParams.{SessionParams}
 use Rattle.wire_frames.specs.Limits.{IsInRange}
 use Rattle.wire_frames.specs.Records.{Kept}
@@ -17,7 +17,7 @@ pub record Transcript : Type 0 where
 -- in version 1 a 0, two zeros, and session, rows and width
 abbrev pub header_bytes : SessionParams → List ℕ
 header_bytes p =
-    codes "PIRS" ++ (p.version ∷ p.scheme ∷ p.t ∷ p.h ∷ p.n ∷ count_byte p.version p.count ∷ 0 ∷ 0 ∷ [])
+    codes "PIRS" ++ (p.version ∷ p.scheme ∷ p.t ∷ p.h ∷ p.n ∷ count_byte (version_of p.version) p.count ∷ 0 ∷ 0 ∷ [])
     ++ bytes_high_first 8 p.session ++ bytes_high_first 4 p.r ++ bytes_high_first 4 p.s
 
 -- record i: its index, whether it is present, its length, and its bytes

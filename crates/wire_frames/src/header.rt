@@ -9,7 +9,7 @@ use crate::places::{
     FRAME_SESSION_PLACE, FRAME_STATUS_PLACE, FRAME_VERSION_PLACE, FRAME_WIDTH_PLACE,
 };
 use crate::sizes::FRAME_HEADER_LEN;
-use crate::version::{answer_version, count_byte};
+use crate::version::{Version, answer_version, count_byte};
 use byteorder::{BigEndian, ByteOrder};
 
 /// `PIRQ`
@@ -70,11 +70,8 @@ pub fn write_query_header(header: &QueryHeader, out: &mut [u8; FRAME_HEADER_LEN]
     requires { IsQuery header.now }
     ensures { out.new ≡ query_header header.now }
 {
-    *out = frame_header(
-        QUERY_MAGIC,
-        header,
-        count_byte(header.version, header.count),
-    );
+    let version = Version::of(header.version);
+    *out = frame_header(QUERY_MAGIC, header, count_byte(version, header.count));
 }
 
 /// Writes the bytes that begin the answer with this status to a query: `PIRA`, version 2 where that is
@@ -90,6 +87,6 @@ pub fn write_answer_header(
 {
     *out = *query;
     out[FRAME_MAGIC_PLACE..FRAME_VERSION_PLACE].copy_from_slice(&ANSWER_MAGIC.to_be_bytes());
-    out[FRAME_VERSION_PLACE] = answer_version(query[FRAME_VERSION_PLACE]);
+    out[FRAME_VERSION_PLACE] = answer_version(query[FRAME_VERSION_PLACE]).number();
     out[FRAME_STATUS_PLACE] = status;
 }

@@ -27,7 +27,6 @@ ghost use Rattle.wire_frames.specs.declared.sizes.TheConstants.{SESSION_HEADER_L
 ghost use Rattle.wire_frames.specs.Field.{IsField, count_field, servers_field, width_field};
 ghost use Rattle.wire_frames.specs.Form.{Reads};
 ghost use Rattle.wire_frames.specs.Layout.{IsHeader, IsRecordHeader};
-ghost use Rattle.wire_frames.specs.Scheme.{scheme_of};
 
 use crate::field::{Number, number_at};
 use crate::places::{
@@ -38,7 +37,7 @@ use crate::places::{
 };
 use crate::scheme::{SHAMIR, Scheme, XOR};
 use crate::session::SessionParams;
-use crate::version::{SEVERAL, SINGLE, count_byte};
+use crate::version::{Version, count_byte};
 use crate::{MOST_BLOCKS, MOST_CELLS, MOST_DEGREE, MOST_ROWS, MOST_SERVERS, MOST_WIDTH};
 
 /// `PIRS`
@@ -53,8 +52,8 @@ const MAGIC: Number = Number {
 /// The version.
 pub(crate) const VERSION: Number = Number {
     width: 1,
-    least: SINGLE as u64,
-    most: SEVERAL as u64,
+    least: Version::Single as u64,
+    most: Version::Several as u64,
 };
 
 /// The number of a scheme.
@@ -121,7 +120,7 @@ const LEN: Number = Number {
 };
 
 /// The byte that says for how many blocks a query of a version asks.
-pub(crate) fn count_field(version: u8) -> Number
+pub(crate) fn count_field(version: Version) -> Number
     ensures is { result ≡ count_field version }
     ensures field { IsField result }
     ensures few { result.most ≤ MOST_BLOCKS }
@@ -148,10 +147,10 @@ pub(crate) fn width_field(count: u64, rows: u64) -> Number
 
 /// A number of servers from the least on, and in the XOR scheme no more: there all servers have to
 /// answer, and all of them but one learn nothing.
-fn servers_field(scheme: u8, least: u64) -> Number
-    ensures { result ≡ servers_field (scheme_of scheme) least }
+fn servers_field(scheme: Scheme, least: u64) -> Number
+    ensures { result ≡ servers_field scheme least }
 {
-    let most = match Scheme::of(scheme) {
+    let most = match scheme {
         Scheme::Shamir => SERVERS.most,
         Scheme::Xor => least,
     };
@@ -171,13 +170,14 @@ pub(crate) fn read_header(bytes: &[u8]) -> Result<SessionParams, usize>
     let version = number_at(bytes, SESSION_VERSION_PLACE, VERSION)?;
     let scheme = number_at(bytes, SESSION_SCHEME_PLACE, SCHEME)?;
     let t = number_at(bytes, SESSION_DEGREE_PLACE, DEGREE)?;
-    let h = number_at(
+    let kind = Scheme::of(scheme as u8);
+    let h = number_at(bytes, SESSION_AGREEMENT_PLACE, servers_field(kind, t + 1))?;
+    let n = number_at(bytes, SESSION_SERVERS_PLACE, servers_field(kind, h))?;
+    let byte = number_at(
         bytes,
-        SESSION_AGREEMENT_PLACE,
-        servers_field(scheme as u8, t + 1),
+        SESSION_COUNT_PLACE,
+        count_field(Version::of(version as u8)),
     )?;
-    let n = number_at(bytes, SESSION_SERVERS_PLACE, servers_field(scheme as u8, h))?;
-    let byte = number_at(bytes, SESSION_COUNT_PLACE, count_field(version as u8))?;
     let count = byte.max(1);
     number_at(bytes, SESSION_ZERO_PLACE, ZERO)?;
     let session = number_at(bytes, SESSION_NUMBER_PLACE, SESSION)?;

@@ -44,5 +44,5 @@ pub use reader::{BadSession, FeedFault, SessionReader};
 pub use scheme::{SHAMIR, Scheme, XOR};
 pub use session::{Session, SessionParams};
 pub use sizes::{FRAME_HEADER_LEN, RECORD_HEADER_LEN, SESSION_HEADER_LEN, answer_len, query_len};
-pub use version::{SEVERAL, SINGLE};
+pub use version::Version;
 pub use write::write_session;

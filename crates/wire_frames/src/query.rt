@@ -14,7 +14,8 @@ ghost use Rattle.std.specs.Prelude.{◌≡◌, ◌≤◌, take, drop, IfOk};
 ghost use Rattle.quantity_limits.specs.declared.TheConstants.{MOST_BLOCKS};
 ghost use Rattle.wire_frames.specs.declared.places.TheConstants.{FRAME_SESSION_PLACE};
 ghost use Rattle.wire_frames.specs.Field.{IsField, IsNumber, count_field, session_field};
-ghost use Rattle.wire_frames.specs.Query.{first_place, count_name, ReadsField, ReadsQuery};
+ghost use Rattle.wire_frames.specs.Query.{first_place, ReadsField, ReadsQuery};
+ghost use Rattle.wire_frames.specs.Version.{count_name};
 
 use crate::field::{Number, number_at};
 use crate::header::{QUERY_MAGIC, QueryHeader};
@@ -24,7 +25,7 @@ use crate::places::{
     FRAME_SESSION_PLACE, FRAME_STATUS_PLACE, FRAME_VERSION_PLACE, FRAME_WIDTH_PLACE,
 };
 use crate::sizes::FRAME_HEADER_LEN;
-use crate::version::SEVERAL;
+use crate::version::Version;
 use thiserror::Error;
 
 /// A field of a query's header that can be wrong.
@@ -103,19 +104,17 @@ fn read_field(bytes: &[u8], field: Field, number: Number) -> Result<u64, FrameFa
 }
 
 /// The name of the field that says for how many blocks a query asks.
-#[tactic(auto, unfolding(crate::specs::Query::count_name))]
-fn count_name(version: u8) -> Field
+fn count_name(version: Version) -> Field
     ensures { result ≡ count_name version }
 {
-    if version == SEVERAL {
-        Field::Count
-    } else {
-        Field::Zero
+    match version {
+        Version::Single => Field::Zero,
+        Version::Several => Field::Count,
     }
 }
 
 /// The byte that says for how many blocks a query asks.
-fn read_count(bytes: &[u8], version: u8) -> Result<u64, FrameFault>
+fn read_count(bytes: &[u8], version: Version) -> Result<u64, FrameFault>
     ensures reads { ReadsField (count_field version) (count_name version) bytes.now result }
     ensures few { IfOk result (λ byte. byte ≤ MOST_BLOCKS) }
 {
@@ -148,7 +147,7 @@ pub fn read_query_header(bytes: &[u8; FRAME_HEADER_LEN]) -> Result<QueryHeader, 
     let version = read_field(bytes, Field::Version, VERSION)?;
     let scheme = read_field(bytes, Field::Scheme, SCHEME)?;
     let index = read_field(bytes, Field::Index, INDEX)?;
-    let byte = read_count(bytes, version as u8)?;
+    let byte = read_count(bytes, Version::of(version as u8))?;
     let count = byte.max(1);
     let session = read_session(bytes);
     let r = read_field(bytes, Field::Rows, ROWS)?;

@@ -1,5 +1,6 @@
 //! The schemes, and their numbers in frames, sessions and words.
-ghost use Rattle.std.specs.Prelude.{◌≡◌, ◌≤◌, ◌<◌};
+ghost use Rattle.std.specs.Prelude.{◌≡◌, ◌≤◌, ◌<◌, ◌⊎◌};
+ghost use Rattle.wire_frames.specs.declared.scheme.TheConstants.{SHAMIR, XOR};
 ghost use Rattle.wire_frames.specs.Scheme.{scheme_of, number_of, payload_len};
 
 /// The number of Shamir's sharing (Goldberg 2007).
@@ -18,11 +19,12 @@ pub enum Scheme {
 }
 
 impl Scheme {
-    /// The scheme that a number stands for: [`XOR`], or else Shamir's. The numbers of frames,
-    /// sessions and words are those two alone.
+    /// The scheme that a number stands for, which is [`SHAMIR`] or [`XOR`].
     #[tactic(auto, unfolding(crate::specs::Scheme::scheme_of))]
     pub fn of(number: u8) -> Scheme
-        ensures { result ≡ scheme_of number }
+        requires { (number ≡ SHAMIR) ⊎ (number ≡ XOR) }
+        ensures is { result ≡ scheme_of number }
+        ensures number { number_of result ≡ number }
     {
         if number == XOR {
             Scheme::Xor

@@ -1,12 +1,16 @@
 //! A session: what was asked, and the bytes that each server answered.
 ghost use Rattle.std.specs.Prelude.{◌≡◌, ◌≤◌, ◌<◌, ◌+◌, ◌-◌, ◌++◌, ◌∷◌, [], length, All, IfSome, IfOk, slice_index_or};
 ghost use Rattle.std.specs.Option.{option_copied};
+ghost use Rattle.wire_frames.specs.Scheme.{scheme_of};
 ghost use Rattle.wire_frames.specs.Sizes.{answer_len};
+ghost use Rattle.wire_frames.specs.Version.{version_of};
 ghost use Rattle.wire_frames.specs.Limits.{IsInRange};
 ghost use Rattle.wire_frames.specs.Session.{Fits, IsUnderWay};
 
 use crate::records::Records;
+use crate::scheme::Scheme;
 use crate::sizes::answer_len;
+use crate::version::Version;
 use std::alloc::{AllocError, Global};
 use std::marker::Model;
 
@@ -32,6 +36,24 @@ pub struct SessionParams {
     pub r: u32,
     /// The width of a row, in bytes.
     pub s: u32,
+}
+
+impl SessionParams {
+    /// The version.
+    pub(crate) fn version(&self) -> Version
+        requires { IsInRange self.now }
+        ensures { result ≡ version_of self.now.version }
+    {
+        Version::of(self.version)
+    }
+
+    /// The scheme in which it was asked.
+    pub fn scheme(&self) -> Scheme
+        requires { IsInRange self.now }
+        ensures { result ≡ scheme_of self.now.scheme }
+    {
+        Scheme::of(self.scheme)
+    }
 }
 
 /// What a client asked for, and a record for each server so far.

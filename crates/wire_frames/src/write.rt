@@ -17,12 +17,13 @@ use crate::places::{
 };
 use crate::session::{Session, SessionParams};
 use crate::sizes::{RECORD_HEADER_LEN, SESSION_HEADER_LEN};
-use crate::version::count_byte;
+use crate::version::{Version, count_byte};
 use byteorder::{BigEndian, ByteOrder};
 use port_trait::{Failed, Port, Ports, write_all};
 
-/// The header of a session with these numbers.
+/// The header of a session with these numbers, each in its range.
 fn header_of(params: &SessionParams) -> [u8; SESSION_HEADER_LEN]
+    requires { IsInRange params.now }
     ensures { result ≡ header_bytes params.now }
 {
     let mut header = [0; SESSION_HEADER_LEN];
@@ -34,7 +35,7 @@ fn header_of(params: &SessionParams) -> [u8; SESSION_HEADER_LEN]
     header[SESSION_DEGREE_PLACE] = params.t;
     header[SESSION_AGREEMENT_PLACE] = params.h;
     header[SESSION_SERVERS_PLACE] = params.n;
-    header[SESSION_COUNT_PLACE] = count_byte(params.version, params.count);
+    header[SESSION_COUNT_PLACE] = count_byte(params.version(), params.count);
     BigEndian::write_u64(&mut header[SESSION_NUMBER_PLACE..], params.session);
     BigEndian::write_u32(&mut header[SESSION_ROWS_PLACE..], params.r);
     BigEndian::write_u32(&mut header[SESSION_WIDTH_PLACE..], params.s);

@@ -35,6 +35,9 @@ combine_all-requires g c = c.requires.all
 pub block_len-requires : goal.block_len-requires
 block_len-requires g c = subst IsInRange (sym c.params-params.ensures.value) c.params-params.ensures.range
 
+pub scheme-requires : goal.scheme-requires
+scheme-requires g c = subst IsInRange (sym c.params-params.ensures.value) c.params-params.ensures.range
+
 pub decide_among-requires-clause-few : goal.decide_among-requires-clause-few
 decide_among-requires-clause-few g c = at_most c.in_ok-usable-in-Shamir.ensures.few c.params-params.ensures.range.few_servers
 
@@ -56,7 +59,7 @@ returns-in_ok-usable-in-Shamir g c =
     let params = c.params-params.ensures.value in
     judged c.args.wanted session c.in_ok-usable-in-Shamir.usable c.block_len.result c.from.result c.from-in-Shamir.result c.decide_among.result
     (counters c.args.cols.now c.args.nodes.now) (counters c.decide_among.new.cols c.decide_among.new.nodes)
-    (λ two. number_of_shamir c.params-params.result.scheme (sym c.of.ensures ∙ c.in-Shamir.is) (ap (λ (p : SessionParams). p.scheme) params ∙ two))
+    (λ two. number_of_shamir c.params-params.result.scheme (sym c.scheme.ensures ∙ c.in-Shamir.is) (ap (λ (p : SessionParams). p.scheme) params ∙ two))
     c.in_ok-usable-in-Shamir.ensures.answers (c.block_len.ensures.is ∙ ap block_len params) (c.from.ensures ∙ ap (λ (p : SessionParams). p.t) params)
     (c.from-in-Shamir.ensures ∙ ap (λ (p : SessionParams). p.h) params) c.decide_among.ensures
 
@@ -71,5 +74,5 @@ returns-in_err-combine_all-in-Xor g c =
 
 pub returns-in_ok-combine_all-in-Xor : goal.returns-in_ok-combine_all-in-Xor
 returns-in_ok-combine_all-in-Xor g c =
-    let xor = sym (ap (λ (p : SessionParams). p.scheme) c.params-params.ensures.value) ∙ number_of_xor c.params-params.result.scheme (sym c.of.ensures ∙ c.in-Xor.is) in
+    let xor = sym (ap (λ (p : SessionParams). p.scheme) c.params-params.ensures.value) ∙ number_of_xor c.params-params.result.scheme (sym c.scheme.ensures ∙ c.in-Xor.is) in
     combined c.args.wanted c.args.session.now c.in_ok-combine_all-in-Xor.field-0 (counters c.args.cols.now c.args.nodes.now) xor c.in_ok-combine_all-in-Xor.ensures

@@ -1,10 +1,11 @@
 use Rattle.std.proofs.Common.{◌≡◌, ◌∙◌, ℕ, ◌+◌, ◌<◌, ◌≤◌, ◌^◌, ◌/◌, Fits, w8, w32, w64, max, min, ap, subst, sym, arith, lit≤, lit<, div-le_self}
 use Rattle.wire_frames.specs.Layout.{IsHeader}
-use Rattle.wire_frames.specs.Field.{IsField, most_servers, width_field}
-use Rattle.wire_frames.specs.Version.{count_byte, count_of}
+use Rattle.wire_frames.specs.Field.{IsField, count_field, most_servers, servers_field, width_field}
+use Rattle.wire_frames.specs.Version.{count_byte, count_of, version_of}
 use Rattle.wire_frames.specs.Scheme.{scheme_of}
 use Rattle.wire_frames.specs.declared.field.Number.{Number}
 use Rattle.wire_frames.specs.declared.scheme.Scheme.{Scheme}
+use Rattle.wire_frames.specs.declared.version.Version.{Version}
 use Rattle.quantity_limits.specs.declared.TheConstants.{MOST_BLOCKS, MOST_CELLS, MOST_DEGREE, MOST_SERVERS, MOST_WIDTH}
 use Rattle.wire_frames.specs.declared.places.TheConstants.{SESSION_AGREEMENT_PLACE, SESSION_SERVERS_PLACE, SESSION_COUNT_PLACE, SESSION_WIDTH_PLACE}
 use Rattle.wire_frames.proofs.Chains.{leads-start, leads-stop, leads-done, no_more}
@@ -33,8 +34,16 @@ is_count count byte is = omega (arith, is)
 asks : (byte : ℕ) → 1 ≤ count_of byte
 asks byte = omega arith
 
-asks_few : (version byte : ℕ) → byte ≤ count_byte version MOST_BLOCKS → count_of byte ≤ MOST_BLOCKS
-asks_few version byte most = omega (arith, byte_most version MOST_BLOCKS, most)
+asks_few : (version byte : ℕ) → byte ≤ count_byte (version_of version) MOST_BLOCKS → count_of byte ≤ MOST_BLOCKS
+asks_few version byte most = omega (arith, byte_most (version_of version) MOST_BLOCKS, most)
+
+-- a field of servers, by the number of the scheme
+by_number : {f : Number} {kind : Scheme} {least : ℕ} (scheme : ℕ) → kind ≡ scheme_of scheme → f ≡ servers_field kind least → f ≡ servers_field (scheme_of scheme) least
+by_number {f} {kind} {least} scheme is told = told ∙ ap (λ (z : Scheme). servers_field z least) is
+
+-- the field of the byte that says for how many blocks, by the number of the version
+by_version : {f : Number} {told : Version} (version : ℕ) → told ≡ version_of version → f ≡ count_field told → f ≡ count_field (version_of version)
+by_version version is field = field ∙ ap count_field is
 
 -- a width is a word
 fits_width : (count r s : ℕ) → s ≤ min (MOST_WIDTH / count) (MOST_CELLS / r) → Fits w32 s
@@ -67,13 +76,13 @@ number_at-requires-10 c = is_field _ _ _ (lit≤ tt) (lit≤ tt) (lit< tt)
 
 pub number_at-requires-5 : goal.number_at-requires-5
 number_at-requires-5 c =
-    subst (λ (f : Number). IsField f) (sym c.servers_field.ensures) (servers_are (scheme_of c.in_ok-scheme.scheme) (c.in_ok-t.t + 1) (one_more c.in_ok-t.t c.in_ok-t.ensures.most))
+    subst (λ (f : Number). IsField f) (sym (by_number c.in_ok-scheme.scheme c.of-kind.ensures.is c.servers_field.ensures)) (servers_are (scheme_of c.in_ok-scheme.scheme) (c.in_ok-t.t + 1) (one_more c.in_ok-t.t c.in_ok-t.ensures.most))
 
 pub number_at-requires-6 : goal.number_at-requires-6
 number_at-requires-6 c =
-    let agree = number_as SESSION_AGREEMENT_PLACE c.args.bytes.now c.servers_field.ensures c.in_ok-h.ensures in
+    let agree = number_as SESSION_AGREEMENT_PLACE c.args.bytes.now (by_number c.in_ok-scheme.scheme c.of-kind.ensures.is c.servers_field.ensures) c.in_ok-h.ensures in
     let few = few_agree (scheme_of c.in_ok-scheme.scheme) c.in_ok-t.t c.in_ok-h.h c.in_ok-t.ensures.most agree.most in
-    subst (λ (f : Number). IsField f) (sym c.servers_field-2.ensures) (servers_are (scheme_of c.in_ok-scheme.scheme) c.in_ok-h.h few)
+    subst (λ (f : Number). IsField f) (sym (by_number c.in_ok-scheme.scheme c.of-kind.ensures.is c.servers_field-2.ensures)) (servers_are (scheme_of c.in_ok-scheme.scheme) c.in_ok-h.h few)
 
 pub number_at-requires-7 : goal.number_at-requires-7
 number_at-requires-7 c = c.count_field.ensures.field
@@ -98,14 +107,14 @@ overflow_add-t c = fits_next c.in_ok-t.ensures.most (lit< tt)
 
 pub overflow_cast-result-4 : goal.overflow_cast-result-4
 overflow_cast-result-4 c =
-    let agree = number_as SESSION_AGREEMENT_PLACE c.args.bytes.now c.servers_field.ensures c.in_ok-h.ensures in
+    let agree = number_as SESSION_AGREEMENT_PLACE c.args.bytes.now (by_number c.in_ok-scheme.scheme c.of-kind.ensures.is c.servers_field.ensures) c.in_ok-h.ensures in
     fits_byte (few_agree (scheme_of c.in_ok-scheme.scheme) c.in_ok-t.t c.in_ok-h.h c.in_ok-t.ensures.most agree.most) (lit< tt)
 
 pub overflow_cast-result-5 : goal.overflow_cast-result-5
 overflow_cast-result-5 c =
-    let agree = number_as SESSION_AGREEMENT_PLACE c.args.bytes.now c.servers_field.ensures c.in_ok-h.ensures in
+    let agree = number_as SESSION_AGREEMENT_PLACE c.args.bytes.now (by_number c.in_ok-scheme.scheme c.of-kind.ensures.is c.servers_field.ensures) c.in_ok-h.ensures in
     let few = few_agree (scheme_of c.in_ok-scheme.scheme) c.in_ok-t.t c.in_ok-h.h c.in_ok-t.ensures.most agree.most in
-    let servers = number_as SESSION_SERVERS_PLACE c.args.bytes.now c.servers_field-2.ensures c.in_ok-n.ensures in
+    let servers = number_as SESSION_SERVERS_PLACE c.args.bytes.now (by_number c.in_ok-scheme.scheme c.of-kind.ensures.is c.servers_field-2.ensures) c.in_ok-n.ensures in
     fits_servers (scheme_of c.in_ok-scheme.scheme) c.in_ok-h.h c.in_ok-n.n few servers.most
 
 pub overflow_cast-result-6 : goal.overflow_cast-result-6
@@ -113,9 +122,6 @@ overflow_cast-result-6 c = fits_byte (few_blocks c.max-count.ensures c.in_ok-byt
 
 pub overflow_cast-scheme : goal.overflow_cast-scheme
 overflow_cast-scheme c = fits_byte c.in_ok-scheme.ensures.most (lit< tt)
-
-pub overflow_cast-scheme-2 : goal.overflow_cast-scheme-2
-overflow_cast-scheme-2 c = fits_byte c.in_ok-scheme.ensures.most (lit< tt)
 
 pub overflow_cast-version : goal.overflow_cast-version
 overflow_cast-version c = fits_byte c.in_ok-version.ensures.most (lit< tt)
@@ -166,7 +172,7 @@ returns-in_err-h c =
     let version = to_scheme magic c.in_ok-version.ensures in
     let scheme = to_t version c.in_ok-scheme.ensures in
     let t = to_h scheme c.in_ok-t.ensures in
-    reads-exit c.from_residual-in_err-h.result _ c.from_residual-in_err-h.ensures.1 (leads-stop t (λ v _ most. some_n _ _ _ v (few_agree (scheme_of c.in_ok-scheme.scheme) c.in_ok-t.t v c.in_ok-t.ensures.most most)) (stop_as c.servers_field.ensures c.in_err-h.ensures))
+    reads-exit c.from_residual-in_err-h.result _ c.from_residual-in_err-h.ensures.1 (leads-stop t (λ v _ most. some_n _ _ _ v (few_agree (scheme_of c.in_ok-scheme.scheme) c.in_ok-t.t v c.in_ok-t.ensures.most most)) (stop_as (by_number c.in_ok-scheme.scheme c.of-kind.ensures.is c.servers_field.ensures) c.in_err-h.ensures))
 
 pub returns-in_err-n : goal.returns-in_err-n
 returns-in_err-n c =
@@ -174,9 +180,9 @@ returns-in_err-n c =
     let version = to_scheme magic c.in_ok-version.ensures in
     let scheme = to_t version c.in_ok-scheme.ensures in
     let t = to_h scheme c.in_ok-t.ensures in
-    let agree = number_as SESSION_AGREEMENT_PLACE c.args.bytes.now c.servers_field.ensures c.in_ok-h.ensures in
+    let agree = number_as SESSION_AGREEMENT_PLACE c.args.bytes.now (by_number c.in_ok-scheme.scheme c.of-kind.ensures.is c.servers_field.ensures) c.in_ok-h.ensures in
     let h = to_n c.in_ok-t.ensures.most t agree in
-    reads-exit c.from_residual-in_err-n.result _ c.from_residual-in_err-n.ensures.1 (leads-stop h (λ v _ _. some_count _ _ _ _ v) (stop_as c.servers_field-2.ensures c.in_err-n.ensures))
+    reads-exit c.from_residual-in_err-n.result _ c.from_residual-in_err-n.ensures.1 (leads-stop h (λ v _ _. some_count _ _ _ _ v) (stop_as (by_number c.in_ok-scheme.scheme c.of-kind.ensures.is c.servers_field-2.ensures) c.in_err-n.ensures))
 
 pub returns-in_err-byte : goal.returns-in_err-byte
 returns-in_err-byte c =
@@ -184,11 +190,11 @@ returns-in_err-byte c =
     let version = to_scheme magic c.in_ok-version.ensures in
     let scheme = to_t version c.in_ok-scheme.ensures in
     let t = to_h scheme c.in_ok-t.ensures in
-    let agree = number_as SESSION_AGREEMENT_PLACE c.args.bytes.now c.servers_field.ensures c.in_ok-h.ensures in
+    let agree = number_as SESSION_AGREEMENT_PLACE c.args.bytes.now (by_number c.in_ok-scheme.scheme c.of-kind.ensures.is c.servers_field.ensures) c.in_ok-h.ensures in
     let h = to_n c.in_ok-t.ensures.most t agree in
     let few = few_agree (scheme_of c.in_ok-scheme.scheme) c.in_ok-t.t c.in_ok-h.h c.in_ok-t.ensures.most agree.most in
-    let n = to_count few h (number_as SESSION_SERVERS_PLACE c.args.bytes.now c.servers_field-2.ensures c.in_ok-n.ensures) in
-    reads-exit c.from_residual-in_err-byte.result _ c.from_residual-in_err-byte.ensures.1 (leads-stop n (λ v _ most. some_zero _ _ _ _ _ v most) (stop_as c.count_field.ensures.is c.in_err-byte.ensures))
+    let n = to_count few h (number_as SESSION_SERVERS_PLACE c.args.bytes.now (by_number c.in_ok-scheme.scheme c.of-kind.ensures.is c.servers_field-2.ensures) c.in_ok-n.ensures) in
+    reads-exit c.from_residual-in_err-byte.result _ c.from_residual-in_err-byte.ensures.1 (leads-stop n (λ v _ most. some_zero _ _ _ _ _ v most) (stop_as (by_version c.in_ok-version.version c.of.ensures.is c.count_field.ensures.is) c.in_err-byte.ensures))
 
 pub returns-in_err-number_at-2 : goal.returns-in_err-number_at-2
 returns-in_err-number_at-2 c =
@@ -196,11 +202,11 @@ returns-in_err-number_at-2 c =
     let version = to_scheme magic c.in_ok-version.ensures in
     let scheme = to_t version c.in_ok-scheme.ensures in
     let t = to_h scheme c.in_ok-t.ensures in
-    let agree = number_as SESSION_AGREEMENT_PLACE c.args.bytes.now c.servers_field.ensures c.in_ok-h.ensures in
+    let agree = number_as SESSION_AGREEMENT_PLACE c.args.bytes.now (by_number c.in_ok-scheme.scheme c.of-kind.ensures.is c.servers_field.ensures) c.in_ok-h.ensures in
     let h = to_n c.in_ok-t.ensures.most t agree in
     let few = few_agree (scheme_of c.in_ok-scheme.scheme) c.in_ok-t.t c.in_ok-h.h c.in_ok-t.ensures.most agree.most in
-    let n = to_count few h (number_as SESSION_SERVERS_PLACE c.args.bytes.now c.servers_field-2.ensures c.in_ok-n.ensures) in
-    let byte = number_as SESSION_COUNT_PLACE c.args.bytes.now c.count_field.ensures.is c.in_ok-byte.ensures in
+    let n = to_count few h (number_as SESSION_SERVERS_PLACE c.args.bytes.now (by_number c.in_ok-scheme.scheme c.of-kind.ensures.is c.servers_field-2.ensures) c.in_ok-n.ensures) in
+    let byte = number_as SESSION_COUNT_PLACE c.args.bytes.now (by_version c.in_ok-version.version c.of.ensures.is c.count_field.ensures.is) c.in_ok-byte.ensures in
     let count = to_zero n byte in
     reads-exit c.from_residual-in_err-number_at-2.result _ c.from_residual-in_err-number_at-2.ensures.1 (leads-stop count (λ _ _ _. some_shape _ _ _ _ _ c.in_ok-byte.byte byte.most) c.in_err-number_at-2.ensures)
 
@@ -210,11 +216,11 @@ returns-in_err-session c =
     let version = to_scheme magic c.in_ok-version.ensures in
     let scheme = to_t version c.in_ok-scheme.ensures in
     let t = to_h scheme c.in_ok-t.ensures in
-    let agree = number_as SESSION_AGREEMENT_PLACE c.args.bytes.now c.servers_field.ensures c.in_ok-h.ensures in
+    let agree = number_as SESSION_AGREEMENT_PLACE c.args.bytes.now (by_number c.in_ok-scheme.scheme c.of-kind.ensures.is c.servers_field.ensures) c.in_ok-h.ensures in
     let h = to_n c.in_ok-t.ensures.most t agree in
     let few = few_agree (scheme_of c.in_ok-scheme.scheme) c.in_ok-t.t c.in_ok-h.h c.in_ok-t.ensures.most agree.most in
-    let n = to_count few h (number_as SESSION_SERVERS_PLACE c.args.bytes.now c.servers_field-2.ensures c.in_ok-n.ensures) in
-    let byte = number_as SESSION_COUNT_PLACE c.args.bytes.now c.count_field.ensures.is c.in_ok-byte.ensures in
+    let n = to_count few h (number_as SESSION_SERVERS_PLACE c.args.bytes.now (by_number c.in_ok-scheme.scheme c.of-kind.ensures.is c.servers_field-2.ensures) c.in_ok-n.ensures) in
+    let byte = number_as SESSION_COUNT_PLACE c.args.bytes.now (by_version c.in_ok-version.version c.of.ensures.is c.count_field.ensures.is) c.in_ok-byte.ensures in
     let count = to_zero n byte in
     let zero = to_session count c.in_ok-number_at-2.ensures in
     let few_blocks = asks_few c.in_ok-version.version c.in_ok-byte.byte byte.most in
@@ -226,11 +232,11 @@ returns-in_err-r c =
     let version = to_scheme magic c.in_ok-version.ensures in
     let scheme = to_t version c.in_ok-scheme.ensures in
     let t = to_h scheme c.in_ok-t.ensures in
-    let agree = number_as SESSION_AGREEMENT_PLACE c.args.bytes.now c.servers_field.ensures c.in_ok-h.ensures in
+    let agree = number_as SESSION_AGREEMENT_PLACE c.args.bytes.now (by_number c.in_ok-scheme.scheme c.of-kind.ensures.is c.servers_field.ensures) c.in_ok-h.ensures in
     let h = to_n c.in_ok-t.ensures.most t agree in
     let few = few_agree (scheme_of c.in_ok-scheme.scheme) c.in_ok-t.t c.in_ok-h.h c.in_ok-t.ensures.most agree.most in
-    let n = to_count few h (number_as SESSION_SERVERS_PLACE c.args.bytes.now c.servers_field-2.ensures c.in_ok-n.ensures) in
-    let byte = number_as SESSION_COUNT_PLACE c.args.bytes.now c.count_field.ensures.is c.in_ok-byte.ensures in
+    let n = to_count few h (number_as SESSION_SERVERS_PLACE c.args.bytes.now (by_number c.in_ok-scheme.scheme c.of-kind.ensures.is c.servers_field-2.ensures) c.in_ok-n.ensures) in
+    let byte = number_as SESSION_COUNT_PLACE c.args.bytes.now (by_version c.in_ok-version.version c.of.ensures.is c.count_field.ensures.is) c.in_ok-byte.ensures in
     let count = to_zero n byte in
     let zero = to_session count c.in_ok-number_at-2.ensures in
     let session = to_r _ _ zero c.in_ok-session.ensures in
@@ -243,11 +249,11 @@ returns-in_err-s c =
     let version = to_scheme magic c.in_ok-version.ensures in
     let scheme = to_t version c.in_ok-scheme.ensures in
     let t = to_h scheme c.in_ok-t.ensures in
-    let agree = number_as SESSION_AGREEMENT_PLACE c.args.bytes.now c.servers_field.ensures c.in_ok-h.ensures in
+    let agree = number_as SESSION_AGREEMENT_PLACE c.args.bytes.now (by_number c.in_ok-scheme.scheme c.of-kind.ensures.is c.servers_field.ensures) c.in_ok-h.ensures in
     let h = to_n c.in_ok-t.ensures.most t agree in
     let few = few_agree (scheme_of c.in_ok-scheme.scheme) c.in_ok-t.t c.in_ok-h.h c.in_ok-t.ensures.most agree.most in
-    let n = to_count few h (number_as SESSION_SERVERS_PLACE c.args.bytes.now c.servers_field-2.ensures c.in_ok-n.ensures) in
-    let byte = number_as SESSION_COUNT_PLACE c.args.bytes.now c.count_field.ensures.is c.in_ok-byte.ensures in
+    let n = to_count few h (number_as SESSION_SERVERS_PLACE c.args.bytes.now (by_number c.in_ok-scheme.scheme c.of-kind.ensures.is c.servers_field-2.ensures) c.in_ok-n.ensures) in
+    let byte = number_as SESSION_COUNT_PLACE c.args.bytes.now (by_version c.in_ok-version.version c.of.ensures.is c.count_field.ensures.is) c.in_ok-byte.ensures in
     let count = to_zero n byte in
     let zero = to_session count c.in_ok-number_at-2.ensures in
     let session = to_r _ _ zero c.in_ok-session.ensures in
@@ -261,11 +267,11 @@ returns c =
     let version = to_scheme magic c.in_ok-version.ensures in
     let scheme = to_t version c.in_ok-scheme.ensures in
     let t = to_h scheme c.in_ok-t.ensures in
-    let agree = number_as SESSION_AGREEMENT_PLACE c.args.bytes.now c.servers_field.ensures c.in_ok-h.ensures in
+    let agree = number_as SESSION_AGREEMENT_PLACE c.args.bytes.now (by_number c.in_ok-scheme.scheme c.of-kind.ensures.is c.servers_field.ensures) c.in_ok-h.ensures in
     let h = to_n c.in_ok-t.ensures.most t agree in
     let few = few_agree (scheme_of c.in_ok-scheme.scheme) c.in_ok-t.t c.in_ok-h.h c.in_ok-t.ensures.most agree.most in
-    let n = to_count few h (number_as SESSION_SERVERS_PLACE c.args.bytes.now c.servers_field-2.ensures c.in_ok-n.ensures) in
-    let byte = number_as SESSION_COUNT_PLACE c.args.bytes.now c.count_field.ensures.is c.in_ok-byte.ensures in
+    let n = to_count few h (number_as SESSION_SERVERS_PLACE c.args.bytes.now (by_number c.in_ok-scheme.scheme c.of-kind.ensures.is c.servers_field-2.ensures) c.in_ok-n.ensures) in
+    let byte = number_as SESSION_COUNT_PLACE c.args.bytes.now (by_version c.in_ok-version.version c.of.ensures.is c.count_field.ensures.is) c.in_ok-byte.ensures in
     let count = to_zero n byte in
     let zero = to_session count c.in_ok-number_at-2.ensures in
     let session = to_r _ _ zero c.in_ok-session.ensures in

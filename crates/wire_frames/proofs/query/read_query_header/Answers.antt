@@ -94,7 +94,7 @@ returns-in_err-byte c =
     let scheme = to_scheme version c.in_ok-version.ensures in
     let index = to_index scheme c.in_ok-scheme.ensures in
     let count = to_count index c.in_ok-index.ensures in
-    query_exit c.from_residual-in_err-byte.result _ c.from_residual-in_err-byte.ensures.1 (stops_in_count (version_at c.args.bytes.now c.in_ok-version.ensures) count c.in_err-byte.ensures.reads)
+    query_exit c.from_residual-in_err-byte.result _ c.from_residual-in_err-byte.ensures.1 (stops_in_count (version_at c.args.bytes.now c.in_ok-version.ensures) c.of.ensures.is count c.in_err-byte.ensures.reads)
 
 pub returns-in_err-r : goal.returns-in_err-r
 returns-in_err-r c =
@@ -102,9 +102,9 @@ returns-in_err-r c =
     let scheme = to_scheme version c.in_ok-version.ensures in
     let index = to_index scheme c.in_ok-scheme.ensures in
     let count = to_count index c.in_ok-index.ensures in
-    let session = to_session count c.in_ok-byte.ensures.reads in
+    let session = to_session c.of.ensures.is count c.in_ok-byte.ensures.reads in
     let r = to_r _ _ session c.read_session-session.ensures in
-    let few = byte_most c.in_ok-version.version MOST_BLOCKS in
+    let few = byte_most c.of.result MOST_BLOCKS in
     query_exit c.from_residual-in_err-r.result _ c.from_residual-in_err-r.ensures.1 (stops_in Rows refl (λ after before. absurd (omega (arith, after, before))) r (λ v least most. some_s _ _ v (omega arith) (omega (arith, few, c.in_ok-byte.ensures.reads.most)) least most) c.in_err-r.ensures)
 
 pub returns-in_err-s : goal.returns-in_err-s
@@ -113,7 +113,7 @@ returns-in_err-s c =
     let scheme = to_scheme version c.in_ok-version.ensures in
     let index = to_index scheme c.in_ok-scheme.ensures in
     let count = to_count index c.in_ok-index.ensures in
-    let session = to_session count c.in_ok-byte.ensures.reads in
+    let session = to_session c.of.ensures.is count c.in_ok-byte.ensures.reads in
     let r = to_r _ _ session c.read_session-session.ensures in
     let s = to_s _ _ r c.in_ok-r.ensures in
     let told : c.max-count.result ≡ count_of c.in_ok-byte.byte = omega (arith, c.max-count.ensures) in
@@ -126,7 +126,7 @@ returns c =
     let scheme = to_scheme version c.in_ok-version.ensures in
     let index = to_index scheme c.in_ok-scheme.ensures in
     let count = to_count index c.in_ok-index.ensures in
-    let session = to_session count c.in_ok-byte.ensures.reads in
+    let session = to_session c.of.ensures.is count c.in_ok-byte.ensures.reads in
     let r = to_r _ _ session c.read_session-session.ensures in
     let s = to_s _ _ r c.in_ok-r.ensures in
     let told : c.max-count.result ≡ count_of c.in_ok-byte.byte = omega (arith, c.max-count.ensures) in

@@ -35,6 +35,7 @@ invariant_of-self g c =
     let size : length new ≡ len = omega arith in
     record {
       plan = c.self.invariant.plan;
+      scheme_is = c.self.invariant.scheme_is;
       blocks = c.self.invariant.blocks;
       addresses = c.self.invariant.addresses;
       size = ap length (take_at new (drop (length new) c.self.inside.coins.items) len size) ∙ c.take_coins.auto.coins ∙ ap length c.deref_mut.ensures.value ∙ c.self.invariant.size;

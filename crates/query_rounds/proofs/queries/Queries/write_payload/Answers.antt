@@ -93,7 +93,7 @@ slice_bounds-vector-start c = part_starts c.loop-i.i c.payload_len-size.result
 
 pub slice_bounds-vector-end : goal.slice_bounds-vector-end
 slice_bounds-vector-end c =
-    part_ends c.loop-i.i _ _ _ _ (vector_size c.payload_len-size.result c.scheme.result c.self.inside.plan c.args.self.now c.payload_len-size.ensures.is c.scheme.ensures (ap (λ (z : Queries). z.plan) c.self.view_is))
+    part_ends c.loop-i.i _ _ _ _ (vector_size c.payload_len-size.result c.self.inside.scheme c.self.inside.plan c.args.self.now c.payload_len-size.ensures.is c.self.invariant.scheme_is (ap (λ (z : Queries). z.plan) c.self.view_is))
     (below _ _ _ _ c.loop-i-test.true c.from-i-end.ensures c.count.ensures.is) c.loop-i.invariant.size
 
 pub bounds-self-inside-i : goal.bounds-self-inside-i
@@ -118,7 +118,7 @@ write_vector-requires-clause-coins c =
 
 pub write_vector-requires-clause-room : goal.write_vector-requires-clause-room
 write_vector-requires-clause-room c =
-    part_size c.loop-i.i _ _ _ c.loop-i.out (vector_size c.payload_len-size.result c.scheme.result c.self.inside.plan c.args.self.now c.payload_len-size.ensures.is c.scheme.ensures (ap (λ (z : Queries). z.plan) c.self.view_is))
+    part_size c.loop-i.i _ _ _ c.loop-i.out (vector_size c.payload_len-size.result c.self.inside.scheme c.self.inside.plan c.args.self.now c.payload_len-size.ensures.is c.self.invariant.scheme_is (ap (λ (z : Queries). z.plan) c.self.view_is))
     (below _ _ _ _ c.loop-i-test.true c.from-i-end.ensures c.count.ensures.is) c.loop-i.invariant.size
 
 pub returns : goal.returns
@@ -148,7 +148,7 @@ loop-i-preserved c =
     let size = payload_len (scheme_of q.plan.scheme) q.plan.r in
     let given = c.payload_len-size.result in
     let so_far = c.loop-i.invariant in
-    let scheme : c.scheme.result ≡ scheme_of q.plan.scheme = c.scheme.ensures ∙ ap (λ (z : Queries). scheme_of z.plan.scheme) c.self.view_is in
+    let scheme : c.self.inside.scheme ≡ scheme_of q.plan.scheme = c.self.invariant.scheme_is ∙ ap (λ (z : Queries). scheme_of z.plan.scheme) c.self.view_is in
     let rows : c.self.inside.plan.r ≡ q.plan.r = ap (λ (z : Queries). z.plan.r) c.self.view_is in
     let wide : given ≡ size = c.payload_len-size.ensures.is ∙ ap₂ payload_len scheme rows in
     let start : i * given ≡ i * size = ap (λ (w : ℕ). i * w) wide in

@@ -38,12 +38,12 @@ two_servers given plan is given_is = omega (arith, given_is, is.private, is.numb
 
 pub query_into-requires-clause-coins : goal.query_into-requires-clause-coins
 query_into-requires-clause-coins c =
-    coins_by c.self.inside.plan c.args.self.now c.scheme.result Shamir (length c.args.coins.now) (ap (λ (z : Queries). z.plan) c.self.view_is) c.scheme.ensures c.in-Shamir.is c.requires.coins
+    coins_by c.self.inside.plan c.args.self.now c.self.inside.scheme Shamir (length c.args.coins.now) (ap (λ (z : Queries). z.plan) c.self.view_is) c.self.invariant.scheme_is c.in-Shamir.is c.requires.coins
     ∙ ap (λ (t : ℕ). c.self.inside.plan.r * t) (sym c.from.ensures)
 
 pub query_into-requires-clause-room : goal.query_into-requires-clause-room
 query_into-requires-clause-room c =
-    room_by c.self.inside.plan c.args.self.now c.scheme.result Shamir (length c.args.out.now) (ap (λ (z : Queries). z.plan) c.self.view_is) c.scheme.ensures c.in-Shamir.is c.requires.room
+    room_by c.self.inside.plan c.args.self.now c.self.inside.scheme Shamir (length c.args.out.now) (ap (λ (z : Queries). z.plan) c.self.view_is) c.self.invariant.scheme_is c.in-Shamir.is c.requires.room
 
 pub query_into-requires-clause-block : goal.query_into-requires-clause-block
 query_into-requires-clause-block c = subst (λ (z : Queries). c.args.block < z.plan.r) (sym c.self.view_is) c.requires.block
@@ -68,19 +68,19 @@ bitmap_into-requires-clause-block c = subst (λ (z : Queries). c.args.block < z.
 
 pub bitmap_into-requires-clause-coins : goal.bitmap_into-requires-clause-coins
 bitmap_into-requires-clause-coins c =
-    coins_by c.self.inside.plan c.args.self.now c.scheme.result Xor (length c.args.coins.now) (ap (λ (z : Queries). z.plan) c.self.view_is) c.scheme.ensures c.in-Xor.is c.requires.coins
+    coins_by c.self.inside.plan c.args.self.now c.self.inside.scheme Xor (length c.args.coins.now) (ap (λ (z : Queries). z.plan) c.self.view_is) c.self.invariant.scheme_is c.in-Xor.is c.requires.coins
     ∙ ap (λ (n : ℕ). (n - 1) * size_of c.self.inside.plan.r) (sym c.from-in-Xor.ensures)
 
 pub bitmap_into-requires-clause-room : goal.bitmap_into-requires-clause-room
 bitmap_into-requires-clause-room c =
-    room_by c.self.inside.plan c.args.self.now c.scheme.result Xor (length c.args.out.now) (ap (λ (z : Queries). z.plan) c.self.view_is) c.scheme.ensures c.in-Xor.is c.requires.room
+    room_by c.self.inside.plan c.args.self.now c.self.inside.scheme Xor (length c.args.out.now) (ap (λ (z : Queries). z.plan) c.self.view_is) c.self.invariant.scheme_is c.in-Xor.is c.requires.room
 
 pub returns-in-Shamir : goal.returns-in-Shamir
 returns-in-Shamir c =
     c.query_into.ensures ∙ ap (λ (t : ℕ). query c.args.coins.now t c.self.inside.plan.r c.args.block c.args.index) c.from.ensures
-    ∙ vector_by c.self.inside.plan c.args.self.now c.scheme.result Shamir c.args.coins.now c.args.block c.args.index (ap (λ (z : Queries). z.plan) c.self.view_is) c.scheme.ensures c.in-Shamir.is
+    ∙ vector_by c.self.inside.plan c.args.self.now c.self.inside.scheme Shamir c.args.coins.now c.args.block c.args.index (ap (λ (z : Queries). z.plan) c.self.view_is) c.self.invariant.scheme_is c.in-Shamir.is
 
 pub returns-in-Xor : goal.returns-in-Xor
 returns-in-Xor c =
     c.bitmap_into.ensures ∙ ap (λ (n : ℕ). bitmap c.args.coins.now n c.self.inside.plan.r c.args.block c.args.index) c.from-in-Xor.ensures
-    ∙ vector_by c.self.inside.plan c.args.self.now c.scheme.result Xor c.args.coins.now c.args.block c.args.index (ap (λ (z : Queries). z.plan) c.self.view_is) c.scheme.ensures c.in-Xor.is
+    ∙ vector_by c.self.inside.plan c.args.self.now c.self.inside.scheme Xor c.args.coins.now c.args.block c.args.index (ap (λ (z : Queries). z.plan) c.self.view_is) c.self.invariant.scheme_is c.in-Xor.is
