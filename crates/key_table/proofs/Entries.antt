@@ -1,9 +1,9 @@
 -- Entries one behind another.
-use Rattle.std.proofs.Common.{◌≡◌, ◌≢◌, ℕ, zero, suc, ◌+◌, ◌-◌, ◌*◌, ◌<◌, ◌≤◌, List, [], ◌∷◌, ◌++◌, length, take, drop, map, All, Contains, refl, sym, ap, ap₂, subst, ◌∙◌, arith, take_at, drop_at, zero-mul}
+use Rattle.std.proofs.Common.{◌≡◌, ℕ, suc, ◌+◌, ◌*◌, ◌≤◌, List, [], ◌∷◌, ◌++◌, length, take, drop, All, refl, sym, ap, ap₂, ◌∙◌, arith, take_at, drop_at, zero-mul}
 use Rattle.std.specs.List.{flat_map}
-use Rattle.std.proofs.lemmas.List.{length-append, append_cancel_left, append_cancel_right}
+use Rattle.std.proofs.lemmas.List.{length-append}
 use Rattle.std.proofs.lemmas.List.Elements.{All-head, All-tail}
-use Rattle.key_table.specs.Entry.{Pair, IsPair, entry, entry_size, value_bytes, value_size}
+use Rattle.key_table.specs.Entry.{Pair, IsPair, entry, entry_size, value_bytes}
 use Rattle.key_table.proofs.Values.{length-value_bytes, value_unique}
 
 -- an entry is the digest and the value's bytes

@@ -1,5 +1,5 @@
 -- The row that bytes are, by the entries that are found in them.
-use Rattle.std.proofs.Common.{◌≡◌, ◌≤◌, ◌<◌, ◌+◌, ◌*◌, ◌/◌, ℕ, List, length, take, drop, sym, ap, ap₂, subst, ◌∙◌, arith, mul_comm, mul-div_cancel}
+use Rattle.std.proofs.Common.{◌≡◌, ◌≤◌, ◌<◌, ◌+◌, ◌*◌, ◌/◌, ℕ, List, length, take, drop, sym, ap, ap₂, ◌∙◌, arith, mul_comm, mul-div_cancel}
 use Rattle.std.specs.List.{flat_map}
 use Rattle.key_table.specs.Entry.{Pair, entry, entry_size}
 use Rattle.key_table.specs.Table.{AreEntries, IsRowOf, Making, framed, head_size}

@@ -1,5 +1,5 @@
 -- A row has one list of pairs, and that of a list's table has those of the list.
-use Rattle.std.proofs.Common.{◌≡◌, ◌==◌, ◌≢◌, ℕ, zero, suc, ◌+◌, ◌-◌, ◌*◌, ◌<◌, ◌≤◌, Bool, true, false, List, [], ◌∷◌, ◌++◌, length, take, drop, map, filter, All, Contains, Option, Some, unwrap_or, slice_get, refl, sym, ap, ap₂, subst, ◌∙◌, arith, mul-le-mul_right, one-mul, mul_comm, true≢false, eqb-true, eq-eqb, Less, Equal, nat_cmp, is_lt}
+use Rattle.std.proofs.Common.{◌≡◌, ◌==◌, ◌≢◌, ℕ, ◌+◌, ◌*◌, ◌<◌, ◌≤◌, Bool, true, List, [], ◌∷◌, ◌++◌, length, take, drop, map, All, Contains, Option, Some, unwrap_or, slice_get, refl, sym, ap, ap₂, subst, ◌∙◌, arith, mul-le-mul_right, one-mul, mul_comm, true≢false, eqb-true, eq-eqb, Less, nat_cmp, is_lt}
 use Rattle.std.specs.List.{flat_map, AllByRecursion}
 use Rattle.std.specs.List.Sorted.{IsStrictlySortedBy}
 use Rattle.std.specs.Cmp.Lexicographic.{slice_cmp}
@@ -10,10 +10,10 @@ use Rattle.std.proofs.lemmas.Option.{slice_get_within}
 use Rattle.sha2.specs.Sha256.{sha256}
 use Rattle.sha2.proofs.Facts256.{length-sha256}
 use Rattle.key_table.specs.Digest.{row_of}
-use Rattle.key_table.specs.Entry.{Pair, IsPair, entry, entry_size, value_bytes, value_size}
-use Rattle.key_table.specs.KeyList.{Ascend, IsClear, tag_of}
-use Rattle.key_table.specs.Table.{Making, MayStandIn, IsRowOf, IsTable, framed, head_size, pairs_in, table_row}
-use Rattle.key_table.specs.Looked.{AnswersFor, LacksDigest, LooksUp, TableAnswers, pair}
+use Rattle.key_table.specs.Entry.{Pair, IsPair, entry, entry_size, value_bytes}
+use Rattle.key_table.specs.KeyList.{Ascend, IsClear}
+use Rattle.key_table.specs.Table.{Making, IsRowOf, IsTable, head_size, pairs_in, table_row}
+use Rattle.key_table.specs.Looked.{AnswersFor, LooksUp, TableAnswers, pair}
 use Rattle.key_table.specs.declared.row.Finding.{Finding}
 use Rattle.key_table.specs.declared.row.Finding.TheVariants.{Broken, Absent, Found}
 use Rattle.key_table.proofs.Entries.{entry-is, entries-unique, length-entries}

@@ -1,5 +1,5 @@
 -- The members of a list, by its first one and the rest, and of a filtered list.
-use Rattle.std.proofs.Common.{◌≡◌, ◌⊎◌, inl, inr, ℕ, zero, suc, ◌<◌, Bool, true, false, cond, List, [], ◌∷◌, length, get_or, filter, Contains, refl, sym, ap, subst, ◌∙◌, arith, true≢false}
+use Rattle.std.proofs.Common.{◌≡◌, ◌⊎◌, inl, inr, ℕ, zero, suc, ◌<◌, Bool, true, false, cond, List, [], ◌∷◌, length, get_or, filter, Contains, refl, sym, ap, subst, ◌∙◌, arith}
 
 module _ {X : Type 0} where
   -- the first one is a member

@@ -1,13 +1,12 @@
 -- What is left of a row's entries while they are read one by one.
-use Rattle.std.proofs.Common.{◌≡◌, ◌≢◌, ℕ, zero, suc, ◌+◌, ◌-◌, ◌*◌, ◌<◌, ◌≤◌, List, [], ◌∷◌, ◌++◌, length, take, drop, map, All, Contains, refl, sym, ap, ap₂, subst, ◌∙◌, arith, take_at, drop_at, inl, inr, Less, nat_cmp}
+use Rattle.std.proofs.Common.{◌≡◌, ◌≢◌, ℕ, ◌<◌, ◌≤◌, List, [], ◌∷◌, ◌++◌, length, take, drop, map, All, Contains, sym, ap, ap₂, subst, ◌∙◌, arith, take_at, drop_at, inl, inr}
 use Rattle.std.specs.List.{flat_map}
-use Rattle.std.specs.Cmp.Lexicographic.{slice_cmp}
 use Rattle.std.proofs.lemmas.List.{length-append, take-append-drop}
 use Rattle.std.proofs.lemmas.List.Elements.{All-head, All-tail, All-cons, All-nil, All-map, All-weaker}
 use Rattle.key_table.specs.Digest.{row_of}
-use Rattle.key_table.specs.Entry.{Pair, IsPair, entry, entry_size, value_bytes, value_size}
+use Rattle.key_table.specs.Entry.{Pair, IsPair, entry, entry_size}
 use Rattle.key_table.specs.KeyList.{Ascend}
-use Rattle.key_table.specs.Table.{AreEntries, Follows, MayStandIn}
+use Rattle.key_table.specs.Table.{AreEntries, Follows}
 use Rattle.key_table.specs.Looked.{LacksDigest, pair}
 use Rattle.key_table.proofs.Entries.{length-entry, entry-front}
 use Rattle.key_table.proofs.Members.{Contains-cases, Contains-here, Contains-none, Contains-there}

@@ -1,11 +1,11 @@
 -- The bytes of a value.
-use Rattle.std.proofs.Common.{◌≡◌, ◌≢◌, ◌==◌, ℕ, zero, suc, ◌+◌, ◌-◌, ◌<◌, ◌≤◌, ◌^◌, Bool, true, false, ne_eqb, if◌then◌else◌, List, [], ◌∷◌, ◌++◌, length, take, drop, get_or, replicate, refl, sym, ap, ap₂, subst, ◌∙◌, arith, w16, take_at, drop_at, All}
+use Rattle.std.proofs.Common.{◌≡◌, ◌≢◌, ◌==◌, ℕ, zero, suc, ◌+◌, ◌-◌, ◌<◌, ◌≤◌, Bool, true, ne_eqb, if◌then◌else◌, List, [], ◌∷◌, ◌++◌, length, take, drop, get_or, replicate, refl, sym, ap, ap₂, subst, ◌∙◌, arith, w16, take_at, drop_at}
 use Rattle.std.specs.Int.{from_be_bytes, to_be_bytes}
 use Rattle.std.specs.List.{list_all}
 use Rattle.std.proofs.lemmas.Nat.{from_be_bytes-to_be_bytes_2, be_bytes_2}
-use Rattle.std.proofs.lemmas.List.{length-take-le, length-drop, length-append, length-replicate, take-append-drop, drop_more, nil_from_length}
+use Rattle.std.proofs.lemmas.List.{length-drop, length-append, length-replicate, take-append-drop, drop_more, nil_from_length}
 use Rattle.key_table.specs.Entry.{IsValue, value_bytes, value_size}
-use Rattle.key_table.proofs.Zeros.{zeros_alone, zeros_each}
+use Rattle.key_table.proofs.Zeros.{zeros_alone}
 
 -- the two bytes at the head of some bytes
 abbrev pub first_two : List ℕ → List ℕ

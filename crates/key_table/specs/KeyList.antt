@@ -5,7 +5,7 @@ use Rattle.std.specs.List.Sorted.{IsStrictlySortedBy}
 use Rattle.std.specs.Cmp.Lexicographic.{slice_cmp}
 use Rattle.std.specs.Ordering.{nat_cmp}
 use Rattle.sha2.specs.Sha256.{sha256}
-use Rattle.key_table.specs.Entry.{Pair, IsPair, entry}
+use Rattle.key_table.specs.Entry.{Pair, entry}
 
 -- lists of bytes ascend, each once
 abbrev pub Ascend : List (List ℕ) → Type 0

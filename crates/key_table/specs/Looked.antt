@@ -1,5 +1,5 @@
 -- What a look-up for a digest in a row comes to.
-use Rattle.std.specs.Prelude.{◌≡◌, ℕ, ◌≤◌, List, length, slice_get, All, Contains, Some}
+use Rattle.std.specs.Prelude.{◌≡◌, ℕ, ◌≤◌, List, slice_get, All, Contains, Some}
 use Rattle.quantity_limits.specs.declared.TheConstants.{MOST_WIDTH}
 use Rattle.key_table.specs.Digest.{row_of}
 use Rattle.key_table.specs.Entry.{Pair, IsPair}

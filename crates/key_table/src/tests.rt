@@ -1,5 +1,7 @@
 //! Worked rows, made by an independent program. The salt is the bytes 0 to 15.
 
+ghost use Rattle.std.specs.Prelude.{◌<◌};
+
 use crate::{Finding, find_in_row, row_of, write_digest};
 
 const SALT: [u8; 16] = [0, 1, 2, 3, 4, 5, 6, 7, 8, 9, 10, 11, 12, 13, 14, 15];
@@ -21,12 +23,10 @@ const ROW_0: [u8; 40] = [
 ];
 
 /// What is found of a key in a row of that table.
-fn found<'a>(row: &'a [u8], key: &[u8]) -> Finding<'a>
-    requires { length row.now ≡ 40 }
-{
+fn found<'a>(row: &'a [u8; 40], key: &[u8]) -> Finding<'a> {
     let mut digest = [0u8; 8];
     write_digest(&SALT, key, &mut digest);
-    find_in_row(row, &TAG, 8, 5, 2, &digest)
+    find_in_row(row.as_slice(), &TAG, 8, 5, 2, &digest)
 }
 
 /// Whether a key is broken in row 1 with another byte at a place.

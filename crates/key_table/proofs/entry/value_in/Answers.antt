@@ -1,6 +1,5 @@
-use Rattle.std.proofs.Common.{◌≡◌, ◌==◌, ◌≤◌, ◌-◌, ℕ, List, length, take, drop, replicate, true, sym, ap, ap₂, ◌∙◌, arith, rules, true≢false}
+use Rattle.std.proofs.Common.{◌≡◌, ◌==◌, ◌≤◌, ◌-◌, length, take, drop, replicate, sym, ap, ap₂, ◌∙◌, arith, rules, true≢false}
 use Rattle.std.specs.List.{list_all}
-use Rattle.key_table.specs.Entry.{IsValue, value_bytes}
 use Rattle.key_table.proofs.Values.{value_bytes-from_parts, value_parts}
 use Rattle.key_table.proofs.Zeros.{zeros_each}
 use Rattle.key_table.proofs.entry.value_in.Goals as goal

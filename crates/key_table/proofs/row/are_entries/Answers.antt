@@ -1,7 +1,7 @@
-use Rattle.std.proofs.Common.{◌≡◌, ◌≤◌, ◌<◌, ℕ, List, [], length, take, drop, sym, ap, ap₂, subst, ◌∙◌, arith, rules, true≢false, eqb-true, eq-eqb}
+use Rattle.std.proofs.Common.{◌≡◌, ◌≤◌, ◌<◌, [], length, take, drop, sym, ap, subst, ◌∙◌, arith, rules, true≢false, eqb-true, eq-eqb}
 use Rattle.std.proofs.lemmas.List.{nil_from_length}
-use Rattle.key_table.specs.Entry.{Pair, entry_size}
-use Rattle.key_table.specs.Table.{AreEntries, Follows}
+use Rattle.key_table.specs.Entry.{entry_size}
+use Rattle.key_table.specs.Table.{Follows}
 use Rattle.key_table.proofs.Rests.{Left, Left-whole, Left-none, Left-short, Left-step, Left-more, whole-from_Left}
 use Rattle.key_table.proofs.row.are_entries.Goals as goal
 

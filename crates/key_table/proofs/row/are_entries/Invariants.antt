@@ -1,5 +1,4 @@
-use Rattle.std.proofs.Common.{◌≡◌, length}
-use Rattle.key_table.specs.Entry.{entry_size}
+use Rattle.std.proofs.Common.{length}
 use Rattle.key_table.specs.Table.{AreEntries}
 use Rattle.key_table.proofs.Rests.{Left}
 use Rattle.key_table.proofs.row.are_entries.Given as goal

@@ -1,7 +1,6 @@
-use Rattle.std.proofs.Common.{◌≡◌, ◌==◌, ◌≤◌, ◌*◌, ◌-◌, ℕ, List, length, take, drop, replicate, Bool, true, false, not, eqb, refl, sym, ap, ap₂, ◌∙◌, arith, rules, true≢false}
+use Rattle.std.proofs.Common.{◌≡◌, ◌==◌, ◌*◌, length, take, drop, Bool, true, false, not, eqb, refl, sym, ap, ap₂, ◌∙◌, arith, rules, true≢false}
 use Rattle.std.specs.List.{list_all}
 use Rattle.std.specs.Cmp.Lexicographic.{bytes_decides, pointwise}
-use Rattle.key_table.specs.Table.{framed, head_size}
 use Rattle.key_table.proofs.Frames.{frame_parts, framed_long, framed-from_parts}
 use Rattle.key_table.proofs.row.entries_of.Goals as goal
 

@@ -1,11 +1,9 @@
-use Rattle.std.proofs.Common.{◌≡◌, ◌≤◌, ◌<◌, ◌*◌, ℕ, List, length, sym, ap, ap₂, subst, ◌∙◌, arith, rules, mul_comm, MatchOption, Contains}
+use Rattle.std.proofs.Common.{◌≡◌, ◌*◌, length, sym, ap, subst, ◌∙◌, arith, rules}
 use Rattle.std.specs.List.{flat_map}
 use Rattle.key_table.specs.Digest.{row_of}
-use Rattle.key_table.specs.Entry.{Pair, entry, entry_size}
-use Rattle.key_table.specs.Table.{AreEntries, IsRowOf, Making, framed, head_size}
-use Rattle.key_table.specs.Looked.{LacksDigest, pair}
+use Rattle.key_table.specs.Entry.{entry}
+use Rattle.key_table.specs.Table.{AreEntries, Making}
 use Rattle.key_table.proofs.Entries.{length-entries}
-use Rattle.key_table.proofs.Frames.{frame_parts}
 use Rattle.key_table.proofs.Law.{few_pairs}
 use Rattle.key_table.proofs.Founds.{IsRowOf-from, entries-from}
 use Rattle.key_table.proofs.row.find_in_row.Goals as goal

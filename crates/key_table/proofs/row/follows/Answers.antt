@@ -1,9 +1,8 @@
-use Rattle.std.proofs.Common.{◌≡◌, ℕ, List, length, take, drop, ◌++◌, sym, ap, ap₂, subst, ◌∙◌, arith, rules, Less, nat_cmp}
+use Rattle.std.proofs.Common.{◌≡◌, take, drop, ◌++◌, sym, ap, ap₂, subst, ◌∙◌, rules, Less, nat_cmp}
 use Rattle.std.specs.Cmp.Lexicographic.{slice_cmp}
 use Rattle.std.proofs.lemmas.List.{take-append-drop}
 use Rattle.key_table.specs.Digest.{row_of}
-use Rattle.key_table.specs.Entry.{Pair, entry, value_bytes}
-use Rattle.key_table.specs.Table.{Follows}
+use Rattle.key_table.specs.Entry.{Pair}
 use Rattle.key_table.proofs.Entries.{entry-is, entry-front, entry-back}
 use Rattle.key_table.proofs.row.follows.Goals as goal
 
