@@ -5,6 +5,7 @@
 //!
 //! Promised: [`find_in_row`] says of any bytes whether they are that row of some table, and if so whether the digest is
 //! in it, and its value. In the row of a list's table that is what the list has for the digest ([`laws`]).
+//! [`write_entry`], [`tag_of`] and [`write_row`] write the parts of a table, in memory that is there.
 //!
 //! Not promised: that no two keys have one digest.
 #![tactic(auto)]
@@ -15,10 +16,12 @@ pub mod laws;
 mod row;
 #[cfg(test)]
 mod tests;
+mod write;
 
 pub use digest::{row_of, write_digest};
 pub use entry::entry_size;
 pub use row::{Finding, find_in_row};
+pub use write::{tag_of, write_entry, write_row};
 
 /// The least number of bytes of a digest: so many say its row.
 pub const LEAST_DIGEST: usize = 8;
