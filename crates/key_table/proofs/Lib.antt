@@ -1,0 +1,9 @@
+pub mod Zeros
+pub mod Values
+pub mod Members
+pub mod Order
+pub mod Entries
+pub mod Rests
+pub mod Frames
+pub mod Law
+pub mod Founds

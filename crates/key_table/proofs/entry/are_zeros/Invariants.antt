@@ -1,0 +1,6 @@
+use Rattle.std.proofs.Common.{◌≡◌, ◌==◌, true, take}
+use Rattle.std.specs.List.{list_all}
+use Rattle.key_table.proofs.entry.are_zeros.Given as goal
+
+abbrev pub invariant-loop-b : goal.invariant-loop-b
+invariant-loop-b l = list_all (λ b. b == 0) (take l.b-index l.bytes) ≡ true

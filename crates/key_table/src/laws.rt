@@ -1,0 +1,9 @@
+//! The law of a table, as a call whose contract is the law. A call does nothing when it runs.
+
+ghost use Rattle.key_table.specs.Looked.{TableAnswers};
+
+/// A look-up for a digest in its row of the table of a clear list finds what the list has for the digest, and that row
+/// is never broken.
+pub fn table_answers_for_its_list()
+    ensures { TableAnswers }
+{}

@@ -1,0 +1,33 @@
+//! A list of keys as a table of rows, so that one row tells whether a key is in the list, and its value.
+//!
+//! A key is known by its digest, which says the row that it belongs to. A row has the digests that belong to it, with
+//! their values, as one text of bytes that shows whether it was changed or is another row.
+//!
+//! Promised: [`find_in_row`] says of any bytes whether they are that row of some table, and if so whether the digest is
+//! in it, and its value. In the row of a list's table that is what the list has for the digest ([`laws`]).
+//! [`write_entry`], [`tag_of`] and [`write_row`] write the parts of a table, in memory that is there.
+//!
+//! Not promised: that no two keys have one digest.
+#![tactic(auto)]
+
+mod digest;
+mod entry;
+pub mod laws;
+mod row;
+#[cfg(test)]
+mod tests;
+mod write;
+
+pub use digest::{row_of, write_digest};
+pub use entry::entry_size;
+pub use row::{Finding, find_in_row};
+pub use write::{tag_of, write_entry, write_row};
+
+/// The least number of bytes of a digest: so many say its row.
+pub const LEAST_DIGEST: usize = 8;
+
+/// The greatest number of bytes of a digest: SHA-256 has no more.
+pub const MOST_DIGEST: usize = 32;
+
+/// The greatest number of bytes of a value. A row with one entry has to fit the greatest width.
+pub const MOST_VALUE: usize = 16384;

@@ -1,0 +1,79 @@
+//! Writing entries and rows, in memory that is there.
+
+ghost use Rattle.std.specs.Prelude.{◌≡◌, ◌≤◌, ◌+◌, ◌-◌, ◌++◌, length, replicate, take};
+ghost use Rattle.sha2.specs.Sha256.{sha256};
+ghost use Rattle.key_table.specs.Entry.{entry, entry_size, value_bytes, value_size};
+ghost use Rattle.key_table.specs.Table.{framed, head_size};
+
+use crate::MOST_VALUE;
+use sha2::{Digest, Sha256};
+
+/// Zeros in all places.
+fn clear(out: &mut [u8])
+    ensures { out.new ≡ replicate (length out.old) 0 }
+{
+    for b in out.iter_mut() {
+        *b = 0;
+    }
+}
+
+/// The bytes, and zeros behind them.
+fn write_padded(bytes: &[u8], out: &mut [u8])
+    requires { length bytes.now ≤ length out.old }
+    ensures { out.new ≡ bytes.now ++ replicate (length out.old - length bytes.now) 0 }
+{
+    let (front, rest) = out.split_at_mut(bytes.len());
+    front.copy_from_slice(bytes);
+    clear(rest);
+}
+
+/// A value as bytes.
+fn write_value(value: &[u8], most: usize, out: &mut [u8])
+    requires most { most ≤ MOST_VALUE }
+    requires value { length value.now ≤ most }
+    requires room { length out.old ≡ value_size most }
+    ensures { out.new ≡ value_bytes most value.now }
+{
+    if most > 0 {
+        let (count, behind) = out.split_at_mut(2);
+        count.copy_from_slice(&(value.len() as u16).to_be_bytes());
+        write_padded(value, behind);
+    }
+}
+
+/// Writes the entry of a digest and its value, in a list whose values have at most `most` bytes.
+pub fn write_entry(digest: &[u8], value: &[u8], most: usize, out: &mut [u8])
+    requires most { most ≤ MOST_VALUE }
+    requires value { length value.now ≤ most }
+    requires room { length out.old ≡ entry_size (length digest.now) most }
+    ensures { out.new ≡ entry most (record { digest = digest.now; value = value.now }) }
+{
+    let (front, behind) = out.split_at_mut(digest.len());
+    front.copy_from_slice(digest);
+    write_value(value, most, behind);
+}
+
+/// Writes a row of a table: the tag, how many entries there are, the entries, which stand one behind another, and zeros.
+pub fn write_row(tag: &[u8; 8], count: u16, entries: &[u8], out: &mut [u8])
+    requires room { head_size + length entries.now ≤ length out.old }
+    ensures { out.new ≡ framed (length out.old) tag.now count entries.now }
+{
+    let (front, behind) = out.split_at_mut(8);
+    front.copy_from_slice(tag.as_slice());
+    let (middle, rest) = behind.split_at_mut(2);
+    middle.copy_from_slice(&count.to_be_bytes());
+    write_padded(entries, rest);
+}
+
+/// The tag of a list whose entries, as they ascend, stand one behind another.
+pub fn tag_of(salt: &[u8; 16], entries: &[u8]) -> [u8; 8]
+    ensures { result ≡ take 8 (sha256 (salt.now ++ entries.now)) }
+{
+    let mut hasher = Sha256::new();
+    hasher.update(salt.as_slice());
+    hasher.update(entries);
+    let whole = hasher.finalize();
+    let mut tag = [0u8; 8];
+    tag.copy_from_slice(&whole[..8]);
+    tag
+}
