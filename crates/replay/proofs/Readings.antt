@@ -21,7 +21,7 @@ use Rattle.wire_frames.specs.declared.reader.FeedFault.TheVariants.{BadSession a
 use Rattle.wire_frames.specs.declared.reader.BadSession.{BadSession as SessionFault}
 use Rattle.wire_frames.proofs.Beginnings.{begins_short}
 use Rattle.wire_frames.proofs.OneSession.{one_session}
-use Rattle.wire_frames.proofs.Fronts.{stops-prefix, stops-none}
+use Rattle.wire_frames.proofs.StopPlaces.{stops-prefix, stops-none}
 use Rattle.block_decoder.specs.Verdict.{least_columns}
 use Rattle.block_decoder.specs.declared.verdict.Verdict.{Verdict}
 use Rattle.replay.specs.declared.TheConstants.{PIECE_LEN}
