@@ -20,9 +20,10 @@ def look_at_proofs():
 
 
 def look_at_forms(program):
-    count = len(read("README.md").splitlines())
-    if count > 120:
-        found.bad("README.md", f"it has {count} lines, and is to have 120 at most")
+    for path, most, parts, what in (("README.md", 120, str.splitlines, "lines"), ("docs/ARCHITECTURE.md", 200, str.splitlines, "lines"), ("docs/PERFORMANCE.md", 2500, str.split, "words")):
+        count = len(parts(read(path)))
+        if count > most:
+            found.bad(path, f"it has {count} {what}, and is to have {most} at most")
     kit = re.search(r"^KIT = \"(.+)\"", read("tools/build"), re.M)[1]
     if kit not in read("README.md"):
         found.bad("README.md", f"it doesn't name the kit of tools/build: {kit}")
