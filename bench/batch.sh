@@ -10,9 +10,9 @@ shift $(($# < 2 ? $# : 2))
 if [ $# -eq 0 ]; then set -- 65536x4096 65536x1024 1048576x64; fi
 work=$(mktemp -d)
 trap 'rm -rf "$work"' EXIT
-cd "$top/crates/bench"
-rt run >/dev/null 2>&1
-cp out/bench "$work/ours"
+# shellcheck source=bench/program.sh
+source "$top/bench/program.sh"
+cp "$bench" "$work/ours"
 if [ -n "$folder" ] && [ -f "$folder/batch.cc" ] && command -v g++ >/dev/null; then
   g++ -O3 -std=c++17 -msse4.2 "$folder/batch.cc" -o "$work/batch" -lpthread
 else

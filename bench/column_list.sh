@@ -4,7 +4,8 @@
 set -eu
 top=$(cd "$(dirname "$0")/.." && pwd)
 rounds=${1:-5}
-(cd "$top/crates/bench" && rt run >/dev/null 2>&1)
+# shellcheck source=bench/program.sh
+source "$top/bench/program.sh"
 peer=$(command -v sage || true)
 if [ -z "$peer" ]; then
   echo "sage isn't installed: its decoder is skipped, and there is no ratio"
@@ -37,7 +38,7 @@ PY
 measure() {
   local name=$1 degree=$2 agreement=$3
   shift 3
-  read -r time count < <("$top/crates/bench/out/bench" column "$degree" "$agreement" "$rounds" "$@")
+  read -r time count < <("$bench" column "$degree" "$agreement" "$rounds" "$@")
   local theirs=0
   if [ -n "$peer" ]; then
     theirs=$(peer_time "$degree" "$agreement" "$rounds" "$@")

@@ -7,7 +7,8 @@ top=$(cd "$(dirname "$0")/.." && pwd)
 rounds=${1:-200}
 peers=${2:-$top/../shared/peers}
 width=65536
-(cd "$top/crates/bench" && rt run >/dev/null 2>&1)
+# shellcheck source=bench/program.sh
+source "$top/bench/program.sh"
 work=$(mktemp -d)
 trap 'rm -rf "$work"' EXIT
 if [ ! -e "$peers/rows.cc" ]; then
@@ -25,7 +26,7 @@ import sys
 from make_session import answers
 servers, degree, width, liars, first = map(int, sys.argv[1:6])
 sys.stdout.buffer.writelines(answers(degree, servers, width, liars, first, 1))' "$1" "$2" $width "$4" "$5") >"$work/bytes"
-  "$top/crates/bench/out/bench" decide "$2" "$3" $width "$rounds" "$work/bytes" | awk '{ print $1 / 1e6, $2 }'
+  "$bench" decide "$2" "$3" $width "$rounds" "$work/bytes" | awk '{ print $1 / 1e6, $2 }'
 }
 
 # The first line of each case and width in the C++ program's table is that of 65536 columns.

@@ -6,7 +6,8 @@ set -eu
 top=$(cd "$(dirname "$0")/.." && pwd)
 rounds=${1:-20}
 peers=${2:-$top/../shared/peers}
-(cd "$top/crates/bench" && rt run >/dev/null 2>&1)
+# shellcheck source=bench/program.sh
+source "$top/bench/program.sh"
 built=$(mktemp -d)
 trap 'rm -rf "$built"' EXIT
 have=no
@@ -51,10 +52,10 @@ for shape in "8 1 3 40" "8 3 5 10" "20 3 8 2" "32 5 13 1" "32 28 30 1" "32 15 23
       theirs=$(least "$theirs" "$(awk -F'|' '$2 ~ /^ *few/ { split($4, a, " "); split($5, b, " "); print a[1] + b[1] }' "$built/lines")")
     fi
     # shellcheck disable=SC2046
-    read -r time agree_count < <("$top/crates/bench/out/bench" column "$t" "$h" "$((rounds * often))" $(points agree "$k"))
+    read -r time agree_count < <("$bench" column "$t" "$h" "$((rounds * often))" $(points agree "$k"))
     agree=$(least "$agree" "$time")
     # shellcheck disable=SC2046
-    read -r time few_count < <("$top/crates/bench/out/bench" column "$t" "$h" "$((rounds * often))" $(points few "$k"))
+    read -r time few_count < <("$bench" column "$t" "$h" "$((rounds * often))" $(points few "$k"))
     few=$(least "$few" "$time")
   done
   told "column $k,$t,$h agree, $agree_count listed" "$(awk -v ns="$agree" 'BEGIN { print ns / 1e6 }')" ""

@@ -1,6 +1,7 @@
 """Runs our program and its peers in turn, keeps the best time of each, checks that their results agree, and prints the
 ratios to ISA-L, for a product, and to the machine's limit of reading, with the same number of threads.
-usage: product.py product|answer ROUNDS FOLDER ROWSxWIDTH .., where FOLDER has the programs ours, ours-avx2 and peers"""
+usage: product.py product|answer ROUNDS FOLDER ROWSxWIDTH .., where FOLDER has the programs ours, ours-avx2 (which may be left out) and peers"""
+import os
 import subprocess
 import sys
 
@@ -27,7 +28,7 @@ def measured(what, folder, rounds, shape):
     calls = str(min(2000, max(8, (1 << 32) // (int(rows) * int(width)))))
     times, checksums, read = {}, set(), 0
     for _ in range(rounds):
-        for program in ["ours", "ours-avx2", "peers"]:
+        for program in filter(lambda it: os.path.exists(f"{folder}/{it}"), ["ours", "ours-avx2", "peers"]):
             for name, size, workers, time, checksum in lines_of(folder, program, [what, rows, width, calls, *WORKERS[what]]):
                 best = times.setdefault(name, {})
                 best[workers] = min(time, best.get(workers, time))

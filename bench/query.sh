@@ -3,8 +3,9 @@
 # usage: bench/query.sh [ROUNDS]
 set -eu
 top=$(cd "$(dirname "$0")/.." && pwd)
-(cd "$top/crates/bench" && rt run >/dev/null 2>&1)
+# shellcheck source=bench/program.sh
+source "$top/bench/program.sh"
 for degree in 1 3 7; do
-  "$top/crates/bench/out/bench" query $((1 << 20)) "$degree" "${1:-100}" |
+  "$bench" query $((1 << 20)) "$degree" "${1:-100}" |
     awk -v degree="$degree" '{ printf "degree %d: query %d us, copy %d us, ratio %.1f\n", degree, $2, $1, $2 / $1 }'
 done

@@ -8,10 +8,12 @@ degree=${1:-3} agreement=${2:-5} runs=${3:-5} servers=${4:-8} liars=${5:-2}
 work=$(mktemp -d)
 trap 'rm -rf "$work"' EXIT
 python3 "$top/bench/make_session.py" "$degree" "$agreement" "$servers" 65536 "$liars" 1 >"$work/session"
-"$top/pir" replay "$work/session" >"$work/text" || echo "status $?"
+program=${PIR:-$top/crates/pir/out/pir}
+if [ -z "${PIR:-}" ]; then "$top/tools/build" </dev/null; fi
+"$program" replay "$work/session" >"$work/text" || echo "status $?"
 head -c 60 "$work/text"
 echo
-python3 - "$top/crates/pir/out/pir" "$work/session" "$runs" <<'PY'
+python3 - "$program" "$work/session" "$runs" <<'PY'
 import os, re, subprocess, sys, time
 program, session, runs = sys.argv[1], sys.argv[2], int(sys.argv[3])
 def best(words):

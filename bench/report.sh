@@ -8,9 +8,11 @@ degree=${1:-3} agreement=${2:-6} runs=${3:-15} servers=${4:-8} liars=${5:-2}
 work=$(mktemp -d)
 trap 'rm -rf "$work"' EXIT
 python3 "$top/bench/make_session.py" "$degree" "$agreement" "$servers" 65536 "$liars" 1 >"$work/session"
-"$top/pir" replay --report "$work/session" >"$work/text" || echo "status $?"
+program=${PIR:-$top/crates/pir/out/pir}
+if [ -z "${PIR:-}" ]; then "$top/tools/build" </dev/null; fi
+"$program" replay --report "$work/session" >"$work/text" || echo "status $?"
 grep '^liars' "$work/text" || echo "no line of liars"
-python3 - "$top/crates/pir/out/pir" "$work/session" "$runs" <<'PY'
+python3 - "$program" "$work/session" "$runs" <<'PY'
 import re, subprocess, sys, time
 program, session, runs = sys.argv[1], sys.argv[2], int(sys.argv[3])
 ways = {"replay": [program, "replay", session], "replay --report": [program, "replay", "--report", session]}

@@ -7,8 +7,8 @@ top=$(cd "$(dirname "$0")/.." && pwd)
 work=$(mktemp -d)
 trap 'rm -rf "$work"' EXIT
 size=${1:-268435456}
-program=${4:-$top/crates/pir/out/pir}
-if [ $# -lt 4 ]; then "$top/pir" --help >/dev/null; fi
+program=${4:-${PIR:-$top/crates/pir/out/pir}}
+if [ "$program" = "$top/crates/pir/out/pir" ]; then "$top/tools/build" </dev/null; fi
 head -c "$size" /dev/urandom >"$work/database"
 python3 - "$program" "$work/database" "${2:-1024}" "${3:-5}" <<'PY'
 import re, socket, subprocess, sys, time

@@ -4,8 +4,9 @@
 # usage: bench/share.sh [ROUNDS [POSITIONS]]
 set -eu
 top=$(cd "$(dirname "$0")/.." && pwd)
-(cd "$top/crates/bench" && rt run >/dev/null 2>&1)
+# shellcheck source=bench/program.sh
+source "$top/bench/program.sh"
 for tau in 1 2 3 4 8; do
-  "$top/crates/bench/out/bench" share "${2:-$((1 << 24))}" "$tau" "${1:-30}" |
+  "$bench" share "${2:-$((1 << 24))}" "$tau" "${1:-30}" |
     awk -v tau="$tau" '{ printf "tau %d: share %d us, one pass %d us, speed %.2f of it\n", tau, $2, $1, $1 / $2 }'
 done

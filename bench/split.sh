@@ -8,8 +8,8 @@ top=$(cd "$(dirname "$0")/.." && pwd)
 work=$(mktemp -d)
 trap 'rm -rf "$work"' EXIT
 size=${1:-268435456}
-program=${5:-$top/crates/pir/out/pir}
-if [ $# -lt 5 ]; then "$top/pir" --help >/dev/null 2>&1 || true; fi
+program=${5:-${PIR:-$top/crates/pir/out/pir}}
+if [ "$program" = "$top/crates/pir/out/pir" ]; then "$top/tools/build" </dev/null; fi
 head -c "$size" /dev/urandom >"$work/database"
 python3 - "$program" "$work" "${2:-1}" "${3:-5}" "${4:-5}" <<'PY'
 import os, subprocess, sys, time

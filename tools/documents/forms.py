@@ -1,0 +1,61 @@
+"""Names of docs/PROOFS.md, and the forms of documents: lengths, the kit that is named, the man page and the unit file."""
+import os
+import re
+import shutil
+import subprocess
+import tempfile
+
+from documents.limits import is_taken
+from documents.repository import TOP, crates, found, lines_of, read, words_in
+
+def look_at_proofs():
+    path, count = "docs/PROOFS.md", 0
+    known = frozenset(crates()).union(*(words_in(it) for it in crates()))
+    for number, line in lines_of(path):
+        for part in (part for word in re.findall(r"`([A-Za-z_][\w:]*)`", line) for part in word.split("::")):
+            count += 1
+            if part and part not in known:
+                found.bad(f"{path}:{number}", f"no crate has {part}")
+    found.note(f"{count} names")
+
+
+def look_at_forms(program):
+    for path, most, parts, what in (("README.md", 120, str.splitlines, "lines"), ("docs/ARCHITECTURE.md", 200, str.splitlines, "lines"), ("docs/PERFORMANCE.md", 2500, str.split, "words")):
+        count = len(parts(read(path)))
+        if count > most:
+            found.bad(path, f"it has {count} {what}, and is to have {most} at most")
+    kit = re.search(r"^KIT = \"(.+)\"", read("tools/build"), re.M)[1]
+    if kit not in read("README.md"):
+        found.bad("README.md", f"it doesn't name the kit of tools/build: {kit}")
+    if shutil.which("rt"):
+        ran = subprocess.run(["rt", "version"], stdin=subprocess.DEVNULL, stdout=subprocess.PIPE, stderr=subprocess.DEVNULL, text=True)
+        if ran.stdout.strip().partition(" ")[2] != kit.partition(" ")[2]:
+            found.bad("tools/build", f"it names the kit {kit}, and rt version says {ran.stdout.strip()}, of another logic")
+    else:
+        found.note("skipped rt version: no kit is on the path")
+    page = f"{TOP}/docs/pir.1"
+    for words in (["mandoc", "-Tlint", "-Wwarning", page], ["groff", "-mdoc", "-ww", "-z", "-Kutf8", page]):
+        if not shutil.which(words[0]):
+            found.note(f"skipped {words[0]}: it isn't installed")
+            continue
+        ran = subprocess.run(words, stdin=subprocess.DEVNULL, stdout=subprocess.PIPE, stderr=subprocess.STDOUT, text=True)
+        said = [it for it in ran.stdout.splitlines() if "outdated mandoc.db" not in it]
+        for it in said[:5]:
+            found.bad("docs/pir.1", f"{words[0]}: {it.replace(page, 'docs/pir.1')}")
+    unit = read("examples/pir.service")
+    if shutil.which("systemd-analyze"):
+        with tempfile.TemporaryDirectory(prefix="pir-docs-") as room:
+            with open(f"{room}/pir.service", "w", encoding="utf-8") as it:
+                it.write(re.sub(r"(?m)^ExecStart=\S+", "ExecStart=/bin/true", unit))
+            ran = subprocess.run(["systemd-analyze", "verify", f"{room}/pir.service"], stdin=subprocess.DEVNULL, stdout=subprocess.PIPE, stderr=subprocess.STDOUT, text=True)
+            if ran.returncode or "pir.service" in ran.stdout:
+                found.bad("examples/pir.service", f"systemd-analyze verify: {ran.stdout.strip()[:300]}")
+    else:
+        found.note("skipped systemd-analyze: it isn't installed")
+    start = re.search(r"(?m)^ExecStart=\S*?/(crates/\S+) (.+)", unit)
+    if not start or start[1] != "crates/pir/out/pir":
+        found.bad("examples/pir.service", "ExecStart isn't the built program")
+    elif program:
+        words = [it if it != "/srv/pir/database" else "/dev/null" for it in start[2].split()]
+        if not is_taken(program, words):
+            found.bad("examples/pir.service", "the program doesn't take the words of ExecStart")
