@@ -12,6 +12,7 @@ from concurrent.futures import ThreadPoolExecutor
 
 from documents.repository import LONGEST, TOP, found, lines_of
 
+
 def markdown_blocks(path):
     """Returns the blocks of a document that are run, as (line, commands, what they print), and how many aren't run."""
     blocks, others, kind, text, since = [], 0, None, [], 0

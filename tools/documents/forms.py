@@ -1,5 +1,4 @@
 """Names of docs/PROOFS.md, and the forms of documents: lengths, the kit that is named, the man page and the unit file."""
-import os
 import re
 import shutil
 import subprocess
@@ -7,6 +6,7 @@ import tempfile
 
 from documents.limits import is_taken
 from documents.repository import TOP, crates, found, lines_of, read, words_in
+
 
 def look_at_proofs():
     path, count = "docs/PROOFS.md", 0

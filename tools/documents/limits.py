@@ -5,6 +5,7 @@ import subprocess
 
 from documents.repository import crates, files_below, found, lines_of, read, table_rows
 
+
 def constants():
     """Returns the constants of the code with a value that can be read, and the numbers of variants, by name, each with its file."""
     texts, known = {}, {}

@@ -5,6 +5,7 @@ import re
 
 from documents.repository import TOP, documents, found, lines_of, read, sources, table_rows
 
+
 def options_in_code():
     """Returns the options of each command, by the table from which they are built for clap."""
     said, command = {}, None

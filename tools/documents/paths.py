@@ -5,6 +5,7 @@ import re
 
 from documents.repository import PARTS, TOP, crates, documents, found, lines_of, words_in
 
+
 def matches(path):
     """Returns whether a path of the repository is there: NAME stands for any name, and out/ is made by rt."""
     path = path.rstrip("/")

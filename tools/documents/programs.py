@@ -6,6 +6,7 @@ import time
 from documents.commands import own_network
 from documents.repository import LONGEST, TOP, found
 
+
 def look_at_more(program):
     folder = f"{TOP}/docs/checks"
     for name in sorted(os.listdir(folder)) if os.path.isdir(folder) else []:
