@@ -1,4 +1,5 @@
 """Names of docs/PROOFS.md, and the forms of documents: lengths, the kit that is named, the man page and the unit file."""
+import os
 import re
 import shutil
 import subprocess
@@ -33,29 +34,39 @@ def look_at_forms(program):
             found.bad("tools/build", f"it names the kit {kit}, and rt version says {ran.stdout.strip()}, of another logic")
     else:
         found.note("skipped rt version: no kit is on the path")
-    page = f"{TOP}/docs/pir.1"
-    for words in (["mandoc", "-Tlint", "-Wwarning", page], ["groff", "-mdoc", "-ww", "-z", "-Kutf8", page]):
+    for words in (["mandoc", "-Tlint", "-Wwarning"], ["groff", "-mdoc", "-ww", "-z", "-Kutf8"]):
         if not shutil.which(words[0]):
             found.note(f"skipped {words[0]}: it isn't installed")
             continue
-        ran = subprocess.run(words, stdin=subprocess.DEVNULL, stdout=subprocess.PIPE, stderr=subprocess.STDOUT, text=True)
-        said = [it for it in ran.stdout.splitlines() if "outdated mandoc.db" not in it]
-        for it in said[:5]:
-            found.bad("docs/pir.1", f"{words[0]}: {it.replace(page, 'docs/pir.1')}")
-    unit = read("examples/pir.service")
+        for page in ("docs/pir.1", "docs/pir_show.1"):
+            ran = subprocess.run([*words, f"{TOP}/{page}"], stdin=subprocess.DEVNULL, stdout=subprocess.PIPE, stderr=subprocess.STDOUT, text=True)
+            said = [it for it in ran.stdout.splitlines() if "outdated mandoc.db" not in it]
+            for it in said[:5]:
+                found.bad(page, f"{words[0]}: {it.replace(f'{TOP}/{page}', page)}")
+    for name in sorted(it for it in os.listdir(f"{TOP}/examples") if it.endswith((".service", ".target"))):
+        look_at_unit(f"examples/{name}", program)
+
+
+def look_at_unit(path, program):
+    """Looks whether systemd takes a unit file, and the program the words with which it starts."""
+    unit, name = read(path), os.path.basename(path)
     if shutil.which("systemd-analyze"):
         with tempfile.TemporaryDirectory(prefix="pir-docs-") as room:
-            with open(f"{room}/pir.service", "w", encoding="utf-8") as it:
+            with open(f"{room}/{name}", "w", encoding="utf-8") as it:
                 it.write(re.sub(r"(?m)^ExecStart=\S+", "ExecStart=/bin/true", unit))
-            ran = subprocess.run(["systemd-analyze", "verify", f"{room}/pir.service"], stdin=subprocess.DEVNULL, stdout=subprocess.PIPE, stderr=subprocess.STDOUT, text=True)
-            if ran.returncode or "pir.service" in ran.stdout:
-                found.bad("examples/pir.service", f"systemd-analyze verify: {ran.stdout.strip()[:300]}")
+            ran = subprocess.run(["systemd-analyze", "verify", f"{room}/{name}"], stdin=subprocess.DEVNULL, stdout=subprocess.PIPE, stderr=subprocess.STDOUT, text=True)
+            # (of an instance it says the name with its port)
+            if ran.returncode or name.partition("@")[0] in ran.stdout:
+                found.bad(path, f"systemd-analyze verify: {ran.stdout.strip()[:300]}")
     else:
         found.note("skipped systemd-analyze: it isn't installed")
+    if name.endswith(".target"):
+        return
     start = re.search(r"(?m)^ExecStart=\S*?/(crates/\S+) (.+)", unit)
     if not start or start[1] != "crates/pir/out/pir":
-        found.bad("examples/pir.service", "ExecStart isn't the built program")
+        found.bad(path, "ExecStart isn't the built program")
     elif program:
-        words = [it if it != "/srv/pir/database" else "/dev/null" for it in start[2].split()]
+        # (an empty list, and an address of no machine: it ends at once)
+        words = start[2].replace("/srv/pir/database", "/dev/null").replace("127.0.0.1:%i", "192.0.2.1:7011").split()
         if not is_taken(program, words):
-            found.bad("examples/pir.service", "the program doesn't take the words of ExecStart")
+            found.bad(path, "the program doesn't take the words of ExecStart")

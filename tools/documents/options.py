@@ -2,6 +2,7 @@
 import glob
 import os
 import re
+import subprocess
 
 from documents.repository import TOP, documents, found, lines_of, read, sources, table_rows
 
@@ -15,6 +16,26 @@ def options_in_code():
         elif command is not None and kind not in ("Operand", "Operands"):
             command.add(name)
     return said
+
+
+def completed(*words):
+    """Returns what tools/pir.bash offers for the last of these words."""
+    script = 'source "$1"; shift; COMP_WORDS=("$@") COMP_CWORD=$(($# - 1)); _pir; printf "%s\\n" "${COMPREPLY[@]}"'
+    ran = subprocess.run(["bash", "-c", script, "bash", f"{TOP}/tools/pir.bash", *words], stdin=subprocess.DEVNULL, stdout=subprocess.PIPE, text=True)
+    return set(ran.stdout.split())
+
+
+def look_at_completions(said, compare):
+    """Compares what bash is told to offer with the commands and their options."""
+    where, flags = "tools/pir.bash", set(re.findall(r"\(\"([a-z-]+)\", Kind::Flag\)", sources("pir_words")))
+    if completed("pir", "") != set(said):
+        found.bad(where, f"it offers the commands {', '.join(sorted(completed('pir', '')))}, and there are {', '.join(sorted(said))}")
+    for command in sorted(said):
+        compare(where, command, {it[2:] for it in completed("pir", command, "--")})
+        for it in sorted(said[command]):
+            # (behind an option with a value comes that value)
+            if bool(completed("pir", command, f"--{it}", "--")) != (it in flags and len(said[command]) > 1):
+                found.bad(where, f"{command} --{it}: {'no option is' if it in flags else 'options are'} offered behind it")
 
 
 def look_at_options():
@@ -57,8 +78,9 @@ def look_at_options():
         told.setdefault(words.split()[0], set()).update(re.findall(r"--([a-z-]+)", words))
     for command in sorted(set(said) | set(told)):
         compare("docs/SPECIFICATION.md, Commands", command, told.get(command, set()))
+    look_at_completions(said, compare)
     # any command line of a document, and any option that is named by itself; scripts of the repository have options too
-    scripts = [*glob.glob(f"{TOP}/bench/*.py"), *glob.glob(f"{TOP}/tools/[!_]*-*"), f"{TOP}/docs/check"]
+    scripts = [*glob.glob(f"{TOP}/bench/*.py"), *glob.glob(f"{TOP}/docs/checks/*"), *glob.glob(f"{TOP}/tools/[!_]*-*"), f"{TOP}/tools/package", f"{TOP}/docs/check", f"{TOP}/examples/pool-config", f"{TOP}/examples/count-guests"]
     known = {"help"}.union(*said.values(), *(re.findall(r"[\"']--([a-z-]+)", read(os.path.relpath(it, TOP))) for it in scripts))
     for path in documents():
         if path.endswith(".1"):

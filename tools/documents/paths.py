@@ -27,7 +27,7 @@ def look_at_paths():
             # (what a console shows may be of another repository)
             shown = line == "```console" or shown and line != "```"
             line = "" if shown else re.sub(r"https?://\S+", "", line)
-            for word in re.findall(r"(?<![\w./<>=:$\"{-])\.?[A-Za-z_][\w.*-]*(?:/[\w.*-]+)+/?", line):
+            for word in re.findall(r"(?<![\w./<>=:$\"{-])\.?[A-Za-z_][\w.*-]*(?:/[\w.*@-]+)+/?", line):
                 word = word.rstrip(".,:;")
                 first = word.split("/")[0]
                 # (bench/ is the folder of scripts, and a file of the crate of that name is named from crates/ on)

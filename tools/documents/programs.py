@@ -1,5 +1,7 @@
 """Each program of docs/checks/ is run, and says nothing where all holds."""
+import contextlib
 import os
+import signal
 import subprocess
 import time
 
@@ -16,12 +18,18 @@ def look_at_more(program):
         if not program:
             found.note(f"skipped docs/checks/{name}: the program isn't built")
             continue
-        began = time.monotonic()
+        began, how = time.monotonic(), {"stdin": subprocess.DEVNULL, "stdout": subprocess.PIPE, "stderr": subprocess.STDOUT, "start_new_session": True}
+        ran = subprocess.Popen([*own_network(), path], cwd=TOP, env={**os.environ, "PIR": program}, **how)
         try:
-            ran = subprocess.run([*own_network(), path], cwd=TOP, env={**os.environ, "PIR": program}, stdin=subprocess.DEVNULL, stdout=subprocess.PIPE, stderr=subprocess.STDOUT, timeout=LONGEST)
+            said, _ = ran.communicate(timeout=LONGEST)
         except subprocess.TimeoutExpired:
             found.bad(f"docs/checks/{name}", f"it had not ended after {LONGEST} seconds")
             continue
-        if ran.returncode or ran.stdout:
-            found.bad(f"docs/checks/{name}", f"it ended with status {ran.returncode}, and said\n{ran.stdout.decode(errors='replace').rstrip()}")
+        finally:
+            # (what it started ends with it)
+            with contextlib.suppress(OSError):
+                os.killpg(ran.pid, signal.SIGKILL)
+            ran.wait()
+        if ran.returncode or said:
+            found.bad(f"docs/checks/{name}", f"it ended with status {ran.returncode}, and said\n{said.decode(errors='replace').rstrip()}")
         found.note(f"docs/checks/{name}: {time.monotonic() - began:.1f} s")

@@ -1,0 +1,65 @@
+# Completions of `pir` and `pir_show` for bash: source this file, or put it into /usr/share/bash-completion/completions as pir.
+# docs/check compares what it offers with the commands and options of the code.
+
+_pir_commands='fetch serve replay demo lookup split front selfrun'
+
+# Prints the options of a command, in the order in which the man page tells of them.
+_pir_options() {
+  case $1 in
+    fetch) echo --rows --width --block --more --degree --agree --scheme --tau --coins --record --report ;;
+    serve) echo --database --width --conns --listen --scheme --workers ;;
+    replay) echo --report ;;
+    demo) echo --port --database --rows --width --block --servers --degree --agree --coins ;;
+    lookup) echo --rows --width --key --degree --agree --coins ;;
+    split) echo --database --width --servers --tau --into --coins ;;
+    front) echo --rows --width --shard --conns --listen ;;
+    selfrun) echo --seed --rows --width --servers --degree --agree --liars --workers --slow ;;
+  esac
+}
+
+# Offers files and folders that begin with a word.
+_pir_files() {
+  compopt -o filenames 2>/dev/null
+  mapfile -t COMPREPLY < <(compgen -f -- "$1")
+}
+
+_pir() {
+  local word=${COMP_WORDS[COMP_CWORD]} before=${COMP_WORDS[COMP_CWORD-1]} option offered=()
+  COMPREPLY=()
+  if ((COMP_CWORD == 1)); then
+    mapfile -t COMPREPLY < <(compgen -W "$_pir_commands" -- "$word")
+    return
+  fi
+  # (bash takes --scheme=xor for three words)
+  if [ "$word" = = ]; then
+    word=
+  elif [ "$before" = = ]; then
+    before=${COMP_WORDS[COMP_CWORD-2]}
+  fi
+  case $before in
+    --coins | --database | --into | --record) _pir_files "$word" ;;
+    --scheme) mapfile -t COMPREPLY < <(compgen -W 'shamir xor' -- "$word") ;;
+    --report | --slow | [!-]*)
+      if [ "${COMP_WORDS[1]}" = replay ] && [ "${word:0:1}" != - ]; then
+        _pir_files "$word"
+        return
+      fi
+      # An option may stand once.
+      for option in $(_pir_options "${COMP_WORDS[1]}"); do
+        case " ${COMP_WORDS[*]:2:COMP_CWORD-2} " in
+          *" $option "*) ;;
+          *) offered+=("$option") ;;
+        esac
+      done
+      mapfile -t COMPREPLY < <(compgen -W "${offered[*]}" -- "$word")
+      ;;
+  esac
+}
+
+_pir_show() {
+  COMPREPLY=()
+  ((COMP_CWORD > 1)) || _pir_files "${COMP_WORDS[COMP_CWORD]}"
+}
+
+complete -F _pir pir
+complete -F _pir_show pir_show
