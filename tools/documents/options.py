@@ -80,7 +80,7 @@ def look_at_options():
         compare("docs/SPECIFICATION.md, Commands", command, told.get(command, set()))
     look_at_completions(said, compare)
     # any command line of a document, and any option that is named by itself; scripts of the repository have options too
-    scripts = [*glob.glob(f"{TOP}/bench/*.py"), *glob.glob(f"{TOP}/docs/checks/*"), *glob.glob(f"{TOP}/tools/[!_]*-*"), f"{TOP}/tools/package", f"{TOP}/docs/check", f"{TOP}/examples/pool-config", f"{TOP}/examples/count-guests"]
+    scripts = [it for folder in ("bench/*.py", "docs/checks/*", "examples/*-*", "tools/[!_]*") for it in glob.glob(f"{TOP}/{folder}") if os.path.isfile(it) and not it.endswith(".session")] + [f"{TOP}/docs/check"]
     known = {"help"}.union(*said.values(), *(re.findall(r"[\"']--([a-z-]+)", read(os.path.relpath(it, TOP))) for it in scripts))
     for path in documents():
         if path.endswith(".1"):
