@@ -21,7 +21,7 @@ use Rattle.commands.specs.FetchOutcome.{InSession, FetchReported, FetchEnds, Tou
 use Rattle.commands.specs.DemoOrder.{DemoOrder, address_from, addresses_from, addresses_of_children, words_to_serve, words_of_children, fetch_from_children}
 use Rattle.commands.specs.DemoOutcome.{StartsAll, StartsSome, Demonstrated, DemoOutcome, DemoPromise, DemoReported, files}
 use Rattle.commands.specs.declared.status.Status.{Status}
-use Rattle.commands.specs.declared.status.Status.TheVariants.{One, Usage, NoBlock, Several, Absent, TooFew, TooWeak, TooCostly, ReadFault, WriteFault, BadInput, DoorFault, ChildFault, Memory}
+use Rattle.commands.specs.declared.status.Status.TheVariants.{BadInput, ChildFault, Memory}
 use Rattle.commands.specs.declared.status.Bad.TheVariants.{CoinsEnded}
 use Rattle.commands.proofs.Headline.{fetch_promised}
 use Rattle.commands.proofs.Fetching.{recorded_before}
@@ -50,20 +50,9 @@ size_of_addresses f made given port n at same = ap length same ∙ sym (length-m
 
 -- what a demonstration ends with is what its fetch ends with
 pub demonstrated_as : (o : DemoOrder) (status : Status) (old new : World) → Demonstrated o status old new → DemoOutcome o status old new
-demonstrated_as o One old new d = d
-demonstrated_as o Usage old new d = d
-demonstrated_as o NoBlock old new d = d
-demonstrated_as o Several old new d = d
-demonstrated_as o Absent old new d = d
-demonstrated_as o (TooFew k h) old new d = d
-demonstrated_as o (TooWeak k t h) old new d = d
-demonstrated_as o (TooCostly equations) old new d = d
-demonstrated_as o ReadFault old new d = d
-demonstrated_as o WriteFault old new d = d
-demonstrated_as o (BadInput bad) old new d = d
-demonstrated_as o DoorFault old new d = d
 demonstrated_as o ChildFault old new d = absurd d.fetched.ends
 demonstrated_as o Memory old new d = inr d
+demonstrated_as o status old new d = d
 
 -- the children were started with these words, and then a block was fetched from these addresses
 pub demonstrates : (o : DemoOrder) (addresses : List (List ℕ)) (lists : List (List (List ℕ))) (status : Status) (w v u : World)
@@ -153,37 +142,15 @@ module _ (o : DemoOrder) (old new : World) (few : o.plan.n < 256) (none : NoneRo
 
     -- where there are coins enough, the verdict is reported
     demo_reported : (status : Status) → need o.plan 1 ≤ length held → DemoOutcome o status old new → DemoReported o status old new ⊎ (status ≡ Memory)
-    demo_reported One enough d = reports One enough d
-    demo_reported Usage enough d = reports Usage enough d
-    demo_reported NoBlock enough d = reports NoBlock enough d
-    demo_reported Several enough d = reports Several enough d
-    demo_reported Absent enough d = reports Absent enough d
-    demo_reported (TooFew k h) enough d = reports (TooFew k h) enough d
-    demo_reported (TooWeak k t h) enough d = reports (TooWeak k t h) enough d
-    demo_reported (TooCostly equations) enough d = reports (TooCostly equations) enough d
-    demo_reported ReadFault enough d = reports ReadFault enough d
-    demo_reported WriteFault enough d = reports WriteFault enough d
-    demo_reported (BadInput bad) enough d = reports (BadInput bad) enough d
-    demo_reported DoorFault enough d = reports DoorFault enough d
     demo_reported ChildFault enough d = absurd (started d)
     demo_reported Memory enough d = inr refl
+    demo_reported status enough d = reports status enough d
 
     -- where there are fewer, that is said
     demo_too_few : (status : Status) → length held < need o.plan 1 → DemoOutcome o status old new → (status ≡ BadInput (CoinsEnded (length held))) ⊎ (status ≡ Memory)
-    demo_too_few One short d = lacks One short d
-    demo_too_few Usage short d = lacks Usage short d
-    demo_too_few NoBlock short d = lacks NoBlock short d
-    demo_too_few Several short d = lacks Several short d
-    demo_too_few Absent short d = lacks Absent short d
-    demo_too_few (TooFew k h) short d = lacks (TooFew k h) short d
-    demo_too_few (TooWeak k t h) short d = lacks (TooWeak k t h) short d
-    demo_too_few (TooCostly equations) short d = lacks (TooCostly equations) short d
-    demo_too_few ReadFault short d = lacks ReadFault short d
-    demo_too_few WriteFault short d = lacks WriteFault short d
-    demo_too_few (BadInput bad) short d = lacks (BadInput bad) short d
-    demo_too_few DoorFault short d = lacks DoorFault short d
     demo_too_few ChildFault short d = absurd (started d)
     demo_too_few Memory short d = inr refl
+    demo_too_few status short d = lacks status short d
 
 -- what is promised of `demo`
 pub demo_promised : (o : DemoOrder) (status : Status) (old new : World) → o.plan.n < 256 → DemoOutcome o status old new → DemoPromise o status old new

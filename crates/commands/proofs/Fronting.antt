@@ -23,7 +23,7 @@ use Rattle.commands.specs.FrontSteps.{FrontRunsDry, FrontsInTurn, FrontsNext, To
 use Rattle.commands.specs.FrontOutcome.{FrontEnds, FrontPromise, FrontedAll, FrontedSome, TouchesFront, own_ports}
 use Rattle.commands.proofs.FrontAnswers.{fronts_from, fronts_more, fronts_still}
 use Rattle.commands.specs.declared.status.Status.{Status}
-use Rattle.commands.specs.declared.status.Status.TheVariants.{One, Usage, NoBlock, Several, Absent, TooFew, TooWeak, TooCostly, ReadFault, WriteFault, BadInput, DoorFault, ChildFault, Memory}
+use Rattle.commands.specs.declared.status.Status.TheVariants.{One, WriteFault, DoorFault, Memory}
 
 -- the values of `front` are those of a front
 pub front_spread : (r s k conns n : ℕ) → IsFront r s k conns n → IsSpread (record { rows = r; width = s; shard = k })
@@ -220,20 +220,9 @@ front_dry_touch n w v u s touch = record {
 
 -- guests can't come in, or that can't be written
 pub front_not_ready : (o : FrontOrder) (w u : World) (status : Status) → Listens o.listen (Err status) w u → TouchesDoor w u → FrontEnds o status w u
-front_not_ready o w u One l t = absurd l
-front_not_ready o w u Usage l t = absurd l
-front_not_ready o w u NoBlock l t = absurd l
-front_not_ready o w u Several l t = absurd l
-front_not_ready o w u Absent l t = absurd l
-front_not_ready o w u (TooFew k h) l t = absurd l
-front_not_ready o w u (TooWeak k t' h) l t = absurd l
-front_not_ready o w u (TooCostly equations) l t = absurd l
-front_not_ready o w u ReadFault l t = absurd l
 front_not_ready o w u WriteFault l t = (l, t)
-front_not_ready o w u (BadInput bad) l t = absurd l
 front_not_ready o w u DoorFault l t = inl (l, t)
-front_not_ready o w u ChildFault l t = absurd l
-front_not_ready o w u Memory l t = absurd l
+front_not_ready o w u status l t = absurd l
 
 -- before the first guest no more than Output and Door was touched
 pub front_touches_door : (n : ℕ) (w u : World) → TouchesDoor w u → TouchesFront n w u
@@ -300,19 +289,10 @@ front_door_rose o old new none (inr dry) = none.1.0 (once_rose _ _ dry.rose)
 -- each guest is met
 front_met : (o : FrontOrder) (status : Status) (old new : World) → NoneRose own_ports old new → FrontEnds o status old new → ((status ≡ One) × FrontedAll o old new) ⊎ (status ≡ Memory)
 front_met o One old new none said = inl (refl, said)
-front_met o Usage old new none said = absurd said
-front_met o NoBlock old new none said = absurd said
-front_met o Several old new none said = absurd said
-front_met o Absent old new none said = absurd said
-front_met o (TooFew k h) old new none said = absurd said
-front_met o (TooWeak k t h) old new none said = absurd said
-front_met o (TooCostly equations) old new none said = absurd said
-front_met o ReadFault old new none said = absurd said
 front_met o WriteFault old new none said = absurd (none.0 (once_rose _ _ said.0.written.rose))
-front_met o (BadInput bad) old new none said = absurd said
 front_met o DoorFault old new none said = absurd (front_door_rose o old new none said)
-front_met o ChildFault old new none said = absurd said
 front_met o Memory old new none said = inr refl
+front_met o status old new none said = absurd said
 
 -- what is promised of `front`
 pub front_promised : (o : FrontOrder) (status : Status) (old new : World) → FrontEnds o status old new → FrontPromise o status old new

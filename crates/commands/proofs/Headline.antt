@@ -18,7 +18,7 @@ use Rattle.port_trait.proofs.Cells.{at_told}
 use Rattle.query_rounds.specs.Plan.{need}
 use Rattle.commands.proofs.Saying.{same_beside}
 use Rattle.commands.specs.declared.status.Status.{Status}
-use Rattle.commands.specs.declared.status.Status.TheVariants.{One, Usage, NoBlock, Several, Absent, TooFew, TooWeak, TooCostly, ReadFault, WriteFault, BadInput, DoorFault, ChildFault, Memory}
+use Rattle.commands.specs.declared.status.Status.TheVariants.{Usage, Absent, ReadFault, WriteFault, BadInput, DoorFault, ChildFault, Memory}
 use Rattle.commands.specs.declared.status.Bad.TheVariants.{Session, EmptyFile, TooBig, CoinsEnded}
 use Rattle.commands.specs.Said.{IsBeside, ToldWhole, whole_text}
 use Rattle.commands.specs.Told.{NoneRose}
@@ -51,14 +51,8 @@ answered_by name wanted status old new bytes session told whole said =
 pub answered : (name : List ℕ) (wanted : Bool) (status : Status) (old new : World) (bytes : List ℕ) (session : Transcript)
     → (old.at INPUT).holds ≡ Some bytes → IsSession bytes session → NoneRose streams old new
     → ReplayEnds name wanted status old new → Answered session wanted status old new ⊎ (status ≡ Memory)
-answered name wanted One old new bytes session told whole none said = inl (answered_by name wanted One old new bytes session told whole said)
 answered name wanted Usage old new bytes session told whole none said = absurd said
-answered name wanted NoBlock old new bytes session told whole none said = inl (answered_by name wanted NoBlock old new bytes session told whole said)
-answered name wanted Several old new bytes session told whole none said = inl (answered_by name wanted Several old new bytes session told whole said)
 answered name wanted Absent old new bytes session told whole none said = absurd said
-answered name wanted (TooFew k h) old new bytes session told whole none said = inl (answered_by name wanted (TooFew k h) old new bytes session told whole said)
-answered name wanted (TooWeak k t h) old new bytes session told whole none said = inl (answered_by name wanted (TooWeak k t h) old new bytes session told whole said)
-answered name wanted (TooCostly equations) old new bytes session told whole none said = inl (answered_by name wanted (TooCostly equations) old new bytes session told whole said)
 answered name wanted ReadFault old new bytes session told whole none said = absurd (none.0 (once_rose _ _ said.rose))
 answered name wanted WriteFault old new bytes session told whole none said = absurd (none.1.0 (once_rose _ _ said.written.rose))
 answered name wanted (BadInput EmptyFile) old new bytes session told whole none said = absurd said
@@ -68,6 +62,7 @@ answered name wanted ChildFault old new bytes session told whole none said = abs
 answered name wanted (BadInput (Session place)) old new bytes session told whole none said = absurd ((at_told (NoSession place) (old.at INPUT).holds bytes told said.read.none).none session whole)
 answered name wanted (BadInput (CoinsEnded taken)) old new bytes session told whole none said = absurd said
 answered name wanted Memory old new bytes session told whole none said = inr refl
+answered name wanted status old new bytes session told whole none said = inl (answered_by name wanted status old new bytes session told whole said)
 
 -- nothing is reported where there is no session
 no_report : (name : List ℕ) (wanted : Bool) (status : Status) (old new : World) (bytes : List ℕ)
@@ -81,14 +76,8 @@ refused : (name : List ℕ) (wanted : Bool) (status : Status) (old new : World) 
     → (old.at INPUT).holds ≡ Some bytes → ((session : Transcript) → IsSession bytes session → ⊥)
     → NoneRose streams old new
     → ReplayEnds name wanted status old new → ((place : ℕ) × (status ≡ BadInput (Session place)) × NoSession place bytes) ⊎ (status ≡ Memory)
-refused name wanted One old new bytes told nothing none said = absurd (no_report name wanted One old new bytes told nothing said)
 refused name wanted Usage old new bytes told nothing none said = absurd said
-refused name wanted NoBlock old new bytes told nothing none said = absurd (no_report name wanted NoBlock old new bytes told nothing said)
-refused name wanted Several old new bytes told nothing none said = absurd (no_report name wanted Several old new bytes told nothing said)
 refused name wanted Absent old new bytes told nothing none said = absurd said
-refused name wanted (TooFew k h) old new bytes told nothing none said = absurd (no_report name wanted (TooFew k h) old new bytes told nothing said)
-refused name wanted (TooWeak k t h) old new bytes told nothing none said = absurd (no_report name wanted (TooWeak k t h) old new bytes told nothing said)
-refused name wanted (TooCostly equations) old new bytes told nothing none said = absurd (no_report name wanted (TooCostly equations) old new bytes told nothing said)
 refused name wanted ReadFault old new bytes told nothing none said = absurd (none.0 (once_rose _ _ said.rose))
 refused name wanted WriteFault old new bytes told nothing none said = absurd (none.1.0 (once_rose _ _ said.written.rose))
 refused name wanted (BadInput EmptyFile) old new bytes told nothing none said = absurd said
@@ -98,6 +87,7 @@ refused name wanted ChildFault old new bytes told nothing none said = absurd sai
 refused name wanted (BadInput (Session place)) old new bytes told nothing none said = inl (place, refl, at_told (NoSession place) (old.at INPUT).holds bytes told said.read.none)
 refused name wanted (BadInput (CoinsEnded taken)) old new bytes told nothing none said = absurd said
 refused name wanted Memory old new bytes told nothing none said = inr refl
+refused name wanted status old new bytes told nothing none said = absurd (no_report name wanted status old new bytes told nothing said)
 
 -- where there is a session, the text of its verdict and of its report is written, whichever these are
 told_by : (wanted : Bool) (status : Status) (old new : World) (session : Transcript) (verdict : Verdict) (report : Option (List Agreement))
@@ -130,14 +120,8 @@ unrecorded_rose (Some name) session old new none cut = none.0 (once_rose _ _ cut
 -- where there are coins enough, the verdict is reported
 reported : (o : FetchOrder) (status : Status) (old new : World) (held : List ℕ) → (old.at COINS).holds ≡ Some held → need o.plan (length o.blocks) ≤ length held → NoneRose (files_of o) old new
     → FetchEnds o status old new → FetchReported o status old new ⊎ (status ≡ Memory)
-reported o One old new held told enough none said = inl said
 reported o Usage old new held told enough none said = absurd said
-reported o NoBlock old new held told enough none said = inl said
-reported o Several old new held told enough none said = inl said
 reported o Absent old new held told enough none said = absurd said
-reported o (TooFew k h) old new held told enough none said = inl said
-reported o (TooWeak k t h) old new held told enough none said = inl said
-reported o (TooCostly equations) old new held told enough none said = inl said
 reported o ReadFault old new held told enough none said = absurd (none.1.0 (once_rose _ _ said.unread.rose))
 reported o WriteFault old new held told enough none said = absurd (elim said.cut [ inl c ↦ unrecorded_rose o.keep said.session old new none.1.1 c.0 | inr c ↦ none.0 (once_rose _ _ c.1.rose) ])
 reported o (BadInput EmptyFile) old new held told enough none said = absurd said
@@ -149,6 +133,7 @@ reported o (BadInput (CoinsEnded taken)) old new held told enough none said =
     let all = at_told (λ (h : List ℕ). length h ≡ taken) (old.at COINS).holds held told said.short.all in
     absurd (omega (arith, all, said.short.fewer, enough))
 reported o Memory old new held told enough none said = inr refl
+reported o status old new held told enough none said = inl said
 
 -- no server is asked where there are too few coins
 no_coins : (o : FetchOrder) (status : Status) (old new : World) (held : List ℕ) → (old.at COINS).holds ≡ Some held → length held < need o.plan (length o.blocks) → FetchReported o status old new → ⊥
@@ -160,14 +145,8 @@ no_coins o status old new held told few said =
 -- where there are fewer, that is said
 too_few : (o : FetchOrder) (status : Status) (old new : World) (held : List ℕ) → (old.at COINS).holds ≡ Some held → length held < need o.plan (length o.blocks) → NoneRose (files_of o) old new
     → FetchEnds o status old new → (status ≡ BadInput (CoinsEnded (length held))) ⊎ (status ≡ Memory)
-too_few o One old new held told few none said = absurd (no_coins o One old new held told few said)
 too_few o Usage old new held told few none said = absurd said
-too_few o NoBlock old new held told few none said = absurd (no_coins o NoBlock old new held told few said)
-too_few o Several old new held told few none said = absurd (no_coins o Several old new held told few said)
 too_few o Absent old new held told few none said = absurd said
-too_few o (TooFew k h) old new held told few none said = absurd (no_coins o (TooFew k h) old new held told few said)
-too_few o (TooWeak k t h) old new held told few none said = absurd (no_coins o (TooWeak k t h) old new held told few said)
-too_few o (TooCostly equations) old new held told few none said = absurd (no_coins o (TooCostly equations) old new held told few said)
 too_few o ReadFault old new held told few none said = absurd (none.1.0 (once_rose _ _ said.unread.rose))
 too_few o WriteFault old new held told few none said = absurd (elim said.cut [ inl c ↦ unrecorded_rose o.keep said.session old new none.1.1 c.0 | inr c ↦ none.0 (once_rose _ _ c.1.rose) ])
 too_few o (BadInput EmptyFile) old new held told few none said = absurd said
@@ -178,6 +157,7 @@ too_few o (BadInput (Session place)) old new held told few none said = absurd sa
 too_few o (BadInput (CoinsEnded taken)) old new held told few none said =
     inl (ap (λ (n : ℕ). BadInput (CoinsEnded n)) (sym (at_told (λ (h : List ℕ). length h ≡ taken) (old.at COINS).holds held told said.short.all)))
 too_few o Memory old new held told few none said = inr refl
+too_few o status old new held told few none said = absurd (no_coins o status old new held told few said)
 
 -- what is promised of `fetch`
 pub fetch_promised : (o : FetchOrder) (status : Status) (old new : World) → FetchEnds o status old new → FetchPromise o status old new

@@ -36,7 +36,7 @@ use Rattle.commands.specs.Table.{status_by_end}
 use Rattle.commands.specs.Told.{NoneRose}
 use Rattle.commands.proofs.HeldRow.{held_row}
 use Rattle.commands.specs.declared.status.Status.{Status}
-use Rattle.commands.specs.declared.status.Status.TheVariants.{One, Usage, NoBlock, Several, Absent, TooFew, TooWeak, TooCostly, ReadFault, WriteFault, BadInput, DoorFault, ChildFault, Memory}
+use Rattle.commands.specs.declared.status.Status.TheVariants.{Usage, ReadFault, WriteFault, BadInput, DoorFault, ChildFault, Memory}
 use Rattle.commands.specs.declared.status.Bad.TheVariants.{Session, EmptyFile, TooBig, CoinsEnded}
 use Rattle.block_decoder.specs.declared.verdict.Verdict.TheVariants.{Listed as IsListed, TooFew as IsTooFew, TooWeak as IsTooWeak, TooCostly as IsTooCostly}
 
@@ -146,14 +146,7 @@ module _ (o : LookUpOrder) (w v u : World) (plan : IsPlan o.plan) (is_open : v.a
 -- where there are coins enough for all turns, what they came to is reported
 reported : (o : LookUpOrder) (status : Status) (old new : World) (held : List ℕ) → (old.at COINS).holds ≡ Some held → coins_needed o ≤ length held
     → NoneRose read_and_written old new → LookUpEnds o status old new → LookUpReported o status old new ⊎ (status ≡ Memory)
-reported o One old new held told enough none said = inl said
 reported o Usage old new held told enough none said = absurd said
-reported o NoBlock old new held told enough none said = inl said
-reported o Several old new held told enough none said = inl said
-reported o Absent old new held told enough none said = inl said
-reported o (TooFew k h) old new held told enough none said = inl said
-reported o (TooWeak k t h) old new held told enough none said = inl said
-reported o (TooCostly equations) old new held told enough none said = inl said
 reported o ReadFault old new held told enough none said =
     absurd (elim said.part [ inl unopened ↦ none.1.0 (once_rose _ _ unopened.0.rose) | inr later ↦ none.1.0 (once_rose _ _ later.coins.rose) ])
 reported o WriteFault old new held told enough none said = absurd (none.0 (once_rose _ _ said.cut.rose))
@@ -166,6 +159,7 @@ reported o (BadInput (CoinsEnded taken)) old new held told enough none said =
 reported o DoorFault old new held told enough none said = absurd said
 reported o ChildFault old new held told enough none said = absurd said
 reported o Memory old new held told enough none said = inr refl
+reported o status old new held told enough none said = inl said
 
 -- nothing is reported where there are too few coins
 no_end : (o : LookUpOrder) (status : Status) (old new : World) (held : List ℕ) → (old.at COINS).holds ≡ Some held → length held < coins_needed o
@@ -179,14 +173,7 @@ no_end o status old new held told few said =
 too_few : (o : LookUpOrder) (status : Status) (old new : World) (held : List ℕ) → (old.at COINS).holds ≡ Some held → length held < coins_needed o
     → NoneRose read_and_written old new → LookUpEnds o status old new
     → (status ≡ BadInput (CoinsEnded (length held % need o.plan 1))) ⊎ (status ≡ Memory)
-too_few o One old new held told few none said = absurd (no_end o One old new held told few said)
 too_few o Usage old new held told few none said = absurd said
-too_few o NoBlock old new held told few none said = absurd (no_end o NoBlock old new held told few said)
-too_few o Several old new held told few none said = absurd (no_end o Several old new held told few said)
-too_few o Absent old new held told few none said = absurd (no_end o Absent old new held told few said)
-too_few o (TooFew k h) old new held told few none said = absurd (no_end o (TooFew k h) old new held told few said)
-too_few o (TooWeak k t h) old new held told few none said = absurd (no_end o (TooWeak k t h) old new held told few said)
-too_few o (TooCostly equations) old new held told few none said = absurd (no_end o (TooCostly equations) old new held told few said)
 too_few o ReadFault old new held told few none said =
     absurd (elim said.part [ inl unopened ↦ none.1.0 (once_rose _ _ unopened.0.rose) | inr later ↦ none.1.0 (once_rose _ _ later.coins.rose) ])
 too_few o WriteFault old new held told few none said = absurd (none.0 (once_rose _ _ said.cut.rose))
@@ -199,6 +186,7 @@ too_few o (BadInput (CoinsEnded taken)) old new held told few none said =
 too_few o DoorFault old new held told few none said = absurd said
 too_few o ChildFault old new held told few none said = absurd said
 too_few o Memory old new held told few none said = inr refl
+too_few o status old new held told few none said = absurd (no_end o status old new held told few said)
 
 -- what is promised of `lookup`
 pub look_up_promised : (o : LookUpOrder) (status : Status) (old new : World) → LookUpEnds o status old new → LookUpPromise o status old new

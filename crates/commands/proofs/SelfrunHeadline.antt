@@ -10,24 +10,19 @@ use Rattle.block_decoder.specs.declared.verdict.Verdict.TheVariants.{Listed as I
 use Rattle.commands.specs.Table.{status_of}
 use Rattle.commands.specs.SelfrunOutcome.{SelfrunEnds, SelfrunPromise, SelfrunReported}
 use Rattle.commands.specs.declared.status.Status.{Status}
-use Rattle.commands.specs.declared.status.Status.TheVariants.{One, Usage, NoBlock, Several, Absent, TooFew, TooWeak, TooCostly, ReadFault, WriteFault, BadInput, DoorFault, ChildFault, Memory}
+use Rattle.commands.specs.declared.status.Status.TheVariants.{One, NoBlock, Several, TooFew, TooWeak, TooCostly, WriteFault, Memory}
 
 -- where no call on Output failed, the verdict is reported
 selfrun_reported : (w : Workload) (status : Status) (old new : World) → NoneRose (OUTPUT ∷ []) old new → SelfrunEnds w status old new → SelfrunReported w status old new ⊎ (status ≡ Memory)
 selfrun_reported w One old new none said = inl said
-selfrun_reported w Usage old new none said = absurd said
 selfrun_reported w NoBlock old new none said = inl said
 selfrun_reported w Several old new none said = inl said
-selfrun_reported w Absent old new none said = absurd said
 selfrun_reported w (TooFew k h) old new none said = inl said
 selfrun_reported w (TooWeak k t h) old new none said = inl said
 selfrun_reported w (TooCostly equations) old new none said = inl said
-selfrun_reported w ReadFault old new none said = absurd said
 selfrun_reported w WriteFault old new none said = absurd (none.0 (once_rose _ _ said.written.rose))
-selfrun_reported w (BadInput bad) old new none said = absurd said
-selfrun_reported w DoorFault old new none said = absurd said
-selfrun_reported w ChildFault old new none said = absurd said
 selfrun_reported w Memory old new none said = inr refl
+selfrun_reported w status old new none said = absurd said
 
 -- what is promised of `selfrun`
 pub selfrun_promised : (w : Workload) (status : Status) (old new : World) → SelfrunEnds w status old new → SelfrunPromise w status old new

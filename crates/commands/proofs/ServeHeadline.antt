@@ -11,8 +11,8 @@ use Rattle.commands.specs.ServeOrder.{ServeOrder}
 use Rattle.commands.specs.ServeSteps.{Loaded}
 use Rattle.commands.specs.ServeOutcome.{ServeEnds, ServedAll, ServePromise, files}
 use Rattle.commands.specs.declared.status.Status.{Status}
-use Rattle.commands.specs.declared.status.Status.TheVariants.{One, Usage, NoBlock, Several, Absent, TooFew, TooWeak, TooCostly, ReadFault, WriteFault, BadInput, DoorFault, ChildFault, Memory}
-use Rattle.commands.specs.declared.status.Bad.TheVariants.{Session, EmptyFile, TooBig, CoinsEnded}
+use Rattle.commands.specs.declared.status.Status.TheVariants.{One, ReadFault, WriteFault, BadInput, DoorFault, Memory}
+use Rattle.commands.specs.declared.status.Bad.TheVariants.{EmptyFile, TooBig}
 
 -- Door's count rose
 door_rose : (o : ServeOrder) (old new : World) → NoneRose files old new → ServeEnds o DoorFault old new → ⊥
@@ -23,26 +23,17 @@ module _ (o : ServeOrder) (old new : World) (none : NoneRose files old new) (byt
   -- a database is served
   served : (status : Status) → 0 < length bytes → length bytes ≤ limit o.width → ServeEnds o status old new → ((status ≡ One) × ServedAll o old new) ⊎ (status ≡ Memory)
   served One some few said = inl (refl, said)
-  served Usage some few said = absurd said
-  served NoBlock some few said = absurd said
-  served Several some few said = absurd said
-  served Absent some few said = absurd said
-  served (TooFew k h) some few said = absurd said
-  served (TooWeak k t h) some few said = absurd said
-  served (TooCostly equations) some few said = absurd said
   served ReadFault some few said = absurd (none.1.0 (once_rose _ _ said.0.rose))
   served WriteFault some few said = absurd (none.0 (once_rose _ _ said.written.rose))
-  served (BadInput (Session place)) some few said = absurd said
   served (BadInput EmptyFile) some few said =
       let empty = at_told (λ (h : List ℕ). h ≡ []) (old.at DATABASE).holds bytes held said.0.none in
       absurd (omega (arith, ap length empty, some))
   served (BadInput (TooBig most)) some few said =
       let more = at_told (λ (h : List ℕ). limit o.width < length h) (old.at DATABASE).holds bytes held said.0.1.more in
       absurd (omega (arith, more, said.0.0, few))
-  served (BadInput (CoinsEnded taken)) some few said = absurd said
   served DoorFault some few said = absurd (door_rose o old new none said)
-  served ChildFault some few said = absurd said
   served Memory some few said = inr refl
+  served status some few said = absurd said
 
   -- what was loaded is what Database held
   is_loaded : (width : ℕ) (name : List ℕ) (database : _) → Loaded name width database old new → (0 < length bytes) × (length bytes ≤ limit width)
@@ -55,46 +46,28 @@ module _ (o : ServeOrder) (old new : World) (none : NoneRose files old new) (byt
   -- an empty file is refused
   empty_file : (status : Status) → length bytes ≡ 0 → ServeEnds o status old new → (status ≡ BadInput EmptyFile) ⊎ (status ≡ Memory)
   empty_file One size said = let l = is_loaded o.width o.database said.database said.loaded in absurd (omega (arith, l.0, size))
-  empty_file Usage size said = absurd said
-  empty_file NoBlock size said = absurd said
-  empty_file Several size said = absurd said
-  empty_file Absent size said = absurd said
-  empty_file (TooFew k h) size said = absurd said
-  empty_file (TooWeak k t h) size said = absurd said
-  empty_file (TooCostly equations) size said = absurd said
   empty_file ReadFault size said = absurd (none.1.0 (once_rose _ _ said.0.rose))
   empty_file WriteFault size said = absurd (none.0 (once_rose _ _ said.written.rose))
-  empty_file (BadInput (Session place)) size said = absurd said
   empty_file (BadInput EmptyFile) size said = inl refl
   empty_file (BadInput (TooBig most)) size said =
       let more = at_told (λ (h : List ℕ). limit o.width < length h) (old.at DATABASE).holds bytes held said.0.1.more in
       absurd (omega (arith, more, size))
-  empty_file (BadInput (CoinsEnded taken)) size said = absurd said
   empty_file DoorFault size said = absurd (door_rose o old new none said)
-  empty_file ChildFault size said = absurd said
   empty_file Memory size said = inr refl
+  empty_file status size said = absurd said
 
   -- and so is one that is too big
   too_big : (status : Status) → limit o.width < length bytes → ServeEnds o status old new → (status ≡ BadInput (TooBig (limit o.width))) ⊎ (status ≡ Memory)
   too_big One more said = let l = is_loaded o.width o.database said.database said.loaded in absurd (omega (arith, l.1, more))
-  too_big Usage more said = absurd said
-  too_big NoBlock more said = absurd said
-  too_big Several more said = absurd said
-  too_big Absent more said = absurd said
-  too_big (TooFew k h) more said = absurd said
-  too_big (TooWeak k t h) more said = absurd said
-  too_big (TooCostly equations) more said = absurd said
   too_big ReadFault more said = absurd (none.1.0 (once_rose _ _ said.0.rose))
   too_big WriteFault more said = absurd (none.0 (once_rose _ _ said.written.rose))
-  too_big (BadInput (Session place)) more said = absurd said
   too_big (BadInput EmptyFile) more said =
       let empty = at_told (λ (h : List ℕ). h ≡ []) (old.at DATABASE).holds bytes held said.0.none in
       absurd (omega (arith, ap length empty, more))
   too_big (BadInput (TooBig most)) more said = inl (ap (λ (n : ℕ). BadInput (TooBig n)) said.0.0)
-  too_big (BadInput (CoinsEnded taken)) more said = absurd said
   too_big DoorFault more said = absurd (door_rose o old new none said)
-  too_big ChildFault more said = absurd said
   too_big Memory more said = inr refl
+  too_big status more said = absurd said
 
 -- what is promised of `serve`
 pub serve_promised : (o : ServeOrder) (status : Status) (old new : World) → ServeEnds o status old new → ServePromise o status old new

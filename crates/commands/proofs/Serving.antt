@@ -17,8 +17,8 @@ use Rattle.serve_core.proofs.ServingOne.{serves_one, replies_one}
 use Rattle.commands.specs.Told.{DidRise}
 use Rattle.commands.specs.ServeOrder.{ServeOrder, service_of}
 use Rattle.commands.specs.declared.status.Status.{Status}
-use Rattle.commands.specs.declared.status.Status.TheVariants.{One, Usage, NoBlock, Several, Absent, TooFew, TooWeak, TooCostly, ReadFault, WriteFault, BadInput, DoorFault, ChildFault, Memory}
-use Rattle.commands.specs.declared.status.Bad.TheVariants.{Session, EmptyFile, TooBig, CoinsEnded}
+use Rattle.commands.specs.declared.status.Status.TheVariants.{ReadFault, WriteFault, BadInput, DoorFault, Memory}
+use Rattle.commands.specs.declared.status.Bad.TheVariants.{EmptyFile, TooBig}
 use Rattle.commands.specs.ServeSteps.{ready, AttendsInTurn, Loaded, OpensDesk, HasOpenDesk, Listens, TouchesDoor, TouchesAtDesk, ServesGuests, RepliesToGuests, RunsDry, TouchesGuests}
 use Rattle.commands.specs.ServeOutcome.{Nobody, ServeEnds, ServedAll, NoFurtherGuest, CannotListen, CannotSayReady, TouchesServer}
 
@@ -185,20 +185,9 @@ module _ (o : ServeOrder) (service : Service) (w v : World) (has : HasOpenDesk o
 
   -- so the run ends
   pub not_ready : (status : Status) (u : World) → Listens o.listen (Err status) v u → TouchesDoor v u → ServeEnds o status w u
-  not_ready One u l t = absurd l
-  not_ready Usage u l t = absurd l
-  not_ready NoBlock u l t = absurd l
-  not_ready Several u l t = absurd l
-  not_ready Absent u l t = absurd l
-  not_ready (TooFew k h) u l t = absurd l
-  not_ready (TooWeak k t' h) u l t = absurd l
-  not_ready (TooCostly equations) u l t = absurd l
-  not_ready ReadFault u l t = absurd l
   not_ready WriteFault u l t = cannot_say_ready u l t
-  not_ready (BadInput bad) u l t = absurd l
   not_ready DoorFault u l t = inl (cannot_listen u l t)
-  not_ready Memory u l t = absurd l
-  not_ready ChildFault u l t = absurd l
+  not_ready status u l t = absurd l
 
   -- guests can come in
   module _ (u x : World) (l : Listens o.listen (Ok tt) v u) (t : TouchesDoor v u) (g : TouchesGuests u x) where
@@ -284,20 +273,8 @@ unnamed_by_database w v touch = ap (λ (c : Cell). c.opened) (touch.others 6 (om
 
 -- the desk can't be opened, so the run ends
 pub desk_not_open : (o : ServeOrder) (status : Status) (w v : World) → OpensDesk o (Err status) w v → Touches DATABASE w v → ServeEnds o status w v
-desk_not_open o One w v opens touch = absurd opens
-desk_not_open o Usage w v opens touch = absurd opens
-desk_not_open o NoBlock w v opens touch = absurd opens
-desk_not_open o Several w v opens touch = absurd opens
-desk_not_open o Absent w v opens touch = absurd opens
-desk_not_open o (TooFew k h) w v opens touch = absurd opens
-desk_not_open o (TooWeak k t h) w v opens touch = absurd opens
-desk_not_open o (TooCostly equations) w v opens touch = absurd opens
 desk_not_open o ReadFault w v opens touch = (opens, touch)
-desk_not_open o WriteFault w v opens touch = absurd opens
-desk_not_open o (BadInput (Session place)) w v opens touch = absurd opens
 desk_not_open o (BadInput EmptyFile) w v opens touch = (opens, touch)
 desk_not_open o (BadInput (TooBig most)) w v opens touch = (opens, touch)
-desk_not_open o (BadInput (CoinsEnded taken)) w v opens touch = absurd opens
-desk_not_open o DoorFault w v opens touch = absurd opens
 desk_not_open o Memory w v opens touch = (opens, touch)
-desk_not_open o ChildFault w v opens touch = absurd opens
+desk_not_open o status w v opens touch = absurd opens

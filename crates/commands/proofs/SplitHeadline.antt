@@ -16,8 +16,8 @@ use Rattle.commands.specs.SplitOrder.{SplitOrder}
 use Rattle.commands.specs.SplitSteps.{LoadedToShare, coins_to_split}
 use Rattle.commands.specs.SplitOutcome.{CoinsRunOut, SplitAll, SplitEnds, SplitPromise, coins_of_file, files}
 use Rattle.commands.specs.declared.status.Status.{Status}
-use Rattle.commands.specs.declared.status.Status.TheVariants.{One, Usage, NoBlock, Several, Absent, TooFew, TooWeak, TooCostly, ReadFault, WriteFault, BadInput, DoorFault, ChildFault, Memory}
-use Rattle.commands.specs.declared.status.Bad.TheVariants.{Session, EmptyFile, TooBig, CoinsEnded}
+use Rattle.commands.specs.declared.status.Status.TheVariants.{One, ReadFault, WriteFault, BadInput, Memory}
+use Rattle.commands.specs.declared.status.Bad.TheVariants.{EmptyFile, TooBig, CoinsEnded}
 
 -- a database that can be shared was loaded: this is how many bytes its file has, and how many coins it takes
 pub record IsSized (o : SplitOrder) (m : Database) (size : ℕ) : Type 0 where
@@ -68,42 +68,24 @@ module _ (o : SplitOrder) (old new : World) (wide : 0 < o.width) (none : NoneRos
   -- an empty file is refused
   empty_file : (status : Status) → length bytes ≡ 0 → SplitEnds o status old new → (status ≡ BadInput EmptyFile) ⊎ (status ≡ Memory)
   empty_file One size said = let l = is_sized said.database said.loaded in absurd (omega (arith, l.some, size))
-  empty_file Usage size said = absurd said
-  empty_file NoBlock size said = absurd said
-  empty_file Several size said = absurd said
-  empty_file Absent size said = absurd said
-  empty_file (TooFew k h) size said = absurd said
-  empty_file (TooWeak k t h) size said = absurd said
-  empty_file (TooCostly equations) size said = absurd said
   empty_file ReadFault size said = absurd (no_read_fault said)
   empty_file WriteFault size said = absurd (no_write_fault said)
-  empty_file (BadInput (Session place)) size said = absurd said
   empty_file (BadInput EmptyFile) size said = inl refl
   empty_file (BadInput (TooBig most)) size said = absurd (not_too_big most (omega (arith, size)) said)
   empty_file (BadInput (CoinsEnded taken)) size said = let l = is_sized said.database said.loaded in absurd (omega (arith, l.some, size))
-  empty_file DoorFault size said = absurd said
-  empty_file ChildFault size said = absurd said
   empty_file Memory size said = inr refl
+  empty_file status size said = absurd said
 
   -- and so is one that is too big
   too_big : (status : Status) → shared_limit o.width o.tau < length bytes → SplitEnds o status old new → (status ≡ BadInput (TooBig (shared_limit o.width o.tau))) ⊎ (status ≡ Memory)
   too_big One more said = let l = is_sized said.database said.loaded in absurd (omega (arith, l.few, more))
-  too_big Usage more said = absurd said
-  too_big NoBlock more said = absurd said
-  too_big Several more said = absurd said
-  too_big Absent more said = absurd said
-  too_big (TooFew k h) more said = absurd said
-  too_big (TooWeak k t h) more said = absurd said
-  too_big (TooCostly equations) more said = absurd said
   too_big ReadFault more said = absurd (no_read_fault said)
   too_big WriteFault more said = absurd (no_write_fault said)
-  too_big (BadInput (Session place)) more said = absurd said
   too_big (BadInput EmptyFile) more said = absurd (not_empty (omega (arith, more)) said)
   too_big (BadInput (TooBig most)) more said = inl (ap (λ (n : ℕ). BadInput (TooBig n)) said.0.0)
   too_big (BadInput (CoinsEnded taken)) more said = let l = is_sized said.database said.loaded in absurd (omega (arith, l.few, more))
-  too_big DoorFault more said = absurd said
-  too_big ChildFault more said = absurd said
   too_big Memory more said = inr refl
+  too_big status more said = absurd said
 
   module _ (some : 0 < length bytes) (few : length bytes ≤ shared_limit o.width o.tau) (coins : List ℕ) (tossed : (old.at COINS).holds ≡ Some coins) where
     -- they don't run out
@@ -125,44 +107,26 @@ module _ (o : SplitOrder) (old new : World) (wide : 0 < o.width) (none : NoneRos
     -- with coins enough, the database is split
     all_split : (status : Status) → coins_of_file o (length bytes) ≤ length coins → SplitEnds o status old new → ((status ≡ One) × SplitAll o old new) ⊎ (status ≡ Memory)
     all_split One enough said = inl (refl, said)
-    all_split Usage enough said = absurd said
-    all_split NoBlock enough said = absurd said
-    all_split Several enough said = absurd said
-    all_split Absent enough said = absurd said
-    all_split (TooFew k h) enough said = absurd said
-    all_split (TooWeak k t h) enough said = absurd said
-    all_split (TooCostly equations) enough said = absurd said
     all_split ReadFault enough said = absurd (no_read_fault said)
     all_split WriteFault enough said = absurd (no_write_fault said)
-    all_split (BadInput (Session place)) enough said = absurd said
     all_split (BadInput EmptyFile) enough said = absurd (not_empty some said)
     all_split (BadInput (TooBig most)) enough said = absurd (not_too_big most few said)
     all_split (BadInput (CoinsEnded taken)) enough said = absurd (not_short taken enough said)
-    all_split DoorFault enough said = absurd said
-    all_split ChildFault enough said = absurd said
     all_split Memory enough said = inr refl
+    all_split status enough said = absurd said
 
     -- with too few, it isn't
     none_split : (status : Status) → length coins < coins_of_file o (length bytes) → SplitEnds o status old new → (status ≡ BadInput (CoinsEnded (length coins))) ⊎ (status ≡ Memory)
     none_split One short said = absurd (not_whole short said)
-    none_split Usage short said = absurd said
-    none_split NoBlock short said = absurd said
-    none_split Several short said = absurd said
-    none_split Absent short said = absurd said
-    none_split (TooFew k h) short said = absurd said
-    none_split (TooWeak k t h) short said = absurd said
-    none_split (TooCostly equations) short said = absurd said
     none_split ReadFault short said = absurd (no_read_fault said)
     none_split WriteFault short said = absurd (no_write_fault said)
-    none_split (BadInput (Session place)) short said = absurd said
     none_split (BadInput EmptyFile) short said = absurd (not_empty some said)
     none_split (BadInput (TooBig most)) short said = absurd (not_too_big most few said)
     none_split (BadInput (CoinsEnded taken)) short said =
         let all = at_told (λ (h : List ℕ). length h ≡ taken) (old.at COINS).holds coins tossed said.short.all in
         inl (ap (λ (n : ℕ). BadInput (CoinsEnded n)) (sym all))
-    none_split DoorFault short said = absurd said
-    none_split ChildFault short said = absurd said
     none_split Memory short said = inr refl
+    none_split status short said = absurd said
 
 -- what is promised of `split`
 pub split_promised : (o : SplitOrder) (status : Status) (old new : World) → 0 < o.width → SplitEnds o status old new → SplitPromise o status old new

@@ -22,8 +22,8 @@ use Rattle.commands.specs.SplitOrder.{SplitOrder, plan_to_split}
 use Rattle.commands.specs.SplitSteps.{LoadedToShare, SharesNotAll, SharesOut, TouchesSharing, cells_of, coins_to_split, split_text}
 use Rattle.commands.specs.SplitOutcome.{SplitEnds, TouchesRead}
 use Rattle.commands.specs.declared.status.Status.{Status}
-use Rattle.commands.specs.declared.status.Status.TheVariants.{One, Usage, NoBlock, Several, Absent, TooFew, TooWeak, TooCostly, ReadFault, WriteFault, BadInput, DoorFault, ChildFault, Memory}
-use Rattle.commands.specs.declared.status.Bad.TheVariants.{Session, EmptyFile, TooBig, CoinsEnded}
+use Rattle.commands.specs.declared.status.Status.TheVariants.{One, ReadFault, WriteFault, BadInput, Memory}
+use Rattle.commands.specs.declared.status.Bad.TheVariants.{CoinsEnded}
 
 -- a file that can't be read, counted from before, where nothing had touched its port
 unread_before : (p : ℕ) (name : List ℕ) (most : ℕ) (w v u : World) → v.at p ≡ w.at p → Unread p name most v u → Unread p name most w u
@@ -94,13 +94,6 @@ module _ (o : SplitOrder) (m : Database) (w v u : World) (few : o.servers < 256)
       written = said.written ∙ ap (gave (split_text o m)) output_still;
     };
   }
-  split_ends Usage said = absurd said
-  split_ends NoBlock said = absurd said
-  split_ends Several said = absurd said
-  split_ends Absent said = absurd said
-  split_ends (TooFew k h) said = absurd said
-  split_ends (TooWeak k t h) said = absurd said
-  split_ends (TooCostly equations) said = absurd said
   split_ends ReadFault said = inr (record {
     database = m;
     loaded = still_loaded;
@@ -108,18 +101,14 @@ module _ (o : SplitOrder) (m : Database) (w v u : World) (few : o.servers < 256)
     others = read_alone said.1;
   })
   split_ends WriteFault said = record { database = m; loaded = still_loaded; cut = not_all said }
-  split_ends (BadInput (Session place)) said = absurd said
-  split_ends (BadInput EmptyFile) said = absurd said
-  split_ends (BadInput (TooBig most)) said = absurd said
   split_ends (BadInput (CoinsEnded taken)) said = record {
     database = m;
     loaded = still_loaded;
     short = subst (λ (c : Cell). RunsOut (coins_to_split o m) taken (named o.coins c) (u.at COINS)) coins_still said.0;
     others = read_alone said.1;
   }
-  split_ends DoorFault said = absurd said
-  split_ends ChildFault said = absurd said
   split_ends Memory said = begun said
+  split_ends status said = absurd said
 
 -- Database was opened by its name, and then it was read
 module _ (o : SplitOrder) (w v u : World) (is_open : v.at DATABASE ≡ named o.database (w.at DATABASE)) (first : Touches DATABASE w v) (second : Touches DATABASE v u) where
