@@ -1,10 +1,10 @@
 //! A list as it is gathered, and its entries as they ascend.
 
-ghost use Rattle.std.specs.Prelude.{◌≡◌, ◌≤◌, ◌<◌, ℕ, length, [], All};
+ghost use Rattle.std.specs.Prelude.{◌≡◌, ◌≤◌, ◌<◌, ℕ, length, slice_index, [], All};
 ghost use Rattle.std.specs.List.{dedup};
 ghost use Rattle.std.specs.List.Sorted.{IsPermutation, IsSortedBy};
 ghost use Rattle.key_table.specs.Sorting.{Adds, Sorts};
-ghost use Rattle.key_table.specs.Places.{comes_before, has_same_digest};
+ghost use Rattle.key_table.specs.Places.{comes_before, digest_at, has_same_digest, value_at};
 ghost use Rattle.key_table.specs.declared.TheConstants.{LEAST_DIGEST, MOST_DIGEST, MOST_VALUE, MOST_PAIRS};
 
 use crate::MOST_PAIRS;
@@ -63,6 +63,14 @@ fn sort_places(pairs: &Pairs, places: &mut Vec<u32>)
     ensures sorted { IsSortedBy (comes_before pairs.now.pairs) places.new.items }
 {
     places.sort_unstable_by(|one, other| pairs.compare(*one, *other));
+}
+
+/// The place of an entry.
+fn place_at(places: &[u32], entry: usize) -> u32
+    requires { entry < length places.now }
+    ensures { result ≡ slice_index places.now entry }
+{
+    places[entry]
 }
 
 /// Of the places that have one digest and stand side by side, the first is kept.
@@ -131,5 +139,30 @@ impl Entries {
             places,
             most,
         })
+    }
+}
+
+impl SortedEntries {
+    /// How many entries there are.
+    pub fn count(&self) -> usize
+        ensures { result ≡ length self.now.pairs }
+    {
+        self.places.as_slice().len()
+    }
+
+    /// The digest of an entry.
+    pub fn digest(&self, entry: usize) -> &[u8]
+        requires { entry < length self.now.pairs }
+        ensures { result.now ≡ digest_at self.now.pairs entry }
+    {
+        self.pairs.digest(place_at(self.places.as_slice(), entry))
+    }
+
+    /// The value of an entry.
+    pub fn value(&self, entry: usize) -> &[u8]
+        requires { entry < length self.now.pairs }
+        ensures { result.now ≡ value_at self.now.pairs entry }
+    {
+        self.pairs.value(place_at(self.places.as_slice(), entry))
     }
 }
