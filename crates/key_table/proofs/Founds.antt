@@ -3,7 +3,7 @@ use Rattle.std.proofs.Common.{◌≡◌, ◌≤◌, ◌<◌, ◌+◌, ◌*◌, �
 use Rattle.std.specs.List.{flat_map}
 use Rattle.key_table.specs.Entry.{Pair, entry, entry_size}
 use Rattle.key_table.specs.Table.{AreEntries, IsRowOf, Making, framed, head_size}
-use Rattle.key_table.proofs.Entries.{length-entries}
+use Rattle.key_table.proofs.EntryBytes.{length-entries}
 use Rattle.key_table.proofs.Frames.{frame_parts}
 use Rattle.key_table.proofs.Law.{few_pairs}
 

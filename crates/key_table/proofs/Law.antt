@@ -16,7 +16,7 @@ use Rattle.key_table.specs.Table.{Making, IsRowOf, IsTable, head_size, pairs_in,
 use Rattle.key_table.specs.Looked.{AnswersFor, LooksUp, TableAnswers, pair}
 use Rattle.key_table.specs.declared.row.Finding.{Finding}
 use Rattle.key_table.specs.declared.row.Finding.TheVariants.{Broken, Absent, Found}
-use Rattle.key_table.proofs.Entries.{entry-is, entries-unique, length-entries}
+use Rattle.key_table.proofs.EntryBytes.{entry-is, entries-unique, length-entries}
 use Rattle.key_table.proofs.Frames.{frame_parts, length-framed}
 use Rattle.key_table.proofs.Members.{Contains-here, Contains-there, Contains-kept, Contains-unkept}
 use Rattle.key_table.proofs.Order.{Ascend-kept, fronts_decide}

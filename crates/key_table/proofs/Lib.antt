@@ -2,7 +2,12 @@ pub mod Zeros
 pub mod Values
 pub mod Members
 pub mod Order
-pub mod Entries
+pub mod EntryBytes
+pub mod Stored
+pub mod Gathered
+pub mod PlaceOrder
+pub mod Scan
+pub mod SortedPairs
 pub mod Rests
 pub mod Frames
 pub mod Law

@@ -8,7 +8,7 @@ use Rattle.key_table.specs.Entry.{Pair, IsPair, entry, entry_size}
 use Rattle.key_table.specs.KeyList.{Ascend}
 use Rattle.key_table.specs.Table.{AreEntries, Follows}
 use Rattle.key_table.specs.Looked.{LacksDigest, pair}
-use Rattle.key_table.proofs.Entries.{length-entry, entry-front}
+use Rattle.key_table.proofs.EntryBytes.{length-entry, entry-front}
 use Rattle.key_table.proofs.Members.{Contains-cases, Contains-here, Contains-none, Contains-there}
 use Rattle.key_table.proofs.Order.{Ascend-more, Ascend-first, Ascend-rest, Ascend-one, Ascend-empty}
 

@@ -1,6 +1,10 @@
 pub mod Digest
 pub mod Entry
 pub mod KeyList
+pub mod Places
+pub mod Held
+pub mod Scan
 pub mod Table
 pub mod Width
 pub mod Looked
+pub mod Sorting

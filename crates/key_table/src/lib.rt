@@ -5,20 +5,26 @@
 //!
 //! Promised: [`find_in_row`] says of any bytes whether they are that row of some table, and if so whether the digest is
 //! in it, and its value. In the row of a list's table that is what the list has for the digest ([`laws`]).
+//! [`Entries`] gathers the pairs of a list and sorts them, or says where the list has a digest with two values.
 //! [`write_entry`], [`tag_of`] and [`write_row`] write the parts of a table, in memory that is there.
 //!
 //! Not promised: that no two keys have one digest.
 #![tactic(auto)]
 
+mod clash;
 mod digest;
+mod entries;
 mod entry;
 pub mod laws;
+mod pairs;
 mod row;
 #[cfg(test)]
 mod tests;
 mod write;
 
+pub use clash::Clash;
 pub use digest::{row_of, write_digest};
+pub use entries::{AddFault, Entries, SortedEntries};
 pub use entry::entry_size;
 pub use row::{Finding, find_in_row};
 pub use write::{tag_of, write_entry, write_row};
@@ -31,3 +37,6 @@ pub const MOST_DIGEST: usize = 32;
 
 /// The greatest number of bytes of a value. A row with one entry has to fit the greatest width.
 pub const MOST_VALUE: usize = 16384;
+
+/// The greatest number of pairs of a list.
+pub const MOST_PAIRS: usize = 1 << 26;

@@ -2,7 +2,11 @@
 
 ghost use Rattle.std.specs.Prelude.{◌<◌};
 
-use crate::{Finding, find_in_row, row_of, tag_of, write_digest, write_entry, write_row};
+use crate::{
+    AddFault, Clash, Entries, Finding, find_in_row, row_of, tag_of, write_digest, write_entry,
+    write_row,
+};
+use std::alloc::Global;
 
 const SALT: [u8; 16] = [0, 1, 2, 3, 4, 5, 6, 7, 8, 9, 10, 11, 12, 13, 14, 15];
 
@@ -128,4 +132,45 @@ fn are_written() -> bool {
 #[test]
 fn a_row_is_written_as_it_is_read(rt: HostRuntime) {
     assert!(rt; are_written());
+}
+
+/// The clash of a list of `beta` without a value and `alpha` with two values.
+fn clash_of(alloc: Global, one: &[u8; 3], other: &[u8; 3]) -> Result<Option<Clash>, AddFault> {
+    let mut list = Entries::new(alloc, 8);
+    list.add(&ROW_0[10..18], b"")?;
+    list.add(&ROW[10..18], one)?;
+    list.add(&ROW[10..18], other)?;
+    match list.sort(5) {
+        Ok(_) => Ok(None),
+        Err(clash) => Ok(Some(clash)),
+    }
+}
+
+#[test]
+fn a_digest_with_two_values_is_a_clash(rt: HostRuntime) {
+    assert!(rt; clash_of(rt.alloc(), b"one", b"two") == Ok(Some(Clash { first: 1, place: 2 })));
+    assert!(rt; clash_of(rt.alloc(), b"one", b"one") == Ok(None));
+}
+
+/// Whether the worked pairs, one of them given twice, are sorted.
+fn are_sorted(alloc: Global) -> Result<bool, AddFault> {
+    let mut list = Entries::new(alloc, 8);
+    list.add(&ROW[25..33], b"three")?;
+    list.add(&ROW[10..18], b"one")?;
+    list.add(&ROW_0[10..18], b"")?;
+    list.add(&ROW[10..18], b"one")?;
+    match list.sort(5) {
+        Ok(sorted) => Ok(
+            sorted.count() == 3
+                && sorted.digest(0) == &ROW_0[10..18]
+                && sorted.digest(1) == &ROW[10..18]
+                && sorted.value(2) == b"three".as_slice(),
+        ),
+        Err(_) => Ok(false),
+    }
+}
+
+#[test]
+fn a_list_is_sorted(rt: HostRuntime) {
+    assert!(rt; are_sorted(rt.alloc()) == Ok(true));
 }

@@ -3,7 +3,7 @@ use Rattle.std.specs.List.{flat_map}
 use Rattle.key_table.specs.Digest.{row_of}
 use Rattle.key_table.specs.Entry.{entry}
 use Rattle.key_table.specs.Table.{AreEntries, Making}
-use Rattle.key_table.proofs.Entries.{length-entries}
+use Rattle.key_table.proofs.EntryBytes.{length-entries}
 use Rattle.key_table.proofs.Law.{few_pairs}
 use Rattle.key_table.proofs.Founds.{IsRowOf-from, entries-from}
 use Rattle.key_table.proofs.row.find_in_row.Goals as goal

@@ -3,7 +3,7 @@ use Rattle.std.specs.Cmp.Lexicographic.{slice_cmp}
 use Rattle.std.proofs.lemmas.List.{take-append-drop}
 use Rattle.key_table.specs.Digest.{row_of}
 use Rattle.key_table.specs.Entry.{Pair}
-use Rattle.key_table.proofs.Entries.{entry-is, entry-front, entry-back}
+use Rattle.key_table.proofs.EntryBytes.{entry-is, entry-front, entry-back}
 use Rattle.key_table.proofs.row.follows.Goals as goal
 
 pub returns-then-row_of-j-clause-no : goal.returns-then-row_of-j-clause-no

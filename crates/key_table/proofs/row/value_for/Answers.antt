@@ -1,7 +1,7 @@
 use Rattle.std.proofs.Common.{◌≡◌, ◌≤◌, ℕ, List, length, take, drop, Option, Some, None, MatchOption, sym, ap, ap₂, subst, ◌∙◌, arith, true≢false}
 use Rattle.std.specs.Cmp.Lexicographic.{bytes_decides}
 use Rattle.key_table.specs.Entry.{entry, entry_size, value_bytes}
-use Rattle.key_table.proofs.Entries.{entry-front, entry-back}
+use Rattle.key_table.proofs.EntryBytes.{entry-front, entry-back}
 use Rattle.key_table.proofs.Rests.{Sought, Sought-ahead, Sought-none}
 use Rattle.key_table.proofs.Values.{value_unique}
 use Rattle.key_table.proofs.row.value_for.Goals as goal

@@ -1,4 +1,4 @@
-use Rattle.std.proofs.Common.{◌≡◌, ◌+◌, ◌-◌, ◌++◌, List, ℕ, length, replicate, ap, ap₂, ◌∙◌, arith, rules, w16}
+use Rattle.std.proofs.Common.{◌≡◌, ◌+◌, ◌-◌, ◌++◌, length, replicate, ap, ap₂, ◌∙◌, arith, rules, w16}
 use Rattle.std.specs.Int.{to_be_bytes}
 use Rattle.key_table.specs.Table.{framed, head_size}
 use Rattle.key_table.proofs.write.write_row.Goals as goal

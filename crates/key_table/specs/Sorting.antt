@@ -1,0 +1,28 @@
+-- What gathering a list and sorting it come to.
+use Rattle.std.specs.Prelude.{◌≡◌, ℕ, ◌<◌, List, [], ◌∷◌, ◌++◌, length, Result, Ok, Err}
+use Rattle.key_table.specs.Entry.{Pair}
+use Rattle.key_table.specs.Held.{Held}
+use Rattle.key_table.specs.KeyList.{AreSorted, IsClear}
+use Rattle.key_table.specs.Looked.{pair}
+use Rattle.key_table.specs.Places.{IsClash}
+use Rattle.key_table.specs.declared.TheConstants.{MOST_PAIRS}
+use Rattle.key_table.specs.declared.entries.AddFault.{AddFault}
+use Rattle.key_table.specs.declared.entries.AddFault.TheVariants.{TooMany, Memory}
+use Rattle.key_table.specs.declared.clash.Clash.{Clash}
+
+-- the pairs of a clear list as they ascend, the bytes of their digests and the most bytes of a value
+pub record Sorted : Type 0 where
+  pub size : ℕ
+  pub most : ℕ
+  pub pairs : List Pair
+
+-- one more pair stands behind the others; where there are too many, or no memory, nothing changed
+abbrev pub Adds : Held → List ℕ → List ℕ → Result (Unit {0}) AddFault → Held → Type 0
+Adds old digest value (Ok done) new = (length old.pairs < MOST_PAIRS) × (new ≡ record { size = old.size; pairs = old.pairs ++ pair digest value ∷ [] })
+Adds old digest value (Err TooMany) new = (length old.pairs ≡ MOST_PAIRS) × (new ≡ old)
+Adds old digest value (Err Memory) new = (length old.pairs < MOST_PAIRS) × (new ≡ old)
+
+-- the entries of a list, where it is clear; else its clash
+abbrev pub Sorts : Held → ℕ → Result Sorted Clash → Type 0
+Sorts list most (Ok sorted) = (sorted.size ≡ list.size) × (sorted.most ≡ most) × IsClear list.pairs × AreSorted most list.pairs sorted.pairs
+Sorts list most (Err clash) = IsClash list.pairs clash.first clash.place

@@ -1,0 +1,84 @@
+//! The clash of a list: where a digest stands with two values.
+
+ghost use Rattle.std.specs.Prelude.{◌≡◌, ◌≤◌, ◌<◌, ◌+◌, ℕ, List, length, slice_index, MatchOption};
+ghost use Rattle.key_table.specs.KeyList.{IsClear};
+ghost use Rattle.key_table.specs.Places.{IsClash};
+ghost use Rattle.key_table.specs.Scan.{AreOrdered, Scanned};
+ghost use Rattle.key_table.specs.declared.TheConstants.{MOST_PAIRS};
+
+use crate::MOST_PAIRS;
+use crate::pairs::Pairs;
+
+/// Two places of a list that have one digest with two values.
+#[derive(Clone, Copy, Debug, PartialEq, Eq)]
+pub struct Clash {
+    /// The first place with the digest.
+    pub first: u32,
+    /// The least place of the list whose digest stands with another value at an earlier one.
+    pub place: u32,
+}
+
+/// What is known of the places that were looked at, in the order of their digests.
+#[derive(Clone, Copy)]
+struct Scan {
+    /// The first place that has the digest of the last one.
+    first: u32,
+    /// The least place whose value isn't that of the first place of its digest.
+    least: u32,
+    /// That first place.
+    least_first: u32,
+}
+
+/// One more place is looked at.
+fn scan_place(pairs: &Pairs, scan: Scan, place: u32) -> Scan
+    ensures { (places : List ℕ) (i : ℕ) → AreOrdered pairs.now.pairs places → 0 < i → i < length places
+        → place ≡ slice_index places i
+        → Scanned pairs.now.pairs places i scan.first scan.least scan.least_first
+        → Scanned pairs.now.pairs places (i + 1) result.first result.least result.least_first }
+{
+    if !pairs.has_same_digest(scan.first, place) {
+        return Scan {
+            first: place,
+            least: scan.least,
+            least_first: scan.least_first,
+        };
+    }
+    if place >= scan.least {
+        return scan;
+    }
+    if pairs.has_same_value(scan.first, place) {
+        return scan;
+    }
+    Scan {
+        first: scan.first,
+        least: place,
+        least_first: scan.first,
+    }
+}
+
+/// The clash of the list, by its places in the order of their digests.
+pub(crate) fn clash_among(pairs: &Pairs, places: &[u32]) -> Option<Clash>
+    requires few { length pairs.now.pairs ≤ MOST_PAIRS }
+    requires ordered { AreOrdered pairs.now.pairs places.now }
+    ensures { MatchOption result (IsClear pairs.now.pairs) (λ clash. IsClash pairs.now.pairs clash.first clash.place) }
+{
+    let count = pairs.len() as u32;
+    if count == 0 {
+        return None;
+    }
+    let mut scan = Scan {
+        first: places[0],
+        least: count,
+        least_first: count,
+    };
+    for i in 1..places.len() {
+        scan = scan_place(pairs, scan, places[i]);
+    }
+    if scan.least >= count {
+        return None;
+    }
+    Some(Clash {
+        first: scan.least_first,
+        place: scan.least,
+    })
+}

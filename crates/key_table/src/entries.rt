@@ -1,0 +1,168 @@
+//! A list as it is gathered, and its entries as they ascend.
+
+ghost use Rattle.std.specs.Prelude.{◌≡◌, ◌≤◌, ◌<◌, ℕ, length, slice_index, [], All};
+ghost use Rattle.std.specs.List.{dedup};
+ghost use Rattle.std.specs.List.Sorted.{IsPermutation, IsSortedBy};
+ghost use Rattle.key_table.specs.Sorting.{Adds, Sorts};
+ghost use Rattle.key_table.specs.Places.{comes_before, digest_at, has_same_digest, value_at};
+ghost use Rattle.key_table.specs.declared.TheConstants.{LEAST_DIGEST, MOST_DIGEST, MOST_VALUE, MOST_PAIRS};
+
+use crate::MOST_PAIRS;
+use crate::clash::{Clash, clash_among};
+use crate::pairs::Pairs;
+use std::alloc::Global;
+use std::marker::Model;
+
+/// Why a pair was not added.
+#[derive(Clone, Copy, Debug, PartialEq, Eq)]
+pub enum AddFault {
+    /// There are as many pairs as a list may have.
+    TooMany,
+    /// There was no memory for it.
+    Memory,
+}
+
+/// The pairs of a list, as they are given.
+#[derive(Drop)]
+pub struct Entries {
+    pairs: Pairs,
+    places: Vec<u32>,
+}
+
+impl Model for Entries {
+    ghost use Rattle.key_table.specs.Held.{AreGathered, Held};
+
+    ghost Value = { Held };
+
+    ghost view = { λ e. e.pairs };
+
+    ghost invariant = { λ e. AreGathered e.pairs e.places.items };
+}
+
+/// The entries of a clear list, as they ascend.
+#[derive(Drop)]
+pub struct SortedEntries {
+    pairs: Pairs,
+    places: Vec<u32>,
+    most: usize,
+}
+
+impl Model for SortedEntries {
+    ghost use Rattle.std.specs.Prelude.{◌≡◌, ◌<◌, length, map, All};
+    ghost use Rattle.key_table.specs.Places.{pair_at};
+    ghost use Rattle.key_table.specs.Sorting.{Sorted};
+
+    ghost Value = { Sorted };
+
+    ghost view = { λ s. record { size = s.pairs.size; most = s.most; pairs = map (pair_at s.pairs.pairs) s.places.items } };
+}
+
+/// Sorts places by their digests, and those of one digest as they were given.
+fn sort_places(pairs: &Pairs, places: &mut Vec<u32>)
+    ensures moved { IsPermutation places.old.items places.new.items }
+    ensures sorted { IsSortedBy (comes_before pairs.now.pairs) places.new.items }
+{
+    places.sort_unstable_by(|one, other| pairs.compare(*one, *other));
+}
+
+/// The place of an entry.
+fn place_at(places: &[u32], entry: usize) -> u32
+    requires { entry < length places.now }
+    ensures { result ≡ slice_index places.now entry }
+{
+    places[entry]
+}
+
+/// Of the places that have one digest and stand side by side, the first is kept.
+fn keep_firsts(pairs: &Pairs, places: &mut Vec<u32>)
+    ensures { places.new.items ≡ dedup (has_same_digest pairs.now.pairs) places.old.items }
+{
+    places.dedup_by(|one, other| pairs.has_same_digest(*one, *other));
+}
+
+impl Entries {
+    /// A list without pairs, whose digests have `size` bytes.
+    pub fn new(alloc: Global, size: usize) -> Entries
+        requires least { LEAST_DIGEST ≤ size }
+        requires most { size ≤ MOST_DIGEST }
+        ensures { result ≡ record { size = size; pairs = [] } }
+    {
+        Entries {
+            pairs: Pairs::new(alloc, size),
+            places: Vec::new(alloc),
+        }
+    }
+
+    /// One more pair of a digest and a value.
+    ///
+    /// # Errors
+    ///
+    /// `TooMany` exactly where there are as many pairs as a list may have, `Memory` for want of memory. Nothing changed
+    /// then.
+    pub fn add(&mut self, digest: &[u8], value: &[u8]) -> Result<(), AddFault>
+        requires digest { length digest.now ≡ self.old.size }
+        requires value { length value.now ≤ MOST_VALUE }
+        ensures { Adds self.old digest.now value.now result self.new }
+    {
+        let place = self.pairs.len();
+        if place == MOST_PAIRS {
+            return Err(AddFault::TooMany);
+        }
+        if self.places.push(place as u32).is_err() {
+            return Err(AddFault::Memory);
+        }
+        if self.pairs.add(digest, value).is_err() {
+            self.places.truncate(place);
+            return Err(AddFault::Memory);
+        }
+        Ok(())
+    }
+
+    /// The entries of the list as they ascend, each once, where values have at most `most` bytes. It takes no memory.
+    ///
+    /// # Errors
+    ///
+    /// The clash of the list, exactly where a digest stands with two values.
+    pub fn sort(self, most: usize) -> Result<SortedEntries, Clash>
+        requires most { most ≤ MOST_VALUE }
+        requires values { All (λ p. length p.value ≤ most) self.pairs }
+        ensures { Sorts self most result }
+    {
+        let Entries { pairs, mut places } = self;
+        sort_places(&pairs, &mut places);
+        if let Some(clash) = clash_among(&pairs, &places) {
+            return Err(clash);
+        }
+        keep_firsts(&pairs, &mut places);
+        Ok(SortedEntries {
+            pairs,
+            places,
+            most,
+        })
+    }
+}
+
+impl SortedEntries {
+    /// How many entries there are.
+    pub fn count(&self) -> usize
+        ensures { result ≡ length self.now.pairs }
+    {
+        self.places.as_slice().len()
+    }
+
+    /// The digest of an entry.
+    pub fn digest(&self, entry: usize) -> &[u8]
+        requires { entry < length self.now.pairs }
+        ensures { result.now ≡ digest_at self.now.pairs entry }
+    {
+        self.pairs.digest(place_at(self.places.as_slice(), entry))
+    }
+
+    /// The value of an entry.
+    pub fn value(&self, entry: usize) -> &[u8]
+        requires { entry < length self.now.pairs }
+        ensures { result.now ≡ value_at self.now.pairs entry }
+    {
+        self.pairs.value(place_at(self.places.as_slice(), entry))
+    }
+}
