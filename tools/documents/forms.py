@@ -1,4 +1,4 @@
-"""Names of docs/PROOFS.md, and the forms of documents: lengths, the kit that is named, the man page and the unit file."""
+"""Names of docs/PROOFS.md, and the forms of documents: lengths, the kit that is named, versions, man pages and units."""
 import os
 import re
 import shutil
@@ -7,6 +7,8 @@ import tempfile
 
 from documents.limits import is_taken
 from documents.repository import TOP, crates, found, lines_of, read, words_in
+
+PAGES = ("docs/pir.1", "docs/pir_show.1")
 
 
 def look_at_proofs():
@@ -20,7 +22,23 @@ def look_at_proofs():
     found.note(f"{count} names")
 
 
+def look_at_versions():
+    """Looks whether the versions of CHANGELOG.md fall, each with its date, and the man pages name the newest."""
+    heads = [it[3:] for it in read("CHANGELOG.md").splitlines() if it.startswith("## ")]
+    versions = [re.fullmatch(r"(\d+)\.(\d+)\.(\d+), (\d+ \w+ \d{4})(, .+)?", it) for it in heads]
+    for head, it in zip(heads, versions):
+        if not it:
+            found.bad("CHANGELOG.md", f"`## {head}` is no version with its date, as `## 0.4.0, 29 November 2026`")
+    numbers = [tuple(map(int, it.groups()[:3])) for it in versions if it]
+    if numbers != sorted(set(numbers), reverse=True):
+        found.bad("CHANGELOG.md", "its versions don't fall")
+    for page in PAGES if numbers else ():
+        if f".Os Hirdyqos {'.'.join(map(str, numbers[0]))}" not in read(page).splitlines():
+            found.bad(page, f"it doesn't name the version {'.'.join(map(str, numbers[0]))} of CHANGELOG.md")
+
+
 def look_at_forms(program):
+    look_at_versions()
     for path, most, parts, what in (("README.md", 120, str.splitlines, "lines"), ("docs/ARCHITECTURE.md", 200, str.splitlines, "lines"), ("docs/PERFORMANCE.md", 2500, str.split, "words")):
         count = len(parts(read(path)))
         if count > most:
@@ -38,7 +56,7 @@ def look_at_forms(program):
         if not shutil.which(words[0]):
             found.note(f"skipped {words[0]}: it isn't installed")
             continue
-        for page in ("docs/pir.1", "docs/pir_show.1"):
+        for page in PAGES:
             ran = subprocess.run([*words, f"{TOP}/{page}"], stdin=subprocess.DEVNULL, stdout=subprocess.PIPE, stderr=subprocess.STDOUT, text=True)
             said = [it for it in ran.stdout.splitlines() if "outdated mandoc.db" not in it]
             for it in said[:5]:
