@@ -5,7 +5,7 @@ use Rattle.std.specs.Result.{IfErr, IfOk, is_ok}
 use Rattle.std.proofs.lemmas.List.{length_push, map-id}
 use Rattle.std.proofs.lemmas.List.Elements.{All-push}
 use Rattle.std.proofs.lemmas.List.FromFn.{map-range_with_len_more}
-use Rattle.key_table.specs.Entry.{Pair}
+use Rattle.key_table.specs.Entry.{Pair, AreBytes}
 use Rattle.key_table.specs.Held.{AreGathered, Held}
 use Rattle.key_table.specs.Looked.{pair}
 use Rattle.key_table.specs.declared.TheConstants.{MOST_PAIRS}
@@ -36,13 +36,16 @@ places_push n =
     ∙ ap (λ ks. ks ++ n ∷ []) (map-id (range_with_len 0 n))
 
 -- one more pair with its place
-pub gathered_push : (held : Held) (order digest value : List ℕ) → AreGathered held order → length digest ≡ held.size
+pub gathered_push : (held : Held) (order digest value : List ℕ) → AreGathered held order → length digest ≡ held.size → AreBytes digest
     → length held.pairs < MOST_PAIRS
     → AreGathered (as_held held.size (held.pairs ++ pair digest value ∷ [])) (order ++ length held.pairs ∷ [])
-gathered_push held order digest value h long fewer =
+gathered_push held order digest value h long bytes fewer =
     let count = length_push held.pairs (pair digest value) in
     record {
+      least = h.least;
+      most = h.most;
       sizes = All-push (λ p. length p.digest ≡ held.size) held.pairs (pair digest value) h.sizes long;
+      bytes = All-push (λ p. AreBytes p.digest) held.pairs (pair digest value) h.bytes bytes;
       few = omega (arith, count, fewer);
       places = ap (λ ks. ks ++ length held.pairs ∷ []) h.places ∙ sym (places_push (length held.pairs)) ∙ ap (range_with_len 0) (sym count);
     }

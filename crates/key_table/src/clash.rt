@@ -1,9 +1,9 @@
 //! The clash of a list: where a digest stands with two values.
 
-ghost use Rattle.std.specs.Prelude.{◌≡◌, ◌≤◌, ◌<◌, ◌+◌, ℕ, List, length, slice_index, MatchOption};
+ghost use Rattle.std.specs.Prelude.{◌≤◌, length, MatchOption};
 ghost use Rattle.key_table.specs.KeyList.{IsClear};
 ghost use Rattle.key_table.specs.Places.{IsClash};
-ghost use Rattle.key_table.specs.Scan.{AreOrdered, Scanned};
+ghost use Rattle.key_table.specs.Scan.{AreOrdered, LooksAt};
 ghost use Rattle.key_table.specs.declared.TheConstants.{MOST_PAIRS};
 
 use crate::MOST_PAIRS;
@@ -31,10 +31,7 @@ struct Scan {
 
 /// One more place is looked at.
 fn scan_place(pairs: &Pairs, scan: Scan, place: u32) -> Scan
-    ensures { (places : List ℕ) (i : ℕ) → AreOrdered pairs.now.pairs places → 0 < i → i < length places
-        → place ≡ slice_index places i
-        → Scanned pairs.now.pairs places i scan.first scan.least scan.least_first
-        → Scanned pairs.now.pairs places (i + 1) result.first result.least result.least_first }
+    ensures { LooksAt pairs.now.pairs scan place result }
 {
     if !pairs.has_same_digest(scan.first, place) {
         return Scan {

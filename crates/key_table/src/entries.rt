@@ -1,14 +1,18 @@
 //! A list as it is gathered, and its entries as they ascend.
 
-ghost use Rattle.std.specs.Prelude.{◌≡◌, ◌≤◌, ◌<◌, ℕ, length, slice_index, [], All};
+ghost use Rattle.std.specs.Prelude.{◌≡◌, ◌≤◌, ◌<◌, ◌+◌, ℕ, length, slice_index, [], All};
 ghost use Rattle.std.specs.List.{dedup};
 ghost use Rattle.std.specs.List.Sorted.{IsPermutation, IsSortedBy};
-ghost use Rattle.key_table.specs.Sorting.{Adds, Sorts};
+ghost use Rattle.key_table.specs.Counting.{row_at};
+ghost use Rattle.key_table.specs.Entry.{entry_size};
+ghost use Rattle.key_table.specs.Sorting.{Adds, AreAscending, Sorts};
 ghost use Rattle.key_table.specs.Places.{comes_before, digest_at, has_same_digest, value_at};
 ghost use Rattle.key_table.specs.declared.TheConstants.{LEAST_DIGEST, MOST_DIGEST, MOST_VALUE, MOST_PAIRS};
 
 use crate::MOST_PAIRS;
 use crate::clash::{Clash, clash_among};
+use crate::digest::row_of;
+use crate::entry::entry_size;
 use crate::pairs::Pairs;
 use std::alloc::Global;
 use std::marker::Model;
@@ -50,11 +54,13 @@ pub struct SortedEntries {
 impl Model for SortedEntries {
     ghost use Rattle.std.specs.Prelude.{◌≡◌, ◌<◌, length, map, All};
     ghost use Rattle.key_table.specs.Places.{pair_at};
-    ghost use Rattle.key_table.specs.Sorting.{Sorted};
+    ghost use Rattle.key_table.specs.Sorting.{AreAscending, Sorted};
 
     ghost Value = { Sorted };
 
     ghost view = { λ s. record { size = s.pairs.size; most = s.most; pairs = map (pair_at s.pairs.pairs) s.places.items } };
+
+    ghost invariant = { λ s. AreAscending (record { size = s.pairs.size; most = s.most; pairs = map (pair_at s.pairs.pairs) s.places.items }) };
 }
 
 /// Sorts places by their digests, and those of one digest as they were given.
@@ -143,25 +149,62 @@ impl Entries {
 }
 
 impl SortedEntries {
-    /// How many entries there are.
+    /// How many entries there are. Their digests ascend, and all have one size.
     pub fn count(&self) -> usize
-        ensures { result ≡ length self.now.pairs }
+        ensures count { result ≡ length self.now.pairs }
+        ensures ascend { AreAscending self.now }
     {
         self.places.as_slice().len()
+    }
+
+    /// How many bytes a digest has.
+    pub fn size(&self) -> usize
+        ensures { result ≡ self.now.size }
+    {
+        self.pairs.size()
+    }
+
+    /// How many bytes a value has at most.
+    pub fn most(&self) -> usize
+        ensures most { result ≡ self.now.most }
+        ensures few { result ≤ MOST_VALUE }
+    {
+        self.most
+    }
+
+    /// How many bytes an entry has.
+    pub fn entry_size(&self) -> usize
+        ensures size { result ≡ entry_size self.now.size self.now.most }
+        ensures least { LEAST_DIGEST ≤ result }
+        ensures few { result ≤ MOST_DIGEST + 2 + MOST_VALUE }
+    {
+        entry_size(self.pairs.size(), self.most)
     }
 
     /// The digest of an entry.
     pub fn digest(&self, entry: usize) -> &[u8]
         requires { entry < length self.now.pairs }
-        ensures { result.now ≡ digest_at self.now.pairs entry }
+        ensures digest { result.now ≡ digest_at self.now.pairs entry }
+        ensures size { length result.now ≡ self.now.size }
+        ensures least { LEAST_DIGEST ≤ length result.now }
     {
         self.pairs.digest(place_at(self.places.as_slice(), entry))
+    }
+
+    /// The row of the digest of an entry, of so many rows.
+    pub(crate) fn row(&self, rows: u32, entry: usize) -> u32
+        requires { entry < length self.now.pairs }
+        ensures row { result ≡ row_at rows self.now.pairs entry }
+        ensures within { 1 ≤ rows → result < rows }
+    {
+        row_of(rows, self.digest(entry))
     }
 
     /// The value of an entry.
     pub fn value(&self, entry: usize) -> &[u8]
         requires { entry < length self.now.pairs }
-        ensures { result.now ≡ value_at self.now.pairs entry }
+        ensures value { result.now ≡ value_at self.now.pairs entry }
+        ensures few { length result.now ≤ self.now.most }
     {
         self.pairs.value(place_at(self.places.as_slice(), entry))
     }

@@ -27,7 +27,7 @@ invariant_of-self-else-is_err-2 c =
     let held = told_ok c.add.result _ _ c.add.ensures.added c.if-is_err-2.ensures.negation in
     let long : length d ≡ i.pairs.size = c.requires.digest ∙ sym (ap (λ (h : Held). h.size) c.self.view_is) in
     let fewer : length i.pairs.pairs < MOST_PAIRS = omega (arith, c.len-place.ensures, c.if-place-eq-MOST_PAIRS.false, c.self.invariant.few) in
-    let more = gathered_push i.pairs i.places.items d v c.self.invariant long fewer in
+    let more = gathered_push i.pairs i.places.items d v c.self.invariant long (λ i. (c.type_inv.digest i).fits) fewer in
     let here : c.push.new.self.items ≡ i.places.items ++ length i.pairs.pairs ∷ [] = pushed ∙ ap (λ m. i.places.items ++ m ∷ []) c.len-place.ensures in
     subst (λ h. AreGathered h c.push.new.self.items) (sym held)
     (subst (λ ps. AreGathered (as_held i.pairs.size (i.pairs.pairs ++ pair d v ∷ [])) ps) (sym here) more)
