@@ -20,6 +20,8 @@ mod pairs;
 mod row;
 mod rows;
 mod shape;
+#[cfg(test)]
+mod table_tests;
 mod tag;
 #[cfg(test)]
 mod tests;
