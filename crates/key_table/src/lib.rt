@@ -17,6 +17,7 @@ mod entries;
 mod entry;
 pub mod laws;
 mod pairs;
+mod place;
 mod row;
 mod rows;
 mod shape;
