@@ -1,10 +1,10 @@
 -- The parts of a row: the tag, the count, the entries and zeros.
-use Rattle.std.proofs.Common.{◌≡◌, ◌==◌, ℕ, ◌+◌, ◌-◌, ◌<◌, ◌≤◌, true, List, [], ◌∷◌, ◌++◌, length, take, drop, get_or, replicate, refl, sym, ap, ap₂, ◌∙◌, arith, w16, take_at, drop_at}
+use Rattle.std.proofs.Common.{◌≡◌, ◌==◌, ℕ, ◌+◌, ◌-◌, ◌*◌, ◌<◌, ◌≤◌, true, List, [], ◌∷◌, ◌++◌, length, take, drop, get_or, replicate, refl, sym, ap, ap₂, ◌∙◌, arith, w16, take_at, drop_at}
 use Rattle.std.specs.Int.{from_be_bytes, to_be_bytes}
 use Rattle.std.specs.List.{list_all}
 use Rattle.std.proofs.lemmas.Nat.{from_be_bytes-to_be_bytes_2, be_bytes_2}
 use Rattle.std.proofs.lemmas.List.{length-drop, length-append, length-replicate, take-append-drop, drop_more, drop-drop, get_or-append_right}
-use Rattle.key_table.specs.Table.{framed, head_size}
+use Rattle.key_table.specs.Table.{IsFrame, framed, head_size}
 use Rattle.key_table.proofs.Zeros.{zeros_alone, zeros_each}
 use Rattle.key_table.proofs.Values.{fits_two}
 
@@ -82,3 +82,13 @@ framed-from_parts tag row n entries long fits first count front back =
     ∙ ap₂ (λ x y. x ++ y) first
     (behind ∙ ap₂ (λ x y. x ++ y) (sym two) (sym (take-append-drop (length entries) (drop 10 row)) ∙ ap₂ (λ x y. x ++ y) front zeros))
     ∙ sym (framed-is (length row) tag n entries)
+
+-- a row has one count and one run of entries
+pub frame_unique : (tag : List ℕ) (step : ℕ) (row : List ℕ) (n : ℕ) (es : List ℕ) (k : ℕ) (fs : List ℕ) → length tag ≡ 8
+    → IsFrame tag step row n es → IsFrame tag step row k fs → (n ≡ k) × (es ≡ fs)
+frame_unique tag step row n es k fs eight a b =
+    let one = frame_parts (length row) tag row n es eight a.few a.is in
+    let other = frame_parts (length row) tag row k fs eight b.few b.is in
+    let counts : n ≡ k = sym one.count ∙ other.count in
+    let lengths : length es ≡ length fs = a.size ∙ ap (λ i. i * step) counts ∙ sym b.size in
+    (counts, sym one.front ∙ ap (λ i. take i (drop 10 row)) lengths ∙ other.front)

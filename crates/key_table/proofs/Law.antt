@@ -16,7 +16,7 @@ use Rattle.key_table.specs.Table.{Making, IsRowOf, IsTable, head_size, pairs_in,
 use Rattle.key_table.specs.Looked.{AnswersFor, LooksUp, TableAnswers, pair}
 use Rattle.key_table.specs.declared.row.Finding.{Finding}
 use Rattle.key_table.specs.declared.row.Finding.TheVariants.{Broken, Absent, Found}
-use Rattle.key_table.proofs.EntryBytes.{entry-is, entries-unique, length-entries}
+use Rattle.key_table.proofs.EntryBytes.{entry-is, entries-unique, length-entries, sizes_of_pairs}
 use Rattle.key_table.proofs.Frames.{frame_parts, length-framed}
 use Rattle.key_table.proofs.Members.{Contains-here, Contains-there, Contains-kept, Contains-unkept}
 use Rattle.key_table.proofs.Order.{Ascend-kept, fronts_decide}
@@ -35,7 +35,7 @@ row_unique m j row ps qs eight some most short a b =
     let other = frame_parts (length row) m.tag row (length qs) (flat_map (entry m.most) qs) eight (few_pairs m.size m.most (length qs) (length row) some b.fits short) b.is in
     let counts : length ps ≡ length qs = sym one.count ∙ other.count in
     let lengths : length (flat_map (entry m.most) ps) ≡ length (flat_map (entry m.most) qs) =
-    length-entries m.size m.most ps a.may.each ∙ ap (λ n. n * entry_size m.size m.most) counts ∙ sym (length-entries m.size m.most qs b.may.each) in
+    length-entries m.size m.most ps (sizes_of_pairs m.size m.most ps a.may.each) ∙ ap (λ n. n * entry_size m.size m.most) counts ∙ sym (length-entries m.size m.most qs (sizes_of_pairs m.size m.most qs b.may.each)) in
     entries-unique m.size m.most ps qs most some a.may.each b.may.each
     (sym one.front ∙ ap (λ n. take n (drop 10 row)) lengths ∙ other.front)
 
@@ -86,7 +86,7 @@ row_of_table m salt width list table j row t clear pairs eight is =
     let inside : (p : Pair) → Contains t.sorted p → Contains list p = λ p has. All-contains (Contains list) t.sorted p t.is_sorted.only has in
     let rising = ascend_digests m.size m.most t.sorted each (λ p q a b. clear p q (inside p a) (inside q b)) t.is_sorted.ascend in
     let long : 10 + length (flat_map (entry m.most) own) ≤ width =
-    omega (arith, t.fits j here, length-entries m.size m.most own kept, mul_comm (length own) (entry_size m.size m.most)) in
+    omega (arith, t.fits j here, length-entries m.size m.most own (sizes_of_pairs m.size m.most own kept), mul_comm (length own) (entry_size m.size m.most)) in
     let whole : length row ≡ width = ap length made ∙ length-framed width m.tag (length own) (flat_map (entry m.most) own) eight long in (
       record {
         may = record {

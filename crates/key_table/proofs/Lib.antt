@@ -12,3 +12,9 @@ pub mod Rests
 pub mod Frames
 pub mod Law
 pub mod Founds
+pub mod RowOrder
+pub mod Counting
+pub mod Shaping
+pub mod RowParts
+pub mod Hashing
+pub mod Numbered

@@ -8,7 +8,7 @@ use Rattle.key_table.specs.Entry.{Pair, IsPair, entry, entry_size}
 use Rattle.key_table.specs.KeyList.{Ascend}
 use Rattle.key_table.specs.Table.{AreEntries, Follows}
 use Rattle.key_table.specs.Looked.{LacksDigest, pair}
-use Rattle.key_table.proofs.EntryBytes.{length-entry, entry-front}
+use Rattle.key_table.proofs.EntryBytes.{length-entry, entry-front, sizes_of_pair}
 use Rattle.key_table.proofs.Members.{Contains-cases, Contains-here, Contains-none, Contains-there}
 use Rattle.key_table.proofs.Order.{Ascend-more, Ascend-first, Ascend-rest, Ascend-one, Ascend-empty}
 
@@ -62,7 +62,7 @@ Left-short size most rows j last rest h short = by h.pairs h.each h.is
           arith,
           ap length is,
           length-append (entry most p) (flat_map (entry most) ps),
-          length-entry size most p (All-head (IsPair size most) p ps all),
+          length-entry size most p (sizes_of_pair size most p (All-head (IsPair size most) p ps all)),
           short,
         ))
 
@@ -85,7 +85,7 @@ Left-step size most rows j last rest some h enough = by h.pairs h.each h.ascend 
     by [] all ascend placed is = absurd (omega (arith, ap length is, enough, some))
     by (p ∷ ps) all ascend placed is =
         let ip = All-head (IsPair size most) p ps all in
-        let long = length-entry size most p ip in
+        let long = length-entry size most p (sizes_of_pair size most p ip) in
         let first : take step rest ≡ entry most p = ap (take step) is ∙ take_at (entry most p) (flat_map (entry most) ps) step long in
         let front : take size (take step rest) ≡ p.digest = ap (take size) first ∙ entry-front size most p ip in
         record {
@@ -155,7 +155,7 @@ Sought-ahead size most digest rest all some h enough = by h.pairs h.each h.is h.
     by [] each is still from = absurd (omega (arith, ap length is, enough, some))
     by (p ∷ ps) each is still from =
         let ip = All-head (IsPair size most) p ps each in
-        let long = length-entry size most p ip in
+        let long = length-entry size most p (sizes_of_pair size most p ip) in
         record {
           p = p;
           is_pair = ip;
@@ -186,6 +186,6 @@ Sought-none size most digest rest all h short = by h.pairs h.each h.is h.still
           arith,
           ap length is,
           length-append (entry most p) (flat_map (entry most) ps),
-          length-entry size most p (All-head (IsPair size most) p ps each),
+          length-entry size most p (sizes_of_pair size most p (All-head (IsPair size most) p ps each)),
           short,
         ))

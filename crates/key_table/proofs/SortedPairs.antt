@@ -1,20 +1,25 @@
 -- The pairs at the places that are kept are those of the list, as they ascend.
-use Rattle.std.proofs.Common.{◌≡◌, ℕ, ◌+◌, ◌<◌, true, List, [], ◌∷◌, ◌++◌, length, map, get_or, All, Contains, refl, sym, ap, ap₂, subst, ◌∙◌, arith, true≢false, Ordering, Less, Equal, Greater, nat_cmp}
+use Rattle.std.proofs.Common.{◌≡◌, ℕ, ◌+◌, ◌<◌, ◌≤◌, Bool, true, List, [], ◌∷◌, ◌++◌, length, map, get_or, All, Contains, refl, sym, ap, ap₂, subst, ◌∙◌, arith, true≢false, Ordering, Less, Equal, Greater, nat_cmp}
 use Rattle.std.specs.List.{AllByRecursion, Any, dedup, range_with_len}
 use Rattle.std.specs.List.Sorted.{IsPermutation, IsSorted, IsSortedBy, IsStrictlySortedBy}
 use Rattle.std.specs.Ordering.{is_eq, on, ordering_then}
 use Rattle.std.specs.Cmp.Lexicographic.{slice_cmp}
+use Rattle.std.proofs.lemmas.Bool.{cond_both}
 use Rattle.std.proofs.lemmas.Cmp.{eq_by_cmp_equiv, nat_list_cmp_total, on_total}
 use Rattle.std.proofs.lemmas.List.{get_or-map, get_or_default, length-map}
 use Rattle.std.proofs.lemmas.List.FromFn.{get_or-range_with_len, length-range_with_len}
 use Rattle.std.proofs.lemmas.List.Kept.{Any-dedup, Contains-from_dedup, IsStrictlySortedBy-dedup}
-use Rattle.std.proofs.lemmas.List.Elements.{All-contains, All-head, All-tail}
+use Rattle.std.proofs.lemmas.List.Elements.{All-contains, All-head, All-tail, All-weaker}
 use Rattle.std.proofs.lemmas.List.Sorted.{All-permutation, Contains-permutation}
-use Rattle.key_table.specs.Entry.{Pair, entry, value_bytes}
+use Rattle.key_table.specs.Entry.{Pair, AreBytes, HasSizes, entry, value_bytes}
+use Rattle.key_table.specs.Held.{AreGathered}
 use Rattle.key_table.specs.KeyList.{AreSorted, Ascend, IsClear}
 use Rattle.key_table.specs.Looked.{pair}
 use Rattle.key_table.specs.Places.{comes_before, digest_at, has_same_digest, pair_at}
 use Rattle.key_table.specs.Scan.{AreOrdered}
+use Rattle.key_table.specs.Sorting.{AreAscending}
+use Rattle.key_table.specs.declared.place.Place.{Place}
+use Rattle.key_table.specs.declared.TheConstants.{MOST_VALUE}
 use Rattle.key_table.proofs.EntryBytes.{entry-is}
 use Rattle.key_table.proofs.PlaceOrder.{not_below, tied_same}
 
@@ -46,6 +51,18 @@ fronts_below (c ∷ a) (d ∷ b) x y long lt = by (nat_cmp c d) lt (λ less. fro
     by Less lt more = lt
     by Equal lt more = more lt
     by Greater lt more = lt
+
+-- no more members are left than there were, where of neighbours that are alike one is kept
+dedup_few : {X : Type 0} (E : X → X → Bool) (x : X) (xs : List X) → length (dedup E (x ∷ xs)) ≤ length xs + 1
+dedup_few E x [] = omega arith
+dedup_few E x (y ∷ ys) =
+    cond_both (E y x) (dedup E (x ∷ ys)) (x ∷ dedup E (y ∷ ys)) (λ zs. length zs ≤ length (y ∷ ys) + 1)
+    (λ e. omega (arith, dedup_few E x ys)) (λ e. omega (arith, dedup_few E y ys))
+
+-- and of all members
+kept_few : {X : Type 0} (E : X → X → Bool) (xs : List X) → length (dedup E xs) ≤ length xs
+kept_few E [] = omega arith
+kept_few E (x ∷ xs) = omega (arith, dedup_few E x xs)
 
 module _ (list : List Pair) where
   -- digests of places, compared
@@ -143,3 +160,25 @@ module _ (list : List Pair) where
         let k = get_or (kept places) i 0 in
         subst (Contains list) (sym (get_or-map (pair_at list) (kept places) i 0 d within)) (has_pair k (kept_inside places o k (member (kept places) i 0 within)));
   }
+
+  -- they ascend by their digests, and have the sizes of the list
+  pub kept_ascending : (size most : ℕ) (order : List Place) (places : List ℕ) → AreGathered (record { size = size; pairs = list }) order → AreOrdered list places
+      → length places ≡ length list → All (λ p. length p.value ≤ most) list → IsClear list → most ≤ MOST_VALUE
+      → AreAscending (record { size = size; most = most; pairs = map (pair_at list) (kept places) })
+  kept_ascending size most order places g o whole values clear few =
+      let own = map (pair_at list) (kept places) in
+      let among = (kept_sorted size most places o g.sizes clear).only in
+      record {
+        least = g.least;
+        most_size = g.most;
+        most_value = few;
+        few = omega (arith, length-map (kept places) (pair_at list), kept_few (has_same_digest list) places, whole, g.few);
+        sizes = All-weaker (Contains list) (HasSizes size most)
+            (λ p has. record {
+              digest_size = All-contains (λ p. length p.digest ≡ size) list p g.sizes has;
+              few = All-contains (λ p. length p.value ≤ most) list p values has;
+            })
+            own among;
+        bytes = All-weaker (Contains list) (λ p. AreBytes p.digest) (λ p has. All-contains (λ p. AreBytes p.digest) list p g.bytes has) own among;
+        ascend = kept_digests size places o g.sizes;
+      }

@@ -1,11 +1,15 @@
 -- An entry: the digest of a key, and the key's value.
-use Rattle.std.specs.Prelude.{◌≡◌, ℕ, ◌+◌, ◌-◌, ◌≤◌, ◌≢◌, ◌==◌, if◌then◌else◌, List, [], ◌++◌, length, replicate, All}
+use Rattle.std.specs.Prelude.{◌≡◌, ℕ, ◌+◌, ◌-◌, ◌<◌, ◌≤◌, ◌≢◌, ◌==◌, if◌then◌else◌, List, [], ◌++◌, length, replicate, slice_index, All}
 use Rattle.std.specs.Int.{w16, to_be_bytes}
 
 -- the digest of a key, and its value
 pub record Pair : Type 0 where
   pub digest : List ℕ
   pub value : List ℕ
+
+-- bytes: numbers below 256
+abbrev pub AreBytes : List ℕ → Type 0
+AreBytes bytes = (i : ℕ) → slice_index bytes i < 256
 
 -- the byte that ends a line: no value has it
 abbrev pub newline : ℕ
@@ -15,6 +19,11 @@ newline = 10
 pub record IsValue (most : ℕ) (value : List ℕ) : Type 0 where
   pub few : length value ≤ most
   pub no_newline : All (λ b. b ≢ newline) value
+
+-- a digest of so many bytes, with a value of at most so many
+pub record HasSizes (size most : ℕ) (p : Pair) : Type 0 where
+  pub digest_size : length p.digest ≡ size
+  pub few : length p.value ≤ most
 
 -- a digest of so many bytes, and such a value
 pub record IsPair (size most : ℕ) (p : Pair) : Type 0 where

@@ -8,3 +8,7 @@ pub mod Table
 pub mod Width
 pub mod Looked
 pub mod Sorting
+pub mod Counting
+pub mod Shapes
+pub mod Rows
+pub mod Numbered

@@ -18,6 +18,21 @@ unfoldable pub framed : ℕ → List ℕ → ℕ → List ℕ → List ℕ
 framed width tag count entries =
     tag ++ (to_be_bytes w16 count ++ (entries ++ replicate (width - (head_size + length entries)) 0))
 
+-- a row is the tag, the count of so many entries of so many bytes each, these entries and zeros
+pub record IsFrame (tag : List ℕ) (step : ℕ) (row : List ℕ) (n : ℕ) (entries : List ℕ) : Type 0 where
+  pub size : length entries ≡ n * step
+  pub few : n < 65536
+  pub fits : head_size + n * step ≤ length row
+  pub is : row ≡ framed (length row) tag n entries
+
+-- a row has these entries
+abbrev pub HasFrame : List ℕ → ℕ → List ℕ → List ℕ → Type 0
+HasFrame tag step row entries = (n : ℕ) × IsFrame tag step row n entries
+
+-- a row is that of no entries
+abbrev pub LacksFrame : List ℕ → ℕ → List ℕ → Type 0
+LacksFrame tag step row = (n : ℕ) (entries : List ℕ) → IsFrame tag step row n entries → ⊥
+
 -- the row of these pairs: their entries one behind another, and how many there are
 abbrev pub table_row : ℕ → List ℕ → ℕ → List Pair → List ℕ
 table_row width tag most pairs = framed width tag (length pairs) (flat_map (entry most) pairs)

@@ -17,7 +17,13 @@ mod entries;
 mod entry;
 pub mod laws;
 mod pairs;
+mod place;
 mod row;
+mod rows;
+mod shape;
+#[cfg(test)]
+mod table_tests;
+mod tag;
 #[cfg(test)]
 mod tests;
 mod write;
@@ -26,8 +32,11 @@ pub use clash::Clash;
 pub use digest::{row_of, write_digest};
 pub use entries::{AddFault, Entries, SortedEntries};
 pub use entry::entry_size;
-pub use row::{Finding, find_in_row};
-pub use write::{tag_of, write_entry, write_row};
+pub use row::{Finding, entries_in_row, find_in_row};
+pub use rows::TableRows;
+pub use shape::{Shape, ShapeFault, ShapeLimit};
+pub use tag::tag_of;
+pub use write::{write_entry, write_row};
 
 /// The least number of bytes of a digest: so many say its row.
 pub const LEAST_DIGEST: usize = 8;

@@ -104,6 +104,13 @@ impl Pairs {
         }
     }
 
+    /// How many bytes a digest has.
+    pub(crate) fn size(&self) -> usize
+        ensures { result ≡ self.now.size }
+    {
+        self.size
+    }
+
     /// How many pairs there are.
     pub(crate) fn len(&self) -> usize
         ensures { result ≡ length self.now.pairs }

@@ -7,8 +7,8 @@ ghost use Rattle.key_table.specs.Entry.{IsPair, Pair, entry, entry_size};
 ghost use Rattle.std.specs.Cmp.Lexicographic.{slice_cmp};
 ghost use Rattle.std.specs.Ordering.{nat_cmp};
 ghost use Rattle.std.specs.declared.cmp.Ordering.TheVariants.{Less};
-ghost use Rattle.key_table.specs.Table.{AreEntries, Follows, framed, head_size};
-ghost use Rattle.key_table.specs.Looked.{LacksDigest, LooksUp, pair};
+ghost use Rattle.key_table.specs.Table.{AreEntries, Follows, HasFrame, LacksFrame};
+ghost use Rattle.key_table.specs.Looked.{FindsEntries, JudgesRow, LooksUp, ValueFor, making};
 
 use crate::digest::row_of;
 use crate::entry::{are_zeros, entry_size, value_in};
@@ -16,7 +16,7 @@ use crate::{LEAST_DIGEST, MOST_DIGEST, MOST_VALUE};
 use std::cmp::Ordering;
 
 /// How many bytes stand before the entries of a row.
-const HEAD_SIZE: usize = 10;
+pub(crate) const HEAD_SIZE: usize = 10;
 
 /// What a look-up in a row comes to.
 #[derive(Clone, Copy, Debug, PartialEq, Eq)]
@@ -47,19 +47,66 @@ pub fn find_in_row<'a>(
     requires size { size ≤ MOST_DIGEST }
     requires most { most ≤ MOST_VALUE }
     requires digest { length digest.now ≡ size }
-    ensures { LooksUp (record { tag = tag.now; size = size; most = most; rows = rows }) row.now digest.now result }
+    ensures { LooksUp (making tag.now size most rows) row.now digest.now result }
 {
-    let step = entry_size(size, most);
-    let entries = match entries_of(row, tag, step) {
+    let entries = match judged_entries(row, tag, size, most, rows, row_of(rows, digest)) {
         Some(entries) => entries,
         None => return Finding::Broken,
     };
-    if !are_entries(entries, size, most, rows, row_of(rows, digest)) {
-        return Finding::Broken;
-    }
     match value_for(entries, size, most, digest) {
         Some(value) => Finding::Found(value),
         None => Finding::Absent,
+    }
+}
+
+/// How many entries row `j` has of a table with this tag, `rows` rows, digests of `size` bytes and values of at most
+/// `most`, whatever its keys are. It takes no memory.
+///
+/// `None` exactly where the bytes are not row `j` of such a table, as [`find_in_row`] says it.
+pub fn entries_in_row(
+    row: &[u8],
+    tag: &[u8; 8],
+    size: usize,
+    most: usize,
+    rows: u32,
+    j: u32,
+) -> Option<u16>
+    requires width { length row.now ≤ MOST_WIDTH }
+    requires least { LEAST_DIGEST ≤ size }
+    requires size { size ≤ MOST_DIGEST }
+    requires most { most ≤ MOST_VALUE }
+    ensures { JudgesRow (making tag.now size most rows) j row.now result }
+{
+    match judged_entries(row, tag, size, most, rows, j) {
+        Some(entries) => Some((entries.len() / entry_size(size, most)) as u16),
+        None => None,
+    }
+}
+
+/// The entries of row `j`, where the bytes are that row.
+fn judged_entries<'a>(
+    row: &'a [u8],
+    tag: &[u8; 8],
+    size: usize,
+    most: usize,
+    rows: u32,
+    j: u32,
+) -> Option<&'a [u8]>
+    requires width { length row.now ≤ MOST_WIDTH }
+    requires least { LEAST_DIGEST ≤ size }
+    requires size { size ≤ MOST_DIGEST }
+    requires most { most ≤ MOST_VALUE }
+    ensures { FindsEntries (making tag.now size most rows) j row.now result }
+{
+    match entries_of(row, tag, entry_size(size, most)) {
+        Some(entries) => {
+            if are_entries(entries, size, most, rows, j) {
+                Some(entries)
+            } else {
+                None
+            }
+        }
+        None => None,
     }
 }
 
@@ -67,11 +114,7 @@ pub fn find_in_row<'a>(
 /// the tag, is too short for them, or has more than zeros behind them.
 fn entries_of<'a>(row: &'a [u8], tag: &[u8; 8], step: usize) -> Option<&'a [u8]>
     requires step { step ≤ 65536 }
-    ensures { MatchOption result
-        ((n : ℕ) (entries : List ℕ) → length entries ≡ n * step → n < 65536
-        → row.now ≡ framed (length row.now) tag.now n entries → ⊥)
-        (λ x. (n : ℕ) × (length x.now ≡ n * step) × (n < 65536) × (head_size + n * step ≤ length row.now)
-        × (row.now ≡ framed (length row.now) tag.now n x.now)) }
+    ensures { MatchOption result (LacksFrame tag.now step row.now) (λ x. HasFrame tag.now step row.now x.now) }
 {
     if row.len() < HEAD_SIZE {
         return None;
@@ -156,7 +199,7 @@ fn value_for<'a>(bytes: &'a [u8], size: usize, most: usize, digest: &[u8]) -> Op
     requires most { most ≤ MOST_VALUE }
     requires digest { length digest.now ≡ size }
     ensures { (pairs : List Pair) → All (IsPair size most) pairs → bytes.now ≡ flat_map (entry most) pairs
-        → MatchOption result (LacksDigest pairs digest.now) (λ x. Contains pairs (pair digest.now x.now)) }
+        → ValueFor pairs digest.now result }
 {
     let step = entry_size(size, most);
     let mut rest = bytes;

@@ -146,8 +146,20 @@ fn clash_of(alloc: Global, one: &[u8; 3], other: &[u8; 3]) -> Result<Option<Clas
     }
 }
 
+/// The clash of a list of `alpha` with these two values.
+fn clash_of_two(alloc: Global, one: &[u8; 3], other: &[u8; 3]) -> Result<Option<Clash>, AddFault> {
+    let mut list = Entries::new(alloc, 8);
+    list.add(&ROW[10..18], one)?;
+    list.add(&ROW[10..18], other)?;
+    match list.sort(5) {
+        Ok(_) => Ok(None),
+        Err(clash) => Ok(Some(clash)),
+    }
+}
+
 #[test]
 fn a_digest_with_two_values_is_a_clash(rt: HostRuntime) {
+    assert!(rt; clash_of_two(rt.alloc(), b"one", b"two") == Ok(Some(Clash { first: 0, place: 1 })));
     assert!(rt; clash_of(rt.alloc(), b"one", b"two") == Ok(Some(Clash { first: 1, place: 2 })));
     assert!(rt; clash_of(rt.alloc(), b"one", b"one") == Ok(None));
 }

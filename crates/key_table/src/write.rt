@@ -1,15 +1,13 @@
 //! Writing entries and rows, in memory that is there.
 
-ghost use Rattle.std.specs.Prelude.{◌≡◌, ◌≤◌, ◌+◌, ◌-◌, ◌++◌, length, replicate, take};
-ghost use Rattle.sha2.specs.Sha256.{sha256};
+ghost use Rattle.std.specs.Prelude.{◌≡◌, ◌≤◌, ◌+◌, ◌-◌, ◌++◌, length, replicate};
 ghost use Rattle.key_table.specs.Entry.{entry, entry_size, value_bytes, value_size};
 ghost use Rattle.key_table.specs.Table.{framed, head_size};
 
 use crate::MOST_VALUE;
-use sha2::{Digest, Sha256};
 
 /// Zeros in all places.
-fn clear(out: &mut [u8])
+pub(crate) fn clear(out: &mut [u8])
     ensures { out.new ≡ replicate (length out.old) 0 }
 {
     for b in out.iter_mut() {
@@ -63,17 +61,4 @@ pub fn write_row(tag: &[u8; 8], count: u16, entries: &[u8], out: &mut [u8])
     let (middle, rest) = behind.split_at_mut(2);
     middle.copy_from_slice(&count.to_be_bytes());
     write_padded(entries, rest);
-}
-
-/// The tag of a list whose entries, as they ascend, stand one behind another.
-pub fn tag_of(salt: &[u8; 16], entries: &[u8]) -> [u8; 8]
-    ensures { result ≡ take 8 (sha256 (salt.now ++ entries.now)) }
-{
-    let mut hasher = Sha256::new();
-    hasher.update(salt.as_slice());
-    hasher.update(entries);
-    let whole = hasher.finalize();
-    let mut tag = [0u8; 8];
-    tag.copy_from_slice(&whole[..8]);
-    tag
 }
