@@ -1,9 +1,10 @@
 -- What a document says as a catalog, or why it is none.
-use Rattle.std.specs.Prelude.{ℕ, pos, negsuc, ◌*◌, ◌&&◌, not, nat_lt, nat_le, Bool, if◌then◌else◌, List, [], ◌∷◌, Option, Some, None, option_map, Result, Ok, Err}
+use Rattle.std.specs.Prelude.{ℕ, ℤ, pos, negsuc, ◌*◌, ◌&&◌, not, nat_lt, nat_le, Bool, if◌then◌else◌, List, [], ◌∷◌, Option, Some, None, option_map, Result, Ok, Err}
 use Rattle.std.specs.List.{find, list_any}
+use Rattle.std.specs.Str.{bytes_eq}
 use Rattle.hex.specs.Hex.{decode_sized}
 use Rattle.hex.specs.declared.error.FromHexError.{FromHexError}
-use Rattle.toml.specs.Data.{Data, string, integer, float, boolean, datetime, array, table, Items, no_items, item, Members, no_members, member, get_member, same_key}
+use Rattle.toml.specs.Data.{Data, string, integer, float, boolean, datetime, array, table, Items, no_items, item, Members, no_members, member, get_member}
 use Rattle.quantity_limits.specs.declared.TheConstants.{MOST_ROWS, MOST_WIDTH, MOST_CELLS, MOST_DEGREE, MOST_SERVERS}
 use Rattle.key_table.specs.declared.TheConstants.{LEAST_DIGEST, MOST_DIGEST, MOST_VALUE, MOST_PAIRS}
 use Rattle.list_catalog.specs.declared.TheConstants.{FORMAT}
@@ -26,7 +27,7 @@ names (member k d ms) = k ∷ names ms
 
 -- whether a name is one of these members'
 abbrev pub is_known : List Member → List ℕ → Bool
-is_known known name = list_any (λ m. same_key name (name_of m)) known
+is_known known name = list_any (λ m. bytes_eq name (name_of m)) known
 
 -- the first name that is none of these members'
 abbrev pub stranger : List Member → Members → Option (List ℕ)
@@ -37,15 +38,22 @@ abbrev pub no_stranger : Option (List ℕ) → Result (Unit {0}) MemberFault
 no_stranger (Some name) = Err (Unknown name)
 no_stranger None = Ok tt
 
--- the number of a member, from least to most
+-- a number, where it is one from least to most
+abbrev pub ranged : ℤ → ℕ → ℕ → Option ℕ
+ranged (pos n) least most = if nat_le least n && nat_le n most then Some n else None
+ranged (negsuc n) least most = None
+
+-- that number, or that it is out of its range
+abbrev pub number_or : Member → ℤ → ℕ → ℕ → Option ℕ → Result ℕ MemberFault
+number_or m z least most (Some n) = Ok n
+number_or m z least most None = Err (OutOfRange m z (record { least = least; most = most }))
+
 abbrev pub number_among : Member → ℕ → ℕ → Option Data → Result ℕ MemberFault
 number_among m least most None = Err (Missing m)
-number_among m least most (Some (integer (pos n))) =
-    if nat_le least n && nat_le n most then Ok n
-    else Err (OutOfRange m (pos n) (record { least = least; most = most }))
-number_among m least most (Some (integer (negsuc n))) = Err (OutOfRange m (negsuc n) (record { least = least; most = most }))
+number_among m least most (Some (integer z)) = number_or m z least most (ranged z least most)
 number_among m least most (Some _) = Err (NotNumber m)
 
+-- the number of a member, from least to most
 unfoldable pub number_in : Members → Member → ℕ → ℕ → Result ℕ MemberFault
 number_in ms m least most = number_among m least most (get_member (name_of m) ms)
 

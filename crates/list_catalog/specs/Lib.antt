@@ -5,3 +5,4 @@ pub mod Facts
 pub mod Documents
 pub mod Reading
 pub mod Writing
+pub mod Said

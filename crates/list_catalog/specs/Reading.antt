@@ -50,7 +50,7 @@ pub record IsNoToml (text : List ℕ) (line place : ℕ) : Type 0 where
   pub is_text : IsShortText text
   pub refused : parse_document text ≡ None
   pub within : place ≤ length text
-  pub line : line ≡ line_of text place
+  pub in_line : line ≡ line_of text place
 
 -- the document that a text is, or that it is none, or memory ran out
 abbrev pub Parses : List ℕ → Result (BTreeMap (String Global) Value) CatalogFault → Type 0

@@ -30,7 +30,7 @@ pub struct Catalog {
 }
 
 impl Model for Catalog {
-    ghost use Rattle.list_catalog.specs.Facts.{Facts, Sizes, AreSizes};
+    ghost use Rattle.list_catalog.specs.Facts.{AreSizes, Facts};
 
     ghost Value = { Facts };
 

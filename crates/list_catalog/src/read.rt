@@ -1,8 +1,10 @@
 //! Reading a catalog.
 
-ghost use Rattle.std.specs.Prelude.{◌≡◌, ◌≤◌, length, map, option_map, string_bytes};
-ghost use Rattle.toml.specs.View.{array_view, table_view};
-ghost use Rattle.list_catalog.specs.Documents.{addresses_in, all_texts, catalog_in, digits_in, fitting, is_known, no_stranger, number_in, servers_in, servers_of, stranger, texts};
+ghost use Rattle.std.specs.Prelude.{◌≡◌, ◌≤◌, IfOk, IfSome, length, map, option_map, string_bytes};
+ghost use Rattle.toml.specs.Data.{get_member};
+ghost use Rattle.toml.specs.View.{array_view, table_view, view};
+ghost use Rattle.list_catalog.specs.Member.{name_of};
+ghost use Rattle.list_catalog.specs.Documents.{addresses_in, all_texts, catalog_in, digits_in, fitting, is_known, no_stranger, number_in, ranged, servers_in, servers_of, stranger, texts};
 ghost use Rattle.list_catalog.specs.Reading.{Comes, ComesAs, Parses, Reads, line_of};
 
 use crate::catalog::Catalog;
@@ -15,8 +17,8 @@ use hex::FromHex;
 use key_table::{LEAST_DIGEST, MOST_DIGEST, MOST_PAIRS, MOST_VALUE, entry_size};
 use quantity_limits::{MOST_CELLS, MOST_DEGREE, MOST_ROWS, MOST_SERVERS, MOST_WIDTH};
 use std::alloc::Global;
-use toml::Table;
 use toml::value::Array;
+use toml::{Table, Value};
 
 /// How many bytes stand before the entries of a row.
 const HEAD_SIZE: usize = 10;
@@ -55,30 +57,56 @@ fn refuse_stranger(alloc: Global, known: &[Member], table: &Table) -> Result<(),
     }
 }
 
-/// The number of a member, from `least` to `most`.
-fn number_in(table: &Table, member: Member, least: u32, most: u32) -> Result<u32, MemberFault>
-    ensures { result ≡ number_in (table_view table.now) member least most }
+/// The value of a member.
+fn value_of<'a>(table: &'a Table, member: Member) -> Option<&'a Value>
+    ensures { option_map (λ value. view value.now) result ≡ get_member (name_of member) (table_view table.now) }
 {
-    let Some(value) = table.get(member.name()) else {
+    table.get(member.name())
+}
+
+/// A number, where it is one from `least` to `most`.
+fn ranged(number: i64, least: u32, most: u32) -> Option<u32>
+    ensures value { result ≡ ranged number least most }
+    ensures range { IfSome result (λ n. (least ≤ n) × (n ≤ most)) }
+{
+    match u32::try_from(number) {
+        Ok(n) if least <= n && n <= most => Some(n),
+        _ => None,
+    }
+}
+
+/// The number of a member, from `least` to `most`.
+#[tactic(auto, unfolding(crate::specs::Documents::number_in))]
+fn number_in(table: &Table, member: Member, least: u32, most: u32) -> Result<u32, MemberFault>
+    ensures value { result ≡ number_in (table_view table.now) member least most }
+    ensures range { IfOk result (λ n. (least ≤ n) × (n ≤ most)) }
+{
+    let Some(value) = value_of(table, member) else {
         return Err(MemberFault::Missing(member));
     };
     let Some(number) = value.as_integer() else {
         return Err(MemberFault::NotNumber(member));
     };
-    if i64::from(least) <= number && number <= i64::from(most) {
-        Ok(number as u32)
-    } else {
-        let range = Range { least, most };
-        Err(MemberFault::OutOfRange { member, number, range })
+    match ranged(number, least, most) {
+        Some(number) => Ok(number),
+        None => {
+            let range = Range { least, most };
+            Err(MemberFault::OutOfRange {
+                member,
+                number,
+                range,
+            })
+        }
     }
 }
 
 /// The bytes of a member, which has two hexadecimal digits for each.
+#[tactic(auto, unfolding(crate::specs::Documents::digits_in))]
 fn digits_in<const N: usize>(table: &Table, member: Member) -> Result<[u8; N], MemberFault>
     requires { N ≤ 32 }
     ensures { result ≡ digits_in (table_view table.now) member N }
 {
-    let Some(value) = table.get(member.name()) else {
+    let Some(value) = value_of(table, member) else {
         return Err(MemberFault::Missing(member));
     };
     let fault = MemberFault::NotDigits { member, count: 2 * N };
@@ -92,6 +120,7 @@ fn digits_in<const N: usize>(table: &Table, member: Member) -> Result<[u8; N], M
 }
 
 /// That a row has room for an entry, that the rows are no more than a database, and that they have room for all entries.
+#[tactic(auto, unfolding(crate::specs::Documents::fitting))]
 fn fitting(digest: usize, entries: u32, rows: u32, value: usize, width: u32) -> Result<(), MemberFault>
     requires digest { (LEAST_DIGEST ≤ digest) × (digest ≤ MOST_DIGEST) }
     requires value { value ≤ MOST_VALUE }
@@ -127,10 +156,11 @@ fn copied_texts(alloc: Global, list: &Array) -> Result<Vec<String>, CatalogFault
 }
 
 /// The addresses in the table of the servers.
+#[tactic(auto, unfolding(crate::specs::Documents::addresses_in))]
 fn addresses_in(alloc: Global, table: &Table) -> Result<Vec<String>, CatalogFault>
     ensures { ComesAs (λ v. map string_bytes v.items) (addresses_in (table_view table.now)) result }
 {
-    let Some(value) = table.get(Member::Addresses.name()) else {
+    let Some(value) = value_of(table, Member::Addresses) else {
         return Err(CatalogFault::Unfit(MemberFault::Missing(Member::Addresses)));
     };
     match value.as_array() {
@@ -140,6 +170,7 @@ fn addresses_in(alloc: Global, table: &Table) -> Result<Vec<String>, CatalogFaul
 }
 
 /// What the table of the servers says.
+#[tactic(auto, unfolding(crate::specs::Documents::servers_of))]
 fn servers_of(alloc: Global, table: &Table) -> Result<Servers, CatalogFault>
     ensures { Comes (servers_of (table_view table.now)) result }
 {
@@ -154,19 +185,24 @@ fn servers_of(alloc: Global, table: &Table) -> Result<Servers, CatalogFault>
 }
 
 /// The servers of a document, where it has some.
+#[tactic(auto, unfolding(crate::specs::Documents::servers_in))]
 fn servers_in(alloc: Global, document: &Table) -> Result<Option<Servers>, CatalogFault>
     ensures { Comes (servers_in (table_view document.now)) result }
 {
-    let Some(value) = document.get(Member::Servers.name()) else {
+    let Some(value) = value_of(document, Member::Servers) else {
         return Ok(None);
     };
-    match value.as_table() {
-        Some(table) => Ok(Some(servers_of(alloc, table)?)),
-        None => Err(CatalogFault::Unfit(MemberFault::NotTable)),
+    let Some(table) = value.as_table() else {
+        return Err(CatalogFault::Unfit(MemberFault::NotTable));
+    };
+    match servers_of(alloc, table) {
+        Ok(servers) => Ok(Some(servers)),
+        Err(fault) => Err(fault),
     }
 }
 
 /// What a document says as a catalog.
+#[tactic(auto, unfolding(crate::specs::Documents::catalog_in))]
 fn catalog_in(alloc: Global, document: &Table) -> Result<Catalog, CatalogFault>
     ensures { Comes (catalog_in (table_view document.now)) result }
 {

@@ -1,7 +1,7 @@
 //! The servers that have a database, and how many of them are to be trusted.
 
-ghost use Rattle.std.specs.Prelude.{◌≡◌, ℕ, List, Option, map, option_map, string_bytes};
-ghost use Rattle.list_catalog.specs.Serving.{checked, with_options};
+ghost use Rattle.std.specs.Prelude.{◌≡◌, ◌<◌, IfSome, length, map, option_map, string_bytes};
+ghost use Rattle.list_catalog.specs.Serving.{CanServe, checked, empty_place, with_options};
 
 use crate::fault::ServersFault;
 use crate::member::Member;
@@ -32,7 +32,8 @@ impl Model for Servers {
 
 /// The place of the first address that is empty, where one is.
 fn empty_place(addresses: &[String]) -> Option<usize>
-    ensures { result ≡ empty_place (map string_bytes addresses.now) }
+    ensures first { result ≡ empty_place (map string_bytes addresses.now) }
+    ensures within { IfSome result (λ place. place < length addresses.now) }
 {
     for (place, address) in addresses.iter().enumerate() {
         if address.is_empty() {
@@ -50,6 +51,7 @@ impl Servers {
     /// The first of these: `Count` where there are not 2 to 255 addresses, `Empty` with the place, from 1, of the first
     /// address that is empty, `NoDegree` where the degree is 0, `TooWeak` where the agreement is not above the degree,
     /// `TooStrong` where it is above the number of addresses.
+    #[tactic(auto, unfolding(crate::specs::Serving::checked))]
     pub fn new(addresses: Vec<String>, degree: u8, agree: u8) -> Result<Servers, ServersFault>
         ensures { result ≡ checked (map string_bytes addresses.items) degree agree }
     {
@@ -78,7 +80,8 @@ impl Servers {
 
     /// Where each server is.
     pub fn addresses(&self) -> &[String]
-        ensures { map string_bytes result.now ≡ self.now.addresses }
+        ensures value { map string_bytes result.now ≡ self.now.addresses }
+        ensures rules { CanServe self.now.addresses self.now.degree self.now.agree }
     {
         self.addresses.as_slice()
     }
@@ -118,6 +121,7 @@ fn said_of(servers: Option<Servers>) -> Said
 /// # Errors
 ///
 /// `Missing` with the first of addresses, degree and agreement that neither says, else as [`Servers::new`] of what results.
+#[tactic(auto, unfolding(crate::specs::Serving::with_options))]
 pub fn with_options(
     servers: Option<Servers>,
     addresses: Option<Vec<String>>,

@@ -1,9 +1,12 @@
 //! Writing a catalog.
 
 ghost use Rattle.std.specs.Prelude.{◌≡◌, ◌≤◌, ℕ, pos, IfOk, OnOk, length, map, string_bytes};
+ghost use Rattle.hex.specs.Hex.{IsBytes};
 ghost use Rattle.toml.specs.View.{array_view, table_view, view};
 ghost use Rattle.list_catalog.specs.Member.{name_of};
 ghost use Rattle.list_catalog.specs.Reading.{ReadsBack};
+ghost use Rattle.list_catalog.specs.Serving.{CanServe};
+ghost use Rattle.list_catalog.specs.Facts.{AreBytes, IsCatalog};
 ghost use Rattle.list_catalog.specs.Writing.{Writes, digits, document_of, items_of, number, servers_document, with_member};
 
 use crate::catalog::Catalog;
@@ -31,12 +34,28 @@ fn put_number(alloc: Global, table: &mut Table, member: Member, n: u32) -> Resul
     put(alloc, table, member, Value::from(n))
 }
 
-/// Puts bytes into a table, as two hexadecimal digits each.
-fn put_digits(alloc: Global, table: &mut Table, member: Member, bytes: &[u8]) -> Result<(), AllocError>
-    ensures { OnOk result (table_view table.new ≡ with_member (name_of member) (digits bytes.now) (table_view table.old)) }
+/// Bytes as two hexadecimal digits each.
+fn digits(alloc: Global, bytes: &[u8]) -> Result<Value, AllocError>
+    ensures value { IfOk result (λ value. view value ≡ digits bytes.now) }
+    ensures bytes { IfOk result (λ _. IsBytes bytes.now) }
 {
     let text = hex::encode(alloc, bytes)?;
-    put(alloc, table, member, Value::from(text))
+    Ok(Value::from(text))
+}
+
+/// Puts bytes into a table, as two hexadecimal digits each.
+fn put_digits<const N: usize>(
+    alloc: Global,
+    table: &mut Table,
+    member: Member,
+    bytes: &[u8; N],
+) -> Result<(), AllocError>
+    ensures table { OnOk result (table_view table.new
+        ≡ with_member (name_of member) (digits bytes.now) (table_view table.old)) }
+    ensures bytes { OnOk result (AreBytes N bytes.now) }
+{
+    let value = digits(alloc, bytes.as_slice())?;
+    put(alloc, table, member, value)
 }
 
 /// Texts as a list.
@@ -51,8 +70,10 @@ fn list_of(alloc: Global, texts: &[String]) -> Result<Array, AllocError>
 }
 
 /// The table of the servers.
+#[tactic(auto, unfolding(crate::specs::Writing::servers_document))]
 fn servers_document(alloc: Global, servers: &Servers) -> Result<Table, AllocError>
-    ensures { IfOk result (λ table. table_view table ≡ servers_document servers.now) }
+    ensures table { IfOk result (λ table. table_view table ≡ servers_document servers.now) }
+    ensures rules { IfOk result (λ _. CanServe servers.now.addresses servers.now.degree servers.now.agree) }
 {
     let mut table = Table::new(alloc);
     let addresses = list_of(alloc, servers.addresses())?;
@@ -63,21 +84,23 @@ fn servers_document(alloc: Global, servers: &Servers) -> Result<Table, AllocErro
 }
 
 /// The document of a catalog.
+#[tactic(auto, unfolding(crate::specs::Writing::document_of))]
 fn document_of(alloc: Global, catalog: &Catalog) -> Result<Table, AllocError>
-    ensures { IfOk result (λ table. table_view table ≡ document_of catalog.now) }
+    ensures table { IfOk result (λ table. table_view table ≡ document_of catalog.now) }
+    ensures rules { IfOk result (λ _. IsCatalog catalog.now) }
 {
     let mut table = Table::new(alloc);
     put_number(alloc, &mut table, Member::Digest, catalog.digest as u32)?;
     put_number(alloc, &mut table, Member::Entries, catalog.entries)?;
     put_number(alloc, &mut table, Member::Format, FORMAT)?;
-    put_digits(alloc, &mut table, Member::List, catalog.tag.as_slice())?;
+    put_digits(alloc, &mut table, Member::List, &catalog.tag)?;
     put_number(alloc, &mut table, Member::Rows, catalog.rows)?;
-    put_digits(alloc, &mut table, Member::Salt, catalog.salt.as_slice())?;
+    put_digits(alloc, &mut table, Member::Salt, &catalog.salt)?;
     if let Some(servers) = &catalog.servers {
         let document = servers_document(alloc, servers)?;
         put(alloc, &mut table, Member::Servers, Value::from(document))?;
     }
-    put_digits(alloc, &mut table, Member::Sha256, catalog.sha256.as_slice())?;
+    put_digits(alloc, &mut table, Member::Sha256, &catalog.sha256)?;
     put_number(alloc, &mut table, Member::Value, catalog.value as u32)?;
     put_number(alloc, &mut table, Member::Width, catalog.width)?;
     Ok(table)
