@@ -1,0 +1,6 @@
+pub mod Splits
+pub mod Faults
+pub mod Parts
+pub mod Places
+mod Given
+mod Readers
