@@ -8,9 +8,8 @@ use Rattle.std.specs.List.{after_first, before_first, position_or_len}
 use Rattle.port_trait.specs.World.{Cell, World}
 use Rattle.port_trait.specs.Number.{INPUT}
 use Rattle.port_trait.specs.Moves.{Fails, Hands, RoseOnce, counted}
-use Rattle.port_trait.specs.Whole.{FailsAfter, IsPrefix, Reads}
+use Rattle.port_trait.specs.Whole.{FailsAfter, IsPrefix}
 use Rattle.port_trait.proofs.Cells.{reads_end, reads_more, took_none}
-use Rattle.list_keys.specs.declared.TheConstants.{LONGEST_LINE}
 use Rattle.list_keys.specs.declared.form.Terms.{Terms}
 use Rattle.list_keys.specs.declared.fault.LineFault.{LineFault}
 use Rattle.list_keys.specs.Form.{AreTerms, IsFirstFault, IsGood, refusal_of}

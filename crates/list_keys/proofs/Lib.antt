@@ -4,3 +4,4 @@ pub mod Parts
 pub mod Places
 mod Given
 mod Readers
+mod KeyLists

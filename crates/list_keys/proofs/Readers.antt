@@ -1,7 +1,6 @@
 -- What a reader has given, through its calls.
-use Rattle.std.proofs.Common.{◌≡◌, ◌⊎◌, inl, inr, ℕ, ◌+◌, ◌<◌, ◌≤◌, Bool, true, false, not, List, [], ◌∷◌, ◌++◌, length, take, drop, refl, sym, ◌∙◌, ap, ap₂, subst, arith}
+use Rattle.std.proofs.Common.{◌≡◌, ◌⊎◌, inl, inr, ℕ, ◌+◌, ◌<◌, ◌≤◌, Bool, true, false, not, List, [], ◌∷◌, ◌++◌, length, take, refl, sym, ◌∙◌, ap, ap₂, subst, arith}
 use Rattle.std.specs.Prelude.{◌&&◌, All, Result, Ok, Err, None, Some}
-use Rattle.std.specs.List.{list_all, position_or_len}
 use Rattle.std.proofs.lemmas.Bool.{cases_lt}
 use Rattle.std.proofs.lemmas.List.{length_push, nil_from_length, take_all}
 use Rattle.std.proofs.lemmas.List.Elements.{All-nil, All-push}
@@ -9,16 +8,14 @@ use Rattle.std.proofs.lemmas.List.Folds.{list_all-append}
 use Rattle.std.proofs.lemmas.List.Sums.{prefix_len-le-length}
 use Rattle.std.proofs.lemmas.Option.{none-some}
 use Rattle.port_trait.specs.World.{World}
-use Rattle.list_keys.specs.declared.TheConstants.{LONGEST_LINE}
 use Rattle.list_keys.specs.declared.form.Terms.{Terms}
-use Rattle.list_keys.specs.declared.fault.LineFault.{LineFault}
 use Rattle.list_keys.specs.declared.fault.LinesFault.{LinesFault}
 use Rattle.list_keys.specs.declared.fault.LinesFault.TheVariants.{Memory, NoLine, ReadFault, Refused}
 use Rattle.list_keys.specs.Form.{AreTerms, IsGood, refusal_of}
 use Rattle.list_keys.specs.Lines.{ends_with_return, is_newline}
 use Rattle.list_keys.specs.Window.{EndsAt, HasGiven, Window}
 use Rattle.list_keys.specs.Reading.{FailsToGive, Gives, GivesAll, HasRead, Reading, Refuses}
-use Rattle.list_keys.specs.Taking.{GivesLine, with_line}
+use Rattle.list_keys.specs.Taking.{GivesLine}
 use Rattle.list_keys.proofs.Faults.{good_line, refusal_kept}
 use Rattle.list_keys.proofs.Given.{given_all, given_next, given_none, given_refused}
 

@@ -1,5 +1,5 @@
 -- What a line of a list is, and what may be wrong with it.
-use Rattle.std.specs.Prelude.{◌≡◌, ℕ, ◌+◌, ◌<◌, ◌≤◌, Bool, ◌==◌, nat_lt, if◌then◌else◌, List, ◌++◌, ◌∷◌, drop, length, All, Option, None, Some}
+use Rattle.std.specs.Prelude.{◌≡◌, ℕ, ◌+◌, ◌≤◌, Bool, ◌==◌, nat_lt, if◌then◌else◌, List, ◌++◌, ◌∷◌, drop, length, All, Option, None, Some}
 use Rattle.std.specs.List.{before_first, position_or_len}
 use Rattle.key_table.specs.declared.TheConstants.{MOST_PAIRS, MOST_VALUE}
 use Rattle.list_keys.specs.declared.TheConstants.{MOST_KEY}

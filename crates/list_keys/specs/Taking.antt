@@ -1,5 +1,5 @@
 -- Giving the first bytes that are unread as a line.
-use Rattle.std.specs.Prelude.{◌≡◌, ◌&&◌, ℕ, ◌+◌, Bool, true, false, List, take, drop, Result, Ok, Err, None, Some}
+use Rattle.std.specs.Prelude.{◌≡◌, ◌&&◌, ℕ, ◌+◌, Bool, true, false, take, drop, Result, Ok, Err, None, Some}
 use Rattle.list_keys.specs.Lines.{ends_with_return}
 use Rattle.list_keys.specs.Form.{AreTerms, refusal_of}
 use Rattle.list_keys.specs.Window.{Window}

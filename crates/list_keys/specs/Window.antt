@@ -1,5 +1,5 @@
 -- The bytes of Input that were taken, and are not yet given as lines.
-use Rattle.std.specs.Prelude.{◌≡◌, ◌⊎◌, ℕ, ◌-◌, ◌<◌, ◌≤◌, Bool, true, false, List, [], ◌++◌, length, take, drop, IfSome, Result, Ok, Err}
+use Rattle.std.specs.Prelude.{◌≡◌, ◌⊎◌, ℕ, ◌-◌, ◌<◌, Bool, true, List, [], ◌++◌, length, take, drop, IfSome, Result, Ok, Err}
 use Rattle.std.specs.List.{position_or_len}
 use Rattle.port_trait.specs.World.{World}
 use Rattle.port_trait.specs.Number.{INPUT}

@@ -53,6 +53,13 @@ fn ends_with_return(line: &[u8]) -> bool
     !line.is_empty() && line[line.len() - 1] == b'\r'
 }
 
+/// Whether each line ended with a carriage return, and one more does.
+fn still_return(returns: bool, line: &[u8]) -> bool
+    ensures { result ≡ (returns && ends_with_return line.now) }
+{
+    returns && ends_with_return(line)
+}
+
 impl LineReader {
     /// A reader of Input, already open, that has given no line. It takes a quarter of a megabyte.
     ///
@@ -115,11 +122,10 @@ impl LineReader {
             return Err(LinesFault::ReadFault);
         };
         if self.unread.rest().is_empty() {
-            return if self.number == 0 {
-                Err(LinesFault::NoLine)
-            } else {
-                Ok(false)
-            };
+            if self.number == 0 {
+                return Err(LinesFault::NoLine);
+            }
+            return Ok(false);
         }
         self.give(at)
     }
@@ -134,7 +140,7 @@ impl LineReader {
         if let Some(fault) = refusal_of(self.terms, number, line) {
             return Err(LinesFault::Refused { number, fault });
         }
-        self.returns = self.returns && ends_with_return(line);
+        self.returns = still_return(self.returns, line);
         self.number = number;
         self.unread.give(at);
         Ok(true)

@@ -1,7 +1,8 @@
 -- What words ask for.
-use Rattle.std.specs.Prelude.{◌≡◌, List, [], Option, None, Some, Result, Ok, Err, codes}
+use Rattle.std.specs.Prelude.{◌≡◌, ◌⊎◌, List, [], Option, None, Some, Result, Ok, Err, codes}
 use Rattle.clap.specs.Words.{IsAmong, Kinds, Row, Text, fault_of, subcommand_of}
-use Rattle.clap.specs.declared.error.kind.ErrorKind.TheVariants.{DisplayHelp, DisplayVersion}
+use Rattle.clap.specs.declared.error.kind.ErrorKind.{ErrorKind}
+use Rattle.clap.specs.declared.error.kind.ErrorKind.TheVariants.{DisplayHelp, DisplayVersion, OutOfMemory}
 use Rattle.list_words.specs.Command.{pir_list}
 use Rattle.list_words.specs.Values.{IsBuild, IsCheck, IsFind, build_fault, find_fault}
 use Rattle.list_words.specs.declared.asked.Asked.{Asked}
@@ -28,19 +29,25 @@ abbrev pub Comes : Option (Text × List Row) → Result Asked WordsFault → Typ
 Comes None result = result ≡ Err NoCommand
 Comes (Some entered) result = IsCommand entered.0 entered.1 result
 
--- what words come to that `clap` doesn't take, for a reason of these kinds: help, or the version, or a sentence
-abbrev pub IsReply : Kinds → Result Asked WordsFault → Type 0
-IsReply kinds (Ok (Help text)) = IsAmong DisplayHelp kinds
-IsReply kinds (Ok (Version text)) = IsAmong DisplayVersion kinds
-IsReply kinds (Ok (Build build)) = ⊥
-IsReply kinds (Ok (Find find)) = ⊥
-IsReply kinds (Ok (Check check)) = ⊥
-IsReply kinds (Err (Refused text)) = kinds ≡ [] → ⊥
-IsReply kinds (Err (Value fault)) = ⊥
-IsReply kinds (Err NoCommand) = ⊥
-IsReply kinds (Err Memory) = Unit {0}
+-- what is shown for an error of `clap` of this kind: help, the version, or its sentence
+abbrev pub IsShown : ErrorKind → Result Asked WordsFault → Type 0
+IsShown kind (Ok (Help text)) = kind ≡ DisplayHelp
+IsShown kind (Ok (Version text)) = kind ≡ DisplayVersion
+IsShown kind (Ok (Build build)) = ⊥
+IsShown kind (Ok (Find find)) = ⊥
+IsShown kind (Ok (Check check)) = ⊥
+IsShown kind (Err (Refused text)) = (kind ≡ OutOfMemory → ⊥) × (kind ≡ DisplayHelp → ⊥) × (kind ≡ DisplayVersion → ⊥)
+IsShown kind (Err (Value fault)) = ⊥
+IsShown kind (Err NoCommand) = ⊥
+IsShown kind (Err Memory) = Unit {0}
 
--- what words come to: where `clap` finds no fault in them, their command
+-- what words come to that `clap` finds one of these faults in
+pub record IsRefused (kinds : Kinds) (result : Result Asked WordsFault) : Type 0 where
+  pub kind : ErrorKind
+  pub among : (kind ≡ OutOfMemory) ⊎ IsAmong kind kinds
+  pub shown : IsShown kind result
+
+-- what words come to, want of memory aside: their command where `clap` finds no fault in them, and else its answer
 abbrev pub IsAnswer : List Text → Result Asked WordsFault → Type 0
-IsAnswer words result =
-    ((fault_of pir_list words ≡ []) × Comes (subcommand_of pir_list words) result) ⊎ IsReply (fault_of pir_list words) result
+IsAnswer words result = (result ≡ Err Memory)
+    ⊎ (((fault_of pir_list words ≡ []) × Comes (subcommand_of pir_list words) result) ⊎ IsRefused (fault_of pir_list words) result)

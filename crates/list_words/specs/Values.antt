@@ -44,11 +44,13 @@ is_comma b = b == 44
 abbrev pub addresses_of : Text → List Text
 addresses_of text = slice_split is_comma text
 
--- one of them is empty
+-- whether one of them is empty
+abbrev pub has_empty : Text → Bool
+has_empty text = list_any (λ address. length address == 0) (addresses_of text)
+
+-- one of the addresses of the servers is empty
 unfoldable pub servers_fault : List Row → Option ValueFault
-servers_fault m = option_and_then
-    (λ text. if list_any (λ a. length a == 0) (addresses_of text) then Some EmptyAddress else None)
-    (first_of (codes "servers") m)
+servers_fault m = option_and_then (λ text. if has_empty text then Some EmptyAddress else None) (first_of (codes "servers") m)
 
 -- the first fault of the values of `build`
 unfoldable pub build_fault : List Row → Option ValueFault

@@ -1,7 +1,10 @@
 //! The values of each command.
 
-ghost use Rattle.std.specs.Prelude.{◌≡◌, codes};
+ghost use Rattle.std.specs.Prelude.{◌≡◌, ◌≤◌, unwrap_or};
 ghost use Rattle.pir_words.specs.Numbers.{flag_in, given};
+ghost use Rattle.list_words.specs.Amounts.{most_of};
+ghost use Rattle.list_words.specs.declared.TheConstants.{USUAL_DIGEST};
+ghost use Rattle.list_words.specs.declared.amount.Amount.TheVariants.{DigestBytes};
 ghost use Rattle.list_words.specs.Values.{IsBuild, IsCheck, IsFind, amount_fault, amount_in, build_fault, find_fault, servers_fault, text_fault, text_or, values_fault, values_in};
 
 use crate::USUAL_DIGEST;

@@ -7,7 +7,7 @@ use Rattle.list_keys.proofs.keys.Keys.read.Given as goal
 
 abbrev pub invariant-lines : goal.invariant-lines
 invariant-lines g l = record {
-  so_far : KeysSoFar l.form l.keys l.reader (g.P.Ports.world l.initial.ports) (g.P.Ports.world l.ports);
+  so_far : KeysSoFar l.fn.form l.keys l.reader (g.P.Ports.world l.initial.ports) (g.P.Ports.world l.ports);
   others : Touches INPUT (g.P.Ports.world l.initial.ports) (g.P.Ports.world l.ports);
 }
 
