@@ -26,7 +26,10 @@ fn are_keys(
 #[test]
 fn keys_are_those_of_all_lines(rt: HostRuntime) -> Result<(), AllocError> {
     let alloc = rt.alloc();
-    let refused = Err(LinesFault::Refused { number: 1, fault: LineFault::HasTab });
+    let refused = Err(LinesFault::Refused {
+        number: 1,
+        fault: LineFault::HasTab,
+    });
     assert!(rt; are_keys(alloc, b"alpha\nbeta", Form::Key, b"alpha", b"beta")? == Ok(true));
     assert!(rt; are_keys(alloc, b"a\tb\nc\n", Form::Key, b"a\tb", b"c")? == Ok(true));
     assert!(rt; are_keys(alloc, b"a\tb\nc\n", Form::KeyWithoutTab, b"", b"")? == refused);

@@ -6,5 +6,3 @@
 mod keys;
 #[cfg(test)]
 mod lines;
-#[cfg(test)]
-mod words;

@@ -68,7 +68,10 @@ fn lines_come_in_any_cut(rt: HostRuntime) -> Result<(), AllocError> {
             (b"gamma".as_slice(), b"three".as_slice()),
         ];
         let text = b"alpha\tone\nbeta\t\ngamma\tthree";
-        assert!(rt; are_lines(rt.alloc(), cut, text, with_values(), &three)?, "cut {cut}");
+        assert!(rt;
+            are_lines(rt.alloc(), cut, text, with_values(), &three)?,
+            "cut {cut}"
+        );
     }
     Ok(())
 }
@@ -80,7 +83,15 @@ fn the_last_line_may_lack_its_end(rt: HostRuntime) -> Result<(), AllocError> {
     let terms = keys_alone(Form::Key);
     assert!(rt; are_lines(alloc, 1, b"a\tb", terms, &one)?);
     assert!(rt; are_lines(alloc, 1, b"a\tb\n", terms, &one)?);
-    assert!(rt; are_lines(alloc, 1, b"a\t\tb", with_values(), &[(b"a".as_slice(), b"\tb".as_slice())])?);
+    assert!(rt;
+        are_lines(
+            alloc,
+            1,
+            b"a\t\tb",
+            with_values(),
+            &[(b"a".as_slice(), b"\tb".as_slice())]
+        )?
+    );
     Ok(())
 }
 
@@ -132,11 +143,27 @@ fn the_first_fault_is_told(rt: HostRuntime) -> Result<(), AllocError> {
     let key = keys_alone(Form::Key);
     let untabbed = keys_alone(Form::KeyWithoutTab);
     assert!(rt; is_first(alloc, 2, LineFault::EmptyKey, b"alpha\n\nbeta\n", key)?);
-    assert!(rt; is_first(alloc, 4, LineFault::TooMany { most: 3 }, b"a\nb\nc\n\n", key)?);
+    assert!(rt;
+        is_first(
+            alloc,
+            4,
+            LineFault::TooMany { most: 3 },
+            b"a\nb\nc\n\n",
+            key
+        )?
+    );
     assert!(rt; is_first(alloc, 2, LineFault::HasTab, b"a\nb\t\n\n", untabbed)?);
     assert!(rt; is_first(alloc, 1, LineFault::NoTab, b"alpha\n\n", with_values())?);
     assert!(rt; is_first(alloc, 2, LineFault::EmptyKey, b"a\t\n\tb", with_values())?);
-    assert!(rt; is_first(alloc, 1, LineFault::LongValue { most: 5 }, b"a\tabcdef\nb", with_values())?);
+    assert!(rt;
+        is_first(
+            alloc,
+            1,
+            LineFault::LongValue { most: 5 },
+            b"a\tabcdef\nb",
+            with_values()
+        )?
+    );
     Ok(())
 }
 
@@ -155,7 +182,10 @@ fn said_of_key(alloc: Global, count: usize) -> Result<Result<bool, LinesFault>, 
 
 #[test]
 fn long_keys_are_refused(rt: HostRuntime) -> Result<(), AllocError> {
-    let long = Err(LinesFault::Refused { number: 1, fault: LineFault::LongKey });
+    let long = Err(LinesFault::Refused {
+        number: 1,
+        fault: LineFault::LongKey,
+    });
     assert!(rt; said_of_key(rt.alloc(), 65535)? == Ok(true));
     assert!(rt; said_of_key(rt.alloc(), 65536)? == long);
     assert!(rt; said_of_key(rt.alloc(), 200000)? == long);
@@ -194,7 +224,10 @@ fn all_return(alloc: Global, text: &[u8]) -> Result<bool, AllocError> {
 #[test]
 fn carriage_returns_belong_to_keys(rt: HostRuntime) -> Result<(), AllocError> {
     let alloc = rt.alloc();
-    let two = [(b"a\r".as_slice(), b"".as_slice()), (b"b\r".as_slice(), b"".as_slice())];
+    let two = [
+        (b"a\r".as_slice(), b"".as_slice()),
+        (b"b\r".as_slice(), b"".as_slice()),
+    ];
     assert!(rt; are_lines(alloc, 2, b"a\r\nb\r\n", keys_alone(Form::Key), &two)?);
     assert!(rt; all_return(alloc, b"a\r\nb\r\n")?);
     assert!(rt; !all_return(alloc, b"a\r\nb\n")?);
