@@ -6,3 +6,5 @@
 mod keys;
 #[cfg(test)]
 mod lines;
+#[cfg(test)]
+mod words;

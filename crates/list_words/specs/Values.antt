@@ -3,9 +3,10 @@ use Rattle.std.specs.Prelude.{◌≡◌, ℕ, Bool, ◌&&◌, ◌==◌, not, nat
 use Rattle.std.specs.Borrow.{Bor}
 use Rattle.std.specs.List.{list_any, slice_split}
 use Rattle.std.specs.Option.{option_map_or, option_or}
+use Rattle.std.specs.Str.{bytes_eq}
 use Rattle.clap.specs.Words.{Row, Text, first_of}
 use Rattle.key_table.specs.declared.TheConstants.{MOST_VALUE}
-use Rattle.pir_words.specs.Numbers.{flag_in, limited, number}
+use Rattle.pir_words.specs.Numbers.{limited, number}
 use Rattle.list_words.specs.Amounts.{least_of, most_of, name_of}
 use Rattle.list_words.specs.declared.TheConstants.{USUAL_DIGEST}
 use Rattle.list_words.specs.declared.amount.Amount.{Amount}
@@ -32,9 +33,13 @@ amount_fault amount m = option_and_then (text_fault amount) (first_of (name_of a
 unfoldable pub amount_in : Amount → List Row → Option ℕ
 amount_in amount m = limited (name_of amount) (least_of amount) (most_of amount) m
 
+-- whether an option without a value is given: the parse gives it the word `true` where it is, and else `false`
+unfoldable pub is_set : Text → List Row → Bool
+is_set id m = bytes_eq (unwrap_or (first_of id m) (codes "false")) (codes "true")
+
 -- the longest value is given for lines that have no values
 unfoldable pub values_fault : List Row → Option ValueFault
-values_fault m = if is_some (first_of (codes "value-bytes") m) && not (flag_in (codes "values") m) then Some WithoutValues else None
+values_fault m = if is_some (first_of (codes "value-bytes") m) && not (is_set (codes "values") m) then Some WithoutValues else None
 
 -- whether a byte is a comma
 abbrev pub is_comma : ℕ → Bool
@@ -70,7 +75,7 @@ IsGiven id m text = option_map (λ t. t.now) text ≡ first_of id m
 
 -- how many bytes a value has at most, where lines have values
 unfoldable pub values_in : List Row → Option ℕ
-values_in m = if flag_in (codes "values") m then Some (unwrap_or (amount_in ValueBytes m) MOST_VALUE) else None
+values_in m = if is_set (codes "values") m then Some (unwrap_or (amount_in ValueBytes m) MOST_VALUE) else None
 
 -- `build` with these values
 pub record IsBuild (m : List Row) (build : Build) : Type 0 where
@@ -90,7 +95,7 @@ pub record IsFind (m : List Row) (find : Find) : Type 0 where
   pub degree : find.degree ≡ amount_in Degree m
   pub agree : find.agree ≡ amount_in Agree m
   pub coins : find.coins.now ≡ text_or (codes "coins") (codes "/dev/urandom") m
-  pub hex : find.hex ≡ flag_in (codes "hex") m
+  pub hex : find.hex ≡ is_set (codes "hex") m
 
 -- `check` with these values
 pub record IsCheck (m : List Row) (check : Check) : Type 0 where

@@ -47,7 +47,7 @@ pub(crate) struct Form<'a> {
 }
 
 /// An argument, as `clap` takes it.
-fn argument<'a>(alloc: Global, form: Argument<'a>) -> Arg<'a>
+fn arg_of<'a>(alloc: Global, form: Argument<'a>) -> Arg<'a>
     ensures rule { rule_of result ≡ rule_by form.entry.name.now form.entry.kind }
     ensures local { result.global ≡ false }
 {
@@ -81,7 +81,7 @@ fn command_of<'a>(alloc: Global, form: Form<'a>) -> Result<Command<'a>, AllocErr
 {
     let mut command = Command::new(alloc, form.name).about(form.about);
     for one in form.arguments {
-        command = command.arg(argument(alloc, *one))?;
+        command = command.arg(arg_of(alloc, *one))?;
     }
     Ok(command)
 }

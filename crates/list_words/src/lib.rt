@@ -8,18 +8,16 @@
 //! the empty one is no address.
 #![tactic(auto)]
 
-mod addresses;
+mod address_list;
 mod amount;
 mod asked;
 mod command;
 mod commands;
 mod fault;
 mod read;
-#[cfg(test)]
-mod tests;
 mod values;
 
-pub use addresses::addresses;
+pub use address_list::addresses;
 pub use amount::Amount;
 pub use asked::{Asked, Build, Check, Find};
 pub use command::list_command;

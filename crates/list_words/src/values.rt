@@ -1,14 +1,14 @@
 //! The values of each command.
 
-ghost use Rattle.std.specs.Prelude.{◌≡◌, ◌≤◌, unwrap_or};
-ghost use Rattle.pir_words.specs.Numbers.{flag_in, given};
+ghost use Rattle.std.specs.Prelude.{◌≡◌, ◌≤◌, unwrap_or, IfSome};
+ghost use Rattle.pir_words.specs.Numbers.{given};
 ghost use Rattle.list_words.specs.Amounts.{most_of};
 ghost use Rattle.list_words.specs.declared.TheConstants.{USUAL_DIGEST};
 ghost use Rattle.list_words.specs.declared.amount.Amount.TheVariants.{DigestBytes};
-ghost use Rattle.list_words.specs.Values.{IsBuild, IsCheck, IsFind, amount_fault, amount_in, build_fault, find_fault, servers_fault, text_fault, text_or, values_fault, values_in};
+ghost use Rattle.list_words.specs.Values.{IsBuild, IsCheck, IsFind, amount_fault, amount_in, build_fault, find_fault, is_set, servers_fault, text_fault, text_or, values_fault, values_in};
 
 use crate::USUAL_DIGEST;
-use crate::addresses::has_empty;
+use crate::address_list::has_empty;
 use crate::amount::Amount;
 use crate::asked::{Build, Check, Find};
 use crate::fault::ValueFault;
@@ -44,15 +44,16 @@ fn amount_fault(matches: &ArgMatches, amount: Amount) -> Option<ValueFault>
 /// The number of an option, where it is given.
 #[tactic(auto, unfolding(crate::specs::Values::amount_in))]
 fn amount_at(matches: &ArgMatches, amount: Amount) -> Option<u32>
-    ensures { result ≡ amount_in amount (given matches.now) }
+    ensures value { result ≡ amount_in amount (given matches.now) }
+    ensures bound { IfSome result (λ n. n ≤ most_of amount) }
 {
     limited_at(matches, amount.name(), amount.least(), amount.most())
 }
 
 /// Whether an option without a value is given.
-#[tactic(auto, unfolding(Rattle::pir_words::specs::Numbers::flag_in))]
+#[tactic(auto, unfolding(crate::specs::Values::is_set))]
 fn flag_at(matches: &ArgMatches, id: &str) -> bool
-    ensures { result ≡ flag_in id.now (given matches.now) }
+    ensures { result ≡ is_set id.now (given matches.now) }
 {
     matches!(text_at(matches, id), Some("true"))
 }
@@ -94,9 +95,9 @@ fn servers_fault(matches: &ArgMatches) -> Option<ValueFault>
 pub(crate) fn build_fault(matches: &ArgMatches) -> Option<ValueFault>
     ensures { result ≡ build_fault (given matches.now) }
 {
-    amount_fault(matches, Amount::DigestBytes)
-        .or(amount_fault(matches, Amount::Rows)
-            .or(values_fault(matches).or(amount_fault(matches, Amount::ValueBytes))))
+    amount_fault(matches, Amount::DigestBytes).or(amount_fault(matches, Amount::Rows).or(
+        values_fault(matches).or(amount_fault(matches, Amount::ValueBytes)),
+    ))
 }
 
 /// The first fault of the values of `find`.
@@ -104,8 +105,10 @@ pub(crate) fn build_fault(matches: &ArgMatches) -> Option<ValueFault>
 pub(crate) fn find_fault(matches: &ArgMatches) -> Option<ValueFault>
     ensures { result ≡ find_fault (given matches.now) }
 {
-    servers_fault(matches)
-        .or(amount_fault(matches, Amount::Degree).or(amount_fault(matches, Amount::Agree)))
+    servers_fault(matches).or(amount_fault(matches, Amount::Degree).or(amount_fault(
+        matches,
+        Amount::Agree,
+    )))
 }
 
 /// How many bytes a value has at most, where lines have values.

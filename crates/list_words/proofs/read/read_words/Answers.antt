@@ -14,11 +14,11 @@ returns-in-Ok-try_get_matches_from c =
     let entered = (parse.matches (ap is_simple app ∙ list_is_simple)).1 ∙ ap (λ (a : App). subcommand_of a words) app in
     inr (inl (none, subst (λ e. Comes e c.read_matches.result) entered c.read_matches.ensures))
 
-pub returns-in-Err-try_get_matches_from : goal.returns-in-Err-try_get_matches_from
-returns-in-Err-try_get_matches_from c =
+pub returns-in-Err : goal.returns-in-Err
+returns-in-Err c =
     let words = map string_bytes c.args.words.now in
     let app = c.in-Ok.ensures in
-    let error = c.in-Err-try_get_matches_from.error in
-    let parse = c.in-Err-try_get_matches_from.ensures in
+    let error = c.in-Err.error in
+    let parse = c.in-Err.ensures in
     let kinds = subst (λ (a : App). HasKind (fault_of a words) error) app (parse.kinds (ap is_simple_and_free app ∙ list_is_free)) in
     inr (inr record { kind = kind_of error; among = kinds; shown = c.read_error.ensures })

@@ -20,6 +20,17 @@ fn parts<'a>(alloc: Global, text: &'a str) -> Result<Vec<&'a str>, AllocError>
     text.split(',').collect(alloc)
 }
 
+/// Copies of texts.
+fn owned(alloc: Global, texts: &[&str]) -> Result<Vec<String>, AllocError>
+    ensures { IfOk result (λ list. map string_bytes list.items ≡ map (λ v. v.now) texts.now) }
+{
+    let mut list = Vec::new(alloc);
+    for text in texts {
+        list.push(String::from_str(alloc, *text)?)?;
+    }
+    Ok(list)
+}
+
 /// The addresses that a text has, parted by commas.
 ///
 /// # Errors
@@ -29,9 +40,5 @@ pub fn addresses(alloc: Global, text: &str) -> Result<Vec<String>, AllocError>
     ensures { IfOk result (λ list. map string_bytes list.items ≡ addresses_of text.now) }
 {
     let texts = parts(alloc, text)?;
-    let mut list = Vec::new(alloc);
-    for address in texts.as_slice() {
-        list.push(String::from_str(alloc, *address)?)?;
-    }
-    Ok(list)
+    owned(alloc, texts.as_slice())
 }
