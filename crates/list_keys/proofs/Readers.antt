@@ -1,6 +1,6 @@
 -- What a reader has given, through its calls.
 use Rattle.std.proofs.Common.{◌≡◌, ◌⊎◌, inl, inr, ℕ, ◌+◌, ◌<◌, ◌≤◌, Bool, true, false, not, List, [], ◌∷◌, ◌++◌, length, take, refl, sym, ◌∙◌, ap, ap₂, subst, arith}
-use Rattle.std.specs.Prelude.{◌&&◌, All, Result, Ok, Err, None, Some}
+use Rattle.std.specs.Prelude.{◌&&◌, Result, Ok, Err, None, Some}
 use Rattle.std.proofs.lemmas.Bool.{cases_lt}
 use Rattle.std.proofs.lemmas.List.{length_push, nil_from_length, take_all}
 use Rattle.std.proofs.lemmas.List.Elements.{All-nil, All-push}
@@ -31,15 +31,13 @@ read_none terms window w empty fresh = record {
 }
 
 -- more was taken
-pub read_on : (old mid : Reading) (given : List (List ℕ)) (start w v : World) → mid.terms ≡ old.terms → mid.number ≡ old.number
-    → mid.returns ≡ old.returns → HasGiven mid.window given start v → HasRead old given start w → HasRead mid given start v
-read_on old mid given start w v terms number returns window h = record {
-  window = window;
-  number = number ∙ h.number;
-  few = subst (λ (t : Terms). length given ≤ t.most) (sym terms) h.few;
-  good = subst (λ (t : Terms). All (IsGood t.form) given) (sym terms) h.good;
-  returns = returns ∙ h.returns;
-}
+pub read_on : (old mid : Reading) (before : Window) (given : List (List ℕ)) (start w v : World)
+    → record { terms = mid.terms; number = mid.number; returns = mid.returns; window = before } ≡ old
+    → (HasGiven before given start w → HasGiven mid.window given start v) → HasRead old given start w → HasRead mid given start v
+read_on old mid before given start w v is takes h =
+    let held : HasRead (record { terms = mid.terms; number = mid.number; returns = mid.returns; window = before }) given start w =
+    subst (λ (r : Reading). HasRead r given start w) (sym is) h in
+    record { window = takes held.window; number = held.number; few = held.few; good = held.good; returns = held.returns }
 
 -- where nothing is unread, no more comes
 pub ends_empty : (window : Window) (at : ℕ) → EndsAt window at → window.rest ≡ [] → window.ended ≡ true

@@ -3,7 +3,7 @@ use Rattle.std.proofs.lemmas.Bool.{eqb-false, eqb-true}
 use Rattle.std.proofs.lemmas.List.{nil_from_length}
 use Rattle.std.proofs.lemmas.List.Sums.{prefix_len-le-length}
 use Rattle.list_keys.specs.Lines.{is_newline}
-use Rattle.list_keys.specs.Reading.{HasRead, Reading}
+use Rattle.list_keys.specs.Reading.{Reading}
 use Rattle.list_keys.specs.Window.{HasGiven, Window}
 use Rattle.list_keys.proofs.Readers.{read_all, read_line_more, read_no_line, read_on}
 use Rattle.list_keys.proofs.reader.LineReader.read_line.Goals as goal
@@ -19,10 +19,7 @@ returns-then-self-eq0-clause-gives g c = λ given start h.
     let mid : Reading = record { terms = i.terms; number = i.number; returns = i.returns; window = c.find_end.new.self } in
     let w = g.P.Ports.world c.args.ports.now in
     let v = g.P.Ports.world c.find_end.new.ports in
-    let window = c.in-Ok.ensures.takes given start
-    (subst (λ (x : Window). HasGiven x given start w) (sym (ap (λ (r : Reading). r.window) c.self.view_is)) h.window) in
-    let read : HasRead mid given start v = read_on c.args.self.now mid given start w v (ap (λ (r : Reading). r.terms) c.self.view_is)
-    (ap (λ (r : Reading). r.number) c.self.view_is) (ap (λ (r : Reading). r.returns) c.self.view_is) window h in
+    let read = read_on c.args.self.now mid i.unread given start w v c.self.view_is (c.in-Ok.ensures.takes given start) h in
     let empty : mid.window.rest ≡ [] = nil_from_length _ (ap length (sym c.rest.ensures) ∙ eqb-true _ 0 (sym c.is_empty.ensures ∙ c.if-is_empty.true)) in
     read_no_line mid c.in-Ok.at given start v c.in-Ok.ensures.ends empty c.if-self-eq0.true read
 
@@ -32,10 +29,7 @@ returns-then-is_empty-clause-gives g c = λ given start h.
     let mid : Reading = record { terms = i.terms; number = i.number; returns = i.returns; window = c.find_end.new.self } in
     let w = g.P.Ports.world c.args.ports.now in
     let v = g.P.Ports.world c.find_end.new.ports in
-    let window = c.in-Ok.ensures.takes given start
-    (subst (λ (x : Window). HasGiven x given start w) (sym (ap (λ (r : Reading). r.window) c.self.view_is)) h.window) in
-    let read : HasRead mid given start v = read_on c.args.self.now mid given start w v (ap (λ (r : Reading). r.terms) c.self.view_is)
-    (ap (λ (r : Reading). r.number) c.self.view_is) (ap (λ (r : Reading). r.returns) c.self.view_is) window h in
+    let read = read_on c.args.self.now mid i.unread given start w v c.self.view_is (c.in-Ok.ensures.takes given start) h in
     let empty : mid.window.rest ≡ [] = nil_from_length _ (ap length (sym c.rest.ensures) ∙ eqb-true _ 0 (sym c.is_empty.ensures ∙ c.if-is_empty.true)) in
     (omega (arith, c.if-self-eq0.false, read.number), read, read_all mid c.in-Ok.at given start v c.in-Ok.ensures.ends empty read)
 
@@ -49,10 +43,7 @@ returns-clause-gives g c = λ given start h.
     let mid : Reading = record { terms = i.terms; number = i.number; returns = i.returns; window = c.find_end.new.self } in
     let w = g.P.Ports.world c.args.ports.now in
     let v = g.P.Ports.world c.find_end.new.ports in
-    let window = c.in-Ok.ensures.takes given start
-    (subst (λ (x : Window). HasGiven x given start w) (sym (ap (λ (r : Reading). r.window) c.self.view_is)) h.window) in
-    let read : HasRead mid given start v = read_on c.args.self.now mid given start w v (ap (λ (r : Reading). r.terms) c.self.view_is)
-    (ap (λ (r : Reading). r.number) c.self.view_is) (ap (λ (r : Reading). r.returns) c.self.view_is) window h in
+    let read = read_on c.args.self.now mid i.unread given start w v c.self.view_is (c.in-Ok.ensures.takes given start) h in
     let count = length c.find_end.new.self.rest in
     let none : count ≡ 0 → ⊥ = λ e. eqb-false (length c.rest.result.now) 0 (sym c.is_empty.ensures ∙ c.if-is_empty.false) (ap length c.rest.ensures ∙ e) in
     let some : 0 < count = omega (arith, none) in
