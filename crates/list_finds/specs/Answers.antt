@@ -1,6 +1,5 @@
 -- What is said of a key.
-use Rattle.std.specs.Prelude.{◌≡◌, ℕ, ◌+◌, ◌<◌, ◌≤◌, ⊤, List, [], length, slice_index_or, Contains, Option, Some, None}
-use Rattle.key_table.specs.Digest.{row_of}
+use Rattle.std.specs.Prelude.{◌≡◌, ◌≢◌, ℕ, ◌<◌, ◌≤◌, List, [], length, slice_index_or, Contains, Option, Some, None}
 use Rattle.key_table.specs.Entry.{Pair}
 use Rattle.key_table.specs.Table.{IsRowOf}
 use Rattle.key_table.specs.Looked.{LacksDigest, pair}
@@ -51,3 +50,17 @@ pub record AreAnswers (list : KnownList) (rows width : ℕ) (block : Option (Lis
   pub count : length answers ≡ length keys
   pub each : (place : ℕ) → place < length keys
       → AnswersAt list rows width block place (slice_index_or keys place []) (slice_index_or answers place Unknown)
+
+-- the answer to a key, counted from 0
+abbrev pub answer_to : List (Answer (List ℕ)) → ℕ → Answer (List ℕ)
+answer_to answers i = slice_index_or answers i Unknown
+
+-- no row came that is none of the list
+abbrev pub HasNoBroken : List (Answer (List ℕ)) → Type 0
+HasNoBroken answers = (i : ℕ) → i < length answers → answer_to answers i ≢ Broken
+
+-- for this key, and for none before it, a row came that is none of the list
+pub record IsFirstBroken (answers : List (Answer (List ℕ))) (i : ℕ) : Type 0 where
+  pub within : i < length answers
+  pub broken : answer_to answers i ≡ Broken
+  pub first : (j : ℕ) → j < i → answer_to answers j ≢ Broken

@@ -1,5 +1,5 @@
 -- What a search does, and what it comes to.
-use Rattle.std.specs.Prelude.{◌≡◌, ℕ, ◌+◌, ◌<◌, ◌≤◌, ◌⊎◌, ◌++◌, List, [], ◌∷◌, length, flat_map, Option, Some, None, IfSome, is_none, if◌then◌else◌, Result, Ok, Err}
+use Rattle.std.specs.Prelude.{◌≡◌, ℕ, ◌<◌, ◌≤◌, ◌⊎◌, ◌++◌, List, [], ◌∷◌, length, flat_map, Option, Some, None, IfSome, is_none, if◌then◌else◌, Result, Ok, Err}
 use Rattle.std.specs.Option.{option_or}
 use Rattle.port_trait.specs.World.{Cell, World}
 use Rattle.port_trait.specs.Number.{COINS}
@@ -12,8 +12,7 @@ use Rattle.query_rounds.specs.Plan.{need}
 use Rattle.key_fetches.specs.Listed.{only_block}
 use Rattle.key_fetches.specs.LookedUp.{EndsNext, FailsNext}
 use Rattle.list_finds.specs.Queries.{AreOutcomes, AskEach, IsQuery, Outcome, Query, coins_of}
-use Rattle.list_finds.specs.Sent.{TakeFrames}
-use Rattle.list_finds.specs.Wanted.{Wanted, coins_wanted, keys_of, queries_for}
+use Rattle.list_finds.specs.Wanted.{Wanted, coins_wanted, keys_of, queries_for, rows_of}
 use Rattle.list_finds.specs.declared.answers.Answer.{Answer}
 use Rattle.list_finds.specs.declared.finds.Unlisted.{Unlisted}
 
@@ -44,7 +43,6 @@ come_of queries outcomes =
 pub record Asked (w : Wanted) (queries : List Query) (outcomes : List Outcome) (old new : World) : Type 0 where
   pub outcomes_are : AreOutcomes w 0 queries outcomes
   pub links : AskEach w queries old new
-  pub frames : TakeFrames w.plan queries old new
 
 -- their coins were taken from Coins as it was at first
 abbrev pub TossedFor : List Query → Cell → World → Type 0
@@ -62,7 +60,7 @@ pub record FoundAll (w : Wanted) (come : Come) (first : Cell) (old new : World) 
 
 -- how many coins the query takes that comes behind these
 abbrev pub next_need : Wanted → List Query → ℕ
-next_need w queries = need w.plan (length (keys_of w (length queries)))
+next_need w queries = need w.plan (length (rows_of w (keys_of w (length queries))))
 
 -- fewer queries were asked than there are, when a call on Coins failed
 pub record FindUnread (w : Wanted) (first : Cell) (old new : World) : Type 0 where
@@ -87,7 +85,6 @@ pub record AskedInVain (w : Wanted) (queries : List Query) (first : Cell) (old n
   pub fewer : length queries < queries_for w
   pub is_query : IsQuery w (length queries) last
   pub links : AskEach w (queries ++ last ∷ []) old new
-  pub frames : TakeFrames w.plan (queries ++ last ∷ []) old new
   pub coins : TossedFor (queries ++ last ∷ []) first new
 
 -- memory ran out after some queries: before a server was asked in one more, or when all were

@@ -6,3 +6,5 @@ pub mod Wanted
 pub mod Queries
 pub mod Sent
 pub mod Found
+pub mod Ended
+pub mod Honest

@@ -1,7 +1,7 @@
 -- The queries of a search, one after the other.
 use Rattle.std.specs.Prelude.{◌≡◌, ℕ, ◌+◌, ◌<◌, List, [], ◌∷◌, length, flat_map, All, ⊤, slice_index_or, None}
 use Rattle.port_trait.specs.World.{Cell, World}
-use Rattle.port_trait.specs.Number.{COINS, link}
+use Rattle.port_trait.specs.Number.{link}
 use Rattle.port_trait.specs.Each.{Each}
 use Rattle.wire_frames.specs.Sizes.{answer_len}
 use Rattle.wire_frames.specs.Session.{Transcript}
@@ -29,11 +29,12 @@ pub record Outcome : Type 0 where
   pub verdict : Verdict
   pub answers : List (Answer (List ℕ))
 
--- this is the query with that number: it asks for the rows of its keys, with as many coins as they need, in a session that
--- has the coins' number and a record of each server
+-- this is the query with that number: it asks for the rows of its keys, which the table has, with as many coins as they need,
+-- in a session that has the coins' number and a record of each server
 pub record IsQuery (w : Wanted) (number : ℕ) (q : Query) : Type 0 where
   pub keys : q.keys ≡ keys_of w number
   pub rows : q.rows ≡ rows_of w q.keys
+  pub within : All (λ b. b < w.plan.r) q.rows
   pub size : length q.coins ≡ need w.plan (length q.rows)
   pub bytes : All (λ b. b < 256) q.coins
   pub params : q.session.params ≡ params_of w.plan (length q.rows) (session_number q.coins)

@@ -1,8 +1,8 @@
 //! The answers to keys, in memory that was taken once.
 
-ghost use Rattle.std.specs.Prelude.{◌≡◌, ◌≤◌, ◌<◌, ◌+◌, ◌-◌, ◌++◌, ◌∷◌, [], length, slice_index_or, IfOk, IsTrue, ◌↔◌, vec_len, vec_capacity};
+ghost use Rattle.std.specs.Prelude.{◌≡◌, ◌≤◌, ◌<◌, ◌+◌, ◌-◌, ◌++◌, ◌∷◌, [], length, slice_index_or, IfOk, IsTrue, MatchOption, ◌↔◌, vec_len, vec_capacity};
 ghost use Rattle.key_table.specs.declared.TheConstants.{MOST_VALUE};
-ghost use Rattle.list_finds.specs.Answers.{ValueFits, map_answer, value_of};
+ghost use Rattle.list_finds.specs.Answers.{HasNoBroken, IsFirstBroken, ValueFits, map_answer, value_of};
 ghost use Rattle.list_finds.specs.Held.{LiesIn, no_answers, value_at};
 ghost use Rattle.list_finds.specs.declared.TheConstants.{MOST_KEYS};
 
@@ -104,8 +104,8 @@ impl Answers {
         requires room { 0 < self.old.room }
         requires fits { ValueFits self.old.most (map_answer (λ v. v.now) answer) }
         ensures { self.new ≡ record self.old {
-            answers = self.old.answers ++ map_answer (λ v. v.now) answer.entry ∷ [];
-            room = self.old.room - 1;
+          answers = self.old.answers ++ map_answer (λ v. v.now) answer.entry ∷ [];
+          room = self.old.room - 1;
         } }
     {
         let kept = keep(&mut self.values, answer);
@@ -136,8 +136,20 @@ impl Answers {
         }
     }
 
-    /// Whether what came for the row of key `i` is no row of the list.
-    pub(crate) fn is_broken(&self, i: usize) -> bool
+    /// The first key, counted from 0, for whose row no row of the list came.
+    pub(crate) fn first_broken(&self) -> Option<usize>
+        ensures { MatchOption result (HasNoBroken self.now.answers) (IsFirstBroken self.now.answers) }
+    {
+        for i in 0..self.kept.len() {
+            if self.is_broken(i) {
+                return Some(i);
+            }
+        }
+        None
+    }
+
+    /// Whether no row of the list came for the row of key `i`.
+    fn is_broken(&self, i: usize) -> bool
         requires { i < length self.now.answers }
         ensures { IsTrue result ↔ (slice_index_or self.now.answers i Answer.Unknown ≡ Answer.Broken) }
     {

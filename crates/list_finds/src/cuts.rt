@@ -1,6 +1,6 @@
 //! The keys of each query, and the rows that they belong to.
 
-ghost use Rattle.std.specs.Prelude.{◌≡◌, ◌≤◌, ◌<◌, ◌+◌, ◌-◌, ◌*◌, ◌/◌, length, map, take, drop};
+ghost use Rattle.std.specs.Prelude.{◌≡◌, ◌≤◌, ◌<◌, ◌+◌, ◌-◌, ◌*◌, ◌/◌, length, map, take, drop, All};
 ghost use Rattle.quantity_limits.specs.declared.TheConstants.{MOST_BLOCKS, MOST_WIDTH};
 ghost use Rattle.list_finds.specs.Known.{IsKnown, row_in};
 ghost use Rattle.list_finds.specs.Wanted.{keys_each};
@@ -36,7 +36,8 @@ pub(crate) fn queries_for(keys: usize, width: u32) -> usize
 pub(crate) fn keys_of<'a>(keys: &'a [&'a [u8]], each: usize, query: usize) -> &'a [&'a [u8]]
     requires few { query * each ≤ length keys.now }
     requires keys { length keys.now ≤ MOST_KEYS }
-    ensures { map (λ k. k.now) result.now ≡ take each (drop (query * each) (map (λ k. k.now) keys.now)) }
+    ensures own { map (λ k. k.now) result.now ≡ take each (drop (query * each) (map (λ k. k.now) keys.now)) }
+    ensures few { length result.now ≤ each }
 {
     let from = query * each;
     let (_, rest) = keys.split_at(from);
@@ -48,7 +49,8 @@ pub(crate) fn keys_of<'a>(keys: &'a [&'a [u8]], each: usize, query: usize) -> &'
 pub(crate) fn write_rows(list: &KnownList, rows: u32, keys: &[&[u8]], out: &mut [u32])
     requires known { IsKnown list.now }
     requires room { length out.old ≡ length keys.now }
-    ensures { out.new ≡ map (λ k. row_in list.now rows k.now) keys.now }
+    ensures rows { out.new ≡ map (λ k. row_in list.now rows k.now) keys.now }
+    ensures within { 1 ≤ rows → All (λ row. row < rows) out.new }
 {
     for place in 0..keys.len() {
         out[place] = list.row_of_key(rows, keys[place]);

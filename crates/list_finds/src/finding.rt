@@ -62,9 +62,9 @@ pub fn find_keys<I: Interpolate, C: Ledger, N: Ledger, P: Ports>(
         mut answers,
     } = search;
     let mut unlisted = None;
-    let mut room = [0u32; MOST_BLOCKS as usize];
     'queries: for query in 0..queries_for(keys.len(), plan.s) {
         let own = keys_of(keys, keys_each(plan.s), query);
+        let mut room = [0u32; MOST_BLOCKS as usize];
         let rows = &mut room[..own.len()];
         write_rows(&list, plan.r, own, rows);
         let (session, verdict) = fetch(alloc, way, &plan, rows, addresses, ports, cols, nodes)?;

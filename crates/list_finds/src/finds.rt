@@ -1,7 +1,6 @@
 //! What a search comes to.
 
 ghost use Rattle.std.specs.Prelude.{◌≡◌, ◌<◌, length, slice_index_or};
-ghost use Rattle.std.specs.Option.{option_map};
 ghost use Rattle.list_finds.specs.Answers.{map_answer};
 ghost use Rattle.list_finds.specs.Ended.{EndsAs};
 
@@ -68,11 +67,9 @@ impl Finds {
         if let Some(unlisted) = &self.unlisted {
             return Ending::Unlisted(unlisted);
         }
-        for i in 0..self.answers.len() {
-            if self.answers.is_broken(i) {
-                return Ending::BrokenRow(i);
-            }
+        match self.answers.first_broken() {
+            Some(i) => Ending::BrokenRow(i),
+            None => Ending::Settled,
         }
-        Ending::Settled
     }
 }

@@ -19,6 +19,7 @@ mod cuts;
 mod finding;
 mod finds;
 mod known_list;
+pub mod laws;
 mod search;
 mod telling;
 

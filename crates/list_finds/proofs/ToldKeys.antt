@@ -1,5 +1,5 @@
 -- The answers to the keys of a query, one after the other.
-use Rattle.std.proofs.Common.{◌≡◌, ◌∙◌, ℕ, ◌+◌, ◌-◌, ◌<◌, ◌≤◌, List, [], ◌∷◌, ◌++◌, length, take, get_or, replicate, inl, inr, refl, sym, ap, ap₂, subst, length-append, append_assoc, arith}
+use Rattle.std.proofs.Common.{◌≡◌, ◌∙◌, ℕ, ◌+◌, ◌-◌, ◌<◌, List, [], ◌∷◌, ◌++◌, length, take, get_or, replicate, inl, inr, refl, sym, ap, subst, length-append, append_assoc, arith}
 use Rattle.std.specs.Prelude.{Option, None, slice_index_or}
 use Rattle.std.proofs.Math.ListN.{get_or-append}
 use Rattle.std.proofs.Math.Seq.{get_or-append_seam}
@@ -82,7 +82,7 @@ module _ (list : KnownList) (rows width : ℕ) (block : Option (List ℕ)) where
       subst (λ (ks : List (List ℕ)). TellsKeys list rows width block ks old new) (sym more) (record {
         told = tells.told ++ answer ∷ [];
         are = are;
-        answers = ap (λ (h : Held). h.answers) is ∙ ap (λ (as : List (Answer (List ℕ))). as ++ answer ∷ []) tells.answers
+        answers = ap (λ (h : Held). h.answers) is ∙ ap (λ (said : List (Answer (List ℕ))). said ++ answer ∷ []) tells.answers
             ∙ append_assoc old.answers tells.told (answer ∷ []);
         room = let r = ap (λ (h : Held). h.room) is in let s = tells.room in
             omega (arith, r, s, some, size, length-append (take n keys) (key ∷ []));
@@ -107,9 +107,9 @@ tells_unlisted list rows width keys old new tells = record {
 pub none_more : (n : ℕ) (old mid new : Held) → TellsNone n old mid → 0 < mid.room
     → new ≡ record mid { answers = mid.answers ++ Unknown ∷ []; room = mid.room - 1 } → TellsNone (n + 1) old new
 none_more n old mid new tells some is = record {
-  answers = ap (λ (h : Held). h.answers) is ∙ ap (λ (as : List (Answer (List ℕ))). as ++ Unknown ∷ []) tells.answers
+  answers = ap (λ (h : Held). h.answers) is ∙ ap (λ (said : List (Answer (List ℕ))). said ++ Unknown ∷ []) tells.answers
       ∙ append_assoc old.answers (replicate n Unknown) (Unknown ∷ [])
-      ∙ ap (λ (as : List (Answer (List ℕ))). old.answers ++ as) (replicate-append-replicate n 1 Unknown);
+      ∙ ap (λ (said : List (Answer (List ℕ))). old.answers ++ said) (replicate-append-replicate n 1 Unknown);
   room = let r = ap (λ (h : Held). h.room) is in let s = tells.room in omega (arith, r, s, some);
   most = ap (λ (h : Held). h.most) is ∙ tells.most;
 }
