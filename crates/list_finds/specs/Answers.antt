@@ -27,19 +27,22 @@ value_of (Present value) = value
 abbrev pub ValueFits : ℕ → Answer (List ℕ) → Type 0
 ValueFits most answer = length (value_of answer) ≤ most
 
--- the answer to a key by its row of a table of so many rows: the value that stands with its digest there, or that none does.
--- The row is broken where it is that row of no table of the list
+-- the row of a key in a table of so many rows is these bytes, and has these pairs
+abbrev pub IsRowFor : KnownList → ℕ → List ℕ → List ℕ → List Pair → Type 0
+IsRowFor list rows key row pairs = IsRowOf (making_of list rows) (row_in list rows key) row pairs
+
+-- the answer to a key by its row of a table of so many rows: the value that stands with its digest there, or that none
+-- does. The row is broken where it is that row of no table of the list
 abbrev pub AnswersInRow : KnownList → ℕ → List ℕ → List ℕ → Answer (List ℕ) → Type 0
 AnswersInRow list rows row key Unknown = ⊥
-AnswersInRow list rows row key Broken =
-    (pairs : List Pair) → IsRowOf (making_of list rows) (row_in list rows key) row pairs → ⊥
+AnswersInRow list rows row key Broken = (pairs : List Pair) → IsRowFor list rows key row pairs → ⊥
 AnswersInRow list rows row key Absent =
-    (pairs : List Pair) × IsRowOf (making_of list rows) (row_in list rows key) row pairs × LacksDigest pairs (digest_in list key)
+    (pairs : List Pair) × IsRowFor list rows key row pairs × LacksDigest pairs (digest_in list key)
 AnswersInRow list rows row key (Present value) =
-    (pairs : List Pair) × IsRowOf (making_of list rows) (row_in list rows key) row pairs × Contains pairs (pair (digest_in list key) value)
+    (pairs : List Pair) × IsRowFor list rows key row pairs × Contains pairs (pair (digest_in list key) value)
 
--- the answer to the key at a place of a query, by the one block that the verdict on it lists, if it does: that has the rows
--- of all keys of the query, one behind another
+-- the answer to the key at a place of a query, by the one block that the verdict on it lists, if it does: that has the
+-- rows of all keys of the query, one behind another
 abbrev pub AnswersAt : KnownList → ℕ → ℕ → Option (List ℕ) → ℕ → List ℕ → Answer (List ℕ) → Type 0
 AnswersAt list rows width None place key answer = answer ≡ Unknown
 AnswersAt list rows width (Some block) place key answer = AnswersInRow list rows (piece width place block) key answer

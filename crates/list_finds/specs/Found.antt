@@ -28,8 +28,8 @@ first_unlisted (q ∷ queries) [] = None
 first_unlisted (q ∷ queries) (outcome ∷ outcomes) =
     option_or (unlisted_of q.session outcome.verdict) (first_unlisted queries outcomes)
 
--- what a search came to: the answer to each key, and the first verdict that didn't list exactly one block, with its session,
--- if there was one
+-- what a search came to: the answer to each key, and the first verdict that didn't list exactly one block, with its
+-- session, if there was one
 pub record Come : Type 0 where
   pub answers : List (Answer (List ℕ))
   pub unlisted : Option Unlisted

@@ -28,8 +28,8 @@ pub record IsTableOf (w : Wanted) (list : List Pair) (table : List (List ℕ)) :
   pub clear : IsClear list
   pub pairs : All (IsPair w.list.size w.list.most) list
 
--- at least h of the records of a query's session are the frames of honest servers that hold the table, or their shares of it, and
--- 2 h > k + t for its k usable answers and its degree t
+-- at least h of the records of a query's session are the frames of honest servers that hold the table, or their shares
+-- of it, and 2 h > k + t for its k usable answers and its degree t
 pub record IsHonestQuery (w : Wanted) (table : List (List ℕ)) (q : Query) : Type 0 where
   pub share_coins : List ℕ
   pub honest : HonestRecords q.session w.plan.t (held_as w.plan.tau table share_coins) (queries_from q.coins) q.rows
@@ -42,6 +42,6 @@ pub record AnswersFor (w : Wanted) (list : List Pair) (come : Come) : Type 0 whe
 
 -- so it is where all queries are honest, whatever the list is and the table
 abbrev pub AnswersForTheList : Type 0
-AnswersForTheList = (w : Wanted) (queries : List Query) (outcomes : List Outcome) (list : List Pair) (table : List (List ℕ))
-    → IsWanted w → length queries ≡ queries_for w → AreOutcomes w 0 queries outcomes
+AnswersForTheList = (w : Wanted) (queries : List Query) (outcomes : List Outcome) (list : List Pair)
+    (table : List (List ℕ)) → IsWanted w → length queries ≡ queries_for w → AreOutcomes w 0 queries outcomes
     → IsTableOf w list table → All (IsHonestQuery w table) queries → AnswersFor w list (come_of queries outcomes)

@@ -29,8 +29,8 @@ pub record Outcome : Type 0 where
   pub verdict : Verdict
   pub answers : List (Answer (List ℕ))
 
--- this is the query with that number: it asks for the rows of its keys, which the table has, with as many coins as they need,
--- in a session that has the coins' number and a record of each server
+-- this is the query with that number: it asks for the rows of its keys, which the table has, with as many coins as they
+-- need, in a session that has the coins' number and a record of each server
 pub record IsQuery (w : Wanted) (number : ℕ) (q : Query) : Type 0 where
   pub keys : q.keys ≡ keys_of w number
   pub rows : q.rows ≡ rows_of w q.keys
@@ -62,8 +62,8 @@ coins_of queries = flat_map (λ q. q.coins) queries
 abbrev pub frame_in : FetchPlan → ℕ → Query → List ℕ
 frame_in p i q = sent p q.rows q.coins i
 
--- in each query in turn the link was opened by its address and sent the frame of this server, counted from 0, and the session
--- has the record of it: the next bytes that the link handed out
+-- in each query in turn the link was opened by its address and sent the frame of this server, counted from 0, and the
+-- session has the record of it: the next bytes that the link handed out
 abbrev pub AskedInTurn : FetchPlan → List ℕ → ℕ → List Query → Cell → Cell → Type 0
 AskedInTurn p address i [] old new = new ≡ old
 AskedInTurn p address i (q ∷ queries) old new =

@@ -17,7 +17,8 @@ pub record Wanted : Type 0 where
   pub keys : List (List ℕ)
   pub addresses : List (List ℕ)
 
--- it is a plan in Shamir's sharing and a list that is known, the keys are no more than may be, and each server has an address
+-- it is a plan in Shamir's sharing and a list that is known, the keys are no more than may be, and each server has an
+-- address
 pub record IsWanted (w : Wanted) : Type 0 where
   pub plan : IsPlan w.plan
   pub shamir : w.plan.scheme ≡ SHAMIR
@@ -25,8 +26,8 @@ pub record IsWanted (w : Wanted) : Type 0 where
   pub few : length w.keys ≤ MOST_KEYS
   pub addresses : length w.addresses ≡ w.plan.n
 
--- how many keys a query has at most: as many as it may ask for blocks, all rows of which together have no more bytes than it
--- may ask for
+-- how many keys a query has at most: as many as it may ask for blocks, all rows of which together have no more bytes
+-- than it may ask for
 abbrev pub keys_each : ℕ → ℕ
 keys_each width = min MOST_BLOCKS (MOST_WIDTH / width)
 

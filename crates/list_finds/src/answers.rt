@@ -117,14 +117,14 @@ impl Answers {
     }
 
     /// How many answers there are.
-    pub fn len(&self) -> usize
+    pub(crate) fn len(&self) -> usize
         ensures { result ≡ length self.now.answers }
     {
         self.kept.len()
     }
 
     /// The answer to key `i`, counted from 0.
-    pub fn at(&self, i: usize) -> Answer<&[u8]>
+    pub(crate) fn at(&self, i: usize) -> Answer<&[u8]>
         requires { i < length self.now.answers }
         ensures { map_answer (λ v. v.now) result ≡ slice_index_or self.now.answers i Answer.Unknown }
     {

@@ -28,9 +28,9 @@ fn keep_unlisted(unlisted: &mut Option<Unlisted>, session: Session, verdict: Ver
     }
 }
 
-/// Finds keys in a list, in Shamir's sharing (Goldberg 2007): in each of the search's queries it fetches the rows of the next
-/// keys, and looks for each key in its row of the block that the verdict lists, where it lists exactly one. Coins is open
-/// already. `way`, `cols` and `nodes` are those of [`fetch`].
+/// Finds keys in a list, in Shamir's sharing (Goldberg 2007): in each of the search's queries it fetches the rows of
+/// the next keys, and looks for each key in its row of the block that the verdict lists, where it lists exactly one.
+/// Coins is open already. `way`, `cols` and `nodes` are those of [`fetch`].
 ///
 /// A query has up to [`MOST_BLOCKS`] keys, as many as have rows of no more than [`MOST_WIDTH`](wire_frames::MOST_WIDTH)
 /// bytes together, and the last has those that are left. Each takes the coins of one fetch, and in each every server is
@@ -38,9 +38,9 @@ fn keep_unlisted(unlisted: &mut Option<Unlisted>, session: Session, verdict: Ver
 ///
 /// # Errors
 ///
-/// `CoinsFault` only where the count of Coins rose. `CoinsEnded` exactly where there are fewer coins than all queries need,
-/// with the number of those that were left for the query that met the end. `Memory` for want of memory. Each ends the
-/// search at once.
+/// `CoinsFault` only where the count of Coins rose. `CoinsEnded` exactly where there are fewer coins than all queries
+/// need, with the number of those that were left for the query that met the end. `Memory` for want of memory. Each ends
+/// the search at once.
 pub fn find_keys<I: Interpolate, C: Ledger, N: Ledger, P: Ports>(
     alloc: Global,
     way: &I,
@@ -49,7 +49,8 @@ pub fn find_keys<I: Interpolate, C: Ledger, N: Ledger, P: Ports>(
     cols: &mut Steps<C>,
     nodes: &mut Steps<N>,
 ) -> Result<Finds, FetchFault>
-    ensures found { FindsKeys search.entry result ((P.world ports.old).at COINS) (P.world ports.old) (P.world ports.new) }
+    ensures found { FindsKeys search.entry result ((P.world ports.old).at COINS)
+        (P.world ports.old) (P.world ports.new) }
     ensures others { TouchesLinks search.entry.plan.n (P.world ports.old) (P.world ports.new) }
     ensures cols { cols.old ≤ cols.new }
     ensures nodes { nodes.old ≤ nodes.new }

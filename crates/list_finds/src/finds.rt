@@ -18,8 +18,8 @@ pub struct Unlisted {
     pub verdict: Verdict,
 }
 
-/// What a search came to: an answer to each key, in the order of the keys, and the first verdict that didn't list exactly one
-/// block, if there was one.
+/// What a search came to: an answer to each key, in the order of the keys, and the first verdict that didn't list
+/// exactly one block, if there was one.
 #[derive(Drop)]
 pub struct Finds {
     pub(crate) answers: Answers,
@@ -35,6 +35,7 @@ impl Model for Finds {
 }
 
 /// How a search ends.
+#[derive(Clone, Copy)]
 pub enum Ending<'a> {
     /// With the first verdict that didn't list exactly one block: nothing is known of the keys of its query.
     Unlisted(&'a Unlisted),

@@ -14,8 +14,8 @@ use fetch_client::FetchPlan;
 use std::alloc::{AllocError, Global};
 use std::marker::Model;
 
-/// A search for keys in a list: the plan of each query, in Shamir's sharing (Goldberg 2007), the list, the keys, the address
-/// of each server, in the order of their indices, and the memory for the answers.
+/// A search for keys in a list: the plan of each query, in Shamir's sharing (Goldberg 2007), the list, the keys, the
+/// address of each server, in the order of their indices, and the memory for the answers.
 #[derive(Drop)]
 pub struct Search<'a> {
     pub(crate) plan: FetchPlan,
@@ -48,8 +48,8 @@ impl<'a> Model for Search<'a> {
 }
 
 impl<'a> Search<'a> {
-    /// A search for these keys, at most [`MOST_KEYS`](crate::MOST_KEYS), in a list whose table has the rows and the width of
-    /// the plan. All memory for the answers is taken here, and want of it is the only error.
+    /// A search for these keys, at most [`MOST_KEYS`](crate::MOST_KEYS), in a list whose table has the rows and the
+    /// width of the plan. All memory for the answers is taken here, and want of it is the only error.
     pub fn new(
         alloc: Global,
         plan: &FetchPlan,

@@ -38,7 +38,8 @@ fn tell_rows(
     requires block { length block.now ≡ length keys.now * width }
     requires room { length keys.now ≤ answers.old.room }
     requires most { answers.old.most ≡ list.now.most }
-    ensures { TellsKeys list.now rows width (Some block.now) (map (λ k. k.now) keys.now) answers.old answers.new }
+    ensures { TellsKeys list.now rows width (Some block.now) (map (λ k. k.now) keys.now)
+        answers.old answers.new }
 {
     let each = width as usize;
     for place in 0..keys.len() {
@@ -71,7 +72,8 @@ pub(crate) fn tell(
     requires block { IfSome (only_block verdict.now) (λ block. length block ≡ length keys.now * width) }
     requires room { length keys.now ≤ answers.old.room }
     requires most { answers.old.most ≡ list.now.most }
-    ensures { TellsKeys list.now rows width (only_block verdict.now) (map (λ k. k.now) keys.now) answers.old answers.new }
+    ensures { TellsKeys list.now rows width (only_block verdict.now) (map (λ k. k.now) keys.now)
+        answers.old answers.new }
 {
     match only_block(verdict) {
         Some(block) => tell_rows(list, rows, width, keys, block, answers),

@@ -1,5 +1,5 @@
-//! Keys in the list of `alpha`, `beta` and `gamma`, with the values `one`, nothing and `three`, whose table was made by an
-//! independent program with the salt of the bytes 0 to 15.
+//! Keys in the list of `alpha`, `beta` and `gamma`, with the values `one`, nothing and `three`, whose table was made by
+//! an independent program with the salt of the bytes 0 to 15.
 //!
 //! The coins are zeros, so that each server is asked for the rows themselves, and an honest one gives them.
 
@@ -34,20 +34,20 @@ const LIST: KnownList = KnownList {
 /// The two rows of its table.
 const ROWS: [[u8; 40]; 2] = [
     [
-        0x73, 0xf1, 0xe1, 0x4a, 0xbd, 0xbe, 0xd3, 0x22, 0x00, 0x01, 0x7e, 0xb2, 0xf2, 0x77, 0xbd, 0xd6,
-        0x01, 0x72, 0, 0, 0, 0, 0, 0, 0, 0, 0, 0, 0, 0, 0, 0, 0, 0, 0, 0, 0, 0, 0, 0,
+        0x73, 0xf1, 0xe1, 0x4a, 0xbd, 0xbe, 0xd3, 0x22, 0x00, 0x01, 0x7e, 0xb2, 0xf2, 0x77, 0xbd,
+        0xd6, 0x01, 0x72, 0, 0, 0, 0, 0, 0, 0, 0, 0, 0, 0, 0, 0, 0, 0, 0, 0, 0, 0, 0, 0, 0,
     ],
     [
-        0x73, 0xf1, 0xe1, 0x4a, 0xbd, 0xbe, 0xd3, 0x22, 0x00, 0x02, 0xa6, 0xcb, 0xea, 0x7e, 0xc4, 0x12,
-        0xd1, 0x37, 0x00, 0x03, 0x6f, 0x6e, 0x65, 0x00, 0x00, 0xad, 0x45, 0xbe, 0x30, 0x0d, 0x8d, 0x97,
-        0xd6, 0x00, 0x05, 0x74, 0x68, 0x72, 0x65, 0x65,
+        0x73, 0xf1, 0xe1, 0x4a, 0xbd, 0xbe, 0xd3, 0x22, 0x00, 0x02, 0xa6, 0xcb, 0xea, 0x7e, 0xc4,
+        0x12, 0xd1, 0x37, 0x00, 0x03, 0x6f, 0x6e, 0x65, 0x00, 0x00, 0xad, 0x45, 0xbe, 0x30, 0x0d,
+        0x8d, 0x97, 0xd6, 0x00, 0x05, 0x74, 0x68, 0x72, 0x65, 0x65,
     ],
 ];
 
 /// Row 0 of the table of another list.
 const OTHER_ROW: [u8; 40] = [
-    0x57, 0xc8, 0x3c, 0xd2, 0x9f, 0x54, 0x2f, 0xea, 0, 0, 0, 0, 0, 0, 0, 0, 0, 0, 0, 0, 0, 0, 0, 0, 0, 0, 0, 0,
-    0, 0, 0, 0, 0, 0, 0, 0, 0, 0, 0, 0,
+    0x57, 0xc8, 0x3c, 0xd2, 0x9f, 0x54, 0x2f, 0xea, 0, 0, 0, 0, 0, 0, 0, 0, 0, 0, 0, 0, 0, 0, 0, 0,
+    0, 0, 0, 0, 0, 0, 0, 0, 0, 0, 0, 0, 0, 0, 0, 0,
 ];
 
 /// Puts the header of a server's answer.
@@ -58,7 +58,8 @@ fn put_header(
     version: u8,
 ) -> Result<(), AllocError> {
     let header = [
-        b'P', b'I', b'R', b'A', version, 1, server, 0, 0, 0, 0, 0, 0, 0, 0, 0, 0, 0, 0, 2, 0, 0, 0, 40,
+        b'P', b'I', b'R', b'A', version, 1, server, 0, 0, 0, 0, 0, 0, 0, 0, 0, 0, 0, 0, 2, 0, 0, 0,
+        40,
     ];
     ports.put(alloc, Port::Link(server), &header)
 }
@@ -116,19 +117,15 @@ fn search<C: Ledger, N: Ledger>(
     let (gamma, delta) = (b"gamma".as_slice(), b"delta".as_slice());
     let epsilon = b"epsilon".as_slice();
     let keys = [
-        alpha, beta, gamma, delta, epsilon, alpha, beta, gamma, delta, epsilon, alpha, beta, gamma, delta,
-        epsilon, alpha, beta,
+        alpha, beta, gamma, delta, epsilon, alpha, beta, gamma, delta, epsilon, alpha, beta, gamma,
+        delta, epsilon, alpha, beta,
     ];
     let search = Search::new(alloc, &PLAN, &LIST, &keys, addresses)?;
     find_keys(alloc, &Koetter, search, ports, &mut cols, &mut nodes)
 }
 
 /// What is found, where the servers answer the last query like that.
-fn found(
-    alloc: Global,
-    last: &[u8; 40],
-    last_of_third: &[u8; 40],
-) -> Result<Finds, FetchFault> {
+fn found(alloc: Global, last: &[u8; 40], last_of_third: &[u8; 40]) -> Result<Finds, FetchFault> {
     let addresses = [
         String::from_str(alloc, "a")?,
         String::from_str(alloc, "b")?,
