@@ -22,7 +22,8 @@ pub struct KnownList {
 }
 
 impl KnownList {
-    /// The row that a key belongs to, in a table of so many rows.
+    /// The row that a key belongs to, in a table of so many rows. With the salt of the bytes 0 to 15 and digests of 8
+    /// bytes `alpha` belongs to row 1 of 2, and to row 651 of 1000.
     pub fn row_of_key(&self, rows: u32, key: &[u8]) -> u32
         requires known { IsKnown self.now }
         ensures row { result ≡ row_in self.now rows key.now }
