@@ -7,8 +7,8 @@ use Rattle.pir_words.specs.Form.{IsReadAs, asked_of}
 use Rattle.pir_words.specs.declared.asked.WordsFault.{WordsFault}
 use Rattle.pir_words.specs.declared.asked.WordsFault.TheVariants.{Usage as Formless, Memory as NoMemory}
 use Rattle.commands.specs.Faults.{of_words}
-use Rattle.commands.specs.Orders.{Orders, order_of}
-use Rattle.commands.specs.Outcome.{Outcome, Promise, RefusesWords}
+use Rattle.commands.specs.Orders.{Orders, Outcome, Promise, order_of}
+use Rattle.commands.specs.Outcome.{RefusesWords}
 use Rattle.commands.specs.declared.orders.Order.{Order}
 use Rattle.commands.specs.declared.orders.Order.TheVariants.{Replay, Fetch, Serve, Selfrun, Demo, Lookup, Split, Front}
 use Rattle.commands.specs.DemoOrder.{DemoOrder}
@@ -30,14 +30,8 @@ use Rattle.commands.specs.declared.status.Status.TheVariants.{Usage, Memory}
 
 -- no order ends as words without a form do
 pub no_usage : (order : Order) (old new : World) → Outcome order Usage old new → ⊥
-no_usage (Replay order) old new said = said.ends
-no_usage (Fetch order) old new said = said.ends
-no_usage (Serve order) old new said = said.ends
-no_usage (Selfrun order) old new said = said.ends
 no_usage (Demo order) old new said = said.fetched.ends
-no_usage (Lookup order) old new said = said.ends
-no_usage (Split order) old new said = said.ends
-no_usage (Front order) old new said = said.ends
+no_usage order old new said = said.ends
 
 -- where words that order something were not read, memory ran out
 pub no_room : (words : List (List ℕ)) (fault : WordsFault) (status : Status) (order : Order)

@@ -1,5 +1,5 @@
 -- The values of a command are in their ranges.
-use Rattle.std.proofs.Common.{◌≡◌, inr, ℕ, ◌+◌, ◌<◌, ◌≤◌, ◌-◌, ◌==◌, ◌&&◌, List, length, Some, None, Bool, true, false, codes, refl, sym, lit<, subst, arith, unwrap_or, ◌/◌, ap}
+use Rattle.std.proofs.Common.{◌≡◌, inr, ℕ, ◌+◌, ◌<◌, ◌≤◌, ◌-◌, ◌==◌, ◌&&◌, List, length, Option, Some, None, Bool, true, false, codes, refl, sym, lit<, subst, arith, unwrap_or, ◌/◌, ap}
 use Rattle.std.specs.Prelude.{if◌then◌else◌, is_none, nat_le, nat_lt}
 use Rattle.std.specs.Str.{bytes_eq}
 use Rattle.std.specs.Int.{div_ceil}
@@ -28,8 +28,7 @@ use Rattle.pir_words.specs.FrontForm.{front_of, shard_addresses_in}
 use Rattle.hex.specs.Hex.{decode_of}
 use Rattle.hex.proofs.HexLemmas.{decode_of-ok}
 use Rattle.key_search.specs.Spelled.{spells_bytes}
-use Rattle.pir_words.specs.Form.{InRange, are_taken, asked_by, asked_in, asked_of}
-use Rattle.pir_words.specs.Command.{pir}
+use Rattle.pir_words.specs.Form.{InRange, are_taken, asked_by, asked_in, asked_of, pir}
 use Rattle.pir_words.specs.declared.TheConstants.{LEAST_PORT, MOST_PORT, MOST_TAU}
 use Rattle.quantity_limits.specs.declared.TheConstants.{MOST_SHARDS}
 use Rattle.pir_words.specs.declared.ranges.Sizes.{Sizes}
@@ -352,32 +351,25 @@ front_range m asked e =
       };
     })
 
+-- what is asked for is in its ranges, whether a text is a name or not
+either_range : (is_name : Bool) (a b : Option Asked) (asked : Asked) → (a ≡ Some asked → InRange asked) → (b ≡ Some asked → InRange asked)
+    → (if is_name then a else b) ≡ Some asked → InRange asked
+either_range true a b asked named otherwise = named
+either_range false a b asked named otherwise = otherwise
+
 -- the values of a command by its name
 named_range : (name : Text) (m : List Row) (asked : Asked) → asked_by name m ≡ Some asked → InRange asked
 unfolding asked_by
-named_range name m asked e =
-    by_name (bytes_eq name (codes "replay")) (bytes_eq name (codes "fetch")) (bytes_eq name (codes "serve")) (bytes_eq name (codes "selfrun")) (bytes_eq name (codes "demo")) (bytes_eq name (codes "lookup")) (bytes_eq name (codes "split")) (bytes_eq name (codes "front")) e
-  where
-    -- whichever name it is
-    by_name : (is_replay is_fetch is_serve is_selfrun is_demo is_lookup is_split is_front : Bool)
-        → (if is_replay then replay_of m
-        else (if is_fetch then fetch_of m
-        else (if is_serve then serve_of m
-        else (if is_selfrun then selfrun_of m
-        else (if is_demo then demo_of m
-        else (if is_lookup then lookup_of m
-        else (if is_split then split_of m
-        else (if is_front then front_of m else None)))))))) ≡ Some asked
-        → InRange asked
-    by_name true is_fetch is_serve is_selfrun is_demo is_lookup is_split is_front h = replay_range m asked h
-    by_name false true is_serve is_selfrun is_demo is_lookup is_split is_front h = fetch_range m asked h
-    by_name false false true is_selfrun is_demo is_lookup is_split is_front h = serve_range m asked h
-    by_name false false false true is_demo is_lookup is_split is_front h = selfrun_range m asked h
-    by_name false false false false true is_lookup is_split is_front h = demo_range m asked h
-    by_name false false false false false true is_split is_front h = lookup_range m asked h
-    by_name false false false false false false true is_front h = split_range m asked h
-    by_name false false false false false false false true h = front_range m asked h
-    by_name false false false false false false false false h = cc
+named_range name m asked =
+    either_range (bytes_eq name (codes "replay")) _ _ asked (replay_range m asked)
+    (either_range (bytes_eq name (codes "fetch")) _ _ asked (fetch_range m asked)
+    (either_range (bytes_eq name (codes "serve")) _ _ asked (serve_range m asked)
+    (either_range (bytes_eq name (codes "selfrun")) _ _ asked (selfrun_range m asked)
+    (either_range (bytes_eq name (codes "demo")) _ _ asked (demo_range m asked)
+    (either_range (bytes_eq name (codes "lookup")) _ _ asked (lookup_range m asked)
+    (either_range (bytes_eq name (codes "split")) _ _ asked (split_range m asked)
+    (either_range (bytes_eq name (codes "front")) _ _ asked (front_range m asked)
+    (λ none. cc))))))))
 
 -- the values of the command that words ask for
 pub asked_range : (words : List Text) (asked : Asked) → asked_of words ≡ Some asked → InRange asked

@@ -4,7 +4,7 @@ use Rattle.std.proofs.lemmas.Bool.{cond-false, false_from_ne_true}
 use Rattle.std.proofs.lemmas.Slice.Eq.{bytes_eq-Decides}
 use Rattle.pir_words.specs.Numbers.{given}
 use Rattle.pir_words.specs.Form.{IsReadAs, asked_by}
-use Rattle.pir_words.proofs.read_command.Goals as goal
+use Rattle.pir_words.proofs.table.read_command.Goals as goal
 
 -- a text that isn't the name asks for what the other names do
 otherwise : {A : Type 0} (name key : List ℕ) (a b : A) → (name ≡ key → ⊥) → (if bytes_eq name key then a else b) ≡ b
