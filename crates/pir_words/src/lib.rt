@@ -10,8 +10,9 @@
 //!
 //! What reads a single value is public for `word_reasons`, which says why words have no form.
 //!
-//! A command that is to come takes a variant of [`Asked`], and a line in `specs/Form.antt` and `table` each. Where it has
-//! values, its form in `specs/` says how `clap` sees it and what its words are read as, and a module reads them.
+//! A command that is to come takes a variant of [`Asked`], a row of the table beside it and an arm of what reads them, and a
+//! line in `specs/Form.antt`. Where it has values, a form in `specs/` says how `clap` sees it and what its words are read as,
+//! and a module reads them.
 #![tactic(auto)]
 
 ghost use Rattle.std.specs.Prelude.{◌≡◌, true, false, IfErr, IfOk, map, string_bytes};
@@ -30,11 +31,11 @@ mod replay_words;
 mod selfrun_words;
 mod serve_words;
 mod split_words;
-mod table;
 mod text;
 mod values;
 
-pub use asked::{Asked, WordsFault};
+use asked::read_command;
+pub use asked::{Asked, WordsFault, form_named, pir_command};
 pub use blocks::Blocks;
 use clap::ArgMatches;
 pub use command::{Form, Kind};
@@ -42,8 +43,6 @@ pub use fetch_words::{addresses_at, fetch_sharing_at, tau_at};
 pub use quantity_limits::MOST_SHARDS;
 pub use ranges::{Sharing, Sizes, block_at, scheme_at, servers_at, sharing_at, sizes_at};
 use std::alloc::Global;
-use table::read_command;
-pub use table::{form_named, pir_command};
 pub use text::{Text, Texts};
 pub use values::{limited_at, number_at, number_of, text_at, texts_at};
 use wire_frames::MOST_DEGREE;
@@ -74,7 +73,8 @@ fn parse<'a>(alloc: Global, words: &'a [String]) -> Result<ArgMatches<'a>, Words
 
 /// The command that the matches ask for.
 fn read_matches(alloc: Global, matches: &ArgMatches) -> Result<Asked, WordsFault>
-    ensures { IsReadAs (asked_in (subcommand_rows_of matches.now)) result }
+    ensures form { IsReadAs (asked_in (subcommand_rows_of matches.now)) result }
+    ensures ranges { IfOk result InRange }
 {
     match matches.subcommand() {
         Some((name, inner)) => read_command(alloc, name, inner),

@@ -1,7 +1,7 @@
 use Rattle.std.proofs.Common.{◌∙◌, refl}
 use Rattle.std.proofs.lemmas.Result.{IfOk-weaker}
 use Rattle.pir_words.specs.Form.{pir}
-use Rattle.pir_words.proofs.table.pir_command.Goals as goal
+use Rattle.pir_words.proofs.asked.pir_command.Goals as goal
 
 pub returns : goal.returns
 unfolding pir
