@@ -1,5 +1,5 @@
 -- Each command: what its words order, what is done for that, and what is promised.
-use Rattle.std.specs.Prelude.{◌≡◌, ℕ, List, length, Option, Some, option_map}
+use Rattle.std.specs.Prelude.{◌≡◌, ℕ, List, length, Some, option_map}
 use Rattle.port_trait.specs.World.{World}
 use Rattle.wire_frames.specs.declared.scheme.TheConstants.{SHAMIR}
 use Rattle.query_rounds.specs.declared.plan.FetchPlan.{FetchPlan}
