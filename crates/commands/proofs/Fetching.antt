@@ -1,6 +1,6 @@
 -- A fetch from its first port to its last.
 use Rattle.std.proofs.Common.{◌≡◌, ◌≢◌, ◌⊎◌, ◌∙◌, inl, inr, Bool, true, false, ℕ, ◌+◌, ◌<◌, ◌≤◌, List, [], ◌∷◌, length, take, slice_index_or, refl, lit<, sym, ap, subst, arith}
-use Rattle.std.specs.Prelude.{Option, Some, None, IfSome, unwrap_or, Result, Ok, Err}
+use Rattle.std.specs.Prelude.{Option, Some, None, IfSome, Result, Ok, Err}
 use Rattle.port_trait.specs.declared.port.TheConstants.{PORT_COUNT}
 use Rattle.port_trait.specs.World.{Cell, World}
 use Rattle.port_trait.specs.Number.{COINS, OUTPUT, RECORD, link}

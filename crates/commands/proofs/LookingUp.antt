@@ -1,5 +1,5 @@
 -- A look-up from its first port to its last.
-use Rattle.std.proofs.Common.{◌≡◌, ◌≢◌, ◌∙◌, ◌⊎◌, inl, inr, ℕ, ◌+◌, ◌*◌, ◌%◌, ◌<◌, ◌≤◌, List, [], ◌∷◌, length, take, refl, lit<, sym, ap, ap₂, subst, arith}
+use Rattle.std.proofs.Common.{◌≡◌, ◌≢◌, ◌∙◌, ◌⊎◌, inl, inr, ℕ, ◌+◌, ◌*◌, ◌%◌, ◌<◌, ◌≤◌, List, [], ◌∷◌, length, take, refl, lit<, sym, ap, subst, arith}
 use Rattle.std.specs.Prelude.{Err, Ok, Option, Some, None, Result, slice_get, slice_index}
 use Rattle.std.proofs.lemmas.List.{length-take}
 use Rattle.std.proofs.lemmas.Option.{slice_get-get_or}
@@ -10,7 +10,6 @@ use Rattle.port_trait.specs.Number.{COINS, OUTPUT, link}
 use Rattle.port_trait.specs.Moves.{Touches, gave, named}
 use Rattle.port_trait.proofs.Carried.{fails_writing_before}
 use Rattle.port_trait.proofs.Rises.{once_rose}
-use Rattle.wire_frames.specs.declared.scheme.TheConstants.{SHAMIR}
 use Rattle.wire_frames.specs.Answer.{answers}
 use Rattle.wire_frames.proofs.Turns.{in_turn-one}
 use Rattle.block_decoder.specs.declared.verdict.Verdict.{Verdict}

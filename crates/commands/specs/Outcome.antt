@@ -1,4 +1,4 @@
--- What a run does to the outside, by the order that the words give and the status that it ends with, and what it promises.
+-- What a run does to the outside and promises, by what its words order and the status that it ends with.
 use Rattle.std.specs.Prelude.{◌≡◌, ◌⊎◌, ℕ, List, None, Some}
 use Rattle.port_trait.specs.World.{World}
 use Rattle.port_trait.specs.Number.{INPUT}
@@ -6,41 +6,12 @@ use Rattle.wire_frames.specs.Session.{Transcript, IsSession}
 use Rattle.pir_words.specs.Form.{asked_of}
 use Rattle.commands.specs.Told.{NoneRose}
 use Rattle.commands.specs.ReplayOrder.{ReplayOrder}
-use Rattle.commands.specs.ReplayOutcome.{Answered, ReplayOutcome, ReplayPromise, streams}
-use Rattle.commands.specs.FetchOutcome.{FetchOutcome, FetchPromise}
-use Rattle.commands.specs.ServeOutcome.{ServeOutcome, ServePromise}
-use Rattle.commands.specs.SelfrunOutcome.{SelfrunOutcome, SelfrunPromise}
-use Rattle.commands.specs.DemoOutcome.{DemoOutcome, DemoPromise}
-use Rattle.commands.specs.LookUpOutcome.{LookUpOutcome, LookUpPromise}
-use Rattle.commands.specs.SplitOutcome.{SplitOutcome, SplitPromise}
-use Rattle.commands.specs.FrontOutcome.{FrontOutcome, FrontPromise}
-use Rattle.commands.specs.Orders.{Orders}
+use Rattle.commands.specs.ReplayOutcome.{Answered, streams}
+use Rattle.commands.specs.Orders.{Orders, Outcome, Promise}
 use Rattle.commands.specs.declared.orders.Order.{Order}
-use Rattle.commands.specs.declared.orders.Order.TheVariants.{Replay, Fetch, Serve, Selfrun, Demo, Lookup, Split, Front}
+use Rattle.commands.specs.declared.orders.Order.TheVariants.{Replay}
 use Rattle.commands.specs.declared.status.Status.{Status}
 use Rattle.commands.specs.declared.status.Status.TheVariants.{Usage, Memory}
-
--- what was done for an order, by the status
-abbrev pub Outcome : Order → Status → World → World → Type 0
-Outcome (Replay order) status old new = ReplayOutcome order.file order.report status old new
-Outcome (Fetch order) status old new = FetchOutcome order status old new
-Outcome (Serve order) status old new = ServeOutcome order status old new
-Outcome (Selfrun order) status old new = SelfrunOutcome order.load status old new
-Outcome (Demo order) status old new = DemoOutcome order status old new
-Outcome (Lookup order) status old new = LookUpOutcome order status old new
-Outcome (Split order) status old new = SplitOutcome order status old new
-Outcome (Front order) status old new = FrontOutcome order status old new
-
--- what is promised of an order where no call failed
-abbrev pub Promise : Order → Status → World → World → Type 0
-Promise (Replay order) status old new = ReplayPromise order.report status old new
-Promise (Fetch order) status old new = FetchPromise order status old new
-Promise (Serve order) status old new = ServePromise order status old new
-Promise (Selfrun order) status old new = SelfrunPromise order.load status old new
-Promise (Demo order) status old new = DemoPromise order status old new
-Promise (Lookup order) status old new = LookUpPromise order status old new
-Promise (Split order) status old new = SplitPromise order status old new
-Promise (Front order) status old new = FrontPromise order status old new
 
 -- memory ran out before the order was made, and nothing was touched; or this is what was done for it
 abbrev pub Runs : Order → Status → World → World → Type 0

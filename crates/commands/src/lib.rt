@@ -5,7 +5,6 @@
 #![tactic(auto)]
 
 mod demo_command;
-mod dispatch;
 mod ending;
 mod faults;
 mod fetch_command;

@@ -1,15 +1,27 @@
-//! What each command is told to do, with the ranges of its values, and how the words give it.
+//! What each command is told to do, with the ranges of its values, how the words give it, and what does it.
 
 ghost use Rattle.std.specs.Prelude.{◌≡◌};
 ghost use Rattle.std.specs.Option.{option_copied};
 ghost use Rattle.pir_words.specs.Form.{InRange};
-ghost use Rattle.commands.specs.Orders.{order_of};
+ghost use Rattle.commands.specs.Orders.{Outcome, Promise, order_of};
 
+use crate::demo_command::demonstrate;
+use crate::fetch_command::fetch_block;
+use crate::front_command::relay_shards;
+use crate::lookup_command::look_up_row;
+use crate::replay_command::replay_file;
+use crate::selfrun_command::run_workload;
+use crate::serve_command::serve_file;
+use crate::split_command::split_file;
+use crate::status::Status;
 use drawn_workload::{Workload, WorkloadOrder};
 use fetch_client::FetchPlan;
 use key_search::Key;
 use pir_words::{Asked, Text};
+use port_trait::Ports;
+use std::alloc::Global;
 use std::marker::Model;
+use std::thread::Threads;
 use wire_frames::SHAMIR;
 
 /// TCP has so many ports, from 0 on.
@@ -306,5 +318,34 @@ pub(crate) fn order_of<'a>(asked: &'a Asked) -> Order<'a>
             let (listen, addresses) = (listen.as_str(), addresses.as_slice());
             Order::Front(FrontOrder { rows: *rows, width: *width, shard: *shard, conns: *conns, listen, addresses })
         }
+    }
+}
+
+/// Does what is ordered.
+pub(crate) fn dispatch<R: Threads + Sync, P: Ports>(
+    rt: &R,
+    alloc: Global,
+    order: &Order,
+    ports: &mut P,
+) -> Status
+    ensures outcome { Outcome order.now result (P.world ports.old) (P.world ports.new) }
+    ensures promise { Promise order.now result (P.world ports.old) (P.world ports.new) }
+{
+    match order {
+        Order::Replay(order) => replay_file(alloc, order, ports),
+        Order::Fetch(order) => fetch_block(alloc, order, ports),
+        Order::Serve(order) => serve_file(rt, alloc, order, ports),
+        Order::Selfrun(order) => run_workload(rt, alloc, order, ports),
+        Order::Demo(order) => {
+            // A use of a field tells the proof that the values are in their ranges.
+            let _ = &order.plan;
+            demonstrate(alloc, order, ports)
+        }
+        Order::Lookup(order) => look_up_row(alloc, order, ports),
+        Order::Split(order) => {
+            let _ = &order.width;
+            split_file(alloc, order, ports)
+        }
+        Order::Front(order) => relay_shards(alloc, order, ports),
     }
 }

@@ -3,8 +3,7 @@
 ghost use Rattle.std.specs.Prelude.{map, string_bytes};
 ghost use Rattle.commands.specs.Outcome.{AnswersSession, EndsAsOrdered, KeepsPromise, RefusesWords};
 
-use crate::dispatch::dispatch;
-use crate::orders::order_of;
+use crate::orders::{dispatch, order_of};
 use crate::status::Status;
 use pir_words::read_words;
 use port_trait::Ports;

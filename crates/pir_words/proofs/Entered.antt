@@ -3,8 +3,7 @@ use Rattle.std.proofs.Common.{◌≡◌, ◌∙◌, true, false, List, Option, S
 use Rattle.std.specs.Prelude.{Result, Err, option_map}
 use Rattle.std.proofs.lemmas.Bool.{cond-false, cond-true}
 use Rattle.clap.specs.Words.{Row, Text, subcommand_of}
-use Rattle.pir_words.specs.Command.{pir}
-use Rattle.pir_words.specs.Form.{IsReadAs, are_taken, asked_by, asked_in, asked_of}
+use Rattle.pir_words.specs.Form.{IsReadAs, are_taken, asked_by, asked_in, asked_of, pir}
 use Rattle.pir_words.specs.declared.asked.Asked.{Asked}
 use Rattle.pir_words.specs.declared.asked.WordsFault.{WordsFault}
 use Rattle.pir_words.specs.declared.asked.WordsFault.TheVariants.{Usage, Memory}

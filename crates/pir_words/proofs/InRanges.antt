@@ -1,13 +1,12 @@
 -- The values of a command are in their ranges.
-use Rattle.std.proofs.Common.{◌≡◌, inr, ℕ, ◌+◌, ◌<◌, ◌≤◌, ◌-◌, ◌==◌, ◌&&◌, List, length, Some, None, Bool, true, false, codes, refl, sym, lit<, subst, arith, unwrap_or, ◌/◌, ap}
-use Rattle.std.specs.Prelude.{if◌then◌else◌, is_none, nat_le, nat_lt}
-use Rattle.std.specs.Str.{bytes_eq}
+use Rattle.std.proofs.Common.{◌≡◌, inr, ℕ, ◌+◌, ◌<◌, ◌≤◌, ◌-◌, ◌==◌, ◌&&◌, List, length, Option, Some, codes, refl, sym, lit<, subst, arith, unwrap_or, ◌/◌, ap}
+use Rattle.std.specs.Prelude.{is_none, nat_le, nat_lt}
 use Rattle.std.specs.Int.{div_ceil}
 use Rattle.std.proofs.lemmas.Bool.{and_parts, eqb-true, leb-true, ltb-true}
 use Rattle.std.specs.Result.{result_ok}
-use Rattle.std.specs.Prelude.{Result, Ok, Err}
+use Rattle.std.specs.Prelude.{Result, Ok, Err, IfOk}
 use Rattle.hex.specs.declared.FromHexError.{FromHexError}
-use Rattle.clap.specs.Words.{Row, Text, all_of, first_of, subcommand_of}
+use Rattle.clap.specs.Words.{Row, Text, all_of, first_of}
 use Rattle.quantity_limits.specs.Shape.{IsShape}
 use Rattle.wire_frames.proofs.Counts.{single_count}
 use Rattle.quantity_limits.specs.declared.TheConstants.{LEAST_SERVERS, MOST_GUESTS, MOST_SERVERS, MOST_WIDTH}
@@ -28,14 +27,14 @@ use Rattle.pir_words.specs.FrontForm.{front_of, shard_addresses_in}
 use Rattle.hex.specs.Hex.{decode_of}
 use Rattle.hex.proofs.HexLemmas.{decode_of-ok}
 use Rattle.key_search.specs.Spelled.{spells_bytes}
-use Rattle.pir_words.specs.Form.{InRange, are_taken, asked_by, asked_in, asked_of}
-use Rattle.pir_words.specs.Command.{pir}
+use Rattle.pir_words.specs.Form.{InRange, IsReadAs}
 use Rattle.pir_words.specs.declared.TheConstants.{LEAST_PORT, MOST_PORT, MOST_TAU}
 use Rattle.quantity_limits.specs.declared.TheConstants.{MOST_SHARDS}
 use Rattle.pir_words.specs.declared.ranges.Sizes.{Sizes}
 use Rattle.pir_words.specs.declared.ranges.Sharing.{Sharing}
 use Rattle.pir_words.specs.declared.asked.Asked.{Asked}
 use Rattle.pir_words.specs.declared.asked.Asked.TheVariants.{Replay}
+use Rattle.pir_words.specs.declared.asked.WordsFault.{WordsFault}
 use Rattle.pir_words.proofs.Chains.{some_is, test_of, value_of}
 use Rattle.pir_words.proofs.ValuesInRange.{block_range, blocks_range, limited_range, number_range, scheme_range, servers_range, shamir_fits, sharing_range, sizes_range, workers_range}
 
@@ -106,7 +105,7 @@ addresses_range m addresses e =
     subst (λ (xs : List Text). length xs ≤ MOST_SERVERS) (some_is _ addresses tested.1) (leb-true _ _ tested.0)
 
 -- the values of `replay`
-replay_range : (m : List Row) (asked : Asked) → replay_of m ≡ Some asked → InRange asked
+pub replay_range : (m : List Row) (asked : Asked) → replay_of m ≡ Some asked → InRange asked
 unfolding replay_of
 replay_range m asked e =
     let file = value_of (first_of (codes "file") m) _ asked e in
@@ -121,7 +120,7 @@ replay_range m asked e =
     })
 
 -- the values of `fetch`
-fetch_range : (m : List Row) (asked : Asked) → fetch_of m ≡ Some asked → InRange asked
+pub fetch_range : (m : List Row) (asked : Asked) → fetch_of m ≡ Some asked → InRange asked
 unfolding fetch_of
 fetch_range m asked e =
     let sizes = value_of (sizes_in m) _ asked e in
@@ -146,7 +145,7 @@ fetch_range m asked e =
     })
 
 -- the values of `serve`
-serve_range : (m : List Row) (asked : Asked) → serve_of m ≡ Some asked → InRange asked
+pub serve_range : (m : List Row) (asked : Asked) → serve_of m ≡ Some asked → InRange asked
 unfolding serve_of
 serve_range m asked e =
     let width = value_of (limited (codes "width") 1 MOST_WIDTH m) _ asked e in
@@ -177,7 +176,7 @@ serve_range m asked e =
     })
 
 -- the values of `selfrun`
-selfrun_range : (m : List Row) (asked : Asked) → selfrun_of m ≡ Some asked → InRange asked
+pub selfrun_range : (m : List Row) (asked : Asked) → selfrun_of m ≡ Some asked → InRange asked
 unfolding selfrun_of
 selfrun_range m asked e =
     let seed = value_of (number_in (codes "seed") m) _ asked e in
@@ -206,7 +205,7 @@ selfrun_range m asked e =
     })
 
 -- the values of `demo`
-demo_range : (m : List Row) (asked : Asked) → demo_of m ≡ Some asked → InRange asked
+pub demo_range : (m : List Row) (asked : Asked) → demo_of m ≡ Some asked → InRange asked
 unfolding demo_of
 demo_range m asked e =
     let port = value_of (limited (codes "port") LEAST_PORT MOST_PORT m) _ asked e in
@@ -251,7 +250,7 @@ key_range width m key e =
     decoded (Err fault) is = cc
 
 -- the values of `lookup`
-lookup_range : (m : List Row) (asked : Asked) → lookup_of m ≡ Some asked → InRange asked
+pub lookup_range : (m : List Row) (asked : Asked) → lookup_of m ≡ Some asked → InRange asked
 unfolding lookup_of
 lookup_range m asked e =
     let sizes = value_of (sizes_in m) _ asked e in
@@ -285,7 +284,7 @@ tau_range n m tau e =
     subst (λ k. (1 ≤ k) × (k < n)) (some_is given.0 tau tested.1) (leb-true _ _ both.0, ltb-true _ _ both.1)
 
 -- the values of `split`
-split_range : (m : List Row) (asked : Asked) → split_of m ≡ Some asked → InRange asked
+pub split_range : (m : List Row) (asked : Asked) → split_of m ≡ Some asked → InRange asked
 unfolding split_of
 split_range m asked e =
     let width = value_of (limited (codes "width") 1 MOST_WIDTH m) _ asked e in
@@ -323,7 +322,7 @@ shard_addresses_range r k m addresses e =
     (eqb-true _ _ both.0, leb-true _ _ both.1)
 
 -- the values of `front`
-front_range : (m : List Row) (asked : Asked) → front_of m ≡ Some asked → InRange asked
+pub front_range : (m : List Row) (asked : Asked) → front_of m ≡ Some asked → InRange asked
 unfolding front_of
 front_range m asked e =
     let sizes = value_of (sizes_in m) _ asked e in
@@ -352,36 +351,8 @@ front_range m asked e =
       };
     })
 
--- the values of a command by its name
-named_range : (name : Text) (m : List Row) (asked : Asked) → asked_by name m ≡ Some asked → InRange asked
-unfolding asked_by
-named_range name m asked e =
-    by_name (bytes_eq name (codes "replay")) (bytes_eq name (codes "fetch")) (bytes_eq name (codes "serve")) (bytes_eq name (codes "selfrun")) (bytes_eq name (codes "demo")) (bytes_eq name (codes "lookup")) (bytes_eq name (codes "split")) (bytes_eq name (codes "front")) e
-  where
-    -- whichever name it is
-    by_name : (is_replay is_fetch is_serve is_selfrun is_demo is_lookup is_split is_front : Bool)
-        → (if is_replay then replay_of m
-        else (if is_fetch then fetch_of m
-        else (if is_serve then serve_of m
-        else (if is_selfrun then selfrun_of m
-        else (if is_demo then demo_of m
-        else (if is_lookup then lookup_of m
-        else (if is_split then split_of m
-        else (if is_front then front_of m else None)))))))) ≡ Some asked
-        → InRange asked
-    by_name true is_fetch is_serve is_selfrun is_demo is_lookup is_split is_front h = replay_range m asked h
-    by_name false true is_serve is_selfrun is_demo is_lookup is_split is_front h = fetch_range m asked h
-    by_name false false true is_selfrun is_demo is_lookup is_split is_front h = serve_range m asked h
-    by_name false false false true is_demo is_lookup is_split is_front h = selfrun_range m asked h
-    by_name false false false false true is_lookup is_split is_front h = demo_range m asked h
-    by_name false false false false false true is_split is_front h = lookup_range m asked h
-    by_name false false false false false false true is_front h = split_range m asked h
-    by_name false false false false false false false true h = front_range m asked h
-    by_name false false false false false false false false h = cc
-
--- the values of the command that words ask for
-pub asked_range : (words : List Text) (asked : Asked) → asked_of words ≡ Some asked → InRange asked
-unfolding asked_of asked_in
-asked_range words asked e =
-    let entered = value_of (subcommand_of pir words) _ asked (test_of (are_taken words) _ asked e).1 in
-    named_range entered.0.0 entered.0.1 asked entered.2
+-- what is read is in its ranges, where what is wanted is
+pub in_range : (wanted : Option Asked) (r : Result Asked WordsFault) → ((asked : Asked) → wanted ≡ Some asked → InRange asked)
+    → IsReadAs wanted r → IfOk r InRange
+in_range wanted (Ok asked) ranges read = ranges asked read
+in_range wanted (Err fault) ranges read = tt

@@ -6,19 +6,18 @@ use Rattle.clap.specs.Words.{IsAmong, Kinds, is_simple, is_simple_and_free}
 use Rattle.clap.specs.declared.error.kind.ErrorKind.{ErrorKind}
 use Rattle.clap.specs.declared.error.kind.ErrorKind.TheVariants.{OutOfMemory}
 use Rattle.clap.proofs.OnLiterals.{clap_on_literals}
-use Rattle.pir_words.specs.Command.{demo_app, fetch_app, lookup_app, pir, replay_app, selfrun_app, serve_app, split_app, front_app}
-use Rattle.pir_words.specs.Form.{fault_by}
+use Rattle.pir_words.specs.Form.{fault_by, pir}
 use Rattle.pir_words.specs.declared.asked.WordsFault.{WordsFault}
 use Rattle.pir_words.specs.declared.asked.WordsFault.TheVariants.{Usage, Memory}
 
 -- `clap` defines what words give to such a command
 pub pir_is_simple : is_simple pir ≡ true
-unfolding clap_on_literals pir replay_app fetch_app serve_app selfrun_app demo_app lookup_app split_app front_app
+unfolding clap_on_literals pir
 pir_is_simple = refl
 
 -- and which words it takes
 pub pir_is_free : is_simple_and_free pir ≡ true
-unfolding clap_on_literals pir replay_app fetch_app serve_app selfrun_app demo_app lookup_app split_app front_app
+unfolding clap_on_literals pir
 pir_is_free = refl
 
 -- an error that is no want of memory has a kind

@@ -1,7 +1,8 @@
 -- The form of `demo`.
-use Rattle.std.specs.Prelude.{ℕ, ◌<◌, ◌≤◌, List, Option, Some, codes}
-use Rattle.clap.specs.Words.{Row, first_of}
+use Rattle.std.specs.Prelude.{ℕ, ◌<◌, ◌≤◌, List, Option, Some, codes, true, false}
+use Rattle.clap.specs.Words.{App, Row, first_of, new_app}
 use Rattle.pir_words.specs.Chain.{◌>>=◌}
+use Rattle.pir_words.specs.Command.{with_option}
 use Rattle.pir_words.specs.Numbers.{limited}
 use Rattle.pir_words.specs.Ranges.{FitsSession, block_in, coins_in, servers_in, sharing_in, sharing_of, sizes_in, sizes_of}
 use Rattle.wire_frames.specs.declared.scheme.TheConstants.{SHAMIR}
@@ -10,6 +11,19 @@ use Rattle.pir_words.specs.declared.ranges.Sizes.{Sizes}
 use Rattle.pir_words.specs.declared.ranges.Sharing.{Sharing}
 use Rattle.pir_words.specs.declared.asked.Asked.{Asked}
 use Rattle.pir_words.specs.declared.asked.Asked.TheVariants.{Demo}
+
+-- `demo --port P --database FILE --rows R --width S --block B --servers N --degree T --agree H`
+abbrev pub demo_app : App
+demo_app =
+    let port = with_option (new_app (codes "demo")) (codes "port") true in
+    let database = with_option port (codes "database") true in
+    let rows = with_option database (codes "rows") true in
+    let width = with_option rows (codes "width") true in
+    let block = with_option width (codes "block") true in
+    let servers = with_option block (codes "servers") true in
+    let degree = with_option servers (codes "degree") true in
+    let agree = with_option degree (codes "agree") true in
+    with_option agree (codes "coins") false
 
 -- `demo` with its values, each in its range
 unfoldable pub demo_of : List Row → Option Asked

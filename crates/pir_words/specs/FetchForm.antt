@@ -1,14 +1,15 @@
 -- The form of `fetch`.
 use Rattle.std.specs.Prelude.{ℕ, ◌≡◌, ◌+◌, ◌*◌, ◌-◌, ◌<◌, ◌≤◌, ◌==◌, ◌&&◌, Bool, List, [], ◌∷◌, All, length}
-use Rattle.std.specs.Prelude.{Option, None, Some, option_map, codes, is_none, nat_le, nat_lt, unwrap_or}
+use Rattle.std.specs.Prelude.{Option, None, Some, option_map, codes, is_none, nat_le, nat_lt, unwrap_or, true, false}
 use Rattle.std.specs.List.{slice_split}
-use Rattle.clap.specs.Words.{Row, Text, all_of, first_of}
+use Rattle.clap.specs.Words.{App, Row, Text, all_of, first_of, new_app, with_rule}
 use Rattle.quantity_limits.specs.declared.TheConstants.{LEAST_SERVERS, MOST_BLOCKS, MOST_SERVERS, MOST_WIDTH}
 use Rattle.wire_frames.specs.declared.scheme.TheConstants.{XOR}
 use Rattle.wire_frames.specs.declared.scheme.Scheme.{Scheme}
 use Rattle.wire_frames.specs.declared.scheme.Scheme.TheVariants.{Shamir, Xor}
 use Rattle.wire_frames.specs.Scheme.{number_of}
 use Rattle.pir_words.specs.Chain.{◌>>=◌, ◌>>◌}
+use Rattle.pir_words.specs.Command.{operands_rule, with_flag, with_option}
 use Rattle.pir_words.specs.Numbers.{flag_in, number}
 use Rattle.pir_words.specs.Ranges.{FitsSession, block_in, coins_in, row_named, scheme_in, sharing_in, sharing_of, sizes_in, sizes_of}
 use Rattle.pir_words.specs.declared.TheConstants.{MOST_TAU}
@@ -16,6 +17,22 @@ use Rattle.pir_words.specs.declared.ranges.Sizes.{Sizes}
 use Rattle.pir_words.specs.declared.ranges.Sharing.{Sharing}
 use Rattle.pir_words.specs.declared.asked.Asked.{Asked}
 use Rattle.pir_words.specs.declared.asked.Asked.TheVariants.{Fetch}
+
+-- `fetch --rows R --width S --block B --more B,.. --degree T --tau U --agree H --report ADDRESS..`
+abbrev pub fetch_app : App
+fetch_app =
+    let rows = with_option (new_app (codes "fetch")) (codes "rows") true in
+    let width = with_option rows (codes "width") true in
+    let block = with_option width (codes "block") true in
+    let more = with_option block (codes "more") false in
+    let scheme = with_option more (codes "scheme") false in
+    let degree = with_option scheme (codes "degree") false in
+    let tau = with_option degree (codes "tau") false in
+    let agree = with_option tau (codes "agree") false in
+    let coins = with_option agree (codes "coins") false in
+    let recorded = with_option coins (codes "record") false in
+    let reported = with_flag recorded (codes "report") in
+    with_rule reported (operands_rule (codes "addresses"))
 
 -- the addresses, of no more servers than there may be
 unfoldable pub addresses_in : List Row → Option (List Text)

@@ -1,21 +1,21 @@
 -- Which words have a form, and which command they ask for.
 use Rattle.std.specs.Prelude.{◌≡◌, ◌==◌, Bool, List, length, Option, Some, None, Result, Ok, Err, codes, if◌then◌else◌}
 use Rattle.std.specs.Str.{bytes_eq}
-use Rattle.clap.specs.Words.{Row, Text, fault_of, subcommand_of}
+use Rattle.clap.specs.Words.{App, Row, Text, fault_of, subcommand_of, with_subcommand}
 use Rattle.clap.specs.declared.error.kind.ErrorKind.{ErrorKind}
 use Rattle.clap.specs.declared.error.kind.ErrorKind.TheVariants.{OutOfMemory}
 use Rattle.key_search.specs.declared.key.KeyFault.{KeyFault}
 use Rattle.key_search.specs.declared.key.KeyFault.TheVariants.{NotHex, TooLong, Memory as NoMemory}
 use Rattle.pir_words.specs.Chain.{◌>>=◌, ◌>>◌}
-use Rattle.pir_words.specs.Command.{pir}
-use Rattle.pir_words.specs.ReplayForm.{replay_of}
-use Rattle.pir_words.specs.FetchForm.{FetchInRange, fetch_of}
-use Rattle.pir_words.specs.ServeForm.{ServeInRange, serve_of}
-use Rattle.pir_words.specs.SelfrunForm.{SelfrunInRange, selfrun_of}
-use Rattle.pir_words.specs.DemoForm.{DemoInRange, demo_of}
-use Rattle.pir_words.specs.LookUpForm.{LookUpInRange, lookup_of}
-use Rattle.pir_words.specs.SplitForm.{SplitInRange, split_of}
-use Rattle.pir_words.specs.FrontForm.{FrontInRange, front_of}
+use Rattle.pir_words.specs.Command.{bare}
+use Rattle.pir_words.specs.ReplayForm.{replay_app, replay_of}
+use Rattle.pir_words.specs.FetchForm.{FetchInRange, fetch_app, fetch_of}
+use Rattle.pir_words.specs.ServeForm.{ServeInRange, serve_app, serve_of}
+use Rattle.pir_words.specs.SelfrunForm.{SelfrunInRange, selfrun_app, selfrun_of}
+use Rattle.pir_words.specs.DemoForm.{DemoInRange, demo_app, demo_of}
+use Rattle.pir_words.specs.LookUpForm.{LookUpInRange, lookup_app, lookup_of}
+use Rattle.pir_words.specs.SplitForm.{SplitInRange, split_app, split_of}
+use Rattle.pir_words.specs.FrontForm.{FrontInRange, front_app, front_of}
 use Rattle.pir_words.specs.declared.asked.Asked.{Asked}
 use Rattle.pir_words.specs.declared.asked.WordsFault.{WordsFault}
 use Rattle.pir_words.specs.declared.asked.WordsFault.TheVariants.{Usage, Memory}
@@ -30,6 +30,18 @@ abbrev pub fault_of_key : KeyFault → WordsFault
 fault_of_key NotHex = Usage
 fault_of_key (TooLong max) = Usage
 fault_of_key NoMemory = Memory
+
+-- `pir` with its commands
+unfoldable pub pir : App
+pir =
+    let replay = with_subcommand bare replay_app.top in
+    let fetch = with_subcommand replay fetch_app.top in
+    let serve = with_subcommand fetch serve_app.top in
+    let selfrun = with_subcommand serve selfrun_app.top in
+    let demo = with_subcommand selfrun demo_app.top in
+    let lookup = with_subcommand demo lookup_app.top in
+    let split = with_subcommand lookup split_app.top in
+    with_subcommand split front_app.top
 
 -- the command of this name, with what the words give to its arguments
 unfoldable pub asked_by : Text → List Row → Option Asked

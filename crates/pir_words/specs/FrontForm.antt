@@ -1,16 +1,27 @@
 -- The form of `front`.
-use Rattle.std.specs.Prelude.{ℕ, ◌≡◌, ◌≤◌, ◌==◌, ◌&&◌, List, length, Option, Some, codes, nat_le}
+use Rattle.std.specs.Prelude.{ℕ, ◌≡◌, ◌≤◌, ◌==◌, ◌&&◌, List, length, Option, Some, codes, nat_le, true}
 use Rattle.std.specs.Int.{div_ceil}
-use Rattle.clap.specs.Words.{Row, Text, all_of, first_of}
+use Rattle.clap.specs.Words.{App, Row, Text, all_of, first_of, new_app, with_rule}
 use Rattle.quantity_limits.specs.Shape.{IsShape}
 use Rattle.quantity_limits.specs.declared.TheConstants.{MOST_GUESTS}
 use Rattle.pir_words.specs.Chain.{◌>>=◌, ◌>>◌}
+use Rattle.pir_words.specs.Command.{operands_rule, with_option}
 use Rattle.pir_words.specs.Numbers.{limited}
 use Rattle.pir_words.specs.Ranges.{sizes_in}
 use Rattle.quantity_limits.specs.declared.TheConstants.{MOST_SHARDS}
 use Rattle.pir_words.specs.declared.ranges.Sizes.{Sizes}
 use Rattle.pir_words.specs.declared.asked.Asked.{Asked}
 use Rattle.pir_words.specs.declared.asked.Asked.TheVariants.{Front}
+
+-- `front --rows R --width S --shard K --conns N --listen ADDR ADDRESS..`
+abbrev pub front_app : App
+front_app =
+    let rows = with_option (new_app (codes "front")) (codes "rows") true in
+    let width = with_option rows (codes "width") true in
+    let shard = with_option width (codes "shard") true in
+    let conns = with_option shard (codes "conns") true in
+    let listen = with_option conns (codes "listen") true in
+    with_rule listen (operands_rule (codes "addresses"))
 
 -- the addresses: one for each shard of the rows, of which a front asks no more than so many
 unfoldable pub shard_addresses_in : ℕ → ℕ → List Row → Option (List Text)

@@ -1,17 +1,29 @@
 -- The form of `lookup`.
-use Rattle.std.specs.Prelude.{ℕ, ◌/◌, ◌≤◌, List, length, Option, Some, codes, nat_le}
+use Rattle.std.specs.Prelude.{ℕ, ◌/◌, ◌≤◌, List, length, Option, Some, codes, nat_le, true, false}
 use Rattle.std.specs.Result.{result_ok}
-use Rattle.clap.specs.Words.{Row, Text, first_of}
+use Rattle.clap.specs.Words.{App, Row, Text, first_of, new_app, with_rule}
 use Rattle.hex.specs.Hex.{decode_of}
 use Rattle.key_search.specs.Spelled.{spells_bytes}
 use Rattle.wire_frames.specs.declared.scheme.TheConstants.{SHAMIR}
 use Rattle.pir_words.specs.Chain.{◌>>=◌, ◌>>◌}
+use Rattle.pir_words.specs.Command.{operands_rule, with_option}
 use Rattle.pir_words.specs.Ranges.{FitsSession, coins_in, sharing_in, sharing_of, sizes_in, sizes_of}
 use Rattle.pir_words.specs.FetchForm.{addresses_in}
 use Rattle.pir_words.specs.declared.ranges.Sizes.{Sizes}
 use Rattle.pir_words.specs.declared.ranges.Sharing.{Sharing}
 use Rattle.pir_words.specs.declared.asked.Asked.{Asked}
 use Rattle.pir_words.specs.declared.asked.Asked.TheVariants.{Lookup}
+
+-- `lookup --rows R --width S --key HEX --degree T --agree H ADDRESS..`
+abbrev pub lookup_app : App
+lookup_app =
+    let rows = with_option (new_app (codes "lookup")) (codes "rows") true in
+    let width = with_option rows (codes "width") true in
+    let key = with_option width (codes "key") true in
+    let degree = with_option key (codes "degree") true in
+    let agree = with_option degree (codes "agree") true in
+    let coins = with_option agree (codes "coins") false in
+    with_rule coins (operands_rule (codes "addresses"))
 
 -- the key that a text spells, in an even number of hexadecimal digits, no longer than a row of so many bytes
 unfoldable pub key_named : ℕ → Text → Option (List ℕ)

@@ -1,12 +1,23 @@
 -- The form of `split`.
-use Rattle.std.specs.Prelude.{ℕ, ◌<◌, ◌≤◌, ◌&&◌, List, Option, Some, codes, nat_le, nat_lt}
-use Rattle.clap.specs.Words.{Row, first_of}
+use Rattle.std.specs.Prelude.{ℕ, ◌<◌, ◌≤◌, ◌&&◌, List, Option, Some, codes, nat_le, nat_lt, true, false}
+use Rattle.clap.specs.Words.{App, Row, first_of, new_app}
 use Rattle.quantity_limits.specs.declared.TheConstants.{MOST_SERVERS, MOST_WIDTH}
 use Rattle.pir_words.specs.Chain.{◌>>=◌, ◌>>◌}
+use Rattle.pir_words.specs.Command.{with_option}
 use Rattle.pir_words.specs.Numbers.{limited, number_in}
 use Rattle.pir_words.specs.Ranges.{coins_in, servers_in}
 use Rattle.pir_words.specs.declared.asked.Asked.{Asked}
 use Rattle.pir_words.specs.declared.asked.Asked.TheVariants.{Split}
+
+-- `split --database FILE --width S --servers N --tau U --into NAME`
+abbrev pub split_app : App
+split_app =
+    let database = with_option (new_app (codes "split")) (codes "database") true in
+    let width = with_option database (codes "width") true in
+    let servers = with_option width (codes "servers") true in
+    let tau = with_option servers (codes "tau") true in
+    let into = with_option tau (codes "into") true in
+    with_option into (codes "coins") false
 
 -- the degree in which a database is shared among n servers, at least 1 and less than n
 unfoldable pub tau_among : ℕ → List Row → Option ℕ

@@ -1,9 +1,9 @@
-//! The command line, built for `clap`.
+//! Commands and their arguments, built for `clap` by their forms.
 
 ghost use Rattle.std.specs.Prelude.{◌≡◌, false, IfOk};
 ghost use Rattle.clap.specs.Words.{app_of, rule_of};
 ghost use Rattle.clap.specs.declared.builder.command.Command.TheViews.{out-Command};
-ghost use Rattle.pir_words.specs.Command.{bare, pir};
+ghost use Rattle.pir_words.specs.Command.{bare};
 ghost use Rattle.pir_words.specs.Table.{app_by, is_long, is_required, action_of, rule_by, AddsCommands};
 
 use clap::{Arg, ArgAction, Command};
@@ -27,108 +27,10 @@ pub enum Kind {
 /// A command, and its arguments by their names.
 #[derive(Clone, Copy)]
 pub struct Form<'a> {
-    name: &'a str,
+    pub(crate) name: &'a str,
     /// Its arguments, in the order in which they are told of.
     pub arguments: &'a [(&'a str, Kind)],
 }
-
-/// The commands of `pir`.
-const COMMANDS: &[Form<'static>] = &[
-    Form {
-        name: "replay",
-        arguments: &[("report", Kind::Flag), ("file", Kind::Operand)],
-    },
-    Form {
-        name: "fetch",
-        arguments: &[
-            ("rows", Kind::Required),
-            ("width", Kind::Required),
-            ("block", Kind::Required),
-            ("more", Kind::Optional),
-            ("scheme", Kind::Optional),
-            ("degree", Kind::Optional),
-            ("tau", Kind::Optional),
-            ("agree", Kind::Optional),
-            ("coins", Kind::Optional),
-            ("record", Kind::Optional),
-            ("report", Kind::Flag),
-            ("addresses", Kind::Operands),
-        ],
-    },
-    Form {
-        name: "serve",
-        arguments: &[
-            ("database", Kind::Required),
-            ("width", Kind::Required),
-            ("conns", Kind::Required),
-            ("listen", Kind::Required),
-            ("scheme", Kind::Optional),
-            ("workers", Kind::Optional),
-        ],
-    },
-    Form {
-        name: "selfrun",
-        arguments: &[
-            ("seed", Kind::Required),
-            ("rows", Kind::Required),
-            ("width", Kind::Required),
-            ("servers", Kind::Required),
-            ("degree", Kind::Required),
-            ("agree", Kind::Required),
-            ("liars", Kind::Required),
-            ("workers", Kind::Optional),
-            ("slow", Kind::Flag),
-        ],
-    },
-    Form {
-        name: "demo",
-        arguments: &[
-            ("port", Kind::Required),
-            ("database", Kind::Required),
-            ("rows", Kind::Required),
-            ("width", Kind::Required),
-            ("block", Kind::Required),
-            ("servers", Kind::Required),
-            ("degree", Kind::Required),
-            ("agree", Kind::Required),
-            ("coins", Kind::Optional),
-        ],
-    },
-    Form {
-        name: "lookup",
-        arguments: &[
-            ("rows", Kind::Required),
-            ("width", Kind::Required),
-            ("key", Kind::Required),
-            ("degree", Kind::Required),
-            ("agree", Kind::Required),
-            ("coins", Kind::Optional),
-            ("addresses", Kind::Operands),
-        ],
-    },
-    Form {
-        name: "split",
-        arguments: &[
-            ("database", Kind::Required),
-            ("width", Kind::Required),
-            ("servers", Kind::Required),
-            ("tau", Kind::Required),
-            ("into", Kind::Required),
-            ("coins", Kind::Optional),
-        ],
-    },
-    Form {
-        name: "front",
-        arguments: &[
-            ("rows", Kind::Required),
-            ("width", Kind::Required),
-            ("shard", Kind::Required),
-            ("conns", Kind::Required),
-            ("listen", Kind::Required),
-            ("addresses", Kind::Operands),
-        ],
-    },
-];
 
 impl Kind {
     /// Whether the argument's name is written.
@@ -185,7 +87,7 @@ fn command_of<'a>(alloc: Global, form: Form<'a>) -> Result<Command<'a>, AllocErr
 }
 
 /// `pir` with commands of these forms. The words come without the program's name.
-fn pir_with<'a>(alloc: Global, forms: &[Form<'a>]) -> Result<Command<'a>, AllocError>
+pub(crate) fn pir_with<'a>(alloc: Global, forms: &[Form<'a>]) -> Result<Command<'a>, AllocError>
     ensures { IfOk result (AddsCommands bare forms.now) }
 {
     let mut pir = Command::new(alloc, "pir").no_binary_name(true);
@@ -193,33 +95,4 @@ fn pir_with<'a>(alloc: Global, forms: &[Form<'a>]) -> Result<Command<'a>, AllocE
         pir = pir.subcommand(command_of(alloc, *form)?)?;
     }
     Ok(pir)
-}
-
-/// `pir` with its commands. The words come without the program's name.
-pub fn pir_command<'a>(alloc: Global) -> Result<Command<'a>, AllocError>
-    ensures { IfOk result (λ c. app_of c ≡ pir) }
-{
-    pir_with(alloc, COMMANDS)
-}
-
-/// The form of the command of this name.
-///
-/// | Command | Required | May be left out |
-/// |---|---|---|
-/// | `replay` | FILE | `--report` |
-/// | `fetch` | `--rows R --width S --block B --degree T --agree H`, two addresses or more | `--more B,B,..`, `--scheme shamir`, `--tau U` (0), `--coins FILE` (`/dev/urandom`), `--record FILE`, `--report` |
-/// | `fetch` | `--scheme xor --rows R --width S --block B`, two addresses or more | `--more B,B,..`, `--coins FILE` (`/dev/urandom`), `--record FILE`, `--report` |
-/// | `serve` | `--database FILE --width S --conns GUESTS --listen ADDR` | `--scheme shamir` or `--scheme xor` (`shamir`), `--workers W` (1) |
-/// | `selfrun` | `--seed SEED --rows R --width S --servers N --degree T --agree H --liars V` | `--workers W` (1), `--slow` |
-/// | `demo` | `--port P --database FILE --rows R --width S --block B --servers N --degree T --agree H` | `--coins FILE` (`/dev/urandom`) |
-/// | `lookup` | `--rows R --width S --key HEX --degree T --agree H`, two addresses or more | `--coins FILE` (`/dev/urandom`) |
-/// | `split` | `--database FILE --width S --servers N --tau U --into NAME` | `--coins FILE` (`/dev/urandom`) |
-/// | `front` | `--rows R --width S --shard K --conns GUESTS --listen ADDR`, an address for each shard | |
-pub fn form_named(name: &str) -> Option<Form<'static>> {
-    for form in COMMANDS {
-        if form.name == name {
-            return Some(*form);
-        }
-    }
-    None
 }

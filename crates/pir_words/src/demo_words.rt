@@ -5,11 +5,29 @@ ghost use Rattle.pir_words.specs.DemoForm.{demo_of};
 ghost use Rattle.pir_words.specs.Form.{IsReadAs};
 
 use crate::asked::{Asked, WordsFault};
+use crate::command::{Form, Kind};
 use crate::ranges::{block_at, coins_at, servers_at, sharing_at, sizes_at};
 use crate::values::{limited_at, owned_at};
 use crate::{LEAST_PORT, MOST_PORT};
 use clap::ArgMatches;
 use std::alloc::Global;
+
+/// `demo --port P --database FILE --rows R --width S --block B --servers N --degree T --agree H`;
+/// `--coins FILE` (`/dev/urandom`) may be left out.
+pub(crate) const FORM: Form<'static> = Form {
+    name: "demo",
+    arguments: &[
+        ("port", Kind::Required),
+        ("database", Kind::Required),
+        ("rows", Kind::Required),
+        ("width", Kind::Required),
+        ("block", Kind::Required),
+        ("servers", Kind::Required),
+        ("degree", Kind::Required),
+        ("agree", Kind::Required),
+        ("coins", Kind::Optional),
+    ],
+};
 
 /// `demo` with its values, each in its range.
 #[tactic(auto, unfolding(crate::specs::DemoForm::demo_of))]

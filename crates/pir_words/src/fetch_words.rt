@@ -9,12 +9,35 @@ ghost use Rattle.pir_words.specs.Form.{IsReadAs};
 use crate::MOST_TAU;
 use crate::asked::{Asked, WordsFault};
 use crate::blocks::blocks_at;
+use crate::command::{Form, Kind};
 use crate::ranges::{Sharing, coins_at, scheme_at, sharing_at, sizes_at};
 use crate::text::Texts;
 use crate::values::{flag_at, number_of, owned_if_given, text_at, texts_at};
 use clap::ArgMatches;
 use std::alloc::Global;
 use wire_frames::{LEAST_SERVERS, MOST_SERVERS, Scheme};
+
+/// `fetch --rows R --width S --block B --degree T --agree H` with two addresses or more, or in the XOR scheme
+/// `fetch --scheme xor --rows R --width S --block B` with as many.
+/// What may be left out: `--scheme shamir`, `--more B,B,..`, `--tau U` (0; not in the XOR scheme),
+/// `--coins FILE` (`/dev/urandom`), `--record FILE` and `--report`.
+pub(crate) const FORM: Form<'static> = Form {
+    name: "fetch",
+    arguments: &[
+        ("rows", Kind::Required),
+        ("width", Kind::Required),
+        ("block", Kind::Required),
+        ("more", Kind::Optional),
+        ("scheme", Kind::Optional),
+        ("degree", Kind::Optional),
+        ("tau", Kind::Optional),
+        ("agree", Kind::Optional),
+        ("coins", Kind::Optional),
+        ("record", Kind::Optional),
+        ("report", Kind::Flag),
+        ("addresses", Kind::Operands),
+    ],
+};
 
 /// The addresses, of no more servers than there may be.
 #[tactic(auto, unfolding(crate::specs::FetchForm::addresses_in))]

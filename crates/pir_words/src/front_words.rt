@@ -7,11 +7,25 @@ ghost use Rattle.pir_words.specs.Form.{IsReadAs};
 
 use crate::MOST_SHARDS;
 use crate::asked::{Asked, WordsFault};
+use crate::command::{Form, Kind};
 use crate::ranges::{conns_at, sizes_at};
 use crate::text::Texts;
 use crate::values::{limited_at, owned_at, texts_at};
 use clap::ArgMatches;
 use std::alloc::Global;
+
+/// `front --rows R --width S --shard K --conns GUESTS --listen ADDR` with an address for each shard.
+pub(crate) const FORM: Form<'static> = Form {
+    name: "front",
+    arguments: &[
+        ("rows", Kind::Required),
+        ("width", Kind::Required),
+        ("shard", Kind::Required),
+        ("conns", Kind::Required),
+        ("listen", Kind::Required),
+        ("addresses", Kind::Operands),
+    ],
+};
 
 /// The addresses, one for each shard of the rows, of which `shard` lie on each but the last.
 #[tactic(auto, unfolding(crate::specs::FrontForm::shard_addresses_in))]

@@ -10,16 +10,14 @@
 //!
 //! What reads a single value is public for `word_reasons`, which says why words have no form.
 //!
-//! A command that is to come takes a variant of [`Asked`], an app in `specs/Command.antt` and a row
-//! in the table of `command`, a form in `specs/` and a module that reads it, and an arm of
-//! `read_command`.
+//! A command that is to come takes a variant of [`Asked`], a row of the table beside it and an arm of what reads them, and a
+//! line in `specs/Form.antt`. Where it has values, a form in `specs/` says how `clap` sees it and what its words are read as,
+//! and a module reads them.
 #![tactic(auto)]
 
 ghost use Rattle.std.specs.Prelude.{◌≡◌, true, false, IfErr, IfOk, map, string_bytes};
 ghost use Rattle.clap.specs.Words.{subcommand_of, subcommand_rows_of};
-ghost use Rattle.pir_words.specs.Numbers.{given};
-ghost use Rattle.pir_words.specs.Command.{pir};
-ghost use Rattle.pir_words.specs.Form.{IsReadAs, InRange, are_taken, asked_by, asked_in, asked_of};
+ghost use Rattle.pir_words.specs.Form.{IsReadAs, InRange, are_taken, asked_in, asked_of, pir};
 
 mod asked;
 mod blocks;
@@ -36,21 +34,14 @@ mod split_words;
 mod text;
 mod values;
 
-pub use asked::{Asked, WordsFault};
+use asked::read_command;
+pub use asked::{Asked, WordsFault, form_named, pir_command};
 pub use blocks::Blocks;
 use clap::ArgMatches;
-pub use command::{Form, Kind, form_named, pir_command};
-use demo_words::read_demo;
-use fetch_words::read_fetch;
+pub use command::{Form, Kind};
 pub use fetch_words::{addresses_at, fetch_sharing_at, tau_at};
-use front_words::read_front;
-use lookup_words::read_lookup;
 pub use quantity_limits::MOST_SHARDS;
 pub use ranges::{Sharing, Sizes, block_at, scheme_at, servers_at, sharing_at, sizes_at};
-use replay_words::read_replay;
-use selfrun_words::read_selfrun;
-use serve_words::read_serve;
-use split_words::read_split;
 use std::alloc::Global;
 pub use text::{Text, Texts};
 pub use values::{limited_at, number_at, number_of, text_at, texts_at};
@@ -80,27 +71,10 @@ fn parse<'a>(alloc: Global, words: &'a [String]) -> Result<ArgMatches<'a>, Words
     Ok(command.try_get_matches_from(words)?)
 }
 
-/// The command of this name, with the values that the matches have for its arguments.
-#[tactic(auto, unfolding(crate::specs::Form::asked_by))]
-fn read_command(alloc: Global, name: &str, matches: &ArgMatches) -> Result<Asked, WordsFault>
-    ensures { IsReadAs (asked_by name.now (given matches.now)) result }
-{
-    match name {
-        "replay" => read_replay(alloc, matches),
-        "fetch" => read_fetch(alloc, matches),
-        "serve" => read_serve(alloc, matches),
-        "selfrun" => read_selfrun(matches),
-        "demo" => read_demo(alloc, matches),
-        "lookup" => read_lookup(alloc, matches),
-        "split" => read_split(alloc, matches),
-        "front" => read_front(alloc, matches),
-        _ => Err(WordsFault::Usage),
-    }
-}
-
 /// The command that the matches ask for.
 fn read_matches(alloc: Global, matches: &ArgMatches) -> Result<Asked, WordsFault>
-    ensures { IsReadAs (asked_in (subcommand_rows_of matches.now)) result }
+    ensures form { IsReadAs (asked_in (subcommand_rows_of matches.now)) result }
+    ensures ranges { IfOk result InRange }
 {
     match matches.subcommand() {
         Some((name, inner)) => read_command(alloc, name, inner),
@@ -110,7 +84,7 @@ fn read_matches(alloc: Global, matches: &ArgMatches) -> Result<Asked, WordsFault
 
 /// The command that the words ask for. They come without the program's name.
 ///
-/// The table over [`form_named`] has the commands and their options.
+/// What each command takes stands over its form, in the module that reads its words, as `fetch_words`.
 ///
 /// Options come in any order, each once, as `--rows 2` or `--rows=2`, and addresses may stand between them; `--slow`
 /// and `--report` take no value. What follows the word `--` is no option. A value that begins with `-` is written `--coins=-x`; `-`

@@ -5,6 +5,7 @@ ghost use Rattle.pir_words.specs.LookUpForm.{key_in, lookup_of};
 ghost use Rattle.pir_words.specs.Form.{IsReadAs};
 
 use crate::asked::{Asked, WordsFault};
+use crate::command::{Form, Kind};
 use crate::fetch_words::addresses_at;
 use crate::ranges::{coins_at, sharing_at, sizes_at};
 use crate::text::Texts;
@@ -12,6 +13,21 @@ use crate::values::text_at;
 use clap::ArgMatches;
 use key_search::{Key, read_key};
 use std::alloc::Global;
+
+/// `lookup --rows R --width S --key HEX --degree T --agree H` with two addresses or more;
+/// `--coins FILE` (`/dev/urandom`) may be left out.
+pub(crate) const FORM: Form<'static> = Form {
+    name: "lookup",
+    arguments: &[
+        ("rows", Kind::Required),
+        ("width", Kind::Required),
+        ("key", Kind::Required),
+        ("degree", Kind::Required),
+        ("agree", Kind::Required),
+        ("coins", Kind::Optional),
+        ("addresses", Kind::Operands),
+    ],
+};
 
 /// The key, for rows of so many bytes.
 #[tactic(auto, unfolding(crate::specs::LookUpForm::key_in))]

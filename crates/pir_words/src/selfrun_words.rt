@@ -5,9 +5,27 @@ ghost use Rattle.pir_words.specs.SelfrunForm.{selfrun_of};
 ghost use Rattle.pir_words.specs.Form.{IsReadAs};
 
 use crate::asked::{Asked, WordsFault};
+use crate::command::{Form, Kind};
 use crate::ranges::{servers_at, sharing_at, sizes_at, workers_at};
 use crate::values::{flag_at, limited_at, number_at};
 use clap::ArgMatches;
+
+/// `selfrun --seed SEED --rows R --width S --servers N --degree T --agree H --liars V`.
+/// What may be left out: `--workers W` (1) and `--slow`.
+pub(crate) const FORM: Form<'static> = Form {
+    name: "selfrun",
+    arguments: &[
+        ("seed", Kind::Required),
+        ("rows", Kind::Required),
+        ("width", Kind::Required),
+        ("servers", Kind::Required),
+        ("degree", Kind::Required),
+        ("agree", Kind::Required),
+        ("liars", Kind::Required),
+        ("workers", Kind::Optional),
+        ("slow", Kind::Flag),
+    ],
+};
 
 /// `selfrun` with its values, each in its range.
 #[tactic(auto, unfolding(crate::specs::SelfrunForm::selfrun_of))]

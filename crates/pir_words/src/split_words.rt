@@ -6,10 +6,24 @@ ghost use Rattle.pir_words.specs.SplitForm.{split_of, tau_among};
 ghost use Rattle.pir_words.specs.Form.{IsReadAs};
 
 use crate::asked::{Asked, WordsFault};
+use crate::command::{Form, Kind};
 use crate::ranges::{coins_at, servers_at, width_at};
 use crate::values::{number_at, owned_at};
 use clap::ArgMatches;
 use std::alloc::Global;
+
+/// `split --database FILE --width S --servers N --tau U --into NAME`; `--coins FILE` (`/dev/urandom`) may be left out.
+pub(crate) const FORM: Form<'static> = Form {
+    name: "split",
+    arguments: &[
+        ("database", Kind::Required),
+        ("width", Kind::Required),
+        ("servers", Kind::Required),
+        ("tau", Kind::Required),
+        ("into", Kind::Required),
+        ("coins", Kind::Optional),
+    ],
+};
 
 /// The degree in which a database is shared among so many servers.
 #[tactic(auto, unfolding(crate::specs::SplitForm::tau_among))]

@@ -2,8 +2,7 @@ use Rattle.std.proofs.Common.{◌≡◌, ◌∙◌, [], length, map, ap, subst, 
 use Rattle.std.specs.Prelude.{◌==◌}
 use Rattle.std.proofs.lemmas.Result.{err_from_is_err_and}
 use Rattle.clap.specs.Words.{App, HasKind, fault_of, is_simple, is_simple_and_free, kind_of, subcommand_of}
-use Rattle.pir_words.specs.Command.{pir}
-use Rattle.pir_words.specs.Form.{are_taken}
+use Rattle.pir_words.specs.Form.{are_taken, pir}
 use Rattle.pir_words.proofs.Parsing.{pir_is_free, pir_is_simple, some_kind}
 use Rattle.pir_words.proofs.parse.Goals as goal
 

@@ -1,7 +1,7 @@
-use Rattle.std.proofs.Common.{List, map, string_bytes, subst, ℕ, length}
+use Rattle.std.proofs.Common.{subst}
 use Rattle.port_trait.specs.Number.{COINS}
 use Rattle.query_rounds.specs.Gathered.{TouchesLinks}
-use Rattle.key_fetches.specs.KeyRequest.{KeyRequest, key_request}
+use Rattle.key_fetches.specs.KeyRequest.{KeyRequest}
 use Rattle.key_fetches.specs.LookedUp.{LooksUp}
 use Rattle.commands.specs.LookUpOrder.{LookUpOrder}
 use Rattle.commands.specs.LookUpOutcome.{key_request_by}

@@ -1,5 +1,5 @@
 use Rattle.std.proofs.Common.{◌∙◌, inl, inr, refl, subst}
-use Rattle.commands.specs.Outcome.{Outcome, Promise}
+use Rattle.commands.specs.Orders.{Outcome, Promise}
 use Rattle.commands.proofs.Formless.{no_room, no_usage, none_broken, refused}
 use Rattle.commands.proofs.Headline.{answered}
 use Rattle.commands.proofs.Ordered.{one_order}

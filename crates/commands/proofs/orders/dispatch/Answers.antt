@@ -1,7 +1,7 @@
 use Rattle.std.proofs.Common.{sym, ap, subst, arith}
 use Rattle.commands.specs.DemoOrder.{DemoOrder}
 use Rattle.commands.specs.SplitOrder.{SplitOrder}
-use Rattle.commands.specs.Outcome.{Outcome, Promise}
+use Rattle.commands.specs.Orders.{Outcome, Promise}
 use Rattle.commands.proofs.Demonstrating.{demo_promised}
 use Rattle.commands.proofs.Fronting.{front_promised}
 use Rattle.commands.proofs.Headline.{fetch_promised, replay_promised}
@@ -10,7 +10,7 @@ use Rattle.commands.proofs.SelfrunHeadline.{selfrun_promised}
 use Rattle.commands.proofs.ServeHeadline.{serve_promised}
 use Rattle.commands.proofs.SplitHeadline.{split_promised}
 use Rattle.commands.specs.declared.orders.Order.{Order}
-use Rattle.commands.proofs.dispatch.dispatch.Goals as goal
+use Rattle.commands.proofs.orders.dispatch.Goals as goal
 
 pub returns-in-Replay-clause-outcome : goal.returns-in-Replay-clause-outcome
 returns-in-Replay-clause-outcome g c =
