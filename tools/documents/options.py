@@ -18,6 +18,12 @@ def options_in_code():
     return said
 
 
+def options_of_lists():
+    """Returns the options of `pir_list`, by the table from which they are built for clap."""
+    named = re.findall(r'name: "([a-z-]+)",\s*kind: Kind::(\w+)', sources("list_words"))
+    return {"help", "version"} | {name for name, kind in named if kind != "Operand"}
+
+
 def completed(*words):
     """Returns what tools/pir.bash offers for the last of these words."""
     script = 'source "$1"; shift; COMP_WORDS=("$@") COMP_CWORD=$(($# - 1)); _pir; printf "%s\\n" "${COMPREPLY[@]}"'
@@ -81,7 +87,7 @@ def look_at_options():
     look_at_completions(said, compare)
     # any command line of a document, and any option that is named by itself; scripts of the repository have options too
     scripts = [it for folder in ("bench/*.py", "docs/checks/*", "examples/*-*", "tools/[!_]*") for it in glob.glob(f"{TOP}/{folder}") if os.path.isfile(it) and not it.endswith(".session")] + [f"{TOP}/docs/check"]
-    known = {"help"}.union(*said.values(), *(re.findall(r"[\"']--([a-z-]+)", read(os.path.relpath(it, TOP))) for it in scripts))
+    known = {"help"}.union(options_of_lists(), *said.values(), *(re.findall(r"[\"']--([a-z-]+)", read(os.path.relpath(it, TOP))) for it in scripts))
     for path in documents():
         if path.endswith(".1"):
             continue
