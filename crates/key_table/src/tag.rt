@@ -1,6 +1,6 @@
 //! The tag of a list, by its entries as they ascend.
 
-ghost use Rattle.std.specs.Prelude.{◌≡◌, ◌≤◌, ◌+◌, ◌++◌, ℕ, List, replicate, take, length};
+ghost use Rattle.std.specs.Prelude.{◌≡◌, ◌≤◌, ◌++◌, ℕ, List, replicate, take, length};
 ghost use Rattle.sha2.specs.Hashers.{Holds256};
 ghost use Rattle.key_table.specs.Entry.{entry, value_bytes};
 ghost use Rattle.key_table.specs.KeyList.{tag_of};
