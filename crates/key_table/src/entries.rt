@@ -1,6 +1,6 @@
 //! A list as it is gathered, and its entries as they ascend.
 
-ghost use Rattle.std.specs.Prelude.{◌≡◌, ◌≤◌, ◌<◌, ◌+◌, ℕ, length, slice_index, [], All};
+ghost use Rattle.std.specs.Prelude.{◌≡◌, ◌≤◌, ◌<◌, ◌+◌, length, [], All};
 ghost use Rattle.std.specs.List.{dedup};
 ghost use Rattle.std.specs.List.Sorted.{IsPermutation, IsSortedBy};
 ghost use Rattle.key_table.specs.Counting.{row_at};

@@ -1,8 +1,8 @@
 //! Looking for a digest in a row.
 
-ghost use Rattle.std.specs.Prelude.{◌≡◌, ◌≤◌, ◌<◌, ◌+◌, ◌*◌, ℕ, List, length, map, MatchOption, All, Contains, true, false};
+ghost use Rattle.std.specs.Prelude.{◌≡◌, ◌≤◌, ◌<◌, ◌*◌, List, length, MatchOption, All, true, false};
 ghost use Rattle.std.specs.List.{flat_map};
-ghost use Rattle.quantity_limits.specs.declared.TheConstants.{MOST_ROWS, MOST_WIDTH};
+ghost use Rattle.quantity_limits.specs.declared.TheConstants.{MOST_WIDTH};
 ghost use Rattle.key_table.specs.Entry.{IsPair, Pair, entry, entry_size};
 ghost use Rattle.std.specs.Cmp.Lexicographic.{slice_cmp};
 ghost use Rattle.std.specs.Ordering.{nat_cmp};
