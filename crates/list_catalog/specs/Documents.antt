@@ -141,6 +141,13 @@ catalog_in ms = do
   fits ← fitting digest entries rows value width
   servers ← servers_in ms
   Ok (record {
-    digest = digest; entries = entries; tag = tag; rows = rows; salt = salt; sha256 = sha256;
-    value = value; width = width; servers = servers;
+    digest = digest;
+    entries = entries;
+    tag = tag;
+    rows = rows;
+    salt = salt;
+    sha256 = sha256;
+    value = value;
+    width = width;
+    servers = servers;
   })

@@ -93,16 +93,28 @@ pub enum MemberFault {
     },
     /// The member is no text of so many hexadecimal digits.
     #[error("{member} is not {count} hexadecimal digits")]
-    NotDigits { member: Member, count: usize },
+    NotDigits {
+        member: Member,
+        count: usize,
+    },
     /// A row with one entry has more bytes than the width.
     #[error("width {width} is below {least}, the bytes of a row with one entry")]
-    TooNarrow { width: u32, least: u32 },
+    TooNarrow {
+        width: u32,
+        least: u32,
+    },
     /// The rows have more bytes than a database may have.
     #[error("rows {rows} of width {width} have more than {MOST_CELLS} bytes")]
-    TooLarge { rows: u32, width: u32 },
+    TooLarge {
+        rows: u32,
+        width: u32,
+    },
     /// The rows have no room for so many entries.
     #[error("entries {entries} are more than the rows have room for, {room}")]
-    TooMany { entries: u32, room: u64 },
+    TooMany {
+        entries: u32,
+        room: u64,
+    },
     /// `servers` is no table.
     #[error("servers is not a table")]
     NotTable,

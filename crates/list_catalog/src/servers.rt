@@ -111,7 +111,13 @@ fn said_of(servers: Option<Servers>) -> Said
     ensures agree { result.2 ≡ option_map (λ s. s.agree) servers }
 {
     match servers {
-        Some(Servers { addresses, degree, agree }) => (Some(addresses), Some(degree), Some(agree)),
+        Some(
+            Servers {
+                addresses,
+                degree,
+                agree,
+            },
+        ) => (Some(addresses), Some(degree), Some(agree)),
         None => (None, None, None),
     }
 }
