@@ -63,7 +63,11 @@ digits_in-at ms m size bytes has = ap (digits_among m size) has.has ∙ ap (deco
 fitting-sizes : (digest entries rows value width : ℕ) → AreSizes digest entries rows value width → fitting digest entries rows value width ≡ Ok tt
 unfolding fitting
 fitting-sizes digest entries rows value width are =
-    rw (le-ltb width (least_width digest value) are.wide, le-ltb MOST_CELLS (rows * width) are.shape.few_cells, le-ltb (room_of digest rows value width) entries are.roomy)
+    rw (
+      le-ltb width (least_width digest value) are.wide,
+      le-ltb MOST_CELLS (rows * width) are.shape.few_cells,
+      le-ltb (room_of digest rows value width) entries are.roomy,
+    )
 
 -- the texts of a list of texts
 texts-items_of : (xs : List (List ℕ)) → texts (items_of xs) ≡ Some xs
@@ -361,7 +365,8 @@ some_servers-read (Ok s) o h = (s, refl, unwrapped (Some s) o h)
 some_servers-read (Err e) o h = cc
 
 -- so it is of servers that may be missing
-servers_among-read : (ms : Members) (d : Option Data) (o : Option Serving) → get_member (name_of Servers) ms ≡ d → servers_among d ≡ Ok o → HasServers ms o
+servers_among-read : (ms : Members) (d : Option Data) (o : Option Serving) → get_member (name_of Servers) ms ≡ d
+    → servers_among d ≡ Ok o → HasServers ms o
 servers_among-read ms None o has h = subst (HasServers ms) (unwrapped None o h) has
 servers_among-read ms (Some (table inner)) o has h =
     let (s, read, is) = some_servers-read (servers_of inner) o h in

@@ -76,7 +76,8 @@ unfoldable pub fitting : ℕ → ℕ → ℕ → ℕ → ℕ → Result (Unit {0
 fitting digest entries rows value width =
     if nat_lt width (least_width digest value) then Err (TooNarrow width (least_width digest value))
     else if nat_lt MOST_CELLS (rows * width) then Err (TooLarge rows width)
-    else if nat_lt (room_of digest rows value width) entries then Err (TooMany entries (room_of digest rows value width))
+    else if nat_lt (room_of digest rows value width) entries
+    then Err (TooMany entries (room_of digest rows value width))
     else Ok tt
 
 -- the texts of a list that has only texts

@@ -1,5 +1,6 @@
 //! Why a text is no catalog, why servers can't be asked, and why a catalog isn't written.
 
+use crate::MOST_CATALOG;
 use crate::member::Member;
 use crate::range::Range;
 use quantity_limits::{LEAST_SERVERS, MOST_CELLS, MOST_SERVERS};
@@ -130,7 +131,7 @@ pub enum MemberFault {
 #[derive(Debug, Drop, Error)]
 pub enum CatalogFault {
     /// There are more bytes than a catalog may have.
-    #[error("catalog: more than 65536 bytes")]
+    #[error("catalog: more than {MOST_CATALOG} bytes")]
     TooLong,
     /// The bytes are no text.
     #[error("catalog: not UTF-8")]
@@ -150,7 +151,7 @@ pub enum CatalogFault {
 #[derive(Clone, Copy, Debug, PartialEq, Eq, Error)]
 pub enum WriteFault {
     /// Its text has more bytes than a catalog may have: the addresses are too long.
-    #[error("the catalog has more than 65536 bytes")]
+    #[error("the catalog has more than {MOST_CATALOG} bytes")]
     TooLong,
     /// Want of memory.
     #[error("no memory")]

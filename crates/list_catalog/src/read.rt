@@ -123,7 +123,8 @@ fn digits_in<const N: usize>(table: &Table, member: Member) -> Result<[u8; N], M
     }
 }
 
-/// That a row has room for an entry, that the rows are no more than a database, and that they have room for all entries.
+/// That a row has room for an entry, that the rows are no more than a database, and that they have room for all
+/// entries.
 #[tactic(auto, unfolding(crate::specs::Documents::fitting))]
 fn fitting(
     digest: usize,
@@ -297,10 +298,10 @@ fn catalog_of(alloc: Global, text: &[u8]) -> Result<Catalog, CatalogFault>
 ///
 /// # Errors
 ///
-/// The first of these. `TooLong` exactly where there are more than [`MOST_CATALOG`] bytes; `NotText` exactly where they are
-/// not UTF-8; `NotToml` exactly where the text is no document in TOML 1.1; `Unfit` exactly where the document is no catalog,
-/// with the first fault: a member of another name, then the members as they are listed above, then that the sizes don't fit
-/// each other, and last the servers. `Memory` for want of memory, where none of the first two is so.
+/// The first of these. `TooLong` exactly where there are more than [`MOST_CATALOG`] bytes; `NotText` exactly where they
+/// are not UTF-8; `NotToml` exactly where the text is no document in TOML 1.1; `Unfit` exactly where the document is no
+/// catalog, with the first fault: a member of another name, then the members as they are listed above, then that the sizes
+/// don't fit each other, and last the servers. `Memory` for want of memory, where none of the first two is so.
 pub fn read_catalog(alloc: Global, text: &[u8]) -> Result<Catalog, CatalogFault>
     ensures reads { Reads text.now result }
     // A catalog says what its document has, member by member; a document that is refused says no catalog.

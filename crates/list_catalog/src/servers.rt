@@ -126,7 +126,8 @@ fn said_of(servers: Option<Servers>) -> Said
 ///
 /// # Errors
 ///
-/// `Missing` with the first of addresses, degree and agreement that neither says, else as [`Servers::new`] of what results.
+/// `Missing` with the first of addresses, degree and agreement that neither says, else as [`Servers::new`] of what
+/// results.
 #[tactic(auto, unfolding(crate::specs::Serving::with_options))]
 pub fn with_options(
     servers: Option<Servers>,

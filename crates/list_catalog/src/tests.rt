@@ -28,7 +28,9 @@ degree = 1
 
 /// The same, spelled in another way.
 const SPELLED: &str = "# our list
-servers = { degree = 1, agree = 3, addresses = [\"127.0.0.1:7011\", '127.0.0.1:7012', \"127.0.0.1:7013\", \"127.0.0.1:7014\"] }
+servers = { degree = 1, agree = 3, addresses = [
+    \"127.0.0.1:7011\", '127.0.0.1:7012', # two of them
+    \"127.0.0.1:7013\", \"127.0.0.1:7014\" ] }
 width = 0x1a
 value = 0
 sha256 = \"2333A754A274D15CAC819A27A4F2AC88BCFBCD2AD954C0F4BB8E0BEC6150CE6B\"
