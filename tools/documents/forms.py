@@ -35,6 +35,9 @@ def look_at_versions():
     for page in PAGES if numbers else ():
         if f".Os Hirdyqos {'.'.join(map(str, numbers[0]))}" not in read(page).splitlines():
             found.bad(page, f"it doesn't name the version {'.'.join(map(str, numbers[0]))} of CHANGELOG.md")
+    said = re.search(r"const VERSION: &str = \"(.+)\";", read("crates/list_words/src/command.rt"))
+    if numbers and (not said or said[1] != ".".join(map(str, numbers[0]))):
+        found.bad("crates/list_words/src/command.rt", "VERSION isn't the newest of CHANGELOG.md")
 
 
 def look_at_forms(program):

@@ -10,8 +10,8 @@ use crate::commands::COMMANDS;
 use clap::{Arg, ArgAction, Command};
 use std::alloc::{AllocError, Global};
 
-/// The version of `pir_list`.
-const VERSION: &str = "1";
+/// The version of the programs, as CHANGELOG.md and the man pages have it.
+const VERSION: &str = "0.4.0";
 
 /// How an argument is given.
 #[derive(Clone, Copy)]
