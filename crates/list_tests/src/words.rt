@@ -184,7 +184,7 @@ fn words_without_a_form_are_told(rt: HostRuntime) -> Result<(), AllocError> {
     ] {
         assert!(rt; says(rt.alloc(), line, "error: ")?, "{line}");
     }
-    assert!(rt; says(rt.alloc(), "--version", "pir_list 1")?);
+    assert!(rt; says(rt.alloc(), "--version", "pir_list 0.4.0")?);
     assert!(rt; says(rt.alloc(), "--help", "Private look-ups in a list of keys")?);
     assert!(rt;
         says(
