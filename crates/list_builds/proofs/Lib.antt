@@ -1,0 +1,9 @@
+pub mod Longest
+pub mod Gathers
+pub mod TableBytes
+pub mod Room
+pub mod Laying
+pub mod CatalogSizes
+pub mod Carried
+pub mod Written
+pub mod Building

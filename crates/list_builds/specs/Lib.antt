@@ -1,0 +1,12 @@
+pub mod Order
+pub mod Salt
+pub mod Listing
+pub mod Gathering
+pub mod TableBytes
+pub mod CatalogText
+pub mod Listed
+pub mod Laid
+pub mod Layout
+pub mod CatalogOf
+pub mod Writing
+pub mod Builds
