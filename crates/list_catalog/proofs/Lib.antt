@@ -1,0 +1,6 @@
+pub mod Puts
+pub mod Lookups
+pub mod Servings
+pub mod Saying
+pub mod Lines
+pub mod ReadBack
