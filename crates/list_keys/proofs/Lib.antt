@@ -1,0 +1,7 @@
+pub mod Splits
+pub mod Faults
+pub mod Parts
+pub mod Places
+mod Given
+mod Readers
+mod KeyLists

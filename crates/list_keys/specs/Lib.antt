@@ -1,0 +1,6 @@
+pub mod Lines
+pub mod Form
+pub mod Window
+pub mod Reading
+pub mod Taking
+pub mod Keys

@@ -1,0 +1,5 @@
+pub mod Command
+pub mod Table
+pub mod Amounts
+pub mod Values
+pub mod Answer

@@ -1,0 +1,28 @@
+//! The words of `pir_list`, read to a command.
+//!
+//! Promised: words give a command with its values exactly where `clap` takes them by the commands that are built here,
+//! and each number is in its range; else what is wrong with them, or help or the version where they ask for it; want of
+//! memory aside.
+//!
+//! Not promised: what help and the sentences of `clap` say, and that a file or an address is one: any text is a name, but
+//! the empty one is no address.
+#![tactic(auto)]
+
+mod address_list;
+mod amount;
+mod asked;
+mod command;
+mod commands;
+mod fault;
+mod read;
+mod values;
+
+pub use address_list::addresses;
+pub use amount::Amount;
+pub use asked::{Asked, Build, Check, Find};
+pub use command::list_command;
+pub use fault::{ValueFault, WordsFault};
+pub use read::read_words;
+
+/// How many bytes a digest has where the words don't say it.
+pub const USUAL_DIGEST: usize = 16;

@@ -1,0 +1,186 @@
+//! The values of each command.
+
+ghost use Rattle.std.specs.Prelude.{◌≡◌, ◌≤◌, unwrap_or, IfSome};
+ghost use Rattle.pir_words.specs.Numbers.{given};
+ghost use Rattle.list_words.specs.Amounts.{most_of};
+ghost use Rattle.list_words.specs.declared.TheConstants.{USUAL_DIGEST};
+ghost use Rattle.list_words.specs.declared.amount.Amount.TheVariants.{DigestBytes};
+ghost use Rattle.list_words.specs.Values.{IsBuild, IsCheck, IsFind, amount_fault, amount_in, build_fault, find_fault, is_set, servers_fault, text_fault, text_or, values_fault, values_in};
+
+use crate::USUAL_DIGEST;
+use crate::address_list::has_empty;
+use crate::amount::Amount;
+use crate::asked::{Build, Check, Find};
+use crate::fault::ValueFault;
+use clap::ArgMatches;
+use key_table::MOST_VALUE;
+use pir_words::{limited_at, number_of, text_at};
+
+/// What is wrong with the text of a number.
+#[tactic(auto, unfolding(crate::specs::Values::text_fault))]
+fn text_fault(amount: Amount, text: &str) -> Option<ValueFault>
+    ensures { result ≡ text_fault amount text.now }
+{
+    match number_of(text) {
+        None => Some(ValueFault::NoNumber { amount }),
+        Some(number) => {
+            if u64::from(amount.least()) <= number && number <= u64::from(amount.most()) {
+                None
+            } else {
+                Some(ValueFault::OutOfRange { amount, number })
+            }
+        }
+    }
+}
+
+/// What is wrong with the number of an option, where it is given.
+#[tactic(auto, unfolding(crate::specs::Values::amount_fault))]
+fn amount_fault(matches: &ArgMatches, amount: Amount) -> Option<ValueFault>
+    ensures { result ≡ amount_fault amount (given matches.now) }
+{
+    text_fault(amount, text_at(matches, amount.name())?)
+}
+
+/// The number of an option, where it is given.
+#[tactic(auto, unfolding(crate::specs::Values::amount_in))]
+fn amount_at(matches: &ArgMatches, amount: Amount) -> Option<u32>
+    ensures value { result ≡ amount_in amount (given matches.now) }
+    ensures bound { IfSome result (λ n. n ≤ most_of amount) }
+{
+    limited_at(matches, amount.name(), amount.least(), amount.most())
+}
+
+/// Whether an option without a value is given.
+#[tactic(auto, unfolding(crate::specs::Values::is_set))]
+fn flag_at(matches: &ArgMatches, id: &str) -> bool
+    ensures { result ≡ is_set id.now (given matches.now) }
+{
+    matches!(text_at(matches, id), Some("true"))
+}
+
+/// The text of an argument, or another where it isn't given.
+#[tactic(auto, unfolding(crate::specs::Values::text_or))]
+fn text_or<'a>(matches: &ArgMatches<'a>, id: &str, usual: &'static str) -> &'a str
+    ensures { result.now ≡ text_or id.now usual.now (given matches.now) }
+{
+    text_at(matches, id).unwrap_or(usual)
+}
+
+/// That the longest value is given for lines without values.
+#[tactic(auto, unfolding(crate::specs::Values::values_fault))]
+fn values_fault(matches: &ArgMatches) -> Option<ValueFault>
+    ensures { result ≡ values_fault (given matches.now) }
+{
+    if text_at(matches, "value-bytes").is_some() && !flag_at(matches, "values") {
+        Some(ValueFault::WithoutValues)
+    } else {
+        None
+    }
+}
+
+/// That an address is empty.
+#[tactic(auto, unfolding(crate::specs::Values::servers_fault))]
+fn servers_fault(matches: &ArgMatches) -> Option<ValueFault>
+    ensures { result ≡ servers_fault (given matches.now) }
+{
+    if has_empty(text_at(matches, "servers")?) {
+        Some(ValueFault::EmptyAddress)
+    } else {
+        None
+    }
+}
+
+/// The first fault of the values of `build`.
+#[tactic(auto, unfolding(crate::specs::Values::build_fault))]
+pub(crate) fn build_fault(matches: &ArgMatches) -> Option<ValueFault>
+    ensures { result ≡ build_fault (given matches.now) }
+{
+    amount_fault(matches, Amount::DigestBytes).or(amount_fault(matches, Amount::Rows).or(
+        values_fault(matches).or(amount_fault(matches, Amount::ValueBytes)),
+    ))
+}
+
+/// The first fault of the values of `find`.
+#[tactic(auto, unfolding(crate::specs::Values::find_fault))]
+pub(crate) fn find_fault(matches: &ArgMatches) -> Option<ValueFault>
+    ensures { result ≡ find_fault (given matches.now) }
+{
+    servers_fault(matches).or(amount_fault(matches, Amount::Degree).or(amount_fault(
+        matches,
+        Amount::Agree,
+    )))
+}
+
+/// How many bytes a value has at most, where lines have values.
+#[tactic(auto, unfolding(crate::specs::Values::values_in))]
+fn values_at(matches: &ArgMatches) -> Option<usize>
+    ensures { result ≡ values_in (given matches.now) }
+{
+    if flag_at(matches, "values") {
+        match amount_at(matches, Amount::ValueBytes) {
+            Some(most) => Some(most as usize),
+            None => Some(MOST_VALUE),
+        }
+    } else {
+        None
+    }
+}
+
+/// How many bytes a digest has.
+fn digest_at(matches: &ArgMatches) -> usize
+    ensures { result ≡ unwrap_or (amount_in DigestBytes (given matches.now)) USUAL_DIGEST }
+{
+    match amount_at(matches, Amount::DigestBytes) {
+        Some(bytes) => bytes as usize,
+        None => USUAL_DIGEST,
+    }
+}
+
+/// A number of at most 255.
+fn byte_at(matches: &ArgMatches, amount: Amount) -> Option<u8>
+    requires { most_of amount ≤ 255 }
+    ensures { result ≡ amount_in amount (given matches.now) }
+{
+    let number = amount_at(matches, amount)?;
+    Some(number as u8)
+}
+
+/// `build` with its values.
+pub(crate) fn build_at<'a>(matches: &ArgMatches<'a>) -> Build<'a>
+    ensures { IsBuild (given matches.now) result }
+{
+    Build {
+        keys: text_or(matches, "keys", ""),
+        database: text_or(matches, "database", ""),
+        catalog: text_at(matches, "catalog"),
+        values: values_at(matches),
+        digest_bytes: digest_at(matches),
+        rows: amount_at(matches, Amount::Rows),
+        coins: text_or(matches, "coins", "/dev/urandom"),
+    }
+}
+
+/// `find` with its values.
+pub(crate) fn find_at<'a>(matches: &ArgMatches<'a>) -> Find<'a>
+    ensures { IsFind (given matches.now) result }
+{
+    Find {
+        catalog: text_or(matches, "catalog", ""),
+        keys: text_or(matches, "keys", "-"),
+        servers: text_at(matches, "servers"),
+        degree: byte_at(matches, Amount::Degree),
+        agree: byte_at(matches, Amount::Agree),
+        coins: text_or(matches, "coins", "/dev/urandom"),
+        hex: flag_at(matches, "hex"),
+    }
+}
+
+/// `check` with its values.
+pub(crate) fn check_at<'a>(matches: &ArgMatches<'a>) -> Check<'a>
+    ensures { IsCheck (given matches.now) result }
+{
+    Check {
+        database: text_or(matches, "database", ""),
+        catalog: text_or(matches, "catalog", ""),
+    }
+}
