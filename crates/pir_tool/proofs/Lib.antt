@@ -1,2 +1,3 @@
 mod SameFrames
 mod SameLookUps
+mod SameSearches

@@ -1,4 +1,5 @@
 pub mod Privacy
+pub mod SearchPrivacy
 pub use Rattle.commands.specs.Table
 pub use Rattle.commands.specs.Told
 pub use Rattle.commands.specs.Said

@@ -6,6 +6,7 @@ ghost use Rattle.query_rounds.specs.Plan.{AreBlocks, IsPlan, need};
 ghost use Rattle.commands.specs.HonestReply.{RepliesHonestly};
 ghost use Rattle.pir_tool.specs.Privacy.{IsSentTheSame, LookUpLooksTheSame, OthersAreSentTheSame};
 ghost use Rattle.pir_tool.specs.Privacy.{PartnerIsBijection, PartnerXorIsBijection};
+ghost use Rattle.pir_tool.specs.SearchPrivacy.{SearchLooksTheSame};
 
 use query_rounds::FetchPlan;
 
@@ -50,6 +51,18 @@ pub fn coalition_is_sent_the_same_in_each_fetch(plan: &FetchPlan, coalition: &[u
     requires bound { length coalition.now ≤ plan.now.t }
     requires nonzero { All (λ a. a ≢ 0) coalition.now }
     ensures { LookUpLooksTheSame plan.now coalition.now others.now }
+{}
+
+/// In Shamir's sharing, what up to `t` servers together are sent in all queries of a search for keys of a list, they are
+/// sent in a search for as many other keys, of the same or another list, from other coins, byte for byte: in each query as
+/// many rows are asked for, and its coins are those of [`coalition_is_sent_the_same`], which a bijection gives. So where
+/// the coins are uniform, secret and used once, what they see tells how many keys are looked for, and no more of them
+/// (Goldberg 2007; Chor, Gilboa and Naor 1998).
+pub fn coalition_is_sent_the_same_in_a_search(plan: &FetchPlan, coalition: &[u8])
+    requires scheme { plan.now.scheme ≡ SHAMIR }
+    requires bound { length coalition.now ≤ plan.now.t }
+    requires nonzero { All (λ a. a ≢ 0) coalition.now }
+    ensures { SearchLooksTheSame plan.now coalition.now }
 {}
 
 /// In the XOR scheme the same as [`coalition_is_sent_the_same`] holds of all servers but one, whichever that is: what they

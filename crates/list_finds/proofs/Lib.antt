@@ -1,0 +1,9 @@
+pub mod Kept
+pub mod ToldKeys
+pub mod Pieces
+pub mod Requests
+pub mod Widths
+pub mod Coins
+pub mod Asking
+pub mod Progress
+pub mod ForTheList
