@@ -1,0 +1,5 @@
+pub mod Claims
+pub mod Rows
+pub mod Judging
+pub mod Checks
+pub mod Steps
