@@ -1,4 +1,5 @@
-//! Lists that become databases and catalogs, through ports in memory. What is expected was made by an independent program.
+//! Lists that become databases and catalogs, through ports in memory.
+//! What is expected was made by an independent program.
 
 ghost use Rattle.std.specs.Prelude.{None};
 ghost use Rattle.list_builds.specs.Order.{IsOrder};
@@ -57,8 +58,8 @@ fn order_of<'a>(values: Values, rows: Option<u32>, catalog: Option<&'a str>) -> 
     }
 }
 
-/// Ports whose Input holds a list and whose Coins holds the salt, with room for what is written. The call with the number
-/// `fail` fails.
+/// Ports whose Input holds a list and whose Coins holds the salt, with room for what is written.
+/// The call with the number `fail` fails.
 fn holding(alloc: Global, list: &[u8], fail: u8) -> Result<MemPorts, AllocError> {
     let mut ports = MemPorts::new(alloc, 1000, &[u64::from(fail)], 4, 40)?;
     ports.put(alloc, Port::Coins, COINS)?;
@@ -212,8 +213,8 @@ fn calls_that_fail_before_a_file_is_opened(rt: HostRuntime) -> Result<(), AllocE
     Ok(())
 }
 
-/// Why the keys aren't built where the call with the number `fail` fails, and how many bytes the database and the catalog
-/// have.
+/// Why the keys aren't built where the call with the number `fail` fails,
+/// and how many bytes the database and the catalog have.
 fn cut_at(alloc: Global, fail: u8) -> Result<(Option<BuildFault>, usize, usize), AllocError> {
     let mut ports = holding(alloc, KEYS, fail)?;
     let fault = build_list(alloc, &mut ports, &order_of(Values::Absent, None, None)).err();

@@ -11,8 +11,16 @@ use crate::writing::write_list;
 use port_trait::Ports;
 use std::alloc::Global;
 
-/// Builds a database of a list of keys, and its catalog. The first 16 bytes of Coins are the salt; Input is the list, which
-/// is read to its end; the table goes to Record, row after row; and the catalog goes to its file, behind the whole table.
+/// Builds a database of a list of keys, and its catalog.
+///
+/// The first 16 bytes of Coins are the salt; Input is the list, which is read to its end; the table goes to Record, row
+/// after row; and the catalog goes to its file, or to standard output, behind the whole table.
+///
+/// ```
+/// // Input holds "alpha\nbeta\n", and the order has digests of 16 bytes and no values.
+/// let built = build_list(alloc, ports, &order)?;
+/// println!(rt; "{} entries in {} rows of {} bytes", built.entries, built.rows, built.width)?; // 2 entries ..
+/// ```
 ///
 /// # Errors
 ///

@@ -52,7 +52,7 @@ pub enum BuildFault {
         second: u32,
     },
     /// So many rows make no database of the list. No file to write was opened.
-    #[error("{} rows of {} bytes, for {} entries in the fullest: at most 65536 bytes a row and 2^30 in all are allowed", .0.rows, .0.width, .0.entries)]
+    #[error("{} rows of {} bytes, the fullest of {} entries, are no database", .0.rows, .0.width, .0.entries)]
     Unshaped(ShapeFault),
     /// A call on the file of the database failed. The file of the catalog was not opened.
     #[error("a call on the database failed")]

@@ -73,8 +73,8 @@ impl Gathered {
     }
 }
 
-/// Gathers the list of Input, already open, which is read to its end: of each line the digest of its key, of `size` bytes
-/// under the salt, and its value.
+/// Gathers the list of Input, already open, which is read to its end.
+/// Of each line it keeps the digest of its key, of `size` bytes under the salt, and its value.
 ///
 /// # Errors
 ///

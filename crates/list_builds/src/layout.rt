@@ -30,7 +30,8 @@ impl Model for Laid {
 
     ghost view = { λ l. record { salt = l.salt; sorted = l.sorted; shape = l.shape } };
 
-    ghost invariant = { λ l. (l.tag ≡ tag_of l.salt l.sorted.most l.sorted.pairs) × HasShape l.sorted l.shape × (0 < length l.sorted.pairs) };
+    ghost invariant = { λ l. (l.tag ≡ tag_of l.salt l.sorted.most l.sorted.pairs) × HasShape l.sorted l.shape
+        × (0 < length l.sorted.pairs) };
 }
 
 impl Values {

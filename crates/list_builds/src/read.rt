@@ -14,8 +14,8 @@ use list_keys::{LinesFault, Terms};
 use port_trait::{Port, Ports};
 use std::alloc::Global;
 
-/// Opens Input by this name, and gathers its list: of each line the digest of its key, of `size` bytes under the salt, and
-/// its value.
+/// Opens Input by this name, and gathers its list.
+/// Of each line it keeps the digest of its key, of `size` bytes under the salt, and its value.
 ///
 /// # Errors
 ///

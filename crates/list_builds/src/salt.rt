@@ -12,8 +12,8 @@ use port_trait::{Filled, Port, Ports, read_exactly};
 ///
 /// # Errors
 ///
-/// `CoinsFault` only where a call on Coins failed, whose count rose; `CoinsEnded` exactly where there are fewer bytes, with
-/// their number.
+/// `CoinsFault` only where a call on Coins failed, whose count rose;
+/// `CoinsEnded` exactly where there are fewer bytes, with their number.
 pub(crate) fn take_salt<P: Ports>(ports: &mut P, name: &str) -> Result<[u8; SALT_SIZE], BuildFault>
     ensures takes { TakesSalt name.now result (P.world ports.old) (P.world ports.new) }
     ensures others { Touches COINS (P.world ports.old) (P.world ports.new) }

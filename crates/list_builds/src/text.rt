@@ -35,8 +35,10 @@ pub(crate) fn write_text<P: Ports>(
     text: &[u8],
 ) -> Result<(), Failed>
     requires { 0 < length text.now }
-    ensures writes { WritesText (option_map (λ n. n.now) name.entry) text.now result (P.world ports.old) (P.world ports.new) }
-    ensures others { Touches (catalog_port (option_map (λ n. n.now) name.entry)) (P.world ports.old) (P.world ports.new) }
+    ensures writes { WritesText (option_map (λ n. n.now) name.entry) text.now result
+        (P.world ports.old) (P.world ports.new) }
+    ensures others { Touches (catalog_port (option_map (λ n. n.now) name.entry))
+        (P.world ports.old) (P.world ports.new) }
 {
     match name {
         Some(name) => write_file(ports, name, text),

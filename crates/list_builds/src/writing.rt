@@ -67,7 +67,8 @@ pub(crate) fn write_list<P: Ports>(
 ) -> Result<(), BuildFault>
     ensures writes { WritesList database.now (option_map (λ name. name.now) catalog.entry) laid.now result
         (P.world ports.old) (P.world ports.new) }
-    ensures others { TouchesWritten (option_map (λ name. name.now) catalog.entry) (P.world ports.old) (P.world ports.new) }
+    ensures others { TouchesWritten (option_map (λ name. name.now) catalog.entry)
+        (P.world ports.old) (P.world ports.new) }
 {
     let hash = write_database(alloc, ports, database, laid)?;
     let text = laid.catalog_text(alloc, hash)?;
