@@ -17,3 +17,4 @@ pub mod Counting
 pub mod Shaping
 pub mod RowParts
 pub mod Hashing
+pub mod Numbered

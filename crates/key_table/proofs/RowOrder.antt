@@ -76,12 +76,14 @@ number_spelled : (bs : List ℕ) → 8 ≤ length bs → number_of bs ≡ spelle
 unfolding number_of
 number_spelled bs long = omega (arith, ap (spelled 8) (first_eight bs long))
 
--- a lesser digest has no later row
+-- a lesser digest has no greater number
+pub number_rises : (a b : List ℕ) → AreBytes a → 8 ≤ length a → 8 ≤ length b → slice_cmp nat_cmp a b ≡ Less → number_of a ≤ number_of b
+number_rises a b ha la lb lt = omega (arith, number_spelled a la, number_spelled b lb, spelled_rises 8 a b ha la lb lt)
+
+-- and no later row
 row_rises : (rows : ℕ) (a b : List ℕ) → AreBytes a → 8 ≤ length a → 8 ≤ length b → slice_cmp nat_cmp a b ≡ Less → row_of rows a ≤ row_of rows b
 row_rises rows a b ha la lb lt =
-    let numbers : number_of a ≤ number_of b =
-    omega (arith, number_spelled a la, number_spelled b lb, spelled_rises 8 a b ha la lb lt) in
-    let products : number_of a * rows ≤ number_of b * rows = mul-le-mul_right rows numbers in
+    let products : number_of a * rows ≤ number_of b * rows = mul-le-mul_right rows (number_rises a b ha la lb lt) in
     le-div (row_of rows a) (number_of b * rows) (2 ^ 64) (pow_pos 64) (le_trans (div-mul-le_self (number_of a * rows) (2 ^ 64)) products)
 
 -- a pair whose digest has a number

@@ -18,6 +18,7 @@ use Rattle.key_table.specs.Looked.{pair}
 use Rattle.key_table.specs.Places.{comes_before, digest_at, has_same_digest, pair_at}
 use Rattle.key_table.specs.Scan.{AreOrdered}
 use Rattle.key_table.specs.Sorting.{AreAscending}
+use Rattle.key_table.specs.declared.place.Place.{Place}
 use Rattle.key_table.specs.declared.TheConstants.{MOST_VALUE}
 use Rattle.key_table.proofs.EntryBytes.{entry-is}
 use Rattle.key_table.proofs.PlaceOrder.{not_below, tied_same}
@@ -161,7 +162,7 @@ module _ (list : List Pair) where
   }
 
   -- they ascend by their digests, and have the sizes of the list
-  pub kept_ascending : (size most : ℕ) (order places : List ℕ) → AreGathered (record { size = size; pairs = list }) order → AreOrdered list places
+  pub kept_ascending : (size most : ℕ) (order : List Place) (places : List ℕ) → AreGathered (record { size = size; pairs = list }) order → AreOrdered list places
       → length places ≡ length list → All (λ p. length p.value ≤ most) list → IsClear list → most ≤ MOST_VALUE
       → AreAscending (record { size = size; most = most; pairs = map (pair_at list) (kept places) })
   kept_ascending size most order places g o whole values clear few =

@@ -2,6 +2,8 @@
 use Rattle.std.specs.Prelude.{◌≡◌, ℕ, ◌+◌, ◌-◌, ◌<◌, ◌≤◌, List, length, map, take, drop, slice_index_or, All}
 use Rattle.std.specs.List.{range_with_len}
 use Rattle.key_table.specs.Entry.{Pair, AreBytes}
+use Rattle.key_table.specs.Numbered.{AreNumbered, bare}
+use Rattle.key_table.specs.declared.place.Place.{Place}
 use Rattle.key_table.specs.declared.TheConstants.{LEAST_DIGEST, MOST_DIGEST, MOST_PAIRS}
 
 -- a list, and how many bytes its digests have
@@ -33,11 +35,12 @@ pub record AreStarts (size : ℕ) (bytes starts : List ℕ) : Type 0 where
   pub within : (place : ℕ) → start_of bytes starts place ≤ length bytes
 
 -- each pair that was gathered has a digest of the size, which is one of bytes, there are no more than may be, and each has
--- its place
-pub record AreGathered (held : Held) (order : List ℕ) : Type 0 where
+-- its place with the number of its digest
+pub record AreGathered (held : Held) (order : List Place) : Type 0 where
   pub least : LEAST_DIGEST ≤ held.size
   pub most : held.size ≤ MOST_DIGEST
   pub sizes : All (λ p. length p.digest ≡ held.size) held.pairs
   pub bytes : All (λ p. AreBytes p.digest) held.pairs
   pub few : length held.pairs ≤ MOST_PAIRS
-  pub places : order ≡ range_with_len 0 (length held.pairs)
+  pub places : bare order ≡ range_with_len 0 (length held.pairs)
+  pub numbers : AreNumbered held.pairs order

@@ -11,3 +11,4 @@ pub mod Sorting
 pub mod Counting
 pub mod Shapes
 pub mod Rows
+pub mod Numbered

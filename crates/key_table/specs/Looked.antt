@@ -35,6 +35,10 @@ IsNoRow m j row = (pairs : List Pair) → IsRowOf m j row pairs → ⊥
 abbrev pub HasEntries : Making → ℕ → List ℕ → List ℕ → Type 0
 HasEntries m j row entries = (pairs : List Pair) × IsRowOf m j row pairs × (entries ≡ flat_map (entry m.most) pairs)
 
+-- the entries of row j of such a table, or that the bytes are no such row
+abbrev pub FindsEntries : Making → ℕ → List ℕ → Option (Bor (List ℕ)) → Type 0
+FindsEntries m j row entries = MatchOption entries (IsNoRow m j row) (λ x. HasEntries m j row x.now)
+
 -- how many entries row j of such a table has, or that the bytes are no such row
 abbrev pub JudgesRow : Making → ℕ → List ℕ → Option ℕ → Type 0
 JudgesRow m j row None = IsNoRow m j row

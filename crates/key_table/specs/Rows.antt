@@ -16,6 +16,10 @@ pub record Rows : Type 0 where
   pub width : ℕ
   pub next : ℕ
 
+-- these rows
+abbrev pub rows_at : Sorted → List ℕ → ℕ → ℕ → ℕ → Rows
+rows_at sorted tag rows width next = record { sorted = sorted; tag = tag; rows = rows; width = width; next = next }
+
 -- the pairs before a place have the rows before j, and the others rows from j on
 pub record StartsAt (rows j : ℕ) (pairs : List Pair) (place : ℕ) : Type 0 where
   pub within : place ≤ length pairs

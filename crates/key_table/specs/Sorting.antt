@@ -4,7 +4,9 @@ use Rattle.key_table.specs.Entry.{Pair, AreBytes, HasSizes}
 use Rattle.key_table.specs.Held.{Held}
 use Rattle.key_table.specs.KeyList.{AreSorted, Ascend, IsClear}
 use Rattle.key_table.specs.Looked.{pair}
-use Rattle.key_table.specs.Places.{IsClash}
+use Rattle.key_table.specs.Numbered.{AreNumbered, bare}
+use Rattle.key_table.specs.Places.{IsClash, pair_at}
+use Rattle.key_table.specs.declared.place.Place.{Place}
 use Rattle.key_table.specs.declared.TheConstants.{LEAST_DIGEST, MOST_DIGEST, MOST_PAIRS, MOST_VALUE}
 use Rattle.key_table.specs.declared.entries.AddFault.{AddFault}
 use Rattle.key_table.specs.declared.entries.AddFault.TheVariants.{TooMany, Memory}
@@ -25,6 +27,15 @@ pub record AreAscending (sorted : Sorted) : Type 0 where
   pub sizes : All (HasSizes sorted.size sorted.most) sorted.pairs
   pub bytes : All (λ p. AreBytes p.digest) sorted.pairs
   pub ascend : Ascend (map (λ p. p.digest) sorted.pairs)
+
+-- the pairs at the places of a list that are kept, with values of at most so many bytes
+abbrev pub kept : Held → ℕ → List Place → Sorted
+kept held most places = record { size = held.size; most = most; pairs = map (pair_at held.pairs) (bare places) }
+
+-- they ascend, and each place has the number of its digest
+pub record AreKept (held : Held) (most : ℕ) (places : List Place) : Type 0 where
+  pub ascend : AreAscending (kept held most places)
+  pub numbers : AreNumbered held.pairs places
 
 -- one more pair stands behind the others; where there are too many, or no memory, nothing changed
 abbrev pub Adds : Held → List ℕ → List ℕ → Result (Unit {0}) AddFault → Held → Type 0

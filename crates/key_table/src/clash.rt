@@ -2,12 +2,14 @@
 
 ghost use Rattle.std.specs.Prelude.{◌≤◌, length, MatchOption};
 ghost use Rattle.key_table.specs.KeyList.{IsClear};
+ghost use Rattle.key_table.specs.Numbered.{bare};
 ghost use Rattle.key_table.specs.Places.{IsClash};
 ghost use Rattle.key_table.specs.Scan.{AreOrdered, LooksAt};
 ghost use Rattle.key_table.specs.declared.TheConstants.{MOST_PAIRS};
 
 use crate::MOST_PAIRS;
 use crate::pairs::Pairs;
+use crate::place::{Place, place_at};
 
 /// Two places of a list that have one digest with two values.
 #[derive(Clone, Copy, Debug, PartialEq, Eq)]
@@ -54,9 +56,9 @@ fn scan_place(pairs: &Pairs, scan: Scan, place: u32) -> Scan
 }
 
 /// The clash of the list, by its places in the order of their digests.
-pub(crate) fn clash_among(pairs: &Pairs, places: &[u32]) -> Option<Clash>
+pub(crate) fn clash_among(pairs: &Pairs, places: &[Place]) -> Option<Clash>
     requires few { length pairs.now.pairs ≤ MOST_PAIRS }
-    requires ordered { AreOrdered pairs.now.pairs places.now }
+    requires ordered { AreOrdered pairs.now.pairs (bare places.now) }
     ensures { MatchOption result (IsClear pairs.now.pairs) (λ clash. IsClash pairs.now.pairs clash.first clash.place) }
 {
     let count = pairs.len() as u32;
@@ -64,12 +66,12 @@ pub(crate) fn clash_among(pairs: &Pairs, places: &[u32]) -> Option<Clash>
         return None;
     }
     let mut scan = Scan {
-        first: places[0],
+        first: place_at(places, 0),
         least: count,
         least_first: count,
     };
     for i in 1..places.len() {
-        scan = scan_place(pairs, scan, places[i]);
+        scan = scan_place(pairs, scan, place_at(places, i));
     }
     if scan.least >= count {
         return None;

@@ -1,6 +1,6 @@
 //! The digest of a key, and its row.
 
-ghost use Rattle.std.specs.Prelude.{◌≡◌, ◌≤◌, ◌<◌, length};
+ghost use Rattle.std.specs.Prelude.{◌≡◌, ◌≤◌, ◌<◌, ◌*◌, ◌/◌, ◌^◌, length};
 ghost use Rattle.key_table.specs.Digest.{digest_of, number_of, row_of};
 
 use crate::{LEAST_DIGEST, MOST_DIGEST};
@@ -19,7 +19,7 @@ pub fn write_digest(salt: &[u8; 16], key: &[u8], out: &mut [u8])
 }
 
 /// The number that the first eight bytes spell, highest first.
-fn number_of(digest: &[u8]) -> u64
+pub(crate) fn number_of(digest: &[u8]) -> u64
     requires { LEAST_DIGEST ≤ length digest.now }
     ensures { result ≡ number_of digest.now }
 {
@@ -28,11 +28,19 @@ fn number_of(digest: &[u8]) -> u64
     ])
 }
 
+/// The row of a digest with this number among so many rows.
+pub(crate) fn row_of_number(rows: u32, number: u64) -> u32
+    ensures row { result ≡ number * rows / 2 ^ 64 }
+    ensures within { 1 ≤ rows → result < rows }
+{
+    (u128::from(number) * u128::from(rows) / (1 << 64)) as u32
+}
+
 /// The row of a digest among so many rows.
 pub fn row_of(rows: u32, digest: &[u8]) -> u32
     requires size { LEAST_DIGEST ≤ length digest.now }
     ensures row { result ≡ row_of rows digest.now }
     ensures within { 1 ≤ rows → result < rows }
 {
-    (u128::from(number_of(digest)) * u128::from(rows) / (1 << 64)) as u32
+    row_of_number(rows, number_of(digest))
 }

@@ -1,19 +1,21 @@
 //! A list as it is gathered, and its entries as they ascend.
 
-ghost use Rattle.std.specs.Prelude.{◌≡◌, ◌≤◌, ◌<◌, ◌+◌, ℕ, length, slice_index, [], All};
+ghost use Rattle.std.specs.Prelude.{◌≡◌, ◌≤◌, ◌<◌, ◌+◌, length, [], All};
 ghost use Rattle.std.specs.List.{dedup};
 ghost use Rattle.std.specs.List.Sorted.{IsPermutation, IsSortedBy};
 ghost use Rattle.key_table.specs.Counting.{row_at};
 ghost use Rattle.key_table.specs.Entry.{entry_size};
 ghost use Rattle.key_table.specs.Sorting.{Adds, AreAscending, Sorts};
-ghost use Rattle.key_table.specs.Places.{comes_before, digest_at, has_same_digest, value_at};
+ghost use Rattle.key_table.specs.Numbered.{comes_numbered, same_numbered};
+ghost use Rattle.key_table.specs.Places.{digest_at, value_at};
 ghost use Rattle.key_table.specs.declared.TheConstants.{LEAST_DIGEST, MOST_DIGEST, MOST_VALUE, MOST_PAIRS};
 
 use crate::MOST_PAIRS;
 use crate::clash::{Clash, clash_among};
-use crate::digest::row_of;
+use crate::digest::{number_of, row_of_number};
 use crate::entry::entry_size;
 use crate::pairs::Pairs;
+use crate::place::{Place, compare, number_at, place_at};
 use std::alloc::Global;
 use std::marker::Model;
 
@@ -30,7 +32,7 @@ pub enum AddFault {
 #[derive(Drop)]
 pub struct Entries {
     pairs: Pairs,
-    places: Vec<u32>,
+    places: Vec<Place>,
 }
 
 impl Model for Entries {
@@ -47,43 +49,34 @@ impl Model for Entries {
 #[derive(Drop)]
 pub struct SortedEntries {
     pairs: Pairs,
-    places: Vec<u32>,
+    places: Vec<Place>,
     most: usize,
 }
 
 impl Model for SortedEntries {
-    ghost use Rattle.std.specs.Prelude.{◌≡◌, ◌<◌, length, map, All};
-    ghost use Rattle.key_table.specs.Places.{pair_at};
-    ghost use Rattle.key_table.specs.Sorting.{AreAscending, Sorted};
+    ghost use Rattle.key_table.specs.Sorting.{AreKept, Sorted, kept};
 
     ghost Value = { Sorted };
 
-    ghost view = { λ s. record { size = s.pairs.size; most = s.most; pairs = map (pair_at s.pairs.pairs) s.places.items } };
+    ghost view = { λ s. kept s.pairs s.most s.places.items };
 
-    ghost invariant = { λ s. AreAscending (record { size = s.pairs.size; most = s.most; pairs = map (pair_at s.pairs.pairs) s.places.items }) };
+    ghost invariant = { λ s. AreKept s.pairs s.most s.places.items };
 }
 
-/// Sorts places by their digests, and those of one digest as they were given.
-fn sort_places(pairs: &Pairs, places: &mut Vec<u32>)
+/// Sorts places by their digests, and those of one digest as they were given. Where two numbers differ the digests, which
+/// lie elsewhere in memory, aren't looked at.
+fn sort_places(pairs: &Pairs, places: &mut Vec<Place>)
     ensures moved { IsPermutation places.old.items places.new.items }
-    ensures sorted { IsSortedBy (comes_before pairs.now.pairs) places.new.items }
+    ensures sorted { IsSortedBy (comes_numbered pairs.now.pairs) places.new.items }
 {
-    places.sort_unstable_by(|one, other| pairs.compare(*one, *other));
-}
-
-/// The place of an entry.
-fn place_at(places: &[u32], entry: usize) -> u32
-    requires { entry < length places.now }
-    ensures { result ≡ slice_index places.now entry }
-{
-    places[entry]
+    places.sort_unstable_by(|one, other| compare(pairs, *one, *other));
 }
 
 /// Of the places that have one digest and stand side by side, the first is kept.
-fn keep_firsts(pairs: &Pairs, places: &mut Vec<u32>)
-    ensures { places.new.items ≡ dedup (has_same_digest pairs.now.pairs) places.old.items }
+fn keep_firsts(pairs: &Pairs, places: &mut Vec<Place>)
+    ensures { places.new.items ≡ dedup (same_numbered pairs.now.pairs) places.old.items }
 {
-    places.dedup_by(|one, other| pairs.has_same_digest(*one, *other));
+    places.dedup_by(|one, other| pairs.has_same_digest(one.place, other.place));
 }
 
 impl Entries {
@@ -110,15 +103,19 @@ impl Entries {
         requires value { length value.now ≤ MOST_VALUE }
         ensures { Adds self.old digest.now value.now result self.new }
     {
-        let place = self.pairs.len();
-        if place == MOST_PAIRS {
+        let count = self.pairs.len();
+        if count == MOST_PAIRS {
             return Err(AddFault::TooMany);
         }
-        if self.places.push(place as u32).is_err() {
+        let place = Place {
+            number: number_of(digest),
+            place: count as u32,
+        };
+        if self.places.push(place).is_err() {
             return Err(AddFault::Memory);
         }
         if self.pairs.add(digest, value).is_err() {
-            self.places.truncate(place);
+            self.places.truncate(count);
             return Err(AddFault::Memory);
         }
         Ok(())
@@ -197,7 +194,7 @@ impl SortedEntries {
         ensures row { result ≡ row_at rows self.now.pairs entry }
         ensures within { 1 ≤ rows → result < rows }
     {
-        row_of(rows, self.digest(entry))
+        row_of_number(rows, number_at(self.places.as_slice(), entry))
     }
 
     /// The value of an entry.

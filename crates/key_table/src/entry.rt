@@ -1,6 +1,6 @@
 //! The bytes of an entry: a digest, and the value that stands with it.
 
-ghost use Rattle.std.specs.Prelude.{◌≡◌, ◌≤◌, ◌==◌, ◌≢◌, ℕ, length, List, MatchOption, replicate, All, true, false};
+ghost use Rattle.std.specs.Prelude.{◌≡◌, ◌≤◌, ◌==◌, ◌≢◌, ℕ, length, List, MatchOption, All, true, false};
 ghost use Rattle.std.specs.List.{list_all};
 ghost use Rattle.key_table.specs.Entry.{IsValue, entry_size, newline, value_bytes, value_size};
 

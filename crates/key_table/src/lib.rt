@@ -6,7 +6,8 @@
 //! Promised: [`find_in_row`] says of any bytes whether they are that row of some table, and if so whether the digest is
 //! in it, and its value. In the row of a list's table that is what the list has for the digest ([`laws`]).
 //! [`Entries`] gathers the pairs of a list and sorts them, or says where the list has a digest with two values.
-//! [`write_entry`], [`tag_of`] and [`write_row`] write the parts of a table, in memory that is there.
+//! [`SortedEntries`] says which number of rows is best, or which limit every one passes, and [`TableRows`] writes the
+//! rows of the table one after the other, in the memory of one row. [`entries_in_row`] judges a row without a digest.
 //!
 //! Not promised: that no two keys have one digest.
 #![tactic(auto)]
@@ -17,6 +18,7 @@ mod entries;
 mod entry;
 pub mod laws;
 mod pairs;
+mod place;
 mod row;
 mod rows;
 mod shape;
@@ -34,8 +36,6 @@ pub use entry::entry_size;
 pub use row::{Finding, entries_in_row, find_in_row};
 pub use rows::TableRows;
 pub use shape::{Shape, ShapeFault, ShapeLimit};
-pub use tag::tag_of;
-pub use write::{write_entry, write_row};
 
 /// The least number of bytes of a digest: so many say its row.
 pub const LEAST_DIGEST: usize = 8;

@@ -1,14 +1,14 @@
 //! Looking for a digest in a row.
 
-ghost use Rattle.std.specs.Prelude.{◌≡◌, ◌≤◌, ◌<◌, ◌+◌, ◌*◌, ℕ, List, length, map, MatchOption, All, Contains, true, false};
+ghost use Rattle.std.specs.Prelude.{◌≡◌, ◌≤◌, ◌<◌, ◌*◌, List, length, MatchOption, All, true, false};
 ghost use Rattle.std.specs.List.{flat_map};
-ghost use Rattle.quantity_limits.specs.declared.TheConstants.{MOST_ROWS, MOST_WIDTH};
+ghost use Rattle.quantity_limits.specs.declared.TheConstants.{MOST_WIDTH};
 ghost use Rattle.key_table.specs.Entry.{IsPair, Pair, entry, entry_size};
 ghost use Rattle.std.specs.Cmp.Lexicographic.{slice_cmp};
 ghost use Rattle.std.specs.Ordering.{nat_cmp};
 ghost use Rattle.std.specs.declared.cmp.Ordering.TheVariants.{Less};
 ghost use Rattle.key_table.specs.Table.{AreEntries, Follows, HasFrame, LacksFrame};
-ghost use Rattle.key_table.specs.Looked.{HasEntries, IsNoRow, JudgesRow, LooksUp, ValueFor, making};
+ghost use Rattle.key_table.specs.Looked.{FindsEntries, JudgesRow, LooksUp, ValueFor, making};
 
 use crate::digest::row_of;
 use crate::entry::{are_zeros, entry_size, value_in};
@@ -96,8 +96,7 @@ fn judged_entries<'a>(
     requires least { LEAST_DIGEST ≤ size }
     requires size { size ≤ MOST_DIGEST }
     requires most { most ≤ MOST_VALUE }
-    ensures { MatchOption result (IsNoRow (making tag.now size most rows) j row.now)
-        (λ x. HasEntries (making tag.now size most rows) j row.now x.now) }
+    ensures { FindsEntries (making tag.now size most rows) j row.now result }
 {
     match entries_of(row, tag, entry_size(size, most)) {
         Some(entries) => {

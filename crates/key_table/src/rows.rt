@@ -4,7 +4,7 @@ ghost use Rattle.std.specs.Prelude.{◌≡◌, ◌≤◌, ◌<◌, ◌+◌, ◌-
 ghost use Rattle.std.specs.List.{flat_map};
 ghost use Rattle.quantity_limits.specs.declared.TheConstants.{MOST_WIDTH};
 ghost use Rattle.key_table.specs.Entry.{entry, entry_size};
-ghost use Rattle.key_table.specs.Rows.{StartsAt, row_bytes};
+ghost use Rattle.key_table.specs.Rows.{StartsAt, row_bytes, rows_at};
 ghost use Rattle.key_table.specs.Table.{head_size, table_row};
 ghost use Rattle.key_table.specs.Width.{width_of};
 
@@ -34,13 +34,13 @@ pub struct TableRows<'a> {
 }
 
 impl<'a> Model for TableRows<'a> {
-    ghost use Rattle.key_table.specs.Rows.{AreAt, Rows};
+    ghost use Rattle.key_table.specs.Rows.{AreAt, Rows, rows_at};
 
     ghost Value = { Rows };
 
-    ghost view = { λ t. record { sorted = t.entries.now; tag = t.tag; rows = t.rows; width = t.width; next = t.next } };
+    ghost view = { λ t. rows_at t.entries.now t.tag t.rows t.width t.next };
 
-    ghost invariant = { λ t. AreAt (record { sorted = t.entries.now; tag = t.tag; rows = t.rows; width = t.width; next = t.next }) t.place };
+    ghost invariant = { λ t. AreAt (rows_at t.entries.now t.tag t.rows t.width t.next) t.place };
 }
 
 /// Where row `j` ends, which begins at an entry. As the rows of entries never fall, its entries stand side by side.
@@ -103,7 +103,7 @@ impl<'a> TableRows<'a> {
     pub fn new(entries: &'a SortedEntries, rows: u32, width: u32, tag: [u8; 8]) -> TableRows<'a>
         requires room { width_of entries.now.size entries.now.most rows entries.now.pairs ≤ width }
         requires few { width ≤ MOST_WIDTH }
-        ensures { result ≡ record { sorted = entries.entry.now; tag = tag; rows = rows; width = width; next = 0 } }
+        ensures { result ≡ rows_at entries.entry.now tag rows width 0 }
     {
         TableRows {
             entries,

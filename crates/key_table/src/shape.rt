@@ -1,16 +1,15 @@
 //! How many rows the table of a list has, and how many bytes each of them.
 
-ghost use Rattle.std.specs.Prelude.{◌≡◌, ◌==◌, ◌≤◌, ◌<◌, ◌+◌, ◌*◌, ◌^◌, if◌then◌else◌};
-ghost use Rattle.key_table.specs.Counting.{AreCounted, CountsOne};
+ghost use Rattle.std.specs.Prelude.{◌≡◌, ◌==◌, ◌≤◌, ◌<◌, ◌+◌, ◌*◌, if◌then◌else◌};
+ghost use Rattle.key_table.specs.Counting.{CountsOne};
 ghost use Rattle.key_table.specs.Entry.{entry_size};
 ghost use Rattle.key_table.specs.Shapes.{BestOf, Judges, ShapesBest, ShapesOf, lesser};
 ghost use Rattle.key_table.specs.Table.{head_size};
 ghost use Rattle.key_table.specs.Width.{fullest, width_of};
 
+use crate::MOST_PAIRS;
 use crate::entries::SortedEntries;
-use crate::entry::entry_size;
 use crate::row::HEAD_SIZE;
-use crate::{MOST_DIGEST, MOST_PAIRS, MOST_VALUE};
 use quantity_limits::{MOST_CELLS, MOST_ROWS, MOST_WIDTH};
 
 /// How many rows a table has, and how many bytes each of them.

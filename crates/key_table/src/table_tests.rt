@@ -1,7 +1,6 @@
 //! Worked tables, made by an independent program: the shape, the tag and each row. The salt is the bytes 0 to 15.
 
 ghost use Rattle.std.specs.Prelude.{◌≡◌, ◌≤◌, ◌<◌, ◌+◌, length, All, IfOk};
-ghost use Rattle.key_table.specs.Shapes.{HasShape};
 
 use crate::{
     AddFault, Entries, Shape, ShapeFault, ShapeLimit, SortedEntries, TableRows, entries_in_row,

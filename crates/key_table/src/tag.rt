@@ -1,8 +1,7 @@
 //! The tag of a list, by its entries as they ascend.
 
-ghost use Rattle.std.specs.Prelude.{◌≡◌, ◌≤◌, ◌+◌, ◌++◌, ℕ, List, replicate, take, length};
+ghost use Rattle.std.specs.Prelude.{◌≡◌, ◌≤◌, ◌++◌, ℕ, List, replicate, take, length};
 ghost use Rattle.sha2.specs.Hashers.{Holds256};
-ghost use Rattle.sha2.specs.Sha256.{sha256};
 ghost use Rattle.key_table.specs.Entry.{entry, value_bytes};
 ghost use Rattle.key_table.specs.KeyList.{tag_of};
 ghost use Rattle.key_table.specs.Looked.{pair};
@@ -58,16 +57,6 @@ fn first_eight(whole: [u8; 32]) -> [u8; 8]
     let mut first = [0u8; 8];
     first.copy_from_slice(&whole[..8]);
     first
-}
-
-/// The tag of a list whose entries, as they ascend, stand one behind another.
-pub fn tag_of(salt: &[u8; 16], entries: &[u8]) -> [u8; 8]
-    ensures { result ≡ take 8 (sha256 (salt.now ++ entries.now)) }
-{
-    let mut hasher = Sha256::new();
-    hasher.update(salt.as_slice());
-    hasher.update(entries);
-    first_eight(hasher.finalize())
 }
 
 impl SortedEntries {

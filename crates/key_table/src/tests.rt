@@ -2,10 +2,7 @@
 
 ghost use Rattle.std.specs.Prelude.{◌<◌};
 
-use crate::{
-    AddFault, Clash, Entries, Finding, find_in_row, row_of, tag_of, write_digest, write_entry,
-    write_row,
-};
+use crate::{AddFault, Clash, Entries, Finding, find_in_row, row_of, write_digest};
 use std::alloc::Global;
 
 const SALT: [u8; 16] = [0, 1, 2, 3, 4, 5, 6, 7, 8, 9, 10, 11, 12, 13, 14, 15];
@@ -114,24 +111,6 @@ fn changed_rows_are_broken(rt: HostRuntime) {
     exchanged[10..25].copy_from_slice(&ROW[25..40]);
     exchanged[25..40].copy_from_slice(&ROW[10..25]);
     assert!(rt; found(&exchanged, b"alpha") == Finding::Broken);
-}
-
-/// Whether the worked tag and row are what is written of the entries.
-fn are_written() -> bool {
-    let mut entries = [0u8; 45];
-    let (beta, others) = entries.split_at_mut(15);
-    let (alpha, gamma) = others.split_at_mut(15);
-    write_entry(&ROW_0[10..18], b"", 5, beta);
-    write_entry(&ROW[10..18], b"one", 5, alpha);
-    write_entry(&ROW[25..33], b"three", 5, gamma);
-    let mut row = [1u8; 40];
-    write_row(&TAG, 2, &entries[15..], &mut row);
-    tag_of(&SALT, &entries) == TAG && row == ROW
-}
-
-#[test]
-fn a_row_is_written_as_it_is_read(rt: HostRuntime) {
-    assert!(rt; are_written());
 }
 
 /// The clash of a list of `beta` without a value and `alpha` with two values.

@@ -1,8 +1,7 @@
-//! Writing entries and rows, in memory that is there.
+//! Writing entries, in memory that is there.
 
-ghost use Rattle.std.specs.Prelude.{◌≡◌, ◌≤◌, ◌+◌, ◌-◌, ◌++◌, length, replicate};
+ghost use Rattle.std.specs.Prelude.{◌≡◌, ◌≤◌, ◌-◌, ◌++◌, length, replicate};
 ghost use Rattle.key_table.specs.Entry.{entry, entry_size, value_bytes, value_size};
-ghost use Rattle.key_table.specs.Table.{framed, head_size};
 
 use crate::MOST_VALUE;
 
@@ -40,7 +39,7 @@ fn write_value(value: &[u8], most: usize, out: &mut [u8])
 }
 
 /// Writes the entry of a digest and its value, in a list whose values have at most `most` bytes.
-pub fn write_entry(digest: &[u8], value: &[u8], most: usize, out: &mut [u8])
+pub(crate) fn write_entry(digest: &[u8], value: &[u8], most: usize, out: &mut [u8])
     requires most { most ≤ MOST_VALUE }
     requires value { length value.now ≤ most }
     requires room { length out.old ≡ entry_size (length digest.now) most }
@@ -49,16 +48,4 @@ pub fn write_entry(digest: &[u8], value: &[u8], most: usize, out: &mut [u8])
     let (front, behind) = out.split_at_mut(digest.len());
     front.copy_from_slice(digest);
     write_value(value, most, behind);
-}
-
-/// Writes a row of a table: the tag, how many entries there are, the entries, which stand one behind another, and zeros.
-pub fn write_row(tag: &[u8; 8], count: u16, entries: &[u8], out: &mut [u8])
-    requires room { head_size + length entries.now ≤ length out.old }
-    ensures { out.new ≡ framed (length out.old) tag.now count entries.now }
-{
-    let (front, behind) = out.split_at_mut(8);
-    front.copy_from_slice(tag.as_slice());
-    let (middle, rest) = behind.split_at_mut(2);
-    middle.copy_from_slice(&count.to_be_bytes());
-    write_padded(entries, rest);
 }
