@@ -2,5 +2,6 @@ pub mod Puts
 pub mod Lookups
 pub mod Servings
 pub mod Saying
+pub mod Faithful
 pub mod Lines
 pub mod ReadBack

@@ -55,7 +55,7 @@ step : (m : Member) (d : Data) (v : List ℕ) (es : List Expression) (started : 
     → (rest : List ℕ) × (text ≡ line m v ++ rest) × IsLinesText false true es rest
 step m d v es started text has (this, rest, whole, (value, in_line, is_value), more) =
     let named : this ≡ line m v = in_line ∙ ap (λ k. k ++ (codes " = " ++ (value ++ codes "\n"))) (key_text-name_of m)
-      ∙ ap (λ t. name_of m ++ (codes " = " ++ (t ++ codes "\n"))) (has value is_value) in
+    ∙ ap (λ t. name_of m ++ (codes " = " ++ (t ++ codes "\n"))) (has value is_value) in
     (rest, whole ∙ ap (λ t. t ++ rest) named, more)
 
 -- a number's text, and that of a text
@@ -151,21 +151,34 @@ servers_text-lines : (o : Option Serving) (text : List ℕ) → IsLinesText fals
 servers_text-lines None text h = h
 servers_text-lines (Some s) text (this, rest, whole, head, more) =
     let (none, behind, end) = rows_text (first_server_row s) (server_rows s) [] true rest
-        (bracketed-items_of s.addresses, (of_number s.agree, (of_number s.degree, tt))) more in
+    (bracketed-items_of s.addresses, (of_number s.agree, (of_number s.degree, tt))) more in
     let headed : this ≡ codes "\n[servers]\n" = head ∙ ap (λ k. codes "\n[" ++ (k ++ codes "]\n")) (key_text-name_of Servers) in
     let ended : text_before (first_server_row s ∷ server_rows s) none
-        ≡ line Addresses (bracketed s.addresses) ++ (line Agree (decimal s.agree) ++ line Degree (decimal s.degree)) =
-        ap (λ t. line Addresses (bracketed s.addresses) ++ (line Agree (decimal s.agree) ++ (line Degree (decimal s.degree) ++ t))) end
-        ∙ ap (λ t. line Addresses (bracketed s.addresses) ++ (line Agree (decimal s.agree) ++ t)) (append-nil (line Degree (decimal s.degree))) in
+    ≡ line Addresses (bracketed s.addresses) ++ (line Agree (decimal s.agree) ++ line Degree (decimal s.degree)) =
+    ap (λ t. line Addresses (bracketed s.addresses) ++ (line Agree (decimal s.agree) ++ (line Degree (decimal s.degree) ++ t))) end
+    ∙ ap (λ t. line Addresses (bracketed s.addresses) ++ (line Agree (decimal s.agree) ++ t)) (append-nil (line Degree (decimal s.degree))) in
     whole ∙ ap₂ (λ a b. a ++ b) headed (behind ∙ ended)
 
 -- the text of a catalog's lines
 text-lines : (f : Facts) (text : List ℕ) → IsLinesText false false (lines_of f) text → text ≡ catalog_text f
 unfolding catalog_text
 text-lines f text h =
-    let (rest, whole, more) = rows_text (number_row Digest f.digest) (more_rows f) (servers_lines f.servers) false text
-        (of_number f.digest, (of_number f.entries, (of_number FORMAT, (of_text (encode_lower f.tag), (of_number f.rows,
-        (of_text (encode_lower f.salt), (of_text (encode_lower f.sha256), (of_number f.value, (of_number f.width, tt))))))))) h in
+    let (rest, whole, more) = rows_text (number_row Digest f.digest) (more_rows f) (servers_lines f.servers) false text (
+      of_number f.digest,
+      (
+        of_number f.entries,
+        (
+          of_number FORMAT,
+          (
+            of_text (encode_lower f.tag),
+            (
+              of_number f.rows,
+              (of_text (encode_lower f.salt), (of_text (encode_lower f.sha256), (of_number f.value, (of_number f.width, tt)))),
+            ),
+          ),
+        ),
+      ),
+    ) h in
     whole ∙ ap (text_before (number_row Digest f.digest ∷ more_rows f)) (servers_text-lines f.servers rest more)
 
 -- the text of a catalog's document is the catalog's text

@@ -2,7 +2,7 @@
 use Rattle.std.proofs.Common.{◌≡◌, ◌≢◌, ℕ, ℤ, pos, negsuc, zero, suc, ◌+◌, ◌*◌, ◌/◌, ◌<◌, ◌≤◌, ◌==◌, ◌&&◌, ◌||◌, not, nat_le, leb, le-leb, List, [], ◌∷◌, length, Bool, true, false, cond, Option, Some, None, option_map, Result, Ok, Err, inl, inr, refl, sym, ap, ap₂, subst, ◌∙◌, arith}
 use Rattle.std.specs.Prelude.{nat_lt, All}
 use Rattle.std.specs.List.{find, position_from}
-use Rattle.std.proofs.lemmas.Bool.{and_parts, cases_Bool, le-ltb, leb-true, ltb-false}
+use Rattle.std.proofs.lemmas.Bool.{and_parts, cases_Bool, le-ltb, leb-false, leb-true, ltb-false}
 use Rattle.std.proofs.lemmas.Bool.Decides.{nat_tests}
 use Rattle.std.proofs.lemmas.Option.{same_Some}
 use Rattle.std.proofs.lemmas.List.Elements.{All-head, All-tail, All-nil, All-cons}
@@ -13,6 +13,7 @@ use Rattle.quantity_limits.specs.declared.TheConstants.{LEAST_SERVERS, MOST_SERV
 use Rattle.key_table.specs.declared.TheConstants.{LEAST_DIGEST, MOST_DIGEST, MOST_VALUE, MOST_PAIRS}
 use Rattle.list_catalog.specs.declared.TheConstants.{FORMAT}
 use Rattle.list_catalog.specs.declared.fault.MemberFault.{MemberFault}
+use Rattle.list_catalog.specs.declared.fault.ServersFault.{ServersFault}
 use Rattle.list_catalog.specs.declared.member.Member.{Member}
 use Rattle.list_catalog.specs.declared.member.Member.TheVariants.{Digest, Entries, Format, List as ListTag, Rows, Salt, Servers, Sha256, Value, Width, Addresses, Agree, Degree}
 use Rattle.list_catalog.specs.declared.member.TheConstants.{ROOT, OF_SERVERS}
@@ -23,6 +24,7 @@ use Rattle.list_catalog.specs.Facts.{AreSizes, Facts, least_width, room_of}
 use Rattle.list_catalog.specs.Documents.{addresses_among, addresses_in, all_texts, catalog_in, decoded, digits_among, digits_in, fitting, is_known, names, no_stranger, number_among, number_in, number_or, of_servers, ranged, servers_among, servers_in, servers_of, some_servers, stranger, texts}
 use Rattle.list_catalog.specs.Said.{HasDigits, HasNumber, HasOnly, HasServers, HasServing, SaysCatalog}
 use Rattle.list_catalog.specs.Writing.{items_of}
+use Rattle.list_catalog.proofs.Servings.{all_named}
 
 -- ---- what a document says is read
 
@@ -61,7 +63,11 @@ digits_in-at ms m size bytes has = ap (digits_among m size) has.has ∙ ap (deco
 fitting-sizes : (digest entries rows value width : ℕ) → AreSizes digest entries rows value width → fitting digest entries rows value width ≡ Ok tt
 unfolding fitting
 fitting-sizes digest entries rows value width are =
-    rw (le-ltb width (least_width digest value) are.wide, le-ltb MOST_CELLS (rows * width) are.shape.few_cells, le-ltb (room_of digest rows value width) entries are.roomy)
+    rw (
+      le-ltb width (least_width digest value) are.wide,
+      le-ltb MOST_CELLS (rows * width) are.shape.few_cells,
+      le-ltb (room_of digest rows value width) entries are.roomy,
+    )
 
 -- the texts of a list of texts
 texts-items_of : (xs : List (List ℕ)) → texts (items_of xs) ≡ Some xs
@@ -236,10 +242,212 @@ fitting-read digest entries rows value width u h =
                 elim (cases_Bool (nat_lt (room_of digest rows value width) entries)) [
                   | inl many ↦ let no : Err _ ≡ Ok u = rw many at h2 in cc
                   | inr few ↦ (
-                      ltb-false width (least_width digest value) wide,
-                      ltb-false MOST_CELLS (rows * width) small,
-                      ltb-false (room_of digest rows value width) entries few,
-                    )
+                    ltb-false width (least_width digest value) wide,
+                    ltb-false MOST_CELLS (rows * width) small,
+                    ltb-false (room_of digest rows value width) entries few,
+                  )
                 ]
           ]
     ]
+
+-- texts that are read are those of a list of texts
+more_texts-read : (s : List ℕ) (o : Option (List (List ℕ))) (xs : List (List ℕ)) → option_map (λ more. s ∷ more) o ≡ Some xs
+    → (more : List (List ℕ)) × (o ≡ Some more) × (s ∷ more ≡ xs)
+more_texts-read s None xs h = cc
+more_texts-read s (Some more) xs h = (more, refl, same_Some (s ∷ more) xs h)
+
+texts-read : (ds : Items) (xs : List (List ℕ)) → texts ds ≡ Some xs → ds ≡ items_of xs
+texts-read no_items xs h = ap items_of (same_Some [] xs h)
+texts-read (item (string s) ds) xs h =
+    let (more, behind, whole) = more_texts-read s (texts ds) xs h in
+    ap (item (string s)) (texts-read ds more behind) ∙ ap items_of whole
+texts-read (item (integer z) ds) xs h = cc
+texts-read (item (float x) ds) xs h = cc
+texts-read (item (boolean b) ds) xs h = cc
+texts-read (item (datetime d) ds) xs h = cc
+texts-read (item (array es) ds) xs h = cc
+texts-read (item (table ms) ds) xs h = cc
+
+all_texts-read : (o : Option (List (List ℕ))) (xs : List (List ℕ)) → all_texts o ≡ Ok xs → o ≡ Some xs
+all_texts-read None xs h = cc
+all_texts-read (Some found) xs h = ap Some (unwrapped found xs h)
+
+addresses_among-read : (o : Option Data) (xs : List (List ℕ)) → addresses_among o ≡ Ok xs → o ≡ Some (array (items_of xs))
+addresses_among-read None xs h = cc
+addresses_among-read (Some (array ds)) xs h = ap (λ es. Some (array es)) (texts-read ds xs (all_texts-read (texts ds) xs h))
+addresses_among-read (Some (string s)) xs h = cc
+addresses_among-read (Some (integer z)) xs h = cc
+addresses_among-read (Some (float x)) xs h = cc
+addresses_among-read (Some (boolean b)) xs h = cc
+addresses_among-read (Some (datetime d)) xs h = cc
+addresses_among-read (Some (table ms)) xs h = cc
+
+addresses_in-read : (ms : Members) (xs : List (List ℕ)) → addresses_in ms ≡ Ok xs → get_member (name_of Addresses) ms ≡ Some (array (items_of xs))
+unfolding addresses_in
+addresses_in-read ms xs h = addresses_among-read (get_member (name_of Addresses) ms) xs h
+
+-- servers that pass are those that were checked, and they can serve
+record Passed (xs : List (List ℕ)) (degree agree : ℕ) (s : Serving) : Type 0 where
+  is : record { addresses = xs; degree = degree; agree = agree } ≡ s
+  can : CanServe xs degree agree
+
+checked_degree-read : (xs : List (List ℕ)) (degree agree : ℕ) (s : Serving) → LEAST_SERVERS ≤ length xs → length xs ≤ MOST_SERVERS
+    → All IsNamed xs → checked_degree xs degree agree ≡ Ok s → Passed xs degree agree s
+checked_degree-read xs degree agree s some few named h =
+    elim (cases_Bool (degree == 0)) [
+      | inl zero_degree ↦ let no_value : Err _ ≡ Ok s = rw zero_degree at h in cc
+      | inr hidden ↦
+          let h1 = rw hidden at h in
+          elim (cases_Bool (nat_le agree degree)) [
+            | inl weak ↦ let no_value : Err _ ≡ Ok s = rw weak at h1 in cc
+            | inr strong ↦
+                let h2 = rw strong at h1 in
+                elim (cases_Bool (nat_lt (length xs) agree)) [
+                  | inl past ↦ let no_value : Err _ ≡ Ok s = rw past at h2 in cc
+                  | inr within ↦
+                      let h3 : ◌≡◌ {A = Result Serving ServersFault} (Ok (record { addresses = xs; degree = degree; agree = agree })) (Ok s) = rw within at h2 in
+                      record {
+                        is = unwrapped _ s h3;
+                        can = record {
+                          some = some;
+                          few = few;
+                          named = named;
+                          hidden = grind (arith, nat_tests);
+                          strong = leb-false agree degree strong;
+                          within = ltb-false (length xs) agree within;
+                        };
+                      }
+                ]
+          ]
+    ]
+
+checked_named-read : (o : Option ℕ) (xs : List (List ℕ)) (degree agree : ℕ) (s : Serving) → checked_named o xs degree agree ≡ Ok s
+    → (o ≡ None) × (checked_degree xs degree agree ≡ Ok s)
+checked_named-read None xs degree agree s h = (refl, h)
+checked_named-read (Some place) xs degree agree s h = cc
+
+checked-read : (xs : List (List ℕ)) (degree agree : ℕ) (s : Serving) → checked xs degree agree ≡ Ok s → Passed xs degree agree s
+unfolding checked
+checked-read xs degree agree s h =
+    elim (cases_Bool (nat_lt (length xs) LEAST_SERVERS || nat_lt MOST_SERVERS (length xs))) [
+      | inl outside ↦ let no_value : Err _ ≡ Ok s = rw outside at h in cc
+      | inr inside ↦
+          let (none, rest) = checked_named-read (empty_place xs) xs degree agree s (rw inside at h) in
+          let some : LEAST_SERVERS ≤ length xs = grind (arith, nat_tests) in
+          let few : length xs ≤ MOST_SERVERS = grind (arith, nat_tests) in
+          checked_degree-read xs degree agree s some few (all_named xs 0 none) rest
+    ]
+
+of_servers-read : (r : Result Serving ServersFault) (s : Serving) → of_servers r ≡ Ok s → r ≡ Ok s
+of_servers-read (Ok found) s h = ap Ok (unwrapped found s h)
+of_servers-read (Err e) s h = cc
+
+-- servers that are read of a table, it says
+servers_of-read : (ms : Members) (s : Serving) → servers_of ms ≡ Ok s → HasServing ms s
+unfolding servers_of
+servers_of-read ms s h =
+    let (u, e0, h0) = bind_ok (no_stranger (stranger OF_SERVERS ms)) _ s h in
+    let (xs, e1, h1) = bind_ok (addresses_in ms) _ s h0 in
+    let (agree, e2, h2) = bind_ok (number_in ms Agree 1 MOST_SERVERS) _ s h1 in
+    let (degree, e3, h3) = bind_ok (number_in ms Degree 1 MOST_DEGREE) _ s h2 in
+    let passed = checked-read xs degree agree s (of_servers-read (checked xs degree agree) s h3) in
+    let says : HasServing ms (record { addresses = xs; degree = degree; agree = agree }) = record {
+      only = only-read OF_SERVERS ms u e0;
+      addresses = addresses_in-read ms xs e1;
+      agree = (number_in-read ms Agree 1 MOST_SERVERS agree e2).is;
+      degree = (number_in-read ms Degree 1 MOST_DEGREE degree e3).is;
+      can = passed.can;
+    } in
+    subst (HasServing ms) passed.is says
+
+some_servers-read : (r : Result Serving MemberFault) (o : Option Serving) → some_servers r ≡ Ok o → (s : Serving) × (r ≡ Ok s) × (Some s ≡ o)
+some_servers-read (Ok s) o h = (s, refl, unwrapped (Some s) o h)
+some_servers-read (Err e) o h = cc
+
+-- so it is of servers that may be missing
+servers_among-read : (ms : Members) (d : Option Data) (o : Option Serving) → get_member (name_of Servers) ms ≡ d
+    → servers_among d ≡ Ok o → HasServers ms o
+servers_among-read ms None o has h = subst (HasServers ms) (unwrapped None o h) has
+servers_among-read ms (Some (table inner)) o has h =
+    let (s, read, is) = some_servers-read (servers_of inner) o h in
+    subst (HasServers ms) is (inner, has, servers_of-read inner s read)
+servers_among-read ms (Some (string s)) o has h = cc
+servers_among-read ms (Some (integer z)) o has h = cc
+servers_among-read ms (Some (float x)) o has h = cc
+servers_among-read ms (Some (boolean b)) o has h = cc
+servers_among-read ms (Some (datetime d)) o has h = cc
+servers_among-read ms (Some (array ds)) o has h = cc
+
+servers_in-read : (ms : Members) (o : Option Serving) → servers_in ms ≡ Ok o → HasServers ms o
+unfolding servers_in
+servers_in-read ms o h = servers_among-read ms (get_member (name_of Servers) ms) o refl h
+
+-- there is one format
+only_format : (n : ℕ) → FORMAT ≤ n → n ≤ FORMAT → n ≡ FORMAT
+only_format n low high = omega arith
+
+-- what is read of a document, it says
+pub says-read : (ms : Members) (f : Facts) → catalog_in ms ≡ Ok f → SaysCatalog ms f
+unfolding catalog_in
+says-read ms f h =
+    let (u, e0, h0) = bind_ok (no_stranger (stranger ROOT ms)) _ f h in
+    let (digest, e1, h1) = bind_ok (number_in ms Digest LEAST_DIGEST MOST_DIGEST) _ f h0 in
+    let (entries, e2, h2) = bind_ok (number_in ms Entries 1 MOST_PAIRS) _ f h1 in
+    let (format, e3, h3) = bind_ok (number_in ms Format FORMAT FORMAT) _ f h2 in
+    let (tag, e4, h4) = bind_ok (digits_in ms ListTag 8) _ f h3 in
+    let (rows, e5, h5) = bind_ok (number_in ms Rows 1 MOST_ROWS) _ f h4 in
+    let (salt, e6, h6) = bind_ok (digits_in ms Salt 16) _ f h5 in
+    let (sha256, e7, h7) = bind_ok (digits_in ms Sha256 32) _ f h6 in
+    let (value, e8, h8) = bind_ok (number_in ms Value 0 MOST_VALUE) _ f h7 in
+    let (width, e9, h9) = bind_ok (number_in ms Width 1 MOST_WIDTH) _ f h8 in
+    let (v, e10, h10) = bind_ok (fitting digest entries rows value width) _ f h9 in
+    let (servers, e11, h11) = bind_ok (servers_in ms) _ f h10 in
+    let is_digest = number_in-read ms Digest LEAST_DIGEST MOST_DIGEST digest e1 in
+    let is_entries = number_in-read ms Entries 1 MOST_PAIRS entries e2 in
+    let is_format = number_in-read ms Format FORMAT FORMAT format e3 in
+    let is_rows = number_in-read ms Rows 1 MOST_ROWS rows e5 in
+    let is_value = number_in-read ms Value 0 MOST_VALUE value e8 in
+    let is_width = number_in-read ms Width 1 MOST_WIDTH width e9 in
+    let fits = fitting-read digest entries rows value width v e10 in
+    let one = only_format format is_format.low is_format.high in
+    let read : Facts = record {
+      digest = digest;
+      entries = entries;
+      tag = tag;
+      rows = rows;
+      salt = salt;
+      sha256 = sha256;
+      value = value;
+      width = width;
+      servers = servers;
+    } in
+    let says : SaysCatalog ms read = record {
+      only = only-read ROOT ms u e0;
+      digest = is_digest.is;
+      entries = is_entries.is;
+      format = is_format.is ∙ ap (λ n. Some (integer (pos n))) one;
+      tag = digits_in-read ms ListTag 8 tag e4;
+      rows = is_rows.is;
+      salt = digits_in-read ms Salt 16 salt e6;
+      sha256 = digits_in-read ms Sha256 32 sha256 e7;
+      value = is_value.is;
+      width = is_width.is;
+      sizes = record {
+        long_digest = is_digest.low;
+        short_digest = is_digest.high;
+        some_entries = is_entries.low;
+        few_entries = is_entries.high;
+        shape = record {
+          some_rows = is_rows.low;
+          few_rows = is_rows.high;
+          some_bytes = is_width.low;
+          few_bytes = is_width.high;
+          few_cells = fits.1;
+        };
+        short_value = is_value.high;
+        wide = fits.0;
+        roomy = fits.2;
+      };
+      servers = servers_in-read ms servers e11;
+    } in
+    subst (SaysCatalog ms) (unwrapped read f h11) says

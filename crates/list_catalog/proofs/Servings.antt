@@ -29,7 +29,8 @@ all_named (x ∷ xs) i h =
     ]
 
 -- a fault of servers that are there is one of the document
-pub some_servers-fault : (wanted : Result Serving MemberFault) (fault : CatalogFault) → Comes wanted (Err fault) → Comes (some_servers wanted) (Err fault)
+pub some_servers-fault : (wanted : Result Serving MemberFault) (fault : CatalogFault) → Comes wanted (Err fault)
+    → Comes (some_servers wanted) (Err fault)
 some_servers-fault wanted TooLong h = h
 some_servers-fault wanted NotText h = h
 some_servers-fault wanted (NotToml line why) h = h

@@ -76,7 +76,8 @@ unfoldable pub fitting : ℕ → ℕ → ℕ → ℕ → ℕ → Result (Unit {0
 fitting digest entries rows value width =
     if nat_lt width (least_width digest value) then Err (TooNarrow width (least_width digest value))
     else if nat_lt MOST_CELLS (rows * width) then Err (TooLarge rows width)
-    else if nat_lt (room_of digest rows value width) entries then Err (TooMany entries (room_of digest rows value width))
+    else if nat_lt (room_of digest rows value width) entries
+    then Err (TooMany entries (room_of digest rows value width))
     else Ok tt
 
 -- the texts of a list that has only texts
@@ -141,6 +142,13 @@ catalog_in ms = do
   fits ← fitting digest entries rows value width
   servers ← servers_in ms
   Ok (record {
-    digest = digest; entries = entries; tag = tag; rows = rows; salt = salt; sha256 = sha256;
-    value = value; width = width; servers = servers;
+    digest = digest;
+    entries = entries;
+    tag = tag;
+    rows = rows;
+    salt = salt;
+    sha256 = sha256;
+    value = value;
+    width = width;
+    servers = servers;
   })

@@ -7,8 +7,8 @@ use Rattle.key_table.specs.Table.{head_size}
 use Rattle.key_table.specs.declared.TheConstants.{LEAST_DIGEST, MOST_DIGEST, MOST_VALUE, MOST_PAIRS}
 use Rattle.list_catalog.specs.Serving.{CanServe, Serving}
 
--- what a catalog says: the bytes of a digest, how many entries there are, the list's tag, how many rows the table has, the
--- salt, the SHA-256 of the database's file, the most bytes of a value, the bytes of a row, and perhaps who serves it
+-- what a catalog says: the bytes of a digest, how many entries there are, the list's tag, how many rows the table has,
+-- the salt, the SHA-256 of the database's file, the most bytes of a value, the bytes of a row, and perhaps who serves it
 pub record Facts : Type 0 where
   pub digest : ℕ
   pub entries : ℕ
@@ -43,7 +43,8 @@ pub record AreSizes (digest entries rows value width : ℕ) : Type 0 where
 abbrev pub AreBytes : ℕ → List ℕ → Type 0
 AreBytes size bytes = (length bytes ≡ size) × IsBytes bytes
 
--- what every catalog keeps: its sizes fit each other, its bytes are as many as they have to be, and its servers can serve
+-- what every catalog keeps: its sizes fit each other, its bytes are as many as they have to be, and its servers can
+-- serve
 pub record IsCatalog (f : Facts) : Type 0 where
   pub sizes : AreSizes f.digest f.entries f.rows f.value f.width
   pub tag : AreBytes 8 f.tag

@@ -8,6 +8,7 @@ use Rattle.toml.specs.View.{table_view}
 use Rattle.toml.specs.declared.value.Value.{Value}
 use Rattle.toml.specs.Parse.{parse_document}
 use Rattle.toml.specs.Errors.{span_start}
+use Rattle.key_table.specs.Entry.{newline}
 use Rattle.list_catalog.specs.declared.TheConstants.{MOST_CATALOG}
 use Rattle.list_catalog.specs.declared.fault.MemberFault.{MemberFault}
 use Rattle.list_catalog.specs.declared.fault.CatalogFault.{CatalogFault}
@@ -29,7 +30,7 @@ Comes wanted result = ComesAs (λ a. a) wanted result
 
 -- the line of a place in a text, counted from 1
 abbrev pub line_of : List ℕ → ℕ → ℕ
-line_of text place = 1 + count_by (λ b. b == 10) (take place text)
+line_of text place = 1 + count_by (λ b. b == newline) (take place text)
 
 -- a text of so few bytes
 pub record IsShortText (text : List ℕ) : Type 0 where
@@ -72,4 +73,5 @@ Reads text (Err Memory) = IsShortText text
 
 -- whatever a reading of the text comes to, it is this catalog, unless memory ran out
 abbrev pub ReadsBack : List ℕ → Facts → Type 0
-ReadsBack text facts = (result : Result Facts CatalogFault) → Reads text result → (result ≡ Ok facts) ⊎ (result ≡ Err Memory)
+ReadsBack text facts =
+    (result : Result Facts CatalogFault) → Reads text result → (result ≡ Ok facts) ⊎ (result ≡ Err Memory)

@@ -15,8 +15,8 @@ pub record Serving : Type 0 where
   pub degree : ℕ
   pub agree : ℕ
 
--- there are enough servers and not too many, none with an empty address; and so many have to agree that those who may lie
--- together are too few, and that there are as many
+-- there are enough servers and not too many, none with an empty address; more have to agree than together learn nothing,
+-- and no more than there are
 pub record CanServe (addresses : List (List ℕ)) (degree agree : ℕ) : Type 0 where
   pub some : LEAST_SERVERS ≤ length addresses
   pub few : length addresses ≤ MOST_SERVERS
@@ -45,7 +45,8 @@ checked_named None addresses degree agree = checked_degree addresses degree agre
 -- such servers, or the first fault that they have: in their number, an address, the degree, the agreement
 unfoldable pub checked : List (List ℕ) → ℕ → ℕ → Result Serving ServersFault
 checked addresses degree agree =
-    if nat_lt (length addresses) LEAST_SERVERS || nat_lt MOST_SERVERS (length addresses) then Err (Count (length addresses))
+    if nat_lt (length addresses) LEAST_SERVERS || nat_lt MOST_SERVERS (length addresses)
+    then Err (Count (length addresses))
     else checked_named (empty_place addresses) addresses degree agree
 
 -- what an option says, else what the servers have, else that it is missing
@@ -53,7 +54,8 @@ abbrev pub said : {A : Type 0} → Member → (Serving → A) → Option Serving
 said m field servers option = ok_or (option_or option (option_map field servers)) (Missing m)
 
 -- the servers, with what options say in place of what they have
-unfoldable pub with_options : Option Serving → Option (List (List ℕ)) → Option ℕ → Option ℕ → Result Serving ServersFault
+unfoldable pub with_options : Option Serving → Option (List (List ℕ)) → Option ℕ → Option ℕ
+    → Result Serving ServersFault
 with_options servers addresses degree agree = do
   a ← said Addresses (λ s. s.addresses) servers addresses
   d ← said Degree (λ s. s.degree) servers degree

@@ -74,7 +74,8 @@ bracketed (text ∷ more) = codes "[" ++ (string_text text ++ more_texts more)
 abbrev pub servers_text : Option Serving → List ℕ
 servers_text None = []
 servers_text (Some s) =
-    codes "\n[servers]\n" ++ (line Addresses (bracketed s.addresses) ++ (line Agree (decimal s.agree) ++ line Degree (decimal s.degree)))
+    codes "\n[servers]\n"
+    ++ (line Addresses (bracketed s.addresses) ++ (line Agree (decimal s.agree) ++ line Degree (decimal s.degree)))
 
 -- bytes as two hexadecimal digits each, in quotes
 abbrev pub quoted_digits : List ℕ → List ℕ

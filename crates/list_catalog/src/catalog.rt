@@ -5,8 +5,8 @@ use std::marker::Model;
 
 /// What a client has to know of a list, and perhaps the servers that have it. Contracts see what it says.
 ///
-/// Its numbers keep the rules of a catalog: they are in their ranges, a row has room for an entry, all rows have no more
-/// bytes than a database may have, and they have room for all entries.
+/// Its numbers keep the rules of a catalog: they are in their ranges, a row has room for an entry, all rows have no
+/// more bytes than a database may have, and they have room for all entries.
 #[derive(Drop)]
 pub struct Catalog {
     /// How many bytes a digest has: 8 to 32.

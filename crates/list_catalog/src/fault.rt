@@ -1,5 +1,6 @@
 //! Why a text is no catalog, why servers can't be asked, and why a catalog isn't written.
 
+use crate::MOST_CATALOG;
 use crate::member::Member;
 use crate::range::Range;
 use quantity_limits::{LEAST_SERVERS, MOST_CELLS, MOST_SERVERS};
@@ -93,16 +94,28 @@ pub enum MemberFault {
     },
     /// The member is no text of so many hexadecimal digits.
     #[error("{member} is not {count} hexadecimal digits")]
-    NotDigits { member: Member, count: usize },
+    NotDigits {
+        member: Member,
+        count: usize,
+    },
     /// A row with one entry has more bytes than the width.
     #[error("width {width} is below {least}, the bytes of a row with one entry")]
-    TooNarrow { width: u32, least: u32 },
+    TooNarrow {
+        width: u32,
+        least: u32,
+    },
     /// The rows have more bytes than a database may have.
     #[error("rows {rows} of width {width} have more than {MOST_CELLS} bytes")]
-    TooLarge { rows: u32, width: u32 },
+    TooLarge {
+        rows: u32,
+        width: u32,
+    },
     /// The rows have no room for so many entries.
     #[error("entries {entries} are more than the rows have room for, {room}")]
-    TooMany { entries: u32, room: u64 },
+    TooMany {
+        entries: u32,
+        room: u64,
+    },
     /// `servers` is no table.
     #[error("servers is not a table")]
     NotTable,
@@ -118,7 +131,7 @@ pub enum MemberFault {
 #[derive(Debug, Drop, Error)]
 pub enum CatalogFault {
     /// There are more bytes than a catalog may have.
-    #[error("catalog: more than 65536 bytes")]
+    #[error("catalog: more than {MOST_CATALOG} bytes")]
     TooLong,
     /// The bytes are no text.
     #[error("catalog: not UTF-8")]
@@ -138,7 +151,7 @@ pub enum CatalogFault {
 #[derive(Clone, Copy, Debug, PartialEq, Eq, Error)]
 pub enum WriteFault {
     /// Its text has more bytes than a catalog may have: the addresses are too long.
-    #[error("the catalog has more than 65536 bytes")]
+    #[error("the catalog has more than {MOST_CATALOG} bytes")]
     TooLong,
     /// Want of memory.
     #[error("no memory")]

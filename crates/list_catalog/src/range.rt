@@ -5,7 +5,9 @@ use std::fmt;
 /// The numbers from `least` to `most`.
 #[derive(Clone, Copy, Debug, PartialEq, Eq)]
 pub struct Range {
+    /// The least of them.
     pub least: u32,
+    /// The greatest of them.
     pub most: u32,
 }
 

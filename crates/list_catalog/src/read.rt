@@ -5,6 +5,7 @@ ghost use Rattle.toml.specs.Data.{get_member};
 ghost use Rattle.toml.specs.View.{array_view, table_view, view};
 ghost use Rattle.list_catalog.specs.Member.{name_of};
 ghost use Rattle.list_catalog.specs.Documents.{addresses_in, all_texts, catalog_in, digits_in, fitting, is_known, no_stranger, number_in, ranged, servers_in, servers_of, stranger, texts};
+ghost use Rattle.list_catalog.specs.Said.{IsFaithful};
 ghost use Rattle.list_catalog.specs.Reading.{Comes, ComesAs, Parses, Reads, line_of};
 
 use crate::catalog::Catalog;
@@ -109,7 +110,10 @@ fn digits_in<const N: usize>(table: &Table, member: Member) -> Result<[u8; N], M
     let Some(value) = value_of(table, member) else {
         return Err(MemberFault::Missing(member));
     };
-    let fault = MemberFault::NotDigits { member, count: 2 * N };
+    let fault = MemberFault::NotDigits {
+        member,
+        count: 2 * N,
+    };
     let Some(text) = value.as_str() else {
         return Err(fault);
     };
@@ -119,9 +123,16 @@ fn digits_in<const N: usize>(table: &Table, member: Member) -> Result<[u8; N], M
     }
 }
 
-/// That a row has room for an entry, that the rows are no more than a database, and that they have room for all entries.
+/// That a row has room for an entry, that the rows are no more than a database, and that they have room for all
+/// entries.
 #[tactic(auto, unfolding(crate::specs::Documents::fitting))]
-fn fitting(digest: usize, entries: u32, rows: u32, value: usize, width: u32) -> Result<(), MemberFault>
+fn fitting(
+    digest: usize,
+    entries: u32,
+    rows: u32,
+    value: usize,
+    width: u32,
+) -> Result<(), MemberFault>
     requires digest { (LEAST_DIGEST ≤ digest) × (digest ≤ MOST_DIGEST) }
     requires value { value ≤ MOST_VALUE }
     ensures { result ≡ fitting digest entries rows value width }
@@ -207,7 +218,12 @@ fn catalog_in(alloc: Global, document: &Table) -> Result<Catalog, CatalogFault>
     ensures { Comes (catalog_in (table_view document.now)) result }
 {
     refuse_stranger(alloc, ROOT.as_slice(), document)?;
-    let digest = number_in(document, Member::Digest, LEAST_DIGEST as u32, MOST_DIGEST as u32)? as usize;
+    let digest = number_in(
+        document,
+        Member::Digest,
+        LEAST_DIGEST as u32,
+        MOST_DIGEST as u32,
+    )? as usize;
     let entries = number_in(document, Member::Entries, 1, MOST_PAIRS as u32)?;
     number_in(document, Member::Format, FORMAT, FORMAT)?;
     let tag = digits_in::<8>(document, Member::List)?;
@@ -256,6 +272,20 @@ fn parsed(alloc: Global, text: &str) -> Result<Table, CatalogFault>
     }
 }
 
+/// The catalog that a text is.
+fn catalog_of(alloc: Global, text: &[u8]) -> Result<Catalog, CatalogFault>
+    ensures { Reads text.now result }
+{
+    if text.len() > MOST_CATALOG {
+        return Err(CatalogFault::TooLong);
+    }
+    let Ok(text) = std::str::from_utf8(text) else {
+        return Err(CatalogFault::NotText);
+    };
+    let document = parsed(alloc, text)?;
+    catalog_in(alloc, &document)
+}
+
 /// Reads the text of a catalog. Its document has the members `digest`, `entries`, `format`, `list`, `rows`, `salt`,
 /// `sha256`, `value` and `width`, and may have a table `servers` with `addresses`, `agree` and `degree`, and no others.
 ///
@@ -268,19 +298,14 @@ fn parsed(alloc: Global, text: &str) -> Result<Table, CatalogFault>
 ///
 /// # Errors
 ///
-/// The first of these. `TooLong` exactly where there are more than [`MOST_CATALOG`] bytes; `NotText` exactly where they are
-/// not UTF-8; `NotToml` exactly where the text is no document in TOML 1.1; `Unfit` exactly where the document is no catalog,
-/// with the first fault: a member of another name, then the members as they are listed above, then that the sizes don't fit
-/// each other, and last the servers. `Memory` for want of memory, where none of the first two is so.
+/// The first of these. `TooLong` exactly where there are more than [`MOST_CATALOG`] bytes; `NotText` exactly where they
+/// are not UTF-8; `NotToml` exactly where the text is no document in TOML 1.1; `Unfit` exactly where the document is no
+/// catalog, with the first fault: a member of another name, then the members as they are listed above, then that the sizes
+/// don't fit each other, and last the servers. `Memory` for want of memory, where none of the first two is so.
 pub fn read_catalog(alloc: Global, text: &[u8]) -> Result<Catalog, CatalogFault>
-    ensures { Reads text.now result }
+    ensures reads { Reads text.now result }
+    // A catalog says what its document has, member by member; a document that is refused says no catalog.
+    ensures catalog { IsFaithful text.now result }
 {
-    if text.len() > MOST_CATALOG {
-        return Err(CatalogFault::TooLong);
-    }
-    let Ok(text) = std::str::from_utf8(text) else {
-        return Err(CatalogFault::NotText);
-    };
-    let document = parsed(alloc, text)?;
-    catalog_in(alloc, &document)
+    catalog_of(alloc, text)
 }

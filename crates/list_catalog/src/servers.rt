@@ -111,7 +111,13 @@ fn said_of(servers: Option<Servers>) -> Said
     ensures agree { result.2 ≡ option_map (λ s. s.agree) servers }
 {
     match servers {
-        Some(Servers { addresses, degree, agree }) => (Some(addresses), Some(degree), Some(agree)),
+        Some(
+            Servers {
+                addresses,
+                degree,
+                agree,
+            },
+        ) => (Some(addresses), Some(degree), Some(agree)),
         None => (None, None, None),
     }
 }
@@ -120,7 +126,8 @@ fn said_of(servers: Option<Servers>) -> Said
 ///
 /// # Errors
 ///
-/// `Missing` with the first of addresses, degree and agreement that neither says, else as [`Servers::new`] of what results.
+/// `Missing` with the first of addresses, degree and agreement that neither says, else as [`Servers::new`] of what
+/// results.
 #[tactic(auto, unfolding(crate::specs::Serving::with_options))]
 pub fn with_options(
     servers: Option<Servers>,

@@ -28,7 +28,9 @@ degree = 1
 
 /// The same, spelled in another way.
 const SPELLED: &str = "# our list
-servers = { degree = 1, agree = 3, addresses = [\"127.0.0.1:7011\", '127.0.0.1:7012', \"127.0.0.1:7013\", \"127.0.0.1:7014\"] }
+servers = { degree = 1, agree = 3, addresses = [
+    \"127.0.0.1:7011\", '127.0.0.1:7012', # two of them
+    \"127.0.0.1:7013\", \"127.0.0.1:7014\" ] }
 width = 0x1a
 value = 0
 sha256 = \"2333A754A274D15CAC819A27A4F2AC88BCFBCD2AD954C0F4BB8E0BEC6150CE6B\"
@@ -41,38 +43,134 @@ digest = 8";
 
 /// What is replaced in the worked catalog with its servers, and what is said then.
 const FAULTS: [(&str, &str, &str); 33] = [
-    ("digest = 8", "digest = 7", "catalog: digest 7 is not among 8 to 32"),
-    ("digest = 8", "digest = 33", "catalog: digest 33 is not among 8 to 32"),
-    ("digest = 8", "digest = 8.0", "catalog: digest is not a whole number"),
+    (
+        "digest = 8",
+        "digest = 7",
+        "catalog: digest 7 is not among 8 to 32",
+    ),
+    (
+        "digest = 8",
+        "digest = 33",
+        "catalog: digest 33 is not among 8 to 32",
+    ),
+    (
+        "digest = 8",
+        "digest = 8.0",
+        "catalog: digest is not a whole number",
+    ),
     ("digest = 8\n", "", "catalog: digest is missing"),
-    ("entries = 3", "entries = 0", "catalog: entries 0 is not among 1 to 67108864"),
-    ("entries = 3", "entries = 5", "catalog: entries 5 are more than the rows have room for, 4"),
+    (
+        "entries = 3",
+        "entries = 0",
+        "catalog: entries 0 is not among 1 to 67108864",
+    ),
+    (
+        "entries = 3",
+        "entries = 5",
+        "catalog: entries 5 are more than the rows have room for, 4",
+    ),
     ("format = 1", "format = 2", "catalog: format 2 is not 1"),
-    ("57c83c", "57c83", "catalog: list is not 16 hexadecimal digits"),
-    ("57c83c", "57c83g", "catalog: list is not 16 hexadecimal digits"),
-    ("rows = 2", "rows = -1", "catalog: rows -1 is not among 1 to 1048576"),
-    ("rows = 2", "rows = 1048577", "catalog: rows 1048577 is not among 1 to 1048576"),
-    ("salt = \"0001", "salt = \"01", "catalog: salt is not 32 hexadecimal digits"),
-    ("sha256 = \"2333", "sha256 = \"", "catalog: sha256 is not 64 hexadecimal digits"),
+    (
+        "57c83c",
+        "57c83",
+        "catalog: list is not 16 hexadecimal digits",
+    ),
+    (
+        "57c83c",
+        "57c83g",
+        "catalog: list is not 16 hexadecimal digits",
+    ),
+    (
+        "rows = 2",
+        "rows = -1",
+        "catalog: rows -1 is not among 1 to 1048576",
+    ),
+    (
+        "rows = 2",
+        "rows = 1048577",
+        "catalog: rows 1048577 is not among 1 to 1048576",
+    ),
+    (
+        "salt = \"0001",
+        "salt = \"01",
+        "catalog: salt is not 32 hexadecimal digits",
+    ),
+    (
+        "sha256 = \"2333",
+        "sha256 = \"",
+        "catalog: sha256 is not 64 hexadecimal digits",
+    ),
     ("salt", "salty", "catalog: an unknown member salty"),
-    ("value = 0", "value = 16385", "catalog: value 16385 is not among 0 to 16384"),
-    ("value = 0", "value = 9", "catalog: width 26 is below 29, the bytes of a row with one entry"),
-    ("width = 26", "width = 17", "catalog: width 17 is below 18, the bytes of a row with one entry"),
-    ("width = 26", "width = 65537", "catalog: width 65537 is not among 1 to 65536"),
-    ("rows = 2", "rows = 1048576\ncolour = 3", "catalog: an unknown member colour"),
+    (
+        "value = 0",
+        "value = 16385",
+        "catalog: value 16385 is not among 0 to 16384",
+    ),
+    (
+        "value = 0",
+        "value = 9",
+        "catalog: width 26 is below 29, the bytes of a row with one entry",
+    ),
+    (
+        "width = 26",
+        "width = 17",
+        "catalog: width 17 is below 18, the bytes of a row with one entry",
+    ),
+    (
+        "width = 26",
+        "width = 65537",
+        "catalog: width 65537 is not among 1 to 65536",
+    ),
+    (
+        "rows = 2",
+        "rows = 1048576\ncolour = 3",
+        "catalog: an unknown member colour",
+    ),
     ("width = 26\n", "", "catalog: width is missing"),
-    ("width = 26", "width 26", "catalog: not TOML (line 9: key with no value, expected `=`)"),
-    ("[servers]", "[[servers]]", "catalog: servers is not a table"),
-    ("agree = 3", "agree = 3\nkeys = 1", "catalog: an unknown member keys"),
-    ("agree = 3", "agree = 1", "catalog: agree 1 is not above degree 1"),
-    ("agree = 3", "agree = 5", "catalog: agree 5 is above 4, the number of addresses"),
-    ("agree = 3", "agree = 256", "catalog: agree 256 is not among 1 to 255"),
+    (
+        "width = 26",
+        "width 26",
+        "catalog: not TOML (line 9: key with no value, expected `=`)",
+    ),
+    (
+        "[servers]",
+        "[[servers]]",
+        "catalog: servers is not a table",
+    ),
+    (
+        "agree = 3",
+        "agree = 3\nkeys = 1",
+        "catalog: an unknown member keys",
+    ),
+    (
+        "agree = 3",
+        "agree = 1",
+        "catalog: agree 1 is not above degree 1",
+    ),
+    (
+        "agree = 3",
+        "agree = 5",
+        "catalog: agree 5 is above 4, the number of addresses",
+    ),
+    (
+        "agree = 3",
+        "agree = 256",
+        "catalog: agree 256 is not among 1 to 255",
+    ),
     ("agree = 3\n", "", "catalog: agree is missing"),
     ("degree = 1\n", "", "catalog: degree is missing"),
-    ("degree = 1\n", "degree = 0\n", "catalog: degree 0 is not among 1 to 254"),
+    (
+        "degree = 1\n",
+        "degree = 0\n",
+        "catalog: degree 0 is not among 1 to 254",
+    ),
     ("addresses", "#", "catalog: addresses is missing"),
     ("127.0.0.1:7012", "", "catalog: address 2 is empty"),
-    ("\"127.0.0.1:7012\"", "7012", "catalog: addresses is not a list of texts"),
+    (
+        "\"127.0.0.1:7012\"",
+        "7012",
+        "catalog: addresses is not a list of texts",
+    ),
     (
         "[\"127.0.0.1:7011\", \"127.0.0.1:7012\", \"127.0.0.1:7013\", ",
         "[",
@@ -192,6 +290,9 @@ fn options_take_the_place_of_members(rt: HostRuntime) -> Result<(), Fail> {
     let own = Servers::new(three(alloc)?, 1, 2)?;
     let servers = with_options(Some(own), None, Some(2), Some(3))?;
     assert!(rt; servers.degree() == 2 && servers.agree() == 3 && servers.addresses().len() == 3);
-    assert!(rt; with_options(None, Some(three(alloc)?), Some(1), None).err() == Some(ServersFault::Missing(Member::Agree)));
+    assert!(rt;
+        with_options(None, Some(three(alloc)?), Some(1), None).err()
+            == Some(ServersFault::Missing(Member::Agree))
+    );
     Ok(())
 }

@@ -106,8 +106,8 @@ fn document_of(alloc: Global, catalog: &Catalog) -> Result<Table, AllocError>
     Ok(table)
 }
 
-/// The text of a catalog: a line `NAME = VALUE` for each member, ascending by name, with hexadecimal digits in lower case,
-/// and where it has servers their table at the end.
+/// The text of a catalog: a line `NAME = VALUE` for each member, ascending by name, with hexadecimal digits in lower
+/// case, and where it has servers their table at the end.
 ///
 /// [`read_catalog`](crate::read_catalog) reads the text as the same catalog.
 ///

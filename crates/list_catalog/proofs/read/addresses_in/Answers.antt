@@ -9,8 +9,8 @@ pub returns-in-Some-as_array : goal.returns-in-Some-as_array
 unfolding addresses_in
 returns-in-Some-as_array c =
     let same : all_texts (texts (array_view c.in-Some-as_array.list.now)) ≡ addresses_in (table_view c.args.table.now) =
-        ap (λ d. addresses_among (Some d)) (sym (is_array (view c.in-Some.value.now) (array_view c.in-Some-as_array.list.now) c.in-Some-as_array.ensures))
-        ∙ ap addresses_among c.in-Some.ensures in
+    ap (λ d. addresses_among (Some d)) (sym (is_array (view c.in-Some.value.now) (array_view c.in-Some-as_array.list.now) c.in-Some-as_array.ensures))
+    ∙ ap addresses_among c.in-Some.ensures in
     rw (← same) c.copied_texts.ensures
 
 pub returns-in-None : goal.returns-in-None

@@ -4,7 +4,8 @@ use Rattle.list_catalog.proofs.read.catalog_in.Goals as goal
 
 pub invariant_of-result : goal.invariant_of-result
 invariant_of-result c =
-    let fits = fitting-read c.in_ok-digest.field-0 c.in_ok-entries.entries c.in_ok-rows.rows c.in_ok-value.field-0 c.in_ok-width.width _ (sym c.in_ok-fitting.ensures) in
+    let fits = fitting-read c.in_ok-digest.field-0 c.in_ok-entries.entries c.in_ok-rows.rows c.in_ok-value.field-0
+    c.in_ok-width.width _ (sym c.in_ok-fitting.ensures) in
     record {
       long_digest = c.in_ok-digest.ensures.range.0;
       short_digest = c.in_ok-digest.ensures.range.1;

@@ -22,6 +22,6 @@ pub returns-in-Err : goal.returns-in-Err
 unfolding servers_in
 returns-in-Err c =
     let same : some_servers (servers_of (table_view c.in-Some-as_table.table.now)) ≡ servers_in (table_view c.args.document.now) =
-        ap (λ d. servers_among (Some d)) (sym (is_table (view c.in-Some.value.now) (table_view c.in-Some-as_table.table.now) c.in-Some-as_table.ensures))
-        ∙ ap servers_among c.in-Some.ensures in
+    ap (λ d. servers_among (Some d)) (sym (is_table (view c.in-Some.value.now) (table_view c.in-Some-as_table.table.now) c.in-Some-as_table.ensures))
+    ∙ ap servers_among c.in-Some.ensures in
     subst (λ wanted. Comes wanted (Err c.in-Err.fault)) same (some_servers-fault _ c.in-Err.fault c.in-Err.ensures)

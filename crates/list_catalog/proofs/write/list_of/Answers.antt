@@ -11,7 +11,7 @@ pub loop-text-preserved : goal.loop-text-preserved
 loop-text-preserved c =
     let one : view c.in_ok-string.field-0 ≡ string (string_bytes c.text-item.result) = c.in_ok-string.ensures ∙ ap string c.as_str.ensures.value in
     let more : map string_bytes (take (c.loop-text.text-index + 1) c.args.texts.now)
-        ≡ map string_bytes (take c.loop-text.text-index c.args.texts.now) ++ string_bytes c.text-item.result ∷ [] = grind (arith, common_steps) in
+    ≡ map string_bytes (take c.loop-text.text-index c.args.texts.now) ++ string_bytes c.text-item.result ∷ [] = grind (arith, common_steps) in
     ap items_view c.in_ok-push.ensures.items
     ∙ items_view-push c.loop-text.list.items c.in_ok-string.field-0
     ∙ ap (push_item (items_view c.loop-text.list.items)) one

@@ -13,14 +13,14 @@ pub returns-then-len-gt-MOST_CATALOG-clause-text : goal.returns-then-len-gt-MOST
 returns-then-len-gt-MOST_CATALOG-clause-text c =
     let f : Facts = c.args.catalog.now in
     let is : string_bytes c.in-Ok.text ≡ catalog_text f =
-        catalog_text-document_of f (string_bytes c.in-Ok.text) (rw c.in_ok-document.ensures.table at c.in-Ok.ensures.text) in
+    catalog_text-document_of f (string_bytes c.in-Ok.text) (rw c.in_ok-document.ensures.table at c.in-Ok.ensures.text) in
     omega (arith, ap length is, c.if-len-gt-MOST_CATALOG.true, c.len.ensures)
 
 pub returns-clause-text : goal.returns-clause-text
 returns-clause-text c =
     let f : Facts = c.args.catalog.now in
     let is : string_bytes c.in-Ok.text ≡ catalog_text f =
-        catalog_text-document_of f (string_bytes c.in-Ok.text) (rw c.in_ok-document.ensures.table at c.in-Ok.ensures.text) in
+    catalog_text-document_of f (string_bytes c.in-Ok.text) (rw c.in_ok-document.ensures.table at c.in-Ok.ensures.text) in
     (is, omega (arith, ap length is, c.if-len-gt-MOST_CATALOG.false, c.len.ensures))
 
 pub returns-clause-read_back : goal.returns-clause-read_back
