@@ -18,6 +18,13 @@ def options_in_code():
     return said
 
 
+def options_of_lists():
+    """Returns the options of each command of pir_list, by the table from which they are built for clap."""
+    text = sources("list_words")
+    lists = {name: set(re.findall(r"name: \"([a-z-]+)\",\s*kind: Kind::(?:Required|Optional|Flag)", rows)) for name, rows in re.findall(r"const ([A-Z]+): &\[Argument.*?= &\[(.*?)\n\];", text, re.S)}
+    return {command: lists.get(name, set()) for command, name in re.findall(r"name: \"([a-z]+)\",\s*about: [^\n]*\s*arguments: ([A-Z]+)", text)}
+
+
 def completed(*words):
     """Returns what tools/pir.bash offers for the last of these words."""
     script = 'source "$1"; shift; COMP_WORDS=("$@") COMP_CWORD=$(($# - 1)); _pir; printf "%s\\n" "${COMPREPLY[@]}"'
@@ -79,9 +86,15 @@ def look_at_options():
     for command in sorted(set(said) | set(told)):
         compare("docs/SPECIFICATION.md, Commands", command, told.get(command, set()))
     look_at_completions(said, compare)
+    # those of pir_list, in the specification
+    lists = options_of_lists()
+    told = {cells[0].strip("`"): set(re.findall(r"--([a-z-]+)", " ".join(cells))) for _, cells in table_rows("docs/SPECIFICATION.md", "Words of `pir_list`") if cells[0].startswith("`")}
+    for command in sorted(set(lists) | set(told)):
+        for it in sorted(lists.get(command, set()) ^ told.get(command, set())):
+            found.bad("docs/SPECIFICATION.md, Words of `pir_list`", f"{command}: --{it} is in the code or here, and not in both")
     # any command line of a document, and any option that is named by itself; scripts of the repository have options too
     scripts = [it for folder in ("bench/*.py", "docs/checks/*", "examples/*-*", "tools/[!_]*") for it in glob.glob(f"{TOP}/{folder}") if os.path.isfile(it) and not it.endswith(".session")] + [f"{TOP}/docs/check"]
-    known = {"help"}.union(*said.values(), *(re.findall(r"[\"']--([a-z-]+)", read(os.path.relpath(it, TOP))) for it in scripts))
+    known = {"help", "version"}.union(*said.values(), *lists.values(), *(re.findall(r"[\"']--([a-z-]+)", read(os.path.relpath(it, TOP))) for it in scripts))
     for path in documents():
         if path.endswith(".1"):
             continue

@@ -16,13 +16,13 @@ use Rattle.list_keys.specs.Form.{IsForm, fault_behind, fault_of, is_tab, key_of,
 use Rattle.list_keys.proofs.Splits.{position_behind, position_kept}
 
 -- a long key is a fault
-fault_long_key : (form : Form) (line : List ℕ) → MOST_KEY < length (key_of form line) → fault_of form line ≡ Some LongKey
+pub fault_long_key : (form : Form) (line : List ℕ) → MOST_KEY < length (key_of form line) → fault_of form line ≡ Some LongKey
 unfolding fault_of
 fault_long_key form line lt =
     cond-false _ _ _ (ne_eqb (length (key_of form line)) 0 (λ e. omega (arith, e, lt))) ∙ cond-true _ _ _ (lt-ltb _ _ lt)
 
 -- an empty one is
-fault_empty_key : (form : Form) (line : List ℕ) → length (key_of form line) ≡ 0 → fault_of form line ≡ Some EmptyKey
+pub fault_empty_key : (form : Form) (line : List ℕ) → length (key_of form line) ≡ 0 → fault_of form line ≡ Some EmptyKey
 unfolding fault_of
 fault_empty_key form line e = cond-true _ _ _ (eq-eqb _ _ e)
 

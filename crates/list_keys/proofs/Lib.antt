@@ -5,3 +5,4 @@ pub mod Places
 mod Given
 mod Readers
 mod KeyLists
+mod Wholes

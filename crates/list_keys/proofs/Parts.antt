@@ -3,6 +3,9 @@ use Rattle.std.proofs.Common.{◌≡◌, inl, inr, ℕ, ◌+◌, ◌-◌, ◌<�
 use Rattle.std.proofs.lemmas.Bool.{cases_lt}
 use Rattle.std.proofs.lemmas.List.{drop-drop, drop-take, drop_all, length-drop, length-take-le, take-take}
 use Rattle.std.proofs.Math.Seq.{take-add}
+use Rattle.std.proofs.lemmas.List.{with_items_is}
+use Rattle.std.specs.Prelude.{Vec}
+use Rattle.std.specs.Vec.{with_items}
 use Rattle.list_keys.specs.Window.{part}
 
 -- how long a part is
@@ -62,3 +65,14 @@ part_filled items moved before after start end next more rest there is same kept
     part_more before after next (end - start) more kept
     ∙ ap (λ xs. xs ++ take more (drop (next + (end - start)) after))
     (ap (λ xs. take (end - start) (drop next xs)) same ∙ there ∙ is)
+
+-- the same of a buffer whose bytes were moved and then written behind
+pub part_refilled : {Z : Type 0} (bytes : Vec ℕ Z) (moved before after : List ℕ) (start end next more : ℕ) (rest : List ℕ)
+    → length moved ≡ bytes.len → before ≡ (with_items bytes moved).items → length after ≡ bytes.len
+    → take (end - start) (drop next moved) ≡ part bytes.items start end → part bytes.items start end ≡ rest
+    → take (next + (end - start)) after ≡ take (next + (end - start)) before
+    → part (with_items (with_items bytes moved) after).items next (next + (end - start) + more)
+    ≡ rest ++ take more (drop (next + (end - start)) after)
+part_refilled bytes moved before after start end next more rest size_moved same size_after there is kept =
+    ap (λ xs. part xs next (next + (end - start) + more)) (with_items_is (with_items bytes moved) after size_after)
+    ∙ part_filled bytes.items moved before after start end next more rest there is (same ∙ with_items_is bytes moved size_moved) kept

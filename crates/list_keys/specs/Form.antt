@@ -1,6 +1,7 @@
 -- What a line of a list is, and what may be wrong with it.
-use Rattle.std.specs.Prelude.{◌≡◌, ℕ, ◌+◌, ◌≤◌, Bool, ◌==◌, nat_lt, if◌then◌else◌, List, ◌++◌, ◌∷◌, drop, length, All, Option, None, Some}
+use Rattle.std.specs.Prelude.{◌≡◌, ◌<◌, ℕ, ◌+◌, ◌≤◌, Bool, ◌==◌, nat_lt, if◌then◌else◌, List, ◌++◌, ◌∷◌, drop, length, All, Option, None, Some}
 use Rattle.std.specs.List.{before_first, position_or_len}
+use Rattle.key_table.specs.Entry.{IsValue}
 use Rattle.key_table.specs.declared.TheConstants.{MOST_PAIRS, MOST_VALUE}
 use Rattle.list_keys.specs.declared.TheConstants.{MOST_KEY}
 use Rattle.list_keys.specs.declared.form.Form.{Form}
@@ -44,6 +45,18 @@ fault_of form line =
 -- a line with which nothing is wrong
 abbrev pub IsGood : Form → List ℕ → Type 0
 IsGood form line = fault_of form line ≡ None
+
+-- how many bytes a value has at most
+abbrev pub most_value : Form → ℕ
+most_value Key = 0
+most_value KeyWithoutTab = 0
+most_value (KeyAndValue most) = most
+
+-- a line has a key that is neither empty nor too long, and a value
+pub record IsWhole (form : Form) (line : List ℕ) : Type 0 where
+  pub some : 0 < length (key_of form line)
+  pub few : length (key_of form line) ≤ MOST_KEY
+  pub value : IsValue (most_value form) (value_of form line)
 
 -- no value may be longer than one of a table
 abbrev pub IsForm : Form → Type 0

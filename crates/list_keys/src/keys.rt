@@ -30,6 +30,7 @@ impl Model for Keys {
 
 impl Keys {
     /// The keys of all lines of Input, already open, which is read to its end: [`MOST_KEYS`] at most.
+    /// Values, where lines have some, have at most [`MOST_VALUE`](key_table::MOST_VALUE) bytes.
     ///
     /// # Errors
     ///

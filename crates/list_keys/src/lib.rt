@@ -3,9 +3,9 @@
 //! A line ends at a newline, which the last may lack. It is a key, or a key and a value that a tab parts; a carriage
 //! return at its end belongs to it.
 //!
-//! Promised: [`LineReader`] gives exactly the lines of what Input holds, in their order, until all are given; or it says
-//! which line is the first with a fault, and which fault that is; or that a call on Input failed. It takes memory once,
-//! as it is made, and touches no port but Input. [`Keys::read`] holds the keys of all lines.
+//! Promised: [`LineReader`] gives exactly the lines of what Input holds, in their order, until all are given;
+//! or it says which line is the first with a fault, and which fault that is; or that a call on Input failed.
+//! It takes memory once, as it is made, and touches no port but Input. [`Keys::read`] holds the keys of all lines.
 //!
 //! Not promised: that two lines differ, or that memory is found.
 #![tactic(auto)]
@@ -30,4 +30,4 @@ pub const MOST_KEY: usize = 65535;
 pub const MOST_KEYS: u32 = 1 << 16;
 
 /// How many bytes a line has at most, if nothing is wrong with it: a key, a tab, and a value.
-pub const LONGEST_LINE: usize = MOST_KEY + 1 + MOST_VALUE;
+pub(crate) const LONGEST_LINE: usize = MOST_KEY + 1 + MOST_VALUE;

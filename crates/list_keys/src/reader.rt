@@ -5,7 +5,7 @@ ghost use Rattle.port_trait.specs.Number.{INPUT};
 ghost use Rattle.port_trait.specs.Moves.{Touches};
 ghost use Rattle.port_trait.specs.World.{World};
 ghost use Rattle.list_keys.specs.Lines.{ends_with_return};
-ghost use Rattle.list_keys.specs.Form.{AreTerms, key_of, value_of};
+ghost use Rattle.list_keys.specs.Form.{AreTerms, IsWhole, key_of, value_of};
 ghost use Rattle.list_keys.specs.Reading.{GivesNext, HasRead};
 ghost use Rattle.list_keys.specs.Taking.{GivesLine};
 
@@ -62,6 +62,8 @@ fn still_return(returns: bool, line: &[u8]) -> bool
 
 impl LineReader {
     /// A reader of Input, already open, that has given no line. It takes a quarter of a megabyte.
+    /// Values have at most [`MOST_VALUE`](key_table::MOST_VALUE) bytes, and there are at most
+    /// [`MOST_PAIRS`](key_table::MOST_PAIRS) lines.
     ///
     /// # Errors
     ///
@@ -99,14 +101,16 @@ impl LineReader {
         value_of(self.terms.form, self.unread.line())
     }
 
-    /// Whether each line so far ended with a carriage return, as those of some systems do; it belongs to the key or value.
+    /// Whether each line so far ended with a carriage return, as those of some systems do.
+    /// It belongs to the key or the value.
     pub fn all_end_with_return(&self) -> bool
         ensures { result ≡ self.now.returns }
     {
         self.returns
     }
 
-    /// Gives the next line, or says that all were given.
+    /// Gives the next line, or says that all were given. The key of a line that is given has 1 to
+    /// [`MOST_KEY`](crate::MOST_KEY) bytes, and its value at most as many as the terms allow, none of which ends a line.
     ///
     /// # Errors
     ///
@@ -115,6 +119,7 @@ impl LineReader {
     /// reading: nothing is promised of calls behind one. `Memory` never comes.
     pub fn read_line<P: Ports>(&mut self, ports: &mut P) -> Result<bool, LinesFault>
         ensures gives { GivesNext self.old result self.new (P.world ports.old) (P.world ports.new) }
+        ensures whole { IfOk result (λ more. more ≡ true → IsWhole self.new.terms.form self.new.window.line) }
         ensures terms { self.new.terms ≡ self.old.terms }
         ensures others { Touches INPUT (P.world ports.old) (P.world ports.new) }
     {

@@ -123,8 +123,8 @@ impl Unread {
         Ok(())
     }
 
-    /// Takes more of Input until it is known where the first line of what is unread ends. A line that is longer than any
-    /// that is good ends where what is unread does.
+    /// Takes more of Input until it is known where the first line of what is unread ends.
+    /// A line that is longer than any that is good ends where what is unread does.
     pub(crate) fn find_end<P: Ports>(&mut self, ports: &mut P) -> Result<usize, Failed>
         ensures takes { TakesMore self.old result self.new (P.world ports.old) (P.world ports.new) }
         ensures ends { IfOk result (EndsAt self.new) }
@@ -141,7 +141,8 @@ impl Unread {
         }
     }
 
-    /// Gives the first bytes that are unread, so many, as a line. The byte behind them, if there is one, is passed over.
+    /// Gives the first bytes that are unread, so many, as a line.
+    /// The byte behind them, if there is one, is passed over.
     pub(crate) fn give(&mut self, at: usize)
         requires { at ≤ length self.old.rest }
         ensures { self.new ≡ record { line = take at self.old.rest; rest = drop (at + 1) self.old.rest; ended = self.old.ended } }

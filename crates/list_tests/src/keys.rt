@@ -23,6 +23,39 @@ fn are_keys(
     }
 }
 
+/// Whether a line with this fault, of number 3, is told in this sentence.
+fn is_told(alloc: Global, fault: LineFault, sentence: &str) -> Result<bool, AllocError> {
+    let text = LinesFault::Refused { number: 3, fault }.to_string(alloc)?;
+    Ok(text.as_str() == sentence)
+}
+
+#[test]
+fn faults_are_told_with_their_line(rt: HostRuntime) -> Result<(), AllocError> {
+    for (fault, sentence) in [
+        (LineFault::EmptyKey, "line 3: the key is empty"),
+        (
+            LineFault::LongKey,
+            "line 3: the key is too long: at most 65535 bytes are allowed",
+        ),
+        (
+            LineFault::NoTab,
+            "line 3: there is no tab between a key and a value",
+        ),
+        (LineFault::HasTab, "line 3: the key has a tab"),
+        (
+            LineFault::LongValue { most: 5 },
+            "line 3: the value is too long: at most 5 bytes are allowed",
+        ),
+        (
+            LineFault::TooMany { most: 2 },
+            "line 3: there are too many lines: at most 2 are allowed",
+        ),
+    ] {
+        assert!(rt; is_told(rt.alloc(), fault, sentence)?, "{sentence}");
+    }
+    Ok(())
+}
+
 #[test]
 fn keys_are_those_of_all_lines(rt: HostRuntime) -> Result<(), AllocError> {
     let alloc = rt.alloc();

@@ -1,11 +1,10 @@
 //! The words of `pir_list`, read to a command.
 //!
-//! Promised: words give a command with its values exactly where `clap` takes them by the commands that are built here,
-//! and each number is in its range; else what is wrong with them, or help or the version where they ask for it; want of
-//! memory aside.
+//! Promised: words give a command with its values exactly where `clap` takes them by the commands that are built
+//! here, and each number is in its range, and no address is empty;
+//! else what is wrong with them, or help or the version where they ask for it; want of memory aside.
 //!
-//! Not promised: what help and the sentences of `clap` say, and that a file or an address is one: any text is a name, but
-//! the empty one is no address.
+//! Not promised: what help and the sentences of `clap` say, and that a file or an address is one.
 #![tactic(auto)]
 
 mod address_list;

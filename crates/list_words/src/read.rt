@@ -66,16 +66,15 @@ fn read_error<'a>(alloc: Global, error: &clap::Error) -> Result<Asked<'a>, Words
 /// | `find` | CATALOG | `--keys FILE` (`-`), `--servers ADDRESS,..`, `--degree T`, `--agree H`, `--coins FILE` (`/dev/urandom`), `--hex` |
 /// | `check` | DATABASE, CATALOG | |
 ///
-/// Options come in any order, each once, as `--rows 2` or `--rows=2`. A number is one or more decimal digits. D is at
-/// least [`LEAST_DIGEST`](key_table::LEAST_DIGEST) and at most [`MOST_DIGEST`](key_table::MOST_DIGEST), V at most
-/// [`MOST_VALUE`](key_table::MOST_VALUE), R at least 1 and at most [`MOST_ROWS`](quantity_limits::MOST_ROWS), T at least 1
-/// and at most [`MOST_DEGREE`](quantity_limits::MOST_DEGREE), H at least 1 and at most
-/// [`MOST_SERVERS`](quantity_limits::MOST_SERVERS). No address is empty. `--help` and `--version` may stand anywhere.
+/// Options come in any order, each once, as `--rows 2` or `--rows=2`.
+/// A number is one or more decimal digits, in the range of its [`Amount`](crate::Amount); no address is empty.
+/// `--help`, `help` and `--version` ask for a text.
 ///
 /// # Errors
 ///
-/// `Refused` exactly where `clap` doesn't take the words and they ask for neither help nor the version, `NoCommand` where
-/// there is no word, `Value` exactly where a value is wrong, and `Memory` for want of memory.
+/// `Refused` exactly where `clap` doesn't take the words and its error is neither help nor the version,
+/// `NoCommand` exactly where it takes them and they enter no command, `Value` exactly where a value is wrong,
+/// and `Memory` for want of memory.
 ///
 /// ```
 /// // The words are `check table catalog.toml`.

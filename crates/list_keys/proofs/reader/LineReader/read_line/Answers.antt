@@ -5,6 +5,7 @@ use Rattle.std.proofs.lemmas.List.Sums.{prefix_len-le-length}
 use Rattle.list_keys.specs.Lines.{is_newline}
 use Rattle.list_keys.specs.Reading.{Reading}
 use Rattle.list_keys.specs.Window.{HasGiven, Window}
+use Rattle.list_keys.proofs.Wholes.{line_whole}
 use Rattle.list_keys.proofs.Readers.{read_all, read_line_more, read_no_line, read_on}
 use Rattle.list_keys.proofs.reader.LineReader.read_line.Goals as goal
 
@@ -48,3 +49,9 @@ returns-clause-gives g c = λ given start h.
     let none : count ≡ 0 → ⊥ = λ e. eqb-false (length c.rest.result.now) 0 (sym c.is_empty.ensures ∙ c.if-is_empty.false) (ap length c.rest.ensures ∙ e) in
     let some : 0 < count = omega (arith, none) in
     read_line_more c.in-Ok.at mid c.give.new.self c.give.result given start v some c.in-Ok.ensures.ends read c.give.ensures
+
+pub returns-clause-whole : goal.returns-clause-whole
+returns-clause-whole g c =
+    let i = c.self.inside in
+    let mid : Reading = record { terms = i.terms; number = i.number; returns = i.returns; window = c.find_end.new.self } in
+    line_whole c.in-Ok.at mid c.give.new.self c.give.result c.in-Ok.ensures.ends c.give.ensures
