@@ -1,6 +1,6 @@
 //! Tests of lists of keys: their lines through ports in memory, the words of `pir_list`, checks of a list's table, and keys
-//! that are found in a list whose table three servers in memory hold. They stand in a crate of their own because a crate is
-//! proved once more for its tests.
+//! that are found in a list whose table three servers in memory hold.
+//! They stand in a crate of their own because a crate is proved once more for its tests.
 #![tactic(auto)]
 
 #[cfg(test)]

@@ -1,0 +1,6 @@
+mod Loading
+mod Keys
+mod Plans
+mod Searching
+mod Texts
+mod LookedUp
