@@ -30,7 +30,7 @@ pub record HasFound (order : Find) (table : ListTable) (servers : Serving) (keys
   pub has_keys : HasKeys order table keys old read
   pub asks : Asks (wanted_for table servers keys) order.coins.now (Ok come) read new
 
--- that was found, and then the lines of the keys were written, or a proper front of them until a call failed
+-- that was found, and then the lines of the keys were written, or a proper prefix of them until a call failed
 pub record Tells (order : Find) (table : ListTable) (servers : Serving) (come : Come) (written : Result (Unit {0}) Failed) (old new : World) : Type 0 where
   pub keys : List (List ℕ)
   pub asked : World

@@ -46,7 +46,7 @@ pub enum FindFault {
     /// The rows of the keys aren't fetched. Nothing was written.
     #[error("{0}")]
     Fetch(FetchFault),
-    /// A call on Output failed. It has taken a front of the text.
+    /// A call on Output failed. It has taken a prefix of the text.
     #[error("a call on the output failed")]
     WriteFault,
     /// Want of memory; nothing was written.

@@ -1,7 +1,7 @@
 //! What the program `pir_list` does for each of its commands, over ports that tell what goes in and out.
 //!
 //! Promised: [`find_in_list`] reads a catalog and keys, asks the servers for the rows of the keys, and writes for each key
-//! whether the list has it; or it says why not, and has written nothing, or a front of the text where a call on Output
+//! whether the list has it; or it says why not, and has written nothing, or a prefix of the text where a call on Output
 //! failed. Each answer comes exactly by what was read and answered.
 //!
 //! Not promised: that memory is found, or that a port ever answers.

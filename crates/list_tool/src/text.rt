@@ -109,7 +109,7 @@ fn write_line<P: Ports>(
 ///
 /// # Errors
 ///
-/// `Failed` exactly where the count of Output rose; then Output took a proper front of the text.
+/// `Failed` exactly where the count of Output rose; then Output took a proper prefix of the text.
 pub(crate) fn write_answers<P: Ports>(
     ports: &mut P,
     values: ValueText,
