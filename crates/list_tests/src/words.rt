@@ -11,9 +11,18 @@ fn split(alloc: Global, line: &str) -> Result<Vec<String>, AllocError> {
     Ok(words)
 }
 
-/// Whether these are the numbers of `build`.
-fn has_numbers(build: &Build, values: Option<usize>, digest: usize, rows: Option<u32>) -> bool {
-    build.values == values && build.digest_bytes == digest && build.rows == rows
+/// Whether these are the numbers of `build`, and whether lines have values.
+fn has_numbers(
+    build: &Build,
+    values: bool,
+    value_bytes: Option<usize>,
+    digest: usize,
+    rows: Option<u32>,
+) -> bool {
+    build.values == values
+        && build.value_bytes == value_bytes
+        && build.digest_bytes == digest
+        && build.rows == rows
 }
 
 /// Whether these are the files of `build`.
@@ -29,7 +38,7 @@ fn is_usual(alloc: Global) -> Result<bool, AllocError> {
     let words = split(alloc, "build - --database table")?;
     match read_words(alloc, &words) {
         Ok(Asked::Build(build)) => Ok(
-            has_numbers(&build, None, 16, None) && has_files(&build, "-", None, "/dev/urandom"),
+            has_numbers(&build, false, None, 16, None) && has_files(&build, "-", None, "/dev/urandom"),
         ),
         _ => Ok(false),
     }
@@ -43,7 +52,7 @@ fn is_whole(alloc: Global) -> Result<bool, AllocError> {
     )?;
     match read_words(alloc, &words) {
         Ok(Asked::Build(build)) => Ok(
-            has_numbers(&build, Some(5), 8, Some(4))
+            has_numbers(&build, true, Some(5), 8, Some(4))
                 && has_files(&build, "keys", Some("about"), "salt"),
         ),
         _ => Ok(false),

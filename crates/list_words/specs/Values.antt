@@ -5,7 +5,6 @@ use Rattle.std.specs.List.{list_any, slice_split}
 use Rattle.std.specs.Option.{option_map_or, option_or}
 use Rattle.std.specs.Str.{bytes_eq}
 use Rattle.clap.specs.Words.{Row, Text, first_of}
-use Rattle.key_table.specs.declared.TheConstants.{MOST_VALUE}
 use Rattle.pir_words.specs.Numbers.{limited, number}
 use Rattle.list_words.specs.Amounts.{least_of, most_of, name_of}
 use Rattle.list_words.specs.declared.TheConstants.{USUAL_DIGEST}
@@ -73,16 +72,13 @@ text_or id usual m = unwrap_or (first_of id m) usual
 abbrev pub IsGiven : Text → List Row → Option (Bor Text) → Type 0
 IsGiven id m text = option_map (λ t. t.now) text ≡ first_of id m
 
--- how many bytes a value has at most, where lines have values
-unfoldable pub values_in : List Row → Option ℕ
-values_in m = if is_set (codes "values") m then Some (unwrap_or (amount_in ValueBytes m) MOST_VALUE) else None
-
 -- `build` with these values
 pub record IsBuild (m : List Row) (build : Build) : Type 0 where
   pub keys : build.keys.now ≡ text_or (codes "keys") [] m
   pub database : build.database.now ≡ text_or (codes "database") [] m
   pub catalog : IsGiven (codes "catalog") m build.catalog
-  pub values : build.values ≡ values_in m
+  pub values : build.values ≡ is_set (codes "values") m
+  pub value_bytes : build.value_bytes ≡ amount_in ValueBytes m
   pub digest_bytes : build.digest_bytes ≡ unwrap_or (amount_in DigestBytes m) USUAL_DIGEST
   pub rows : build.rows ≡ amount_in Rows m
   pub coins : build.coins.now ≡ text_or (codes "coins") (codes "/dev/urandom") m

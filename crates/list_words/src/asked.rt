@@ -24,8 +24,10 @@ pub struct Build<'a> {
     pub database: &'a str,
     /// The file that the catalog is written to; standard output where there is none.
     pub catalog: Option<&'a str>,
-    /// How many bytes a value has at most, where lines have values.
-    pub values: Option<usize>,
+    /// Whether lines have values.
+    pub values: bool,
+    /// How many bytes a value may have, where lines have values; as many as the longest one has, where it isn't said.
+    pub value_bytes: Option<usize>,
     /// How many bytes a digest has.
     pub digest_bytes: usize,
     /// How many rows the table has; the best number of them where it isn't said.

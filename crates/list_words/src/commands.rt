@@ -31,7 +31,7 @@ const BUILD: &[Argument<'static>] = &[
         name: "value-bytes",
         kind: Kind::Optional,
         value: "V",
-        help: "How many bytes a value may have, with --values [default: 16384]",
+        help: "How many bytes a value may have, with --values [default: as the longest one has]",
     },
     Argument {
         name: "digest-bytes",

@@ -62,7 +62,7 @@ fn read_error<'a>(alloc: Global, error: &clap::Error) -> Result<Asked<'a>, Words
 ///
 /// | Command | Has to be given | May be left out |
 /// |---|---|---|
-/// | `build` | KEYS, `--database FILE` | `--catalog FILE`, `--values`, `--value-bytes V` with it (16384), `--digest-bytes D` (16), `--rows R`, `--coins FILE` (`/dev/urandom`) |
+/// | `build` | KEYS, `--database FILE` | `--catalog FILE`, `--values`, `--value-bytes V` with it (as the longest one has), `--digest-bytes D` (16), `--rows R`, `--coins FILE` (`/dev/urandom`) |
 /// | `find` | CATALOG | `--keys FILE` (`-`), `--servers ADDRESS,..`, `--degree T`, `--agree H`, `--coins FILE` (`/dev/urandom`), `--hex` |
 /// | `check` | DATABASE, CATALOG | |
 ///

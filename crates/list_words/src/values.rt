@@ -4,8 +4,8 @@ ghost use Rattle.std.specs.Prelude.{◌≡◌, ◌≤◌, unwrap_or, IfSome};
 ghost use Rattle.pir_words.specs.Numbers.{given};
 ghost use Rattle.list_words.specs.Amounts.{most_of};
 ghost use Rattle.list_words.specs.declared.TheConstants.{USUAL_DIGEST};
-ghost use Rattle.list_words.specs.declared.amount.Amount.TheVariants.{DigestBytes};
-ghost use Rattle.list_words.specs.Values.{IsBuild, IsCheck, IsFind, amount_fault, amount_in, build_fault, find_fault, is_set, servers_fault, text_fault, text_or, values_fault, values_in};
+ghost use Rattle.list_words.specs.declared.amount.Amount.TheVariants.{DigestBytes, ValueBytes};
+ghost use Rattle.list_words.specs.Values.{IsBuild, IsCheck, IsFind, amount_fault, amount_in, build_fault, find_fault, is_set, servers_fault, text_fault, text_or, values_fault};
 
 use crate::USUAL_DIGEST;
 use crate::address_list::has_empty;
@@ -13,7 +13,6 @@ use crate::amount::Amount;
 use crate::asked::{Build, Check, Find};
 use crate::fault::ValueFault;
 use clap::ArgMatches;
-use key_table::MOST_VALUE;
 use pir_words::{limited_at, number_of, text_at};
 
 /// What is wrong with the text of a number.
@@ -111,19 +110,12 @@ pub(crate) fn find_fault(matches: &ArgMatches) -> Option<ValueFault>
     )))
 }
 
-/// How many bytes a value has at most, where lines have values.
-#[tactic(auto, unfolding(crate::specs::Values::values_in))]
-fn values_at(matches: &ArgMatches) -> Option<usize>
-    ensures { result ≡ values_in (given matches.now) }
+/// How many bytes a value may have, where it is said.
+fn value_bytes_at(matches: &ArgMatches) -> Option<usize>
+    ensures { result ≡ amount_in ValueBytes (given matches.now) }
 {
-    if flag_at(matches, "values") {
-        match amount_at(matches, Amount::ValueBytes) {
-            Some(most) => Some(most as usize),
-            None => Some(MOST_VALUE),
-        }
-    } else {
-        None
-    }
+    let most = amount_at(matches, Amount::ValueBytes)?;
+    Some(most as usize)
 }
 
 /// How many bytes a digest has.
@@ -153,7 +145,8 @@ pub(crate) fn build_at<'a>(matches: &ArgMatches<'a>) -> Build<'a>
         keys: text_or(matches, "keys", ""),
         database: text_or(matches, "database", ""),
         catalog: text_at(matches, "catalog"),
-        values: values_at(matches),
+        values: flag_at(matches, "values"),
+        value_bytes: value_bytes_at(matches),
         digest_bytes: digest_at(matches),
         rows: amount_at(matches, Amount::Rows),
         coins: text_or(matches, "coins", "/dev/urandom"),
