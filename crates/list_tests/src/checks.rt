@@ -82,7 +82,8 @@ fn the_length_of_the_file_is_told(rt: HostRuntime) -> Result<(), AllocError> {
     let claim = said(3, SHA256);
     for size in [0usize, 25, 26, 51] {
         let bytes = size as u64;
-        let short = checked(rt.alloc(), &TABLE[..size], &claim, 0)? == Err(CheckFault::TooShort { bytes });
+        let short = checked(rt.alloc(), &TABLE[..size], &claim, 0)?
+            == Err(CheckFault::TooShort { bytes });
         assert!(rt; short, "{size} bytes");
     }
     let mut longer = Vec::from_slice(rt.alloc(), &TABLE)?;
@@ -96,7 +97,10 @@ fn another_hash_and_other_entries_are_told(rt: HostRuntime) -> Result<(), AllocE
     assert!(rt; checked(rt.alloc(), &TABLE, &said(3, [0; 32]), 0)? == Err(CheckFault::OtherHash));
     for entries in [2, 4] {
         let other = checked(rt.alloc(), &TABLE, &said(entries, SHA256), 0)?;
-        assert!(rt; other == Err(CheckFault::OtherEntries { entries: 3 }), "{entries} entries");
+        assert!(rt;
+            other == Err(CheckFault::OtherEntries { entries: 3 }),
+            "{entries} entries"
+        );
     }
     Ok(())
 }
