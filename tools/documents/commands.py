@@ -12,6 +12,8 @@ from concurrent.futures import ThreadPoolExecutor
 
 from documents.repository import LONGEST, TOP, found, lines_of
 
+LISTS = "crates/pir_list/out/pir_list"
+
 
 def markdown_blocks(path):
     """Returns the blocks of a document that are run, as (line, commands, what they print), and how many aren't run."""
@@ -78,6 +80,7 @@ def run_blocks(path, blocks, program, network, as_words):
         os.makedirs(f"{room}/top")
         os.makedirs(f"{room}/tmp")
         os.symlink(program, f"{room}/top/pir")
+        os.symlink(f"{TOP}/{LISTS}", f"{room}/top/pir_list")
         for folder in ("examples", "crates"):
             os.symlink(f"{TOP}/{folder}", f"{room}/top/{folder}")
         # Examples write below /tmp: each run has its own.
@@ -124,7 +127,9 @@ def run_blocks(path, blocks, program, network, as_words):
 def can_run(path, block):
     """Returns whether the other programs that a block names are built."""
     number, commands, _ = block
-    lacking = {it[0] for it in re.findall(r"(?<![\w/])(crates/(\w+)/out/\2)(?![\w/])", "\n".join(commands)) if not os.access(f"{TOP}/{it[0]}", os.X_OK)}
+    text = "\n".join(commands)
+    named = {it[0] for it in re.findall(r"(?<![\w/])(crates/(\w+)/out/\2)(?![\w/])", text)} | ({LISTS} if "./pir_list " in text else set())
+    lacking = {it for it in named if not os.access(f"{TOP}/{it}", os.X_OK)}
     if lacking:
         found.note(f"{path}:{number}: skipped: {', '.join(sorted(lacking))} isn't built")
     return not lacking
