@@ -5,3 +5,5 @@ mod Searching
 mod Texts
 mod LookedUp
 mod Ranges
+mod Codes
+mod CheckLines

@@ -1,6 +1,6 @@
 -- The numbers that words give to `build` are in their ranges.
 use Rattle.std.proofs.Common.{◌≡◌, ◌∙◌, inl, inr, ℕ, ◌≤◌, Bool, true, false, List, Option, Some, None, IfSome, unwrap_or, refl, sym, subst, arith}
-use Rattle.std.specs.Prelude.{Ok}
+use Rattle.std.specs.Prelude.{Result, Ok, Err}
 use Rattle.clap.specs.Words.{Row, Text, subcommand_of}
 use Rattle.quantity_limits.specs.declared.TheConstants.{MOST_ROWS}
 use Rattle.key_table.specs.declared.TheConstants.{LEAST_DIGEST, MOST_DIGEST, MOST_VALUE}
@@ -17,6 +17,7 @@ use Rattle.list_words.specs.declared.amount.Amount.TheVariants.{DigestBytes, Val
 use Rattle.list_words.specs.declared.asked.Asked.{Asked}
 use Rattle.list_words.specs.declared.asked.Asked.TheVariants.{Build as AsksBuild, Check, Find, Help, Version}
 use Rattle.list_words.specs.declared.asked.Build.{Build}
+use Rattle.list_words.specs.declared.fault.WordsFault.{WordsFault}
 use Rattle.list_tool.specs.BuildWords.{values_for}
 use Rattle.list_tool.specs.Run.{IsInRange}
 
@@ -54,13 +55,18 @@ build_range m build is =
       few_rows = rows.1;
     }
 
+-- a command came of the words
+abbrev IsCommanded : Result Asked WordsFault → Type 0
+IsCommanded (Ok asked) = Unit {0}
+IsCommanded (Err fault) = ⊥
+
 come_range : (entered : Option (Text × List Row)) (build : Build) → Comes entered (Ok (AsksBuild build)) → IsInRange (AsksBuild build)
-come_range None build e = absurd e
+come_range None build e = absurd (subst IsCommanded e tt)
 come_range (Some entered) build is = build_range entered.1 build is.2
 
 -- what words ask for is in its range
 pub asked_range : (words : List Text) (asked : Asked) → IsAnswer words (Ok asked) → IsInRange asked
-asked_range words (AsksBuild build) (inl e) = absurd e
+asked_range words (AsksBuild build) (inl e) = absurd (subst IsCommanded e tt)
 asked_range words (AsksBuild build) (inr (inl taken)) = come_range (subcommand_of pir_list words) build taken.1
 asked_range words (AsksBuild build) (inr (inr refused)) = absurd refused.shown
 asked_range words (Find find) is = tt

@@ -14,8 +14,7 @@ mean_line tenths = codes "mean row " ++ (decimal (tenths / 10) ++ (codes "." ++ 
 
 -- how many bytes one look-up sends to each server, and how many come from each
 unfoldable pub look_up_lines : ℕ → ℕ → List ℕ
-look_up_lines rows width =
-    codes "bytes up " ++ (decimal (query_len Shamir 1 rows) ++ (codes "\nbytes down " ++ (decimal (answer_len 1 width) ++ codes "\n")))
+look_up_lines up down = codes "bytes up " ++ (decimal up ++ (codes "\nbytes down " ++ (decimal down ++ codes "\n")))
 
 -- the line that serves the file of this name
 unfoldable pub serve_line : List ℕ → ℕ → List ℕ
@@ -25,5 +24,5 @@ serve_line database width =
 -- all of it, where the fullest row has so many entries
 unfoldable pub check_text : Facts → ℕ → List ℕ → List ℕ
 check_text f fullest database =
-    ((count_lines f.entries fullest ++ mean_line (f.entries * 10 / f.rows)) ++ look_up_lines f.rows f.width)
+    ((count_lines f.entries fullest ++ mean_line (f.entries * 10 / f.rows)) ++ look_up_lines (query_len Shamir 1 f.rows) (answer_len 1 f.width))
     ++ serve_line database f.width

@@ -21,7 +21,7 @@ fn values_for(values: bool, value_bytes: Option<usize>) -> Values
 /// How the words tell to build a list.
 pub(crate) fn order_for<'a>(build: Build<'a>) -> BuildOrder<'a>
     requires { IsOrder build.digest_bytes (values_for build.values build.value_bytes) build.rows }
-    ensures { result ≡ order_for build }
+    ensures { result ≡ order_for build.entry }
 {
     BuildOrder {
         digest: build.digest_bytes,

@@ -27,11 +27,9 @@ fn mean_line(alloc: Global, tenths: u64) -> Result<String, AllocError>
 
 /// The lines of how many bytes one look-up sends to each server, and how many come from each.
 #[tactic(auto, unfolding(crate::specs::CheckText::look_up_lines))]
-fn look_up_lines(alloc: Global, rows: u32, width: u32) -> Result<String, AllocError>
-    ensures { IfOk result (λ text. string_bytes text ≡ look_up_lines rows width) }
+fn look_up_lines(alloc: Global, up: usize, down: usize) -> Result<String, AllocError>
+    ensures { IfOk result (λ text. string_bytes text ≡ look_up_lines up down) }
 {
-    let up = query_len(Scheme::Shamir, 1, rows);
-    let down = answer_len(1, width);
     format!(in alloc; "bytes up {up}\nbytes down {down}\n")
 }
 
@@ -60,7 +58,9 @@ pub(crate) fn check_text(
     let mut text = count_lines(alloc, catalog.entries, fullest)?;
     let mean = mean_line(alloc, u64::from(catalog.entries) * 10 / u64::from(catalog.rows))?;
     text.push_str(&mean)?;
-    text.push_str(&look_up_lines(alloc, catalog.rows, catalog.width)?)?;
+    let up = query_len(Scheme::Shamir, 1, catalog.rows);
+    let down = answer_len(1, catalog.width);
+    text.push_str(&look_up_lines(alloc, up, down)?)?;
     text.push_str(&serve_line(alloc, database, catalog.width)?)?;
     Ok(text)
 }

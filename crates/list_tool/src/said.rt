@@ -50,10 +50,11 @@ fn answered_in(session: &Session) -> Answered {
         refused: 0,
         usable: 0,
     };
+    let params = session.params();
     for i in 0..session.record_count() {
         let index = i as u8 + 1;
         let told = match session.record_at(u32::from(index)) {
-            Some(bytes) => Some(why(bytes, &session.params().asked(index))),
+            Some(bytes) => Some(why(bytes, &params.asked(index))),
             None => None,
         };
         answered = answered.with_server(told);

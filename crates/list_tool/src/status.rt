@@ -2,6 +2,7 @@
 
 ghost use Rattle.std.specs.Prelude.{◌≡◌};
 ghost use Rattle.std.specs.List.{list_any};
+ghost use Rattle.list_finds.specs.Answers.{map_answer};
 ghost use Rattle.list_tool.specs.Status.{build_code, check_code, code_of, find_code, finds_code, is_absent, lines_code, load_code, verdict_code};
 
 use crate::check_command::CheckListFault;
@@ -30,12 +31,20 @@ fn verdict_code(verdict: &Verdict) -> u8
     }
 }
 
+/// Whether the list doesn't have the key.
+fn is_absent(answer: Answer<&[u8]>) -> bool
+    ensures { result ≡ is_absent (map_answer (λ v. v.now) answer.entry) }
+{
+    matches!(answer, Answer::Absent)
+}
+
 /// Whether the list doesn't have one of the keys.
+#[tactic(auto, using(crate::proofs::Codes::none_at_all, crate::proofs::Codes::none_more, crate::proofs::Codes::one_settles))]
 fn has_absent(finds: &Finds) -> bool
     ensures { result ≡ list_any is_absent finds.now.answers }
 {
-    for place in 0..finds.len() {
-        if let Answer::Absent = finds.answer(place) {
+    'places: for place in 0..finds.len() {
+        if is_absent(finds.answer(place)) {
             return true;
         }
     }
