@@ -8,7 +8,7 @@ import tempfile
 from documents.limits import is_taken
 from documents.repository import TOP, crates, found, lines_of, read, words_in
 
-PAGES = ("docs/pir.1", "docs/pir_show.1")
+PAGES = ("docs/pir.1", "docs/pir_list.1", "docs/pir_show.1")
 
 
 def look_at_proofs():
