@@ -38,7 +38,8 @@ fn is_usual(alloc: Global) -> Result<bool, AllocError> {
     let words = split(alloc, "build - --database table")?;
     match read_words(alloc, &words) {
         Ok(Asked::Build(build)) => Ok(
-            has_numbers(&build, false, None, 16, None) && has_files(&build, "-", None, "/dev/urandom"),
+            has_numbers(&build, false, None, 16, None)
+                && has_files(&build, "-", None, "/dev/urandom"),
         ),
         _ => Ok(false),
     }

@@ -38,7 +38,9 @@ fn look_up_lines(alloc: Global, up: usize, down: usize) -> Result<String, AllocE
 fn serve_line(alloc: Global, database: &str, width: u32) -> Result<String, AllocError>
     ensures { IfOk result (λ text. string_bytes text ≡ serve_line database.now width) }
 {
-    format!(in alloc; "pir serve --database {database} --width {width} --conns COUNT --listen ADDRESS\n")
+    format!(in alloc;
+        "pir serve --database {database} --width {width} --conns COUNT --listen ADDRESS\n"
+    )
 }
 
 /// What is written of a database in the file of this name that is the catalog's, with so many entries in the fullest row.
@@ -56,7 +58,10 @@ pub(crate) fn check_text(
     ensures { IfOk result (λ text. string_bytes text ≡ check_text catalog.now fullest database.now) }
 {
     let mut text = count_lines(alloc, catalog.entries, fullest)?;
-    let mean = mean_line(alloc, u64::from(catalog.entries) * 10 / u64::from(catalog.rows))?;
+    let mean = mean_line(
+        alloc,
+        u64::from(catalog.entries) * 10 / u64::from(catalog.rows),
+    )?;
     text.push_str(&mean)?;
     let up = query_len(Scheme::Shamir, 1, catalog.rows);
     let down = answer_len(1, catalog.width);

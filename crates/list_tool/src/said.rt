@@ -64,8 +64,15 @@ fn answered_in(session: &Session) -> Answered {
 
 /// What is said where too few answers are usable.
 fn too_few(alloc: Global, session: &Session, wanted: u32) -> Result<String, AllocError> {
-    let Answered { servers, silent, refused, usable } = answered_in(session);
-    let mut text = format!(in alloc; "{usable} of {servers} answers are usable, and {wanted} have to agree")?;
+    let Answered {
+        servers,
+        silent,
+        refused,
+        usable,
+    } = answered_in(session);
+    let mut text = format!(in alloc;
+        "{usable} of {servers} answers are usable, and {wanted} have to agree"
+    )?;
     if silent > 0 {
         write!(&mut text, "; {silent} of {servers} servers were silent")?;
     }
@@ -103,17 +110,16 @@ fn finds_sentence(alloc: Global, finds: &Finds) -> Result<String, AllocError> {
     match finds.end() {
         Ending::Unlisted(unlisted) => unlisted_sentence(alloc, unlisted),
         Ending::BrokenRow(place) => {
-            format!(in alloc; "the row of key {place}, counted from 0, isn't of this list: the servers hold another one")
+            format!(in alloc;
+                "the row of key {place}, counted from 0, isn't of this list: the servers hold another one"
+            )
         }
         Ending::Settled => Ok(String::new(alloc)),
     }
 }
 
 /// What is said of a building.
-fn built_sentence(
-    alloc: Global,
-    built: &Result<Built, BuildFault>,
-) -> Result<String, AllocError> {
+fn built_sentence(alloc: Global, built: &Result<Built, BuildFault>) -> Result<String, AllocError> {
     match built {
         Ok(built) if built.all_end_with_return => String::from_str(
             alloc,

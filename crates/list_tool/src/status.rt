@@ -58,13 +58,7 @@ fn finds_code(finds: &Finds) -> u8
     match finds.end() {
         Ending::Unlisted(unlisted) => verdict_code(&unlisted.verdict),
         Ending::BrokenRow(_) => 10,
-        Ending::Settled => {
-            if has_absent(finds) {
-                14
-            } else {
-                0
-            }
-        }
+        Ending::Settled => { if has_absent(finds) { 14 } else { 0 } }
     }
 }
 
