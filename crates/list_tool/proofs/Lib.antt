@@ -4,3 +4,6 @@ mod Plans
 mod Searching
 mod Texts
 mod LookedUp
+mod Ranges
+mod Codes
+mod CheckLines

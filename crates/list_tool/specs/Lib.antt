@@ -3,3 +3,8 @@ pub mod KeysFile
 pub mod Asking
 pub mod Text
 pub mod Finding
+pub mod BuildWords
+pub mod CheckText
+pub mod Checking
+pub mod Run
+pub mod Status

@@ -8,15 +8,25 @@
 #![tactic(auto)]
 
 mod asking;
+mod build_command;
 mod catalog_file;
+mod check_command;
+mod check_text;
 mod fault;
 mod find;
 mod keys_file;
 mod options;
+mod run;
+mod said;
+mod status;
 mod table;
 mod text;
 
 pub use catalog_file::load_catalog;
+pub use check_command::{CheckListFault, check_list};
 pub use fault::{FindFault, LoadFault};
 pub use find::find_in_list;
+pub use run::{ListEnd, run_list};
+pub use said::sentence;
+pub use status::exit_code;
 pub use text::ValueText;
