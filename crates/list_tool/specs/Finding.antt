@@ -1,8 +1,9 @@
 -- What `find` does to the outside, step by step, by what it answers.
-use Rattle.std.specs.Prelude.{◌≡◌, ◌⊎◌, ℕ, List, Option, option_map, Result, Ok, Err}
+use Rattle.std.specs.Prelude.{◌≡◌, ◌⊎◌, ℕ, List, [], ◌∷◌, Option, option_map, Result, Ok, Err}
 use Rattle.port_trait.specs.World.{World}
 use Rattle.port_trait.specs.Number.{DATABASE, INPUT, OUTPUT}
 use Rattle.port_trait.specs.Moves.{Touches}
+use Rattle.port_trait.specs.Touched.{One, TouchesOnly}
 use Rattle.port_trait.specs.Written.{Written}
 use Rattle.port_trait.specs.declared.port.Failed.{Failed}
 use Rattle.list_catalog.specs.Facts.{Facts}
@@ -45,7 +46,7 @@ pub record FailsToAsk (order : Find) (table : ListTable) (servers : Serving) (fa
   pub has_keys : HasKeys order table keys old read
   pub asks : Asks (wanted_for table servers keys) order.coins.now (Err fault) read new
 
--- what looking up keys answers, once the table and the servers are known
+-- what looking up keys answers, once the table and the servers are known. For want of memory no server is asked
 abbrev pub AnswersKeys : Find → ListTable → Serving → Result Come FindFault → World → World → Type 0
 AnswersKeys order table servers (Ok come) old new = Tells order table servers come (Ok tt) old new
 AnswersKeys order table servers (Err (Keys fault)) old new =
@@ -53,7 +54,7 @@ AnswersKeys order table servers (Err (Keys fault)) old new =
 AnswersKeys order table servers (Err (Fetch fault)) old new = FailsToAsk order table servers (Fetch fault) old new
 AnswersKeys order table servers (Err WriteFault) old new =
     (come : Come) × (failed : Failed) × Tells order table servers come (Err failed) old new
-AnswersKeys order table servers (Err Memory) old new = Unit {0}
+AnswersKeys order table servers (Err Memory) old new = Touches INPUT old new
 AnswersKeys order table servers (Err (Catalog fault)) old new = ⊥
 AnswersKeys order table servers (Err (Servers fault)) old new = ⊥
 
@@ -75,11 +76,16 @@ pub record LooksUp (order : Find) (result : Result Come FindFault) (old new : Wo
   pub named : servers_by order facts ≡ Ok servers
   pub answers : AnswersKeys order (table_for facts) servers result read new
 
--- what `find` answers, and what it did then
+-- no port but those of the catalog and the keys is touched
+abbrev pub TouchesFiles : World → World → Type 0
+TouchesFiles old new = TouchesOnly (One DATABASE ∷ One INPUT ∷ []) old new
+
+-- what `find` answers, and what it did then. For want of memory, but in a search that has begun, no server is asked and nothing
+-- is written
 abbrev pub FindsInList : Find → Result Come FindFault → World → World → Type 0
 FindsInList order (Err (Catalog fault)) old new =
     LoadsCatalog DATABASE order.catalog.now (Err fault) old new × Touches DATABASE old new
 FindsInList order (Err (Servers fault)) old new =
     (facts : Facts) × HasCatalog order facts old new × (servers_by order facts ≡ Err fault)
-FindsInList order (Err Memory) old new = Unit {0}
+FindsInList order (Err Memory) old new = TouchesFiles old new
 FindsInList order result old new = LooksUp order result old new

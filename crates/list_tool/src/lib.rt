@@ -1,10 +1,12 @@
 //! What the program `pir_list` does for each of its commands, over ports that tell what goes in and out.
 //!
-//! Promised: [`find_in_list`] reads a catalog and keys, asks the servers for the rows of the keys, and writes for each key
-//! whether the list has it; or it says why not, and has written nothing, or a prefix of the text where a call on Output
-//! failed. Each answer comes exactly by what was read and answered.
+//! Promised: [`run_list`] does exactly what the words ask for: a list is built, keys are looked up in one, or a database is
+//! checked; words that give no command touch nothing. [`find_in_list`] reads a catalog and keys, asks the servers for the
+//! rows of the keys, and writes for each key whether the list has it; or it says why not, and has written nothing, or a
+//! prefix of the text where a call on Output failed. Each answer comes exactly by what was read and answered.
+//! [`exit_code`] is a table.
 //!
-//! Not promised: that memory is found, or that a port ever answers.
+//! Not promised: that memory is found, that a port ever answers, or what the sentences say.
 #![tactic(auto)]
 
 mod asking;
