@@ -55,7 +55,7 @@ fn write_agreements<P: Ports>(ports: &mut P, agreements: &[Agreement]) -> Result
 ///
 /// # Errors
 ///
-/// `Failed` exactly where the count of Output rose; then Output took a proper front of the text.
+/// `Failed` exactly where the count of Output rose; then Output took a proper prefix of the text.
 pub fn write_report<P: Ports>(
     ports: &mut P,
     report: &Report,

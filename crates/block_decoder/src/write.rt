@@ -81,7 +81,7 @@ pub(crate) fn write_hex<P: Ports>(ports: &mut P, bytes: &[u8]) -> Result<(), Fai
 ///
 /// # Errors
 ///
-/// `Failed` exactly where the count of Output rose; then Output took a proper front of the line.
+/// `Failed` exactly where the count of Output rose; then Output took a proper prefix of the line.
 pub fn write_block<P: Ports>(ports: &mut P, block: &[u8]) -> Result<(), Failed>
     ensures written { Written OUTPUT (block_line block.now) result (P.world ports.old) (P.world ports.new) }
     ensures others { Touches OUTPUT (P.world ports.old) (P.world ports.new) }
@@ -119,7 +119,7 @@ fn write_listing<P: Ports>(ports: &mut P, listing: &Listing) -> Result<(), Faile
 ///
 /// # Errors
 ///
-/// `Failed` exactly where the count of Output rose; then Output took a proper front of the text.
+/// `Failed` exactly where the count of Output rose; then Output took a proper prefix of the text.
 pub fn write_verdict<P: Ports>(ports: &mut P, verdict: &Verdict) -> Result<(), Failed>
     ensures written { Written OUTPUT (text verdict.now) result (P.world ports.old) (P.world ports.new) }
     ensures others { Touches OUTPUT (P.world ports.old) (P.world ports.new) }

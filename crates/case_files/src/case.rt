@@ -46,7 +46,7 @@ pub struct Swap {
 pub enum Each {
     /// One.
     Once,
-    /// One for each front of what the port holds whose length is from the first number to before the second.
+    /// One for each prefix of what the port holds whose length is from the first number to before the second.
     Front(Port, usize, usize),
     /// One for each byte that another stands in place of.
     Byte(Port, Vec<Swap>),

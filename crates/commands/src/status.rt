@@ -40,7 +40,7 @@ pub enum Status {
     TooCostly { cost: u64 },
     /// A call on Input, Coins or Database failed; nothing was written, no server was asked and nobody was served.
     ReadFault,
-    /// A call on Output or Record failed. Output has a proper front of the text, and nothing of it where Record failed.
+    /// A call on Output or Record failed. Output has a proper prefix of the text, and nothing of it where Record failed.
     WriteFault,
     /// The input is wrong; nothing was written.
     BadInput(Bad),

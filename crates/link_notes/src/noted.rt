@@ -95,7 +95,7 @@ impl Notes {
         Ok(())
     }
 
-    // The link handed out the front of these bytes, or a call failed.
+    // The link handed out a prefix of these bytes, or a call failed.
     fn note_taken(&mut self, p: Port, into: &[u8], taken: Result<usize, Failed>) {
         let Port::Link(link) = p else {
             return;
@@ -109,7 +109,7 @@ impl Notes {
         }
     }
 
-    // The link took the front of these bytes, or a call failed.
+    // The link took a prefix of these bytes, or a call failed.
     fn note_given(&mut self, p: Port, piece: &[u8], given: Result<usize, Failed>) {
         let Port::Link(link) = p else {
             return;

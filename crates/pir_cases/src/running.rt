@@ -42,7 +42,7 @@ impl Trial {
         }
     }
 
-    /// What a port or a guest holds, as far as the run has a front of it.
+    /// What a port or a guest holds, as far as the run has a prefix of it.
     fn front_of(self, port: Port, bytes: &[u8]) -> &[u8] {
         match self.change {
             Change::Front(of, len) if of == port => bytes.get(..len).unwrap_or(bytes),
