@@ -63,6 +63,14 @@ session_least session = least_columns (block_len session.params)
 abbrev pub IsUnlistedSession : Transcript → Type 0
 IsUnlistedSession session = IsUnlisted (length (answers session)) session.params.t session.params.h
 
+-- a verdict lists no more blocks than that
+abbrev pub ListsFew : Transcript → Verdict → Type 0
+ListsFew session = ListsNoMoreThan (session_blocks session)
+
+-- a report tells of no more blocks than that
+abbrev pub ReportsFew : Transcript → Option (List Agreement) → Type 0
+ReportsFew session = ReportsNoMoreThan (session_blocks session)
+
 -- it is of Shamir's scheme
 abbrev pub IsShamirSession : Transcript → Type 0
 IsShamirSession session = session.params.scheme ≡ SHAMIR
@@ -83,6 +91,6 @@ pub record JudgesWith (wanted : Bool) (session : Transcript) {E : Type 0} (resul
   pub least_nodes : before.nodes ≤ after.nodes
   pub listed : IsShamirSession session → IfOk result (λ found. before.cols + session_least session found.0 ≤ after.cols)
   pub unlisted : IsUnlistedSession session → (after.cols ≡ before.cols) × (after.nodes ≡ before.nodes)
-  pub few : IsShamirSession session → IfOk result (λ found. ListsNoMoreThan (session_blocks session) found.0)
-  pub few_agree : IsShamirSession session → IfOk result (λ found. ReportsNoMoreThan (session_blocks session) found.1)
+  pub few : IsShamirSession session → IfOk result (λ found. ListsFew session found.0)
+  pub few_agree : IsShamirSession session → IfOk result (λ found. ReportsFew session found.1)
   pub xor : IsXorSession session → (after.cols ≡ before.cols) × (after.nodes ≡ before.nodes)

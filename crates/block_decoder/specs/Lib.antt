@@ -2,6 +2,7 @@ pub mod Agreed
 pub mod Numbers
 pub mod Verdict
 pub mod Text
+pub mod Writing
 pub mod Numbered
 pub mod Gains
 pub mod Report

@@ -16,6 +16,10 @@ block_line block = encode_lower block ++ codes "\n"
 unfoldable pub number_word : ℕ → List ℕ
 number_word n = codes " " ++ decimal n
 
+-- numbers, each in decimal after a space
+abbrev pub number_words : List ℕ → List ℕ
+number_words numbers = flat_map number_word numbers
+
 -- a line: words, and numbers
 unfoldable pub line_of : List ℕ → List ℕ → List ℕ
 line_of words numbers = words ++ (flat_map number_word numbers ++ codes "\n")
@@ -30,6 +34,10 @@ text (TooCostly equations) = line_of (codes "too costly") (equations ∷ [])
 -- `agree`, a block in lower-case hexadecimal, the indices of the answers that agree on it, and a newline
 unfoldable pub agree_line : Agreement → List ℕ
 agree_line a = codes "agree " ++ (encode_lower a.block ++ line_of [] a.indices)
+
+-- the lines of agreements
+abbrev pub agree_lines : List Agreement → List ℕ
+agree_lines agreements = flat_map agree_line agreements
 
 -- the indices of the answers that aren't among these
 unfoldable pub others : List ℕ → List Answer → List ℕ

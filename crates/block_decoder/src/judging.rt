@@ -4,9 +4,9 @@ ghost use Rattle.std.specs.Prelude.{◌≡◌, ◌≢◌, ◌+◌, ◌≤◌, le
 ghost use Rattle.wire_frames.specs.Answer.{answers, block_len};
 ghost use Rattle.block_decoder.specs.Agreed.{HasColumns};
 ghost use Rattle.block_decoder.specs.Decoding.{counters};
-ghost use Rattle.block_decoder.specs.Reported.{IsReportOn, ReportsNoMoreThan};
-ghost use Rattle.block_decoder.specs.Judging.{session_blocks, session_columns, session_least, session_nodes, IsShamirSession, IsUnlistedSession, IsXorSession, JudgesWith};
-ghost use Rattle.block_decoder.specs.Verdict.{IsVerdict, ListsNoMoreThan};
+ghost use Rattle.block_decoder.specs.Reported.{IsReportOn};
+ghost use Rattle.block_decoder.specs.Judging.{session_columns, session_least, session_nodes, IsShamirSession, IsUnlistedSession, IsXorSession, JudgesWith, ListsFew, ReportsFew};
+ghost use Rattle.block_decoder.specs.Verdict.{IsVerdict};
 
 use crate::agreements::Report;
 use crate::answer_set::AnswerSet;
@@ -50,7 +50,7 @@ pub fn judge<I: Interpolate, C: Ledger, N: Ledger>(
     ensures listed { IsShamirSession session.now
         → IfOk result (λ verdict. cols.old + session_least session.now verdict ≤ cols.new) }
     ensures unlisted { IsUnlistedSession session.now → (cols.new ≡ cols.old) × (nodes.new ≡ nodes.old) }
-    ensures few { IsShamirSession session.now → IfOk result (ListsNoMoreThan (session_blocks session.now)) }
+    ensures few { IsShamirSession session.now → IfOk result (ListsFew session.now) }
     ensures xor { IsXorSession session.now → (cols.new ≡ cols.old) × (nodes.new ≡ nodes.old) }
 {
     let (verdict, _report) = judge_with(alloc, way, session, false, cols, nodes)?;
@@ -81,10 +81,9 @@ pub fn judge_report<I: Interpolate, C: Ledger, N: Ledger>(
     ensures listed { IsShamirSession session.now
         → IfOk result (λ found. cols.old + session_least session.now found.0 ≤ cols.new) }
     ensures unlisted { IsUnlistedSession session.now → (cols.new ≡ cols.old) × (nodes.new ≡ nodes.old) }
-    ensures few { IsShamirSession session.now
-        → IfOk result (λ found. ListsNoMoreThan (session_blocks session.now) found.0) }
+    ensures few { IsShamirSession session.now → IfOk result (λ found. ListsFew session.now found.0) }
     ensures few_agree { IsShamirSession session.now
-        → IfOk result (λ found. ReportsNoMoreThan (session_blocks session.now) found.1) }
+        → IfOk result (λ found. ReportsFew session.now found.1) }
     ensures xor { IsXorSession session.now → (cols.new ≡ cols.old) × (nodes.new ≡ nodes.old) }
 {
     judge_with(alloc, way, session, true, cols, nodes)

@@ -3,9 +3,9 @@
 ghost use Rattle.std.specs.Prelude.{◌≡◌, flat_map, map};
 ghost use Rattle.port_trait.specs.Number.{OUTPUT};
 ghost use Rattle.port_trait.specs.Moves.{Touches};
-ghost use Rattle.port_trait.specs.Written.{Written};
 ghost use Rattle.block_decoder.specs.Reported.{IsSessionReport};
-ghost use Rattle.block_decoder.specs.Text.{agree_line, line_of, number_word, report_text};
+ghost use Rattle.block_decoder.specs.Text.{agree_line, agree_lines, line_of, number_words, report_text};
+ghost use Rattle.block_decoder.specs.Writing.{Writes};
 
 use crate::agreements::{Agreement, Report};
 use crate::liars::write_liars;
@@ -15,7 +15,7 @@ use wire_frames::Session;
 
 /// Numbers of servers in decimal, each after a space.
 fn write_indices<P: Ports>(ports: &mut P, indices: &[u8]) -> Result<(), Failed>
-    ensures written { Written OUTPUT (flat_map number_word indices.now) result (P.world ports.old) (P.world ports.new) }
+    ensures written { Writes (number_words indices.now) result (P.world ports.old) (P.world ports.new) }
     ensures others { Touches OUTPUT (P.world ports.old) (P.world ports.new) }
 {
     for index in indices {
@@ -26,7 +26,7 @@ fn write_indices<P: Ports>(ports: &mut P, indices: &[u8]) -> Result<(), Failed>
 
 /// The line of an agreement.
 fn write_agreement<P: Ports>(ports: &mut P, agreement: &Agreement) -> Result<(), Failed>
-    ensures written { Written OUTPUT (agree_line agreement.now) result (P.world ports.old) (P.world ports.new) }
+    ensures written { Writes (agree_line agreement.now) result (P.world ports.old) (P.world ports.new) }
     ensures others { Touches OUTPUT (P.world ports.old) (P.world ports.new) }
 {
     write_all(ports, Port::Output, b"agree ")?;
@@ -37,7 +37,7 @@ fn write_agreement<P: Ports>(ports: &mut P, agreement: &Agreement) -> Result<(),
 
 /// The lines of agreements.
 fn write_agreements<P: Ports>(ports: &mut P, agreements: &[Agreement]) -> Result<(), Failed>
-    ensures written { Written OUTPUT (flat_map agree_line agreements.now) result (P.world ports.old) (P.world ports.new) }
+    ensures written { Writes (agree_lines agreements.now) result (P.world ports.old) (P.world ports.new) }
     ensures others { Touches OUTPUT (P.world ports.old) (P.world ports.new) }
 {
     for agreement in agreements {
@@ -62,7 +62,7 @@ pub fn write_report<P: Ports>(
     session: &Session,
 ) -> Result<(), Failed>
     requires { IsSessionReport session.now report.now }
-    ensures written { Written OUTPUT (report_text session.now report.now) result (P.world ports.old) (P.world ports.new) }
+    ensures written { Writes (report_text session.now report.now) result (P.world ports.old) (P.world ports.new) }
     ensures others { Touches OUTPUT (P.world ports.old) (P.world ports.new) }
 {
     write_agreements(ports, report.agreements())?;

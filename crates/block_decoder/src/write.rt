@@ -4,8 +4,8 @@ ghost use Rattle.std.specs.Prelude.{◌≡◌, ◌<◌, ◌≤◌, length, map, 
 ghost use Rattle.port_trait.specs.Number.{OUTPUT};
 ghost use Rattle.hex.specs.Hex.{encode_lower};
 ghost use Rattle.port_trait.specs.Moves.{Touches};
-ghost use Rattle.port_trait.specs.Written.{Written};
-ghost use Rattle.block_decoder.specs.Text.{block_line, number_word, line_of, text};
+ghost use Rattle.block_decoder.specs.Text.{block_line, number_word, number_words, line_of, text};
+ghost use Rattle.block_decoder.specs.Writing.{Writes};
 
 use crate::{Listing, Verdict};
 use itoa::Buffer;
@@ -17,7 +17,7 @@ const PIECE: usize = 2048;
 /// A space, and a number in decimal.
 #[tactic(auto, using(std::proofs::lemmas::Fmt::decimal_nonempty))]
 pub(crate) fn write_number<P: Ports>(ports: &mut P, n: u64) -> Result<(), Failed>
-    ensures written { Written OUTPUT (number_word n) result (P.world ports.old) (P.world ports.new) }
+    ensures written { Writes (number_word n) result (P.world ports.old) (P.world ports.new) }
     ensures others { Touches OUTPUT (P.world ports.old) (P.world ports.new) }
 {
     let mut room = Buffer::new();
@@ -28,7 +28,7 @@ pub(crate) fn write_number<P: Ports>(ports: &mut P, n: u64) -> Result<(), Failed
 
 /// Numbers in decimal, each after a space.
 fn write_numbers<P: Ports>(ports: &mut P, numbers: &[u64]) -> Result<(), Failed>
-    ensures written { Written OUTPUT (flat_map number_word numbers.now)
+    ensures written { Writes (number_words numbers.now)
         result (P.world ports.old) (P.world ports.new) }
     ensures others { Touches OUTPUT (P.world ports.old) (P.world ports.new) }
 {
@@ -41,7 +41,7 @@ fn write_numbers<P: Ports>(ports: &mut P, numbers: &[u64]) -> Result<(), Failed>
 /// A line of words and numbers.
 fn write_line<P: Ports>(ports: &mut P, words: &str, numbers: &[u64]) -> Result<(), Failed>
     requires { 0 < length words.now }
-    ensures written { Written OUTPUT (line_of words.now numbers.now)
+    ensures written { Writes (line_of words.now numbers.now)
         result (P.world ports.old) (P.world ports.new) }
     ensures others { Touches OUTPUT (P.world ports.old) (P.world ports.new) }
 {
@@ -54,7 +54,7 @@ fn write_line<P: Ports>(ports: &mut P, words: &str, numbers: &[u64]) -> Result<(
 fn write_piece<P: Ports>(ports: &mut P, bytes: &[u8]) -> Result<(), Failed>
     requires some { 0 < length bytes.now }
     requires few { length bytes.now ≤ PIECE }
-    ensures written { Written OUTPUT (encode_lower bytes.now) result (P.world ports.old) (P.world ports.new) }
+    ensures written { Writes (encode_lower bytes.now) result (P.world ports.old) (P.world ports.new) }
     ensures others { Touches OUTPUT (P.world ports.old) (P.world ports.new) }
 {
     let mut room = [0u8; 2 * PIECE];
@@ -65,7 +65,7 @@ fn write_piece<P: Ports>(ports: &mut P, bytes: &[u8]) -> Result<(), Failed>
 
 /// Any number of bytes, in hexadecimal.
 pub(crate) fn write_hex<P: Ports>(ports: &mut P, bytes: &[u8]) -> Result<(), Failed>
-    ensures written { Written OUTPUT (encode_lower bytes.now) result (P.world ports.old) (P.world ports.new) }
+    ensures written { Writes (encode_lower bytes.now) result (P.world ports.old) (P.world ports.new) }
     ensures others { Touches OUTPUT (P.world ports.old) (P.world ports.new) }
 {
     let mut at = 0;
@@ -83,7 +83,7 @@ pub(crate) fn write_hex<P: Ports>(ports: &mut P, bytes: &[u8]) -> Result<(), Fai
 ///
 /// `Failed` exactly where the count of Output rose; then Output took a proper prefix of the line.
 pub fn write_block<P: Ports>(ports: &mut P, block: &[u8]) -> Result<(), Failed>
-    ensures written { Written OUTPUT (block_line block.now) result (P.world ports.old) (P.world ports.new) }
+    ensures written { Writes (block_line block.now) result (P.world ports.old) (P.world ports.new) }
     ensures others { Touches OUTPUT (P.world ports.old) (P.world ports.new) }
 {
     write_hex(ports, block)?;
@@ -92,7 +92,7 @@ pub fn write_block<P: Ports>(ports: &mut P, block: &[u8]) -> Result<(), Failed>
 
 /// The lines of blocks.
 fn write_blocks<P: Ports>(ports: &mut P, blocks: &[Vec<u8>]) -> Result<(), Failed>
-    ensures written { Written OUTPUT (flat_map block_line (map (λ b. b.items) blocks.now))
+    ensures written { Writes (flat_map block_line (map (λ b. b.items) blocks.now))
         result (P.world ports.old) (P.world ports.new) }
     ensures others { Touches OUTPUT (P.world ports.old) (P.world ports.new) }
 {
@@ -104,7 +104,7 @@ fn write_blocks<P: Ports>(ports: &mut P, blocks: &[Vec<u8>]) -> Result<(), Faile
 
 /// The number of blocks, and the lines of them.
 fn write_listing<P: Ports>(ports: &mut P, listing: &Listing) -> Result<(), Failed>
-    ensures written { Written OUTPUT (text (Verdict.Listed listing.now))
+    ensures written { Writes (text (Verdict.Listed listing.now))
         result (P.world ports.old) (P.world ports.new) }
     ensures others { Touches OUTPUT (P.world ports.old) (P.world ports.new) }
 {
@@ -121,7 +121,7 @@ fn write_listing<P: Ports>(ports: &mut P, listing: &Listing) -> Result<(), Faile
 ///
 /// `Failed` exactly where the count of Output rose; then Output took a proper prefix of the text.
 pub fn write_verdict<P: Ports>(ports: &mut P, verdict: &Verdict) -> Result<(), Failed>
-    ensures written { Written OUTPUT (text verdict.now) result (P.world ports.old) (P.world ports.new) }
+    ensures written { Writes (text verdict.now) result (P.world ports.old) (P.world ports.new) }
     ensures others { Touches OUTPUT (P.world ports.old) (P.world ports.new) }
 {
     match verdict {

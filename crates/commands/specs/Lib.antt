@@ -1,5 +1,6 @@
 pub mod Table
 pub mod Told
+pub mod Texts
 pub mod Said
 pub mod Faults
 pub mod ReplayOrder

@@ -4,6 +4,7 @@ ghost use Rattle.std.specs.Prelude.{◌≡◌, ◌+◌, ◌<◌, length, map, st
 ghost use Rattle.commands.specs.declared.orders.TheConstants.{TCP_PORTS};
 ghost use Rattle.commands.specs.DemoOrder.{address_from, addresses_from, addresses_of_children, words_of_children, words_to_serve};
 ghost use Rattle.commands.specs.DemoOutcome.{DemoOutcome, StartsAll, StartsSome};
+ghost use Rattle.commands.specs.Texts.{texts};
 
 use crate::fetch_command::fetch_block;
 use crate::orders::{DemoOrder, FetchOrder};
@@ -25,7 +26,7 @@ fn address_of_child(alloc: Global, port: u16, i: u8) -> Result<String, AllocErro
 #[tactic(auto, unfolding(crate::specs::DemoOrder::addresses_from))]
 fn addresses_of_children(alloc: Global, port: u16, servers: u8) -> Result<Vec<String>, AllocError>
     requires { port + servers < TCP_PORTS }
-    ensures { IfOk result (λ addresses. map string_bytes addresses.items ≡ addresses_from port servers) }
+    ensures { IfOk result (λ list. map string_bytes list.items ≡ addresses_from port servers) }
 {
     let mut addresses = Vec::new(alloc);
     'children: for i in 0..servers {
@@ -53,7 +54,7 @@ fn words_of_child(
     width: u32,
     address: &str,
 ) -> Result<Vec<String>, AllocError>
-    ensures { IfOk result (λ words. map string_bytes words.items ≡ words_to_serve database.now width address.now) }
+    ensures { IfOk result (λ w. texts w.items ≡ words_to_serve database.now width address.now) }
 {
     let width = format!(in alloc; "{width}")?;
     let texts = [
@@ -118,7 +119,7 @@ fn fetch_from_children<P: Ports>(
     ports: &mut P,
 ) -> Status
     requires addresses { map string_bytes addresses.now ≡ addresses_of_children order.now }
-    requires words { map (λ words. map string_bytes words.items) lists.now ≡ words_of_children order.now }
+    requires words { map (λ w. map string_bytes w.items) lists.now ≡ words_of_children order.now }
     ensures { DemoOutcome order.now result (P.world ports.old) (P.world ports.new) }
 {
     let blocks = [order.block];

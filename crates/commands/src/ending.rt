@@ -1,7 +1,7 @@
 //! The run to its end: what the program does, and what it then ends with.
 
-ghost use Rattle.std.specs.Prelude.{map, string_bytes};
 ghost use Rattle.commands.specs.Ending.{EndsAsRun};
+ghost use Rattle.commands.specs.Texts.{texts};
 
 use crate::running::run;
 use crate::status::{Ending, Status, ending_of};
@@ -17,7 +17,7 @@ pub fn ending_of_run<R: Threads + Sync, P: Ports>(
     words: &[String],
     ports: &mut P,
 ) -> (Status, Ending)
-    ensures { EndsAsRun (map string_bytes words.now) result.0 result.1 (P.world ports.old) (P.world ports.new) }
+    ensures { EndsAsRun (texts words.now) result.0 result.1 (P.world ports.old) (P.world ports.new) }
 {
     let status = run(rt, alloc, words, ports);
     (status, ending_of(&status))

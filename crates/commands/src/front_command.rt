@@ -53,7 +53,7 @@ fn relay_guests<P: Ports>(
 fn relay_from<P: Ports>(front: &mut Front, order: &FrontOrder, ports: &mut P) -> Result<(), Status>
     requires { front.old ≡ order.now.spread }
     ensures relayed { OnOk result (FrontedAll order.now (P.world ports.old) (P.world ports.new)) }
-    ensures ends { IfErr result (λ status. FrontEnds order.now status (P.world ports.old) (P.world ports.new)) }
+    ensures ends { IfErr result (λ s. FrontEnds order.now s (P.world ports.old) (P.world ports.new)) }
     ensures others { TouchesFront (shards order.now.spread) (P.world ports.old) (P.world ports.new) }
     ensures unnamed { ((P.world ports.new).at GUEST).opened ≡ ((P.world ports.old).at GUEST).opened }
 {
@@ -71,7 +71,7 @@ fn relay_from<P: Ports>(front: &mut Front, order: &FrontOrder, ports: &mut P) ->
 /// The status that the run ends with.
 fn relay_database<P: Ports>(alloc: Global, order: &FrontOrder, ports: &mut P) -> Result<(), Status>
     ensures relayed { OnOk result (FrontedAll order.now (P.world ports.old) (P.world ports.new)) }
-    ensures ends { IfErr result (λ status. FrontEnds order.now status (P.world ports.old) (P.world ports.new)) }
+    ensures ends { IfErr result (λ s. FrontEnds order.now s (P.world ports.old) (P.world ports.new)) }
     ensures others { TouchesFront (shards order.now.spread) (P.world ports.old) (P.world ports.new) }
     ensures unnamed { ((P.world ports.new).at GUEST).opened ≡ ((P.world ports.old).at GUEST).opened }
 {

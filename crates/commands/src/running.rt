@@ -1,7 +1,7 @@
 //! The top call.
 
-ghost use Rattle.std.specs.Prelude.{map, string_bytes};
 ghost use Rattle.commands.specs.Outcome.{AnswersSession, EndsAsOrdered, KeepsPromise, RefusesWords};
+ghost use Rattle.commands.specs.Texts.{texts};
 
 use crate::orders::{dispatch, order_of};
 use crate::status::Status;
@@ -34,17 +34,17 @@ pub fn run<R: Threads + Sync, P: Ports>(
     ports: &mut P,
 ) -> Status
     // Words without a form, and they alone, are refused, and nothing was touched.
-    ensures words { RefusesWords (map string_bytes words.now) result (P.world ports.old) (P.world ports.new) }
+    ensures words { RefusesWords (texts words.now) result (P.world ports.old) (P.world ports.new) }
 
     // Each status has its cause, and says what was read, sent and written.
-    ensures outcome { EndsAsOrdered (map string_bytes words.now) result (P.world ports.old) (P.world ports.new) }
+    ensures outcome { EndsAsOrdered (texts words.now) result (P.world ports.old) (P.world ports.new) }
 
     // Where a replay is asked for, Input holds a session and no call failed, exactly the text of its verdict is written, and with
     // `--report` that of its report behind it, or memory ran out.
-    ensures headline { AnswersSession (map string_bytes words.now) result (P.world ports.old) (P.world ports.new) }
+    ensures headline { AnswersSession (texts words.now) result (P.world ports.old) (P.world ports.new) }
 
     // What each command promises where no call failed.
-    ensures promise { KeepsPromise (map string_bytes words.now) result (P.world ports.old) (P.world ports.new) }
+    ensures promise { KeepsPromise (texts words.now) result (P.world ports.old) (P.world ports.new) }
 {
     match read_words(alloc, words) {
         Ok(asked) => dispatch(rt, alloc, &order_of(&asked), ports),

@@ -112,7 +112,7 @@ fn serve_database<R: Threads + Sync, P: Ports>(
     ports: &mut P,
 ) -> Result<(), Status>
     ensures served { OnOk result (ServedAll order.now (P.world ports.old) (P.world ports.new)) }
-    ensures ends { IfErr result (λ status. ServeEnds order.now status (P.world ports.old) (P.world ports.new)) }
+    ensures ends { IfErr result (λ s. ServeEnds order.now s (P.world ports.old) (P.world ports.new)) }
     ensures others { TouchesServer (P.world ports.old) (P.world ports.new) }
     ensures unnamed { ((P.world ports.new).at GUEST).opened ≡ ((P.world ports.old).at GUEST).opened }
 {

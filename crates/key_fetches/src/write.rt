@@ -3,7 +3,7 @@
 ghost use Rattle.std.specs.Prelude.{◌≡◌, codes};
 ghost use Rattle.port_trait.specs.Number.{OUTPUT};
 ghost use Rattle.port_trait.specs.Moves.{Touches};
-ghost use Rattle.port_trait.specs.Written.{Written};
+ghost use Rattle.block_decoder.specs.Writing.{Writes};
 ghost use Rattle.key_fetches.specs.Text.{absent_line, end_text, found_line};
 
 use crate::looked_up::{Ending, LookUp};
@@ -12,7 +12,7 @@ use port_trait::{Failed, Port, Ports, write_all};
 
 /// The word `found`, and the row in hexadecimal, on a line.
 fn write_found<P: Ports>(ports: &mut P, row: &[u8]) -> Result<(), Failed>
-    ensures written { Written OUTPUT (found_line row.now) result (P.world ports.old) (P.world ports.new) }
+    ensures written { Writes (found_line row.now) result (P.world ports.old) (P.world ports.new) }
     ensures others { Touches OUTPUT (P.world ports.old) (P.world ports.new) }
 {
     write_all(ports, Port::Output, b"found ")?;
@@ -29,7 +29,7 @@ fn write_found<P: Ports>(ports: &mut P, row: &[u8]) -> Result<(), Failed>
 ///
 /// `Failed` exactly where the count of Output rose; then Output took a proper prefix of the text.
 pub fn write_end<P: Ports>(ports: &mut P, look_up: &LookUp) -> Result<(), Failed>
-    ensures written { Written OUTPUT (end_text look_up.now) result (P.world ports.old) (P.world ports.new) }
+    ensures written { Writes (end_text look_up.now) result (P.world ports.old) (P.world ports.new) }
     ensures others { Touches OUTPUT (P.world ports.old) (P.world ports.new) }
 {
     match look_up.end() {

@@ -73,7 +73,7 @@ fn list_of(alloc: Global, texts: &[String]) -> Result<Array, AllocError>
 #[tactic(auto, unfolding(crate::specs::Writing::servers_document))]
 fn servers_document(alloc: Global, servers: &Servers) -> Result<Table, AllocError>
     ensures table { IfOk result (λ table. table_view table ≡ servers_document servers.now) }
-    ensures rules { IfOk result (λ _. CanServe servers.now.addresses servers.now.degree servers.now.agree) }
+    ensures rules { OnOk result (CanServe servers.now.addresses servers.now.degree servers.now.agree) }
 {
     let mut table = Table::new(alloc);
     let addresses = list_of(alloc, servers.addresses())?;

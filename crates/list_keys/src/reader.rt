@@ -119,7 +119,7 @@ impl LineReader {
     /// reading: nothing is promised of calls behind one. `Memory` never comes.
     pub fn read_line<P: Ports>(&mut self, ports: &mut P) -> Result<bool, LinesFault>
         ensures gives { GivesNext self.old result self.new (P.world ports.old) (P.world ports.new) }
-        ensures whole { IfOk result (λ more. more ≡ true → IsWhole self.new.terms.form self.new.window.line) }
+        ensures whole { IfOk result (λ m. m ≡ true → IsWhole self.new.terms.form self.new.window.line) }
         ensures terms { self.new.terms ≡ self.old.terms }
         ensures others { Touches INPUT (P.world ports.old) (P.world ports.new) }
     {

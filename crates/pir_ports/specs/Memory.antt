@@ -2,6 +2,8 @@
 use Rattle.std.specs.Prelude.{ℕ, ◌+◌, ◌-◌, ◌^◌, min, Contains, List, [], ◌∷◌, get_or, set, replicate, map, drop, Option, Some, ◌++◌, slice_get}
 use Rattle.std.specs.Option.{option_map, option_and_then}
 use Rattle.port_trait.specs.declared.port.TheConstants.{PORT_COUNT}
+use Rattle.port_trait.specs.declared.port.Port.{Port}
+use Rattle.port_trait.specs.Number.{number}
 use Rattle.port_trait.specs.World.{Cell, Crowd, LinkThen, World, everyone}
 use Rattle.pir_ports.specs.MemoryCell.{MemoryCell, empty_cell, came_in}
 use Rattle.pir_ports.specs.CellList.{links_in}
@@ -59,6 +61,10 @@ crowd_of m = record {
 -- what ports in memory tell
 abbrev pub world_of : Memory → World
 world_of m = world_from m.cells m.log (crowd_of m)
+
+-- what they tell of a port
+abbrev pub told_at : Memory → Port → Cell
+told_at m p = (world_of m).at (number p)
 
 -- what is told of the port after bytes were put behind those still to come
 abbrev pub filled : List ℕ → Cell → Cell

@@ -8,7 +8,7 @@ ghost use Rattle.port_trait.specs.Guests.{Meets};
 ghost use Rattle.port_trait.specs.Children.{Starts};
 ghost use Rattle.pir_ports.specs.MemoryCell.{empty_cell, put, with_room, hand, accept, fault, moved};
 ghost use Rattle.pir_ports.specs.NameLog.{CanKeep, CanKeepStart};
-ghost use Rattle.pir_ports.specs.Memory.{Memory, world_of, cell_at, told, filled, joined_by, fresh, changed, opened, begun, word_at, invited, met, next_call, called, IsDue};
+ghost use Rattle.pir_ports.specs.Memory.{Memory, world_of, cell_at, told, told_at, filled, joined_by, fresh, changed, opened, begun, word_at, invited, met, next_call, called, IsDue};
 
 use crate::cell::MemCell;
 use crate::cell_list::Cells;
@@ -112,8 +112,8 @@ impl MemPorts {
     /// `AllocError` if memory is short; nothing is changed then.
     pub fn put(&mut self, _alloc: Global, p: Port, bytes: &[u8]) -> Result<(), AllocError>
         ensures ok { OnOk result (self.new ≡ changed (number p) (put bytes.now) self.old) }
-        ensures told { OnOk result ((world_of self.new).at (number p)
-            ≡ filled bytes.now ((world_of self.old).at (number p))) }
+        ensures told { OnOk result (told_at self.new p
+            ≡ filled bytes.now (told_at self.old p)) }
         ensures others { Touches (number p) (world_of self.old) (world_of self.new) }
         ensures err { OnErr result (self.new ≡ self.old) }
     {
@@ -129,7 +129,7 @@ impl MemPorts {
     pub fn room(&mut self, _alloc: Global, p: Port, n: usize) -> Result<(), AllocError>
         requires guests { number p ≢ GUEST }
         ensures ok { OnOk result (self.new ≡ changed (number p) (with_room n) self.old) }
-        ensures told { (world_of self.new).at (number p) ≡ (world_of self.old).at (number p) }
+        ensures told { told_at self.new p ≡ told_at self.old p }
         ensures others { Touches (number p) (world_of self.old) (world_of self.new) }
         ensures err { OnErr result (self.new ≡ self.old) }
     {
@@ -177,14 +177,14 @@ impl MemPorts {
 
     /// The bytes that the port has taken so far.
     pub fn seen(&self, p: Port) -> &[u8]
-        ensures { ((world_of self.now).at (number p)).accepted ≡ Some result.now }
+        ensures { (told_at self.now p).accepted ≡ Some result.now }
     {
         self.cells.at(p.number()).accepted()
     }
 
     /// Name `i`, counted from 0, that the port was opened with; `None` exactly where there is none.
     pub fn opened_as(&self, p: Port, i: usize) -> Option<&[u8]>
-        ensures { IfSome ((world_of self.now).at (number p)).opened
+        ensures { IfSome (told_at self.now p).opened
             (λ names. option_copied result ≡ slice_get names i) }
     {
         self.names.name(p.number(), i)
@@ -205,8 +205,8 @@ impl Ports for MemPorts {
 
     fn open(&mut self, p: Port, name: &str) -> Result<(), Failed>
         requires named { number p ≢ GUEST }
-        ensures ok { OnOk result ((world_of self.new).at (number p)
-            ≡ named name.now ((world_of self.old).at (number p))) }
+        ensures ok { OnOk result (told_at self.new p
+            ≡ named name.now (told_at self.old p)) }
         ensures failed { OnErr result (Fails (number p) (world_of self.old) (world_of self.new)) }
         ensures others { Touches (number p) (world_of self.old) (world_of self.new) }
 
@@ -228,7 +228,7 @@ impl Ports for MemPorts {
         ensures ok { IfOk result (λ n.
             Hands (number p) n into.old into.new (world_of self.old) (world_of self.new)) }
         ensures end { IfOk result (λ n.
-            n ≡ 0 → IfSome ((world_of self.old).at (number p)).holds (λ h. h ≡ [])) }
+            n ≡ 0 → IfSome (told_at self.old p).holds (λ h. h ≡ [])) }
         ensures failed { OnErr result (Fails (number p) (world_of self.old) (world_of self.new)) }
         ensures others { Touches (number p) (world_of self.old) (world_of self.new) }
 
@@ -249,8 +249,8 @@ impl Ports for MemPorts {
         requires { 0 < length piece.now }
         ensures some { IfOk result (λ n. 0 < n) }
         ensures fits { IfOk result (λ n. n ≤ length piece.now) }
-        ensures ok { IfOk result (λ n. (world_of self.new).at (number p)
-            ≡ gave (take n piece.now) ((world_of self.old).at (number p))) }
+        ensures ok { IfOk result (λ n. told_at self.new p
+            ≡ gave (take n piece.now) (told_at self.old p)) }
         ensures failed { OnErr result (Fails (number p) (world_of self.old) (world_of self.new)) }
         ensures others { Touches (number p) (world_of self.old) (world_of self.new) }
 

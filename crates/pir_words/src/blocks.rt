@@ -41,7 +41,7 @@ impl Blocks {
 
 /// The texts between the commas.
 fn split<'a>(alloc: Global, text: &'a str) -> Result<Vec<&'a str>, AllocError>
-    ensures { IfOk result (λ parts. map (λ part. part.now) parts.items ≡ slice_split is_comma text.now) }
+    ensures { IfOk result (λ parts. map (λ p. p.now) parts.items ≡ slice_split is_comma text.now) }
 {
     text.split(',').collect(alloc)
 }
@@ -72,8 +72,7 @@ fn read_rows(
     rows: u32,
     texts: &[&str],
 ) -> Result<Option<Blocks>, AllocError>
-    ensures { IfOk result (λ blocks.
-        blocks ≡ rows_behind first rows (map (λ text. text.now) texts.now)) }
+    ensures { IfOk result (λ blocks. blocks ≡ rows_behind first rows (map (λ t. t.now) texts.now)) }
 {
     let mut list = Vec::new(alloc);
     list.push(first)?;

@@ -52,7 +52,7 @@ fn refusal<'a>(alloc: Global, words: &'a [String]) -> Result<Reason<'a>, AllocEr
 /// }
 /// ```
 pub fn reason_for<'a>(alloc: Global, words: &'a [String]) -> Result<Option<Reason<'a>>, AllocError>
-    ensures given { IfOk result (λ reason. is_none reason ≡ is_some (asked_of (map string_bytes words.now))) }
+    ensures given { IfOk result (λ r. is_none r ≡ is_some (asked_of (map string_bytes words.now))) }
     ensures hides { IfOk result (λ reason. IfSome reason Hides) }
 {
     match read_words(alloc, words) {
