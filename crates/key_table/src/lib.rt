@@ -22,11 +22,7 @@ mod place;
 mod row;
 mod rows;
 mod shape;
-#[cfg(test)]
-mod table_tests;
 mod tag;
-#[cfg(test)]
-mod tests;
 mod write;
 
 pub use clash::Clash;

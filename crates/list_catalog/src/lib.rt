@@ -13,8 +13,6 @@ mod member;
 mod range;
 mod read;
 mod servers;
-#[cfg(test)]
-mod tests;
 mod write;
 
 pub use catalog::Catalog;

@@ -2,7 +2,7 @@
 
 ghost use Rattle.std.specs.Prelude.{◌<◌};
 
-use crate::{AddFault, Clash, Entries, Finding, find_in_row, row_of, write_digest};
+use key_table::{AddFault, Clash, Entries, Finding, find_in_row, row_of, write_digest};
 use std::alloc::Global;
 
 const SALT: [u8; 16] = [0, 1, 2, 3, 4, 5, 6, 7, 8, 9, 10, 11, 12, 13, 14, 15];

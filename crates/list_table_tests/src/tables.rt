@@ -2,7 +2,7 @@
 
 ghost use Rattle.std.specs.Prelude.{◌≡◌, ◌≤◌, ◌<◌, ◌+◌, length, All, IfOk};
 
-use crate::{
+use key_table::{
     AddFault, Entries, Shape, ShapeFault, ShapeLimit, SortedEntries, TableRows, entries_in_row,
     write_digest,
 };

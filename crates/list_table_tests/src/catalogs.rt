@@ -1,6 +1,6 @@
 //! The worked catalog, which was made by an independent program, and what is refused of it.
 
-use crate::{
+use list_catalog::{
     CatalogFault, Member, Servers, ServersFault, read_catalog, with_options, write_catalog,
 };
 use std::alloc::{AllocError, Global};
