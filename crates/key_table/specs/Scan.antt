@@ -2,8 +2,10 @@
 use Rattle.std.specs.Prelude.{◌≡◌, ◌≢◌, ◌⊎◌, ℕ, ◌+◌, ◌<◌, ◌≤◌, List, length, slice_index, slice_index_or, All, Contains}
 use Rattle.std.specs.List.Sorted.{IsSortedBy}
 use Rattle.key_table.specs.Entry.{Pair}
+use Rattle.key_table.specs.Numbered.{HasNumber}
 use Rattle.key_table.specs.Places.{comes_before, digest_at, value_at}
 use Rattle.key_table.specs.declared.clash.Scan.{Scan}
+use Rattle.key_table.specs.declared.place.Place.{Place}
 
 -- the places of a list in the order of their digests, each of them once
 pub record AreOrdered (list : List Pair) (places : List ℕ) : Type 0 where
@@ -35,6 +37,7 @@ pub record Scanned (list : List Pair) (places : List ℕ) (done first least leas
   pub seen : (k : ℕ) → k < done → IsSeen list least (slice_index_or places k 0)
 
 -- what is known of the places that were looked at, with one more of them
-abbrev pub LooksAt : List Pair → Scan → ℕ → Scan → Type 0
-LooksAt list old place new = (places : List ℕ) (i : ℕ) → AreOrdered list places → 0 < i → i < length places → place ≡ slice_index places i
-    → Scanned list places i old.first old.least old.least_first → Scanned list places (i + 1) new.first new.least new.least_first
+abbrev pub LooksAt : List Pair → Scan → Place → Scan → Type 0
+LooksAt list old place new = (places : List ℕ) (i : ℕ) → AreOrdered list places → 0 < i → i < length places → place.place ≡ slice_index places i
+    → HasNumber list old.first → HasNumber list place → Scanned list places i old.first.place old.least old.least_first
+    → HasNumber list new.first × Scanned list places (i + 1) new.first.place new.least new.least_first

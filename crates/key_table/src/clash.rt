@@ -2,14 +2,14 @@
 
 ghost use Rattle.std.specs.Prelude.{◌≤◌, length, MatchOption};
 ghost use Rattle.key_table.specs.KeyList.{IsClear};
-ghost use Rattle.key_table.specs.Numbered.{bare};
+ghost use Rattle.key_table.specs.Numbered.{AreNumbered, bare};
 ghost use Rattle.key_table.specs.Places.{IsClash};
 ghost use Rattle.key_table.specs.Scan.{AreOrdered, LooksAt};
 ghost use Rattle.key_table.specs.declared.TheConstants.{MOST_PAIRS};
 
 use crate::MOST_PAIRS;
 use crate::pairs::Pairs;
-use crate::place::{Place, place_at};
+use crate::place::{Place, have_same_digest};
 
 /// Two places of a list that have one digest with two values.
 #[derive(Clone, Copy, Debug, PartialEq, Eq)]
@@ -24,7 +24,7 @@ pub struct Clash {
 #[derive(Clone, Copy)]
 struct Scan {
     /// The first place that has the digest of the last one.
-    first: u32,
+    first: Place,
     /// The least place whose value isn't that of the first place of its digest.
     least: u32,
     /// That first place.
@@ -32,26 +32,26 @@ struct Scan {
 }
 
 /// One more place is looked at.
-fn scan_place(pairs: &Pairs, scan: Scan, place: u32) -> Scan
+fn scan_place(pairs: &Pairs, scan: Scan, place: Place) -> Scan
     ensures { LooksAt pairs.now.pairs scan place result }
 {
-    if !pairs.has_same_digest(scan.first, place) {
+    if !have_same_digest(pairs, scan.first, place) {
         return Scan {
             first: place,
             least: scan.least,
             least_first: scan.least_first,
         };
     }
-    if place >= scan.least {
+    if place.place >= scan.least {
         return scan;
     }
-    if pairs.has_same_value(scan.first, place) {
+    if pairs.has_same_value(scan.first.place, place.place) {
         return scan;
     }
     Scan {
         first: scan.first,
-        least: place,
-        least_first: scan.first,
+        least: place.place,
+        least_first: scan.first.place,
     }
 }
 
@@ -59,6 +59,7 @@ fn scan_place(pairs: &Pairs, scan: Scan, place: u32) -> Scan
 pub(crate) fn clash_among(pairs: &Pairs, places: &[Place]) -> Option<Clash>
     requires few { length pairs.now.pairs ≤ MOST_PAIRS }
     requires ordered { AreOrdered pairs.now.pairs (bare places.now) }
+    requires numbered { AreNumbered pairs.now.pairs places.now }
     ensures { MatchOption result (IsClear pairs.now.pairs) (λ clash. IsClash pairs.now.pairs clash.first clash.place) }
 {
     let count = pairs.len() as u32;
@@ -66,12 +67,12 @@ pub(crate) fn clash_among(pairs: &Pairs, places: &[Place]) -> Option<Clash>
         return None;
     }
     let mut scan = Scan {
-        first: place_at(places, 0),
+        first: places[0],
         least: count,
         least_first: count,
     };
     for i in 1..places.len() {
-        scan = scan_place(pairs, scan, place_at(places, i));
+        scan = scan_place(pairs, scan, places[i]);
     }
     if scan.least >= count {
         return None;

@@ -15,7 +15,7 @@ use crate::clash::{Clash, clash_among};
 use crate::digest::{number_of, row_of_number};
 use crate::entry::entry_size;
 use crate::pairs::Pairs;
-use crate::place::{Place, compare, number_at, place_at};
+use crate::place::{Place, compare, count_places, have_same_digest, number_at, place_at};
 use std::alloc::Global;
 use std::marker::Model;
 
@@ -76,7 +76,7 @@ fn sort_places(pairs: &Pairs, places: &mut Vec<Place>)
 fn keep_firsts(pairs: &Pairs, places: &mut Vec<Place>)
     ensures { places.new.items ≡ dedup (same_numbered pairs.now.pairs) places.old.items }
 {
-    places.dedup_by(|one, other| pairs.has_same_digest(one.place, other.place));
+    places.dedup_by(|one, other| have_same_digest(pairs, *one, *other));
 }
 
 impl Entries {
@@ -121,7 +121,8 @@ impl Entries {
         Ok(())
     }
 
-    /// The entries of the list as they ascend, each once, where values have at most `most` bytes. It takes no memory.
+    /// The entries of the list as they ascend, each once, where values have at most `most` bytes. Where there is memory
+    /// for a copy of them they lie in it in this order.
     ///
     /// # Errors
     ///
@@ -137,15 +138,41 @@ impl Entries {
             return Err(clash);
         }
         keep_firsts(&pairs, &mut places);
-        Ok(SortedEntries {
+        let sorted = SortedEntries {
             pairs,
             places,
             most,
-        })
+        };
+        Ok(sorted.side_by_side())
     }
 }
 
 impl SortedEntries {
+    /// The same entries, which lie in memory as they ascend, so that a pass over them goes through it once. Where there
+    /// is no memory for a copy they stay where they are.
+    fn side_by_side(self) -> SortedEntries
+        ensures { result ≡ self }
+    {
+        let SortedEntries {
+            pairs,
+            mut places,
+            most,
+        } = self;
+        let Ok(copy) = pairs.copied(&places) else {
+            return SortedEntries {
+                pairs,
+                places,
+                most,
+            };
+        };
+        count_places(&mut places);
+        SortedEntries {
+            pairs: copy,
+            places,
+            most,
+        }
+    }
+
     /// How many entries there are. Their digests ascend, and all have one size.
     pub fn count(&self) -> usize
         ensures count { result ≡ length self.now.pairs }

@@ -1,11 +1,14 @@
 //! The pairs of a list in memory, in the order in which they were given.
 
-ghost use Rattle.std.specs.Prelude.{◌≡◌, ◌≢◌, ◌≤◌, ◌<◌, length, ◌++◌, ◌∷◌, [], IfOk, IfErr, true, false};
+ghost use Rattle.std.specs.Prelude.{◌≡◌, ◌≢◌, ◌≤◌, ◌<◌, length, ◌++◌, ◌∷◌, [], All, IfOk, IfErr, true, false};
+ghost use Rattle.key_table.specs.Entry.{HasSizes};
 ghost use Rattle.key_table.specs.Held.{AreStarts, pairs_of, text_of};
 ghost use Rattle.key_table.specs.Looked.{pair};
+ghost use Rattle.key_table.specs.Numbered.{pairs_at};
 ghost use Rattle.key_table.specs.Places.{digest_at, has_same_digest, place_cmp, value_at};
 ghost use Rattle.key_table.specs.declared.TheConstants.{LEAST_DIGEST, MOST_DIGEST, MOST_VALUE};
 
+use crate::place::Place;
 use std::alloc::{AllocError, Global};
 use std::cmp::Ordering;
 use std::marker::Model;
@@ -102,6 +105,30 @@ impl Pairs {
             bytes: Vec::new(alloc),
             starts: Vec::new(alloc),
         }
+    }
+
+    /// No pair yet, of digests of as many bytes.
+    fn new_beside(&self) -> Pairs
+        ensures { result ≡ record { size = self.now.size; pairs = [] } }
+    {
+        Pairs {
+            size: self.size,
+            bytes: Vec::new(*self.bytes.allocator()),
+            starts: Vec::new(*self.bytes.allocator()),
+        }
+    }
+
+    /// The pairs at these places, in this order.
+    pub(crate) fn copied(&self, places: &[Place]) -> Result<Pairs, AllocError>
+        requires { All (HasSizes self.now.size MOST_VALUE) (pairs_at self.now.pairs places.now) }
+        ensures { IfOk result (λ copy. copy ≡ record { size = self.now.size; pairs = pairs_at self.now.pairs places.now }) }
+    {
+        let mut copy = self.new_beside();
+        for i in 0..places.len() {
+            let place = places[i].place;
+            copy.add(self.digest(place), self.value(place))?;
+        }
+        Ok(copy)
     }
 
     /// How many bytes a digest has.
