@@ -1,0 +1,5 @@
+pub mod Ranges
+pub mod Frames
+pub mod Records
+pub mod Joined
+mod FirstAnswers

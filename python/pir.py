@@ -1,0 +1,261 @@
+"""Private look-ups in a list that several servers hold: which bytes to send, and what the answers agree on.
+
+The caller brings the sockets. A fetch of row 17 from four servers, of which one alone learns nothing and one may lie:
+
+    client = Client(rows=1000, width=32, degree=1, agree=3, servers=4)
+    query = client.ask(17)
+    answers = [talk_to(server, frame) for server, frame in zip(servers, query.frames)]
+    verdict = query.judge(answers)
+    verdict.block                    # the row, as bytes
+
+`talk_to` sends the frame, and gives back the bytes that come, at most `query.answer_size`, or None where the server was silent.
+It stands on libpir.so, which is proved; this module hands bytes on to it. PIR_LIBRARY names the file, if it isn't beside this
+module or where the system looks for libraries. It needs Python 3.8, and nothing else."""
+import ctypes
+import os
+import secrets
+from typing import List, NamedTuple, Optional, Sequence, Union
+
+__all__ = ["Client", "KeyList", "Query", "Verdict", "PirError", "NoBlock", "SeveralBlocks", "BrokenRow", "SHAMIR", "XOR"]
+
+SHAMIR = 1
+XOR = 2
+INTERFACE = 1
+
+
+class _Plan(ctypes.Structure):
+    _fields_ = [(it, ctypes.c_uint32) for it in ("scheme", "degree", "agreement", "servers", "tau", "rows", "width")]
+
+
+class _Listing(ctypes.Structure):
+    _fields_ = [
+        (it, ctypes.c_uint64) for it in ("blocks", "block_size", "needed", "answers", "degree", "agreement", "cost")
+    ]
+
+
+class _List(ctypes.Structure):
+    _fields_ = [(it, ctypes.c_uint32) for it in ("digest_bytes", "value_bytes", "rows")]
+
+
+class PirError(Exception):
+    """A call was refused, or the answers have no listing. `code` is that of include/pir.h."""
+
+    def __init__(self, code: int, text: str):
+        super().__init__(text)
+        self.code = code
+
+
+class NoBlock(PirError):
+    """No block has so many answers that agree."""
+
+
+class SeveralBlocks(PirError):
+    """Several blocks have; they are in `Verdict.blocks`."""
+
+
+class BrokenRow(PirError):
+    """The row is none of the list, so that nothing is known of the key."""
+
+
+REFUSALS = {
+    -1: "the numbers are those of no plan",
+    -2: "no block is asked for, too many, or one that isn't a row",
+    -3: "the index is that of no server",
+    -4: "there are too few coins",
+    -5: "there is too little room",
+    -6: "the answers aren't those of so many servers",
+    -7: "the numbers are those of no list, or the row is too long",
+    12: "there is no memory",
+}
+
+
+def _load() -> ctypes.CDLL:
+    here = os.path.join(os.path.dirname(os.path.abspath(__file__)), "libpir.so")
+    library = ctypes.CDLL(os.environ.get("PIR_LIBRARY") or (here if os.path.exists(here) else "libpir.so"))
+    size, plan = ctypes.c_size_t, ctypes.POINTER(_Plan)
+    library.pir_version.restype = ctypes.c_uint32
+    for name in ("pir_coins", "pir_query_size", "pir_answer_size"):
+        getattr(library, name).restype = ctypes.c_int64
+        getattr(library, name).argtypes = [plan, size]
+    library.pir_list_row.restype = ctypes.c_int64
+    library.pir_list_row.argtypes = [ctypes.POINTER(_List), ctypes.c_char_p, ctypes.c_char_p, size]
+    library.pir_list_find.restype = ctypes.c_int32
+    library.pir_list_find.argtypes = [
+        *(ctypes.POINTER(_List), ctypes.c_char_p, ctypes.c_char_p, ctypes.c_char_p, size, ctypes.c_char_p, size),
+        *(ctypes.POINTER(ctypes.c_char), size, ctypes.POINTER(size)),
+    ]
+    library.pir_query.restype = library.pir_liars.restype = ctypes.c_int32
+    library.pir_query.argtypes = [
+        *(plan, ctypes.POINTER(ctypes.c_uint32), size, ctypes.c_char_p, size),
+        *(ctypes.c_uint32, ctypes.POINTER(ctypes.c_char), size, ctypes.POINTER(size)),
+    ]
+    library.pir_liars.argtypes = [
+        *(plan, size, ctypes.c_uint64, ctypes.c_char_p, size, ctypes.POINTER(size), size, ctypes.c_char_p, size),
+        *(ctypes.POINTER(ctypes.c_char), size, ctypes.POINTER(ctypes.c_char), size, ctypes.POINTER(_Listing)),
+    ]
+    if library.pir_version() != INTERFACE:
+        raise ImportError(f"libpir has interface {library.pir_version()}, and this module is for {INTERFACE}")
+    return library
+
+
+_LIBRARY = _load()
+
+
+def _checked(code: int) -> int:
+    if code < 0 or code == 12:
+        raise PirError(code, REFUSALS.get(code, f"code {code}"))
+    return code
+
+
+class Verdict(NamedTuple):
+    """What the answers agree on."""
+
+    code: int
+    """0 for one block, 3 for none, 4 for several, 5 for too few usable answers, 6 for too weak an agreement, 7 for too high a cost."""
+    blocks: List[bytes]
+    """The listed blocks, ascending. Each has the rows that were asked for, one behind another."""
+    text: str
+    """The verdict in words."""
+    servers: Optional[List[int]]
+    """Of each server 0 where it was silent or its answer isn't usable, 1 where it agrees, 2 where it lied; None where that can't be told."""
+
+    @property
+    def block(self) -> bytes:
+        """The one block. Raises `NoBlock`, `SeveralBlocks` or `PirError` where there isn't exactly one."""
+        if self.code:
+            raise {3: NoBlock, 4: SeveralBlocks}.get(self.code, PirError)(self.code, self.text)
+        return self.blocks[0]
+
+
+class Query:
+    """What the servers are sent for some rows. Each query is for one fetch: its coins are used once."""
+
+    frames: List[bytes]
+    """The bytes that each server is sent, in order."""
+    answer_size: int
+    """How many bytes a whole answer has: read so many of each server."""
+
+    def __init__(self, client: "Client", rows: Sequence[int], coins: bytes):
+        self._client, self._count = client, len(rows)
+        plan, numbers = ctypes.byref(client._plan), (ctypes.c_uint32 * len(rows))(*rows)
+        size = _checked(_LIBRARY.pir_query_size(plan, len(rows)))
+        self.answer_size = _checked(_LIBRARY.pir_answer_size(plan, len(rows)))
+        self.session = int.from_bytes(coins[:8], "big")
+        self.frames = []
+        out, used = ctypes.create_string_buffer(size), ctypes.c_size_t()
+        for index in range(1, client.servers + 1):
+            _checked(_LIBRARY.pir_query(plan, numbers, len(rows), coins, len(coins), index, out, size, ctypes.byref(used)))
+            self.frames.append(out.raw[: used.value])
+
+    def judge(self, answers: Sequence[Optional[bytes]]) -> Verdict:
+        """The verdict on what each server answered, in order; None for a server that was silent."""
+        joined, n = b"".join(it or b"" for it in answers), len(answers)
+        lengths = (ctypes.c_size_t * max(n, 1))(*(len(it or b"") for it in answers))
+        present = bytes(it is not None for it in answers)
+        room, told, who = self.answer_size, _Listing(), ctypes.create_string_buffer(b"\xff" * n, n)
+        while True:
+            out = ctypes.create_string_buffer(room)
+            code = _LIBRARY.pir_liars(
+                *(ctypes.byref(self._client._plan), self._count, self.session, joined, len(joined), lengths, n),
+                *(present, n, out, room, who, n, ctypes.byref(told)),
+            )
+            if code != -5:
+                break
+            room = told.needed
+        said = None if b"\xff" in who.raw else list(who.raw)
+        return Verdict(_checked(code), self._blocks(out.raw, told), self._text(code, told), said)
+
+    @staticmethod
+    def _blocks(written: bytes, told: _Listing) -> List[bytes]:
+        return [written[i * told.block_size : (i + 1) * told.block_size] for i in range(told.blocks)]
+
+    @staticmethod
+    def _text(code: int, told: _Listing) -> str:
+        return {
+            5: f"{told.answers} answers are usable, and {told.agreement} have to agree",
+            6: f"an agreement of {told.agreement} is too weak for {told.answers} answers of degree {told.degree}",
+            7: f"the decoding costs {told.cost}, which is too much",
+        }.get(code, f"{told.blocks} block{'s' * (told.blocks != 1)}")
+
+
+class Client:
+    """A database that several servers hold, and how it is asked.
+
+    `degree` servers together learn nothing of the row; `agree` answers have to agree. Take 2 * agree > servers + degree: then a
+    verdict has one block at most. `tau` is that of a database that is shared among the servers. In the scheme XOR all servers have
+    to answer: leave `degree` and `agree` out there."""
+
+    def __init__(
+        self,
+        rows: int,
+        width: int,
+        degree: Optional[int] = None,
+        agree: Optional[int] = None,
+        servers: int = 0,
+        scheme: int = SHAMIR,
+        tau: int = 0,
+    ):
+        if scheme == XOR:
+            degree, agree = servers - 1 if degree is None else degree, servers if agree is None else agree
+        numbers = (scheme, degree, agree, servers, tau, rows, width)
+        if not all(isinstance(it, int) and 0 <= it < 1 << 32 for it in numbers):
+            raise PirError(-1, REFUSALS[-1])
+        self._plan, self.servers = _Plan(*numbers), servers
+        self.coins_size(1)
+
+    def coins_size(self, count: int) -> int:
+        """How many coins a query for so many rows takes."""
+        return _checked(_LIBRARY.pir_coins(ctypes.byref(self._plan), count))
+
+    def ask(self, block: Union[int, Sequence[int]], coins: Optional[bytes] = None) -> Query:
+        """The query for a row, or for up to 16 rows at once. The coins are random bytes of the system, if none are given."""
+        rows = [block] if isinstance(block, int) else list(block)
+        if not all(0 <= it < 1 << 32 for it in rows):
+            raise PirError(-2, REFUSALS[-2])
+        needed = self.coins_size(len(rows))
+        return Query(self, rows, secrets.token_bytes(needed) if coins is None else coins)
+
+
+class KeyList:
+    """What a client knows of a list of keys, as its catalog has it: where a key stands, and what its row says of it.
+
+        keys = KeyList.read("leaked.toml")
+        query = keys.client(degree=1, agree=3, servers=4).ask(keys.row_of(b"password123"))
+        ..
+        keys.look_in(query.judge(answers).block, b"password123")      # its value, or None where the list hasn't the key
+    """
+
+    def __init__(self, salt: bytes, tag: bytes, digest: int, value: int, rows: int, width: int):
+        if len(salt) != 16 or len(tag) != 8 or not all(0 <= it < 1 << 32 for it in (digest, value, rows, width)):
+            raise PirError(-7, REFUSALS[-7])
+        self.salt, self.tag, self.rows, self.width = salt, tag, rows, width
+        self._list = _List(digest, value, rows)
+        self.row_of(b"")
+
+    @classmethod
+    def read(cls, path: str) -> "KeyList":
+        """That of a catalog's file, as `pir_list build` writes it."""
+        with open(path, encoding="utf-8") as it:
+            parts = (line.partition("=") for line in it)
+            said = {name.strip(): value.strip().strip('"') for name, found, value in parts if found}
+        numbers = (int(said[it]) for it in ("digest", "value", "rows", "width"))
+        return cls(bytes.fromhex(said["salt"]), bytes.fromhex(said["list"]), *numbers)
+
+    def client(self, degree: int, agree: int, servers: int) -> Client:
+        """The client of the list's table."""
+        return Client(self.rows, self.width, degree, agree, servers)
+
+    def row_of(self, key: bytes) -> int:
+        """The row that a key belongs to."""
+        return _checked(_LIBRARY.pir_list_row(ctypes.byref(self._list), self.salt, key, len(key)))
+
+    def look_in(self, row: bytes, key: bytes) -> Optional[bytes]:
+        """The key's value by its row, empty where keys have none; None where the list hasn't the key. Raises `BrokenRow` where the row
+        is none of the list: then nothing is known of the key."""
+        room, used = max(self._list.value_bytes, 1), ctypes.c_size_t()
+        out = ctypes.create_string_buffer(room)
+        words = (row, len(row), key, len(key), out, room, ctypes.byref(used))
+        code = _checked(_LIBRARY.pir_list_find(ctypes.byref(self._list), self.salt, self.tag, *words))
+        if code == 10:
+            raise BrokenRow(code, "the row is none of the list")
+        return None if code == 14 else out.raw[: used.value]
