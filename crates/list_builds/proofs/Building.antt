@@ -20,7 +20,7 @@ use Rattle.list_builds.specs.Writing.{TouchesWritten, WritesList}
 use Rattle.list_builds.specs.declared.order.Values.{Values}
 use Rattle.list_builds.specs.declared.fault.Built.{Built}
 use Rattle.list_builds.specs.declared.fault.BuildFault.{BuildFault}
-use Rattle.list_builds.specs.declared.fault.BuildFault.TheVariants.{DatabaseFault, CatalogFault, LongCatalog, Memory}
+use Rattle.list_builds.specs.declared.fault.BuildFault.TheVariants.{DatabaseFault, CatalogFault, Memory}
 use Rattle.list_builds.proofs.Carried.{unwritten_before}
 use Rattle.list_builds.proofs.Gathers.{count_gathered}
 use Rattle.list_builds.proofs.Laying.{most_fits, pairs_are, values_fit}
@@ -34,14 +34,6 @@ catalog_unread (Some name) = (λ e. omega (arith, e), λ e. omega (arith, e), om
 -- the salt counts, whatever other ports do later
 salt_stays : (name salt : List ℕ) (w v u : World) → u.at COINS ≡ v.at COINS → Salted name salt w v → Salted name salt w u
 salt_stays name salt w v u same h = subst (λ (c : Cell). IsSalt name salt (w.at COINS) c) (sym same) h
-
--- Coins was touched, and then Input
-pub read_touched : (w v u : World) → Touches COINS w v → Touches INPUT v u → TouchesRead w u
-read_touched w v u one other = record {
-  others = λ q lt off on. other.others q lt on ∙ one.others q lt off;
-  crowd = other.crowd ∙ one.crowd;
-  started = other.started ∙ one.started;
-}
 
 -- the salt was taken, and then the list was read
 module _ (o : Order) (salt : List ℕ) (w v u : World) (salted : Salted o.coins salt w v) (one : Touches COINS w v) (other : Touches INPUT v u) where
@@ -103,7 +95,6 @@ module _ (o : Order) (salt : List ℕ) (list : Gathered) (laid : Laid) (w v u : 
   writes_before : (r : Result (Unit {0}) BuildFault) → WritesList o.database o.catalog laid r v u → WritesList o.database o.catalog laid r w u
   writes_before (Ok x) h = (table_before h.0, text_before (text_in laid) w v u o.catalog catalog_same h.1)
   writes_before (Err CatalogFault) h = (table_before h.0, cut_text_before (text_in laid) w v u o.catalog catalog_same h.1)
-  writes_before (Err LongCatalog) h = (table_before h.0, h.1 ∙ catalog_same, h.2)
   writes_before (Err DatabaseFault) h = (unwritten_before RECORD w v u record_same o.database (bytes_in laid) h.0, h.1 ∙ catalog_same)
   writes_before (Err Memory) h = (elim h.0 [ inl left ↦ inl (left ∙ record_same) | inr whole ↦ inr (table_before whole) ], h.1 ∙ catalog_same)
   writes_before (Err fault) h = absurd h
@@ -145,7 +136,6 @@ module _ (o : Order) (salt : List ℕ) (list : Gathered) (laid : Laid) (w v u : 
       → WritesList o.database o.catalog laid (Err fault) v u → Builds o r w u
   built_part fault (Ok built) told_is h = absurd told_is
   built_part CatalogFault (Err told) told_is h = subst (λ (f : BuildFault). Builds o (Err f) w u) (sym told_is) (part CatalogFault h)
-  built_part LongCatalog (Err told) told_is h = subst (λ (f : BuildFault). Builds o (Err f) w u) (sym told_is) (part LongCatalog h)
   built_part DatabaseFault (Err told) told_is h = subst (λ (f : BuildFault). Builds o (Err f) w u) (sym told_is) (part DatabaseFault h)
   built_part Memory (Err told) told_is h = subst (λ (f : BuildFault). Builds o (Err f) w u) (sym told_is) (inr (part Memory h))
   built_part fault (Err told) told_is h = absurd h

@@ -1,6 +1,6 @@
 -- A list that is gathered line by line.
 use Rattle.std.proofs.Common.{◌≡◌, ℕ, ◌+◌, ◌-◌, ◌<◌, ◌≤◌, true≢false, List, [], ◌∷◌, ◌++◌, length, sym, ap, ap₂, subst, ◌∙◌, arith}
-use Rattle.std.specs.Prelude.{Bool, true, false, max, Ok, Err, Result}
+use Rattle.std.specs.Prelude.{All, Bool, true, false, max, Ok, Err, Result}
 use Rattle.std.specs.Result.{IsErrAnd}
 use Rattle.std.proofs.lemmas.List.{length-map, length_push, map-append}
 use Rattle.std.proofs.lemmas.List.Elements.{All-nil, All-push}
@@ -8,7 +8,7 @@ use Rattle.port_trait.specs.World.{World}
 use Rattle.key_table.specs.Entry.{Pair}
 use Rattle.key_table.specs.Held.{Held}
 use Rattle.key_table.specs.declared.TheConstants.{MOST_PAIRS, MOST_VALUE}
-use Rattle.list_keys.specs.Form.{AreTerms, IsForm, IsWhole, key_of, most_value, value_of}
+use Rattle.list_keys.specs.Form.{AreTerms, IsForm, IsGood, IsWhole, key_of, most_value, value_of}
 use Rattle.list_keys.specs.Reading.{FailsToGive, Gives, GivesAll, HasRead, Reading}
 use Rattle.list_keys.specs.declared.form.Form.{Form}
 use Rattle.list_keys.specs.declared.form.Form.TheVariants.{Key, KeyWithoutTab, KeyAndValue}
@@ -120,6 +120,7 @@ gathered_all salt size terms list returns old reader start mid now same returns_
     record {
       given = h.given;
       all = all;
+      good = subst (λ (t : Terms). All (IsGood t.form) h.given) same read.good;
       whole = h.whole;
       some = some;
       few = few_by terms reader h.given start now same read;

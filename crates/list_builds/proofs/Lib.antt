@@ -1,4 +1,5 @@
 pub mod Longest
+pub mod Ascending
 pub mod Gathers
 pub mod TableBytes
 pub mod Room
@@ -6,4 +7,6 @@ pub mod Laying
 pub mod CatalogSizes
 pub mod Carried
 pub mod Written
+pub mod Touching
 pub mod Building
+pub mod Promised

@@ -15,7 +15,7 @@ use Rattle.list_builds.specs.Salt.{LacksSalt, Salted, Unsalted}
 use Rattle.list_builds.specs.Writing.{WritesList}
 use Rattle.list_builds.specs.declared.fault.Built.{Built}
 use Rattle.list_builds.specs.declared.fault.BuildFault.{BuildFault}
-use Rattle.list_builds.specs.declared.fault.BuildFault.TheVariants.{CoinsFault, CoinsEnded, KeysFault, NoLine, Refused, Clash, Unshaped, DatabaseFault, CatalogFault, LongCatalog, Memory}
+use Rattle.list_builds.specs.declared.fault.BuildFault.TheVariants.{CoinsFault, CoinsEnded, KeysFault, NoLine, Refused, Clash, Unshaped, DatabaseFault, CatalogFault, Memory}
 
 -- Coins and Input alone are touched: no file to write was opened
 abbrev pub TouchesRead : World → World → Type 0
@@ -80,5 +80,4 @@ Builds o (Err (Clash first second)) old new = HasNoTable o (Clash first second) 
 Builds o (Err (Unshaped fault)) old new = HasNoTable o (Unshaped fault) old new
 Builds o (Err DatabaseFault) old new = BuildsPart o DatabaseFault old new
 Builds o (Err CatalogFault) old new = BuildsPart o CatalogFault old new
-Builds o (Err LongCatalog) old new = BuildsPart o LongCatalog old new
 Builds o (Err Memory) old new = TouchesRead old new ⊎ BuildsPart o Memory old new

@@ -1,13 +1,12 @@
 -- The catalog of a list that is written.
-use Rattle.std.specs.Prelude.{◌≡◌, ℕ, ◌<◌, List, length, None, Result, Ok, Err, String, string_bytes}
+use Rattle.std.specs.Prelude.{◌≡◌, ℕ, List, length, None, Result, Ok, Err, String, string_bytes}
 use Rattle.std.specs.declared.alloc.Global.{Global}
 use Rattle.sha2.specs.Sha256.{sha256}
 use Rattle.list_catalog.specs.Facts.{Facts}
 use Rattle.list_catalog.specs.Writing.{catalog_text}
-use Rattle.list_catalog.specs.declared.TheConstants.{MOST_CATALOG}
 use Rattle.list_builds.specs.Laid.{Laid, bytes_in, tag_in}
 use Rattle.list_builds.specs.declared.fault.BuildFault.{BuildFault}
-use Rattle.list_builds.specs.declared.fault.BuildFault.TheVariants.{LongCatalog, Memory}
+use Rattle.list_builds.specs.declared.fault.BuildFault.TheVariants.{Memory}
 
 -- what its catalog says
 abbrev pub facts_in : Laid → Facts
@@ -27,9 +26,8 @@ facts_in laid = record {
 abbrev pub text_in : Laid → List ℕ
 text_in laid = catalog_text (facts_in laid)
 
--- the text of a catalog, or why there is none
+-- the text of a catalog, or none for want of memory
 abbrev pub MakesText : List ℕ → Result (String Global) BuildFault → Type 0
 MakesText text (Ok made) = string_bytes made ≡ text
-MakesText text (Err LongCatalog) = MOST_CATALOG < length text
 MakesText text (Err Memory) = Unit {0}
 MakesText text (Err fault) = ⊥

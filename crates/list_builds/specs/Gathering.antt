@@ -5,7 +5,7 @@ use Rattle.port_trait.specs.World.{World}
 use Rattle.key_table.specs.Digest.{digest_of}
 use Rattle.key_table.specs.Held.{Held}
 use Rattle.key_table.specs.Looked.{pair}
-use Rattle.list_keys.specs.Form.{IsWhole}
+use Rattle.list_keys.specs.Form.{IsGood, IsWhole}
 use Rattle.list_keys.specs.Keys.{ReadsSome}
 use Rattle.list_keys.specs.Lines.{ends_with_return}
 use Rattle.list_keys.specs.Reading.{FailsToGive, GivesAll, HasRead, Reading}
@@ -36,10 +36,11 @@ pub record Gathers (salt : List ℕ) (size : ℕ) (form : Form) (given : List (L
   pub held_is : held ≡ record { size = size; pairs = pairs_of salt size form given }
   pub longest_is : longest ≡ longest_of (pairs_of salt size form given)
 
--- Input was read to its end, these are its lines, each of them whole, and they are gathered
+-- Input was read to its end, these are its lines, with each of which nothing is wrong, and they are gathered
 pub record GathersAll (salt : List ℕ) (size : ℕ) (terms : Terms) (list : Gathered) (start now : World) : Type 0 where
   pub given : List (List ℕ)
   pub all : GivesAll given start now
+  pub good : All (IsGood terms.form) given
   pub whole : All (IsWhole terms.form) given
   pub some : 0 < length given
   pub few : length given ≤ terms.most

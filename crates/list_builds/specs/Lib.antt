@@ -10,3 +10,4 @@ pub mod Layout
 pub mod CatalogOf
 pub mod Writing
 pub mod Builds
+pub mod Promise

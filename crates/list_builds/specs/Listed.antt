@@ -4,7 +4,7 @@ use Rattle.std.specs.List.{list_all}
 use Rattle.port_trait.specs.World.{Cell, World}
 use Rattle.port_trait.specs.Number.{INPUT}
 use Rattle.port_trait.specs.Moves.{RoseOnce, counted, named, took}
-use Rattle.list_keys.specs.Form.{IsFirstFault, IsWhole}
+use Rattle.list_keys.specs.Form.{IsFirstFault, IsGood, IsWhole}
 use Rattle.list_keys.specs.Lines.{ends_with_return, lines}
 use Rattle.list_keys.specs.declared.form.Terms.{Terms}
 use Rattle.list_keys.specs.declared.fault.LineFault.{LineFault}
@@ -19,10 +19,11 @@ pub record HasLines (name : List ℕ) (given : List (List ℕ)) (old new : Cell)
   pub all : IfSome old.holds (λ held. read ≡ held)
   pub are : lines read ≡ given
 
--- its lines are whole, and the list is gathered from them: digests of so many bytes under that salt, and values
+-- nothing is wrong with its lines, and the list is gathered from them: digests of so many bytes under that salt, and values
 pub record IsListed (name salt : List ℕ) (size : ℕ) (terms : Terms) (list : Gathered) (old new : Cell) : Type 0 where
   pub given : List (List ℕ)
   pub has : HasLines name given old new
+  pub good : All (IsGood terms.form) given
   pub whole : All (IsWhole terms.form) given
   pub some : 0 < length given
   pub few : length given ≤ terms.most

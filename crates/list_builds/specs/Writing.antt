@@ -1,16 +1,15 @@
 -- Writing the database of a list, and behind it the catalog.
-use Rattle.std.specs.Prelude.{◌≡◌, ◌⊎◌, ℕ, ◌<◌, List, [], ◌∷◌, length, Option, Result, Ok, Err}
+use Rattle.std.specs.Prelude.{◌≡◌, ◌⊎◌, ℕ, List, [], ◌∷◌, Option, Result, Ok, Err}
 use Rattle.port_trait.specs.World.{World}
 use Rattle.port_trait.specs.Number.{RECORD}
 use Rattle.port_trait.specs.Moves.{gave, named}
 use Rattle.port_trait.specs.Files.{Unwritten}
 use Rattle.port_trait.specs.Touched.{One, TouchesOnly}
-use Rattle.list_catalog.specs.declared.TheConstants.{MOST_CATALOG}
 use Rattle.list_builds.specs.CatalogText.{CutsText, GivesText, catalog_port}
 use Rattle.list_builds.specs.CatalogOf.{text_in}
 use Rattle.list_builds.specs.Laid.{Laid, bytes_in}
 use Rattle.list_builds.specs.declared.fault.BuildFault.{BuildFault}
-use Rattle.list_builds.specs.declared.fault.BuildFault.TheVariants.{CatalogFault, DatabaseFault, LongCatalog, Memory}
+use Rattle.list_builds.specs.declared.fault.BuildFault.TheVariants.{CatalogFault, DatabaseFault, Memory}
 
 -- the file of the database took the whole table
 abbrev pub GivesTable : List ℕ → Laid → World → World → Type 0
@@ -24,8 +23,6 @@ LeavesCatalog name old new = new.at (catalog_port name) ≡ old.at (catalog_port
 abbrev pub WritesList : List ℕ → Option (List ℕ) → Laid → Result (Unit {0}) BuildFault → World → World → Type 0
 WritesList database catalog laid (Ok _) old new = GivesTable database laid old new × GivesText catalog (text_in laid) old new
 WritesList database catalog laid (Err CatalogFault) old new = GivesTable database laid old new × CutsText catalog (text_in laid) old new
-WritesList database catalog laid (Err LongCatalog) old new =
-    GivesTable database laid old new × LeavesCatalog catalog old new × (MOST_CATALOG < length (text_in laid))
 WritesList database catalog laid (Err DatabaseFault) old new = Unwritten RECORD database (bytes_in laid) old new × LeavesCatalog catalog old new
 WritesList database catalog laid (Err Memory) old new =
     ((new.at RECORD ≡ old.at RECORD) ⊎ GivesTable database laid old new) × LeavesCatalog catalog old new

@@ -60,10 +60,6 @@ pub enum BuildFault {
     /// A call on the catalog's file, or on standard output, failed. The database is whole.
     #[error("a call on the catalog failed")]
     CatalogFault,
-    /// The text of the catalog has more bytes than a catalog may have. The database is whole, and the catalog was left
-    /// alone.
-    #[error("the catalog has more than 65536 bytes")]
-    LongCatalog,
     /// Want of memory. The catalog was left alone.
     #[error("no memory")]
     Memory,

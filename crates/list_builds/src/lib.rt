@@ -5,6 +5,7 @@
 //!
 //! Promised: where [`build_list`] gives what it built, the database's file took exactly the bytes of the list's table,
 //! in the shape that was asked for or the best one, and behind it exactly the catalog's text was written.
+//! Where there is a salt, the list is good and no call failed, it is built, or memory ran out.
 //! Each fault comes where its cause is, with its line or its numbers.
 //! No file to write is opened before the shape of the table is known, the catalog is written behind a whole table alone,
 //! and what a cut file has is a prefix. No other port is touched.

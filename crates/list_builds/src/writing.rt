@@ -38,14 +38,14 @@ impl Laid {
     ///
     /// # Errors
     ///
-    /// `LongCatalog` exactly where the text has more bytes than a catalog may have, `Memory` for want of memory.
+    /// `Memory` for want of memory: without servers the text is never too long.
     fn catalog_text(&self, alloc: Global, hash: [u8; 32]) -> Result<String, BuildFault>
         requires { hash ≡ sha256 (bytes_in self.now) }
         ensures { MakesText (text_in self.now) result }
     {
         match write_catalog(alloc, &self.catalog(hash)) {
             Ok(text) => Ok(text),
-            Err(WriteFault::TooLong) => Err(BuildFault::LongCatalog),
+            Err(WriteFault::TooLong) => unreachable!(),
             Err(WriteFault::Memory) => Err(BuildFault::Memory),
         }
     }
@@ -57,7 +57,7 @@ impl Laid {
 /// # Errors
 ///
 /// `DatabaseFault` only where a call on Record failed, and then the catalog was left alone; `CatalogFault` only where a
-/// call on the catalog's port failed; `LongCatalog` as above; `Memory` for want of memory: the catalog was left alone.
+/// call on the catalog's port failed; `Memory` for want of memory: the catalog was left alone.
 pub(crate) fn write_list<P: Ports>(
     alloc: Global,
     ports: &mut P,

@@ -4,4 +4,5 @@ pub mod Servings
 pub mod Saying
 pub mod Faithful
 pub mod Lines
+pub mod Sizes
 pub mod ReadBack

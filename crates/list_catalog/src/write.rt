@@ -1,6 +1,6 @@
 //! Writing a catalog.
 
-ghost use Rattle.std.specs.Prelude.{◌≡◌, ◌≤◌, ℕ, pos, IfOk, OnOk, length, map, string_bytes};
+ghost use Rattle.std.specs.Prelude.{◌≡◌, ◌≤◌, ℕ, pos, IfErr, IfOk, None, OnOk, length, map, string_bytes};
 ghost use Rattle.hex.specs.Hex.{IsBytes};
 ghost use Rattle.toml.specs.View.{array_view, table_view, view};
 ghost use Rattle.list_catalog.specs.Member.{name_of};
@@ -118,6 +118,7 @@ fn document_of(alloc: Global, catalog: &Catalog) -> Result<Table, AllocError>
 pub fn write_catalog(alloc: Global, catalog: &Catalog) -> Result<String, WriteFault>
     ensures text { Writes catalog.now result }
     ensures read_back { IfOk result (λ text. ReadsBack (string_bytes text) catalog.now) }
+    ensures short { catalog.now.servers ≡ None → IfErr result (λ fault. fault ≡ WriteFault.Memory) }
 {
     let document = document_of(alloc, catalog)?;
     let Ok(text) = toml::table_to_string(alloc, &document) else {

@@ -2,7 +2,7 @@ mod Loading
 mod Keys
 mod Plans
 mod Searching
-mod Texts
+mod Putting
 mod LookedUp
 mod Ranges
 mod Codes

@@ -1,5 +1,5 @@
 -- What `find` does to the outside, step by step, by what it answers.
-use Rattle.std.specs.Prelude.{◌≡◌, ◌⊎◌, ℕ, List, [], ◌∷◌, Option, option_map, Result, Ok, Err}
+use Rattle.std.specs.Prelude.{◌≡◌, ℕ, List, [], ◌∷◌, option_map, Result, Ok, Err}
 use Rattle.port_trait.specs.World.{World}
 use Rattle.port_trait.specs.Number.{DATABASE, INPUT, OUTPUT}
 use Rattle.port_trait.specs.Moves.{Touches}

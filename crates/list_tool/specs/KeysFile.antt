@@ -1,5 +1,5 @@
 -- Reading the keys in a file.
-use Rattle.std.specs.Prelude.{◌≡◌, ◌⊎◌, ℕ, ◌==◌, if◌then◌else◌, List, Result, Ok, Err}
+use Rattle.std.specs.Prelude.{◌≡◌, ◌⊎◌, ℕ, ◌==◌, if◌then◌else◌, List, Result, Err}
 use Rattle.port_trait.specs.World.{World}
 use Rattle.port_trait.specs.Number.{INPUT}
 use Rattle.port_trait.specs.Moves.{Fails, Touches, named}
@@ -7,7 +7,7 @@ use Rattle.list_keys.specs.Keys.{ReadsKeys}
 use Rattle.list_keys.specs.declared.form.Form.{Form}
 use Rattle.list_keys.specs.declared.form.Form.TheVariants.{Key, KeyWithoutTab}
 use Rattle.list_keys.specs.declared.fault.LinesFault.{LinesFault}
-use Rattle.list_keys.specs.declared.fault.LinesFault.TheVariants.{Memory, NoLine, ReadFault, Refused}
+use Rattle.list_keys.specs.declared.fault.LinesFault.TheVariants.{ReadFault}
 
 -- the keys of a list whose values have at most so many bytes: where it has values, no key has a tab
 abbrev pub form_for : ℕ → Form

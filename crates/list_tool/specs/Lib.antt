@@ -1,6 +1,7 @@
 pub mod Loading
 pub mod KeysFile
 pub mod Asking
+pub mod Pending
 pub mod Text
 pub mod Finding
 pub mod BuildWords

@@ -1,5 +1,5 @@
 -- Loading the catalog in a file.
-use Rattle.std.specs.Prelude.{◌≡◌, ℕ, ◌+◌, ◌<◌, ◌≤◌, List, length, take, IfSome, Result, Ok, Err}
+use Rattle.std.specs.Prelude.{◌≡◌, ℕ, ◌+◌, ◌<◌, ◌≤◌, List, length, IfSome, Result, Ok, Err}
 use Rattle.port_trait.specs.World.{Cell, World}
 use Rattle.port_trait.specs.Moves.{Hands, named, took}
 use Rattle.port_trait.specs.Whole.{FailsShort, IsPrefix}

@@ -4,6 +4,7 @@ use Rattle.port_trait.specs.World.{World}
 use Rattle.clap.specs.Words.{Text}
 use Rattle.list_builds.specs.Builds.{Builds, TouchesBuilt}
 use Rattle.list_builds.specs.Order.{IsOrder}
+use Rattle.list_builds.specs.Promise.{BuildPromise}
 use Rattle.list_words.specs.Answer.{IsAnswer}
 use Rattle.list_words.specs.declared.asked.Asked.{Asked}
 use Rattle.list_words.specs.declared.asked.Asked.TheVariants.{Build, Check, Find, Help, Version}
@@ -23,7 +24,8 @@ IsInRange (Version text) = Unit {0}
 
 -- what was asked for was done, and it came to this
 abbrev pub EndsAs : Asked → ListEnd → World → World → Type 0
-EndsAs (Build build) (Built result) old new = Builds (order_for build) result old new × TouchesBuilt (order_for build) old new
+EndsAs (Build build) (Built result) old new =
+    Builds (order_for build) result old new × BuildPromise (order_for build) result old new × TouchesBuilt (order_for build) old new
 EndsAs (Find find) (Found result) old new = FindsInList find result old new
 EndsAs (Check check) (Checked result) old new = ChecksList check result old new
 EndsAs (Help text) (Helps shown) old new = (shown ≡ text) × (new ≡ old)

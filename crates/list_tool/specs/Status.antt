@@ -9,7 +9,6 @@ use Rattle.list_builds.specs.declared.fault.Built.{Built}
 use Rattle.list_builds.specs.declared.fault.BuildFault.{BuildFault}
 use Rattle.list_builds.specs.declared.fault.BuildFault.TheVariants.{CoinsFault as SaltFault, KeysFault, DatabaseFault, CatalogFault, Memory as BuildMemory}
 use Rattle.list_checks.specs.declared.tally.Tally.{Tally}
-use Rattle.list_checks.specs.declared.fault.CheckFault.{CheckFault}
 use Rattle.list_checks.specs.declared.fault.CheckFault.TheVariants.{ReadFault as FileFault, Memory as FileMemory}
 use Rattle.list_finds.specs.Found.{Come}
 use Rattle.list_finds.specs.declared.answers.Answer.{Answer}
@@ -17,7 +16,6 @@ use Rattle.list_finds.specs.declared.answers.Answer.TheVariants.{Unknown, Broken
 use Rattle.list_finds.specs.declared.finds.Unlisted.{Unlisted}
 use Rattle.list_keys.specs.declared.fault.LinesFault.{LinesFault}
 use Rattle.list_keys.specs.declared.fault.LinesFault.TheVariants.{ReadFault as KeysUnread, NoLine, Refused as LineRefused, Memory as LinesMemory}
-use Rattle.list_words.specs.declared.fault.WordsFault.{WordsFault}
 use Rattle.list_words.specs.declared.fault.WordsFault.TheVariants.{Memory as WordsMemory}
 use Rattle.list_tool.specs.declared.check_command.CheckListFault.{CheckListFault}
 use Rattle.list_tool.specs.declared.check_command.CheckListFault.TheVariants.{Catalog as NoCatalog, Database, WriteFault as TextFault, Memory as TextMemory}

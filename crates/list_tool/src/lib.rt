@@ -18,6 +18,7 @@ mod fault;
 mod find;
 mod keys_file;
 mod options;
+mod pending;
 mod run;
 mod said;
 mod status;

@@ -7,6 +7,7 @@ use Rattle.list_catalog.specs.Facts.{Facts}
 use Rattle.list_catalog.specs.Writing.{catalog_text, document_of}
 use Rattle.list_catalog.proofs.Lines.{catalog_text-document_of, depth-document_of}
 use Rattle.list_catalog.proofs.ReadBack.{ReadsBack-document_of}
+use Rattle.list_catalog.proofs.Sizes.{short_catalog}
 use Rattle.list_catalog.proofs.write.write_catalog.Goals as goal
 
 pub returns-then-len-gt-MOST_CATALOG-clause-text : goal.returns-then-len-gt-MOST_CATALOG-clause-text
@@ -15,6 +16,13 @@ returns-then-len-gt-MOST_CATALOG-clause-text c =
     let is : string_bytes c.in-Ok.text ≡ catalog_text f =
     catalog_text-document_of f (string_bytes c.in-Ok.text) (rw c.in_ok-document.ensures.table at c.in-Ok.ensures.text) in
     omega (arith, ap length is, c.if-len-gt-MOST_CATALOG.true, c.len.ensures)
+
+pub returns-then-len-gt-MOST_CATALOG-clause-short : goal.returns-then-len-gt-MOST_CATALOG-clause-short
+returns-then-len-gt-MOST_CATALOG-clause-short c = λ none.
+    let f : Facts = c.args.catalog.now in
+    let is : string_bytes c.in-Ok.text ≡ catalog_text f =
+    catalog_text-document_of f (string_bytes c.in-Ok.text) (rw c.in_ok-document.ensures.table at c.in-Ok.ensures.text) in
+    absurd (omega (arith, ap length is, c.if-len-gt-MOST_CATALOG.true, c.len.ensures, short_catalog f c.in_ok-document.ensures.rules none))
 
 pub returns-clause-text : goal.returns-clause-text
 returns-clause-text c =

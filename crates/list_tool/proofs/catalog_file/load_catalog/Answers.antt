@@ -1,4 +1,4 @@
-use Rattle.std.proofs.Common.{◌≡◌, inl, ℕ, ◌+◌, ◌<◌, List, length, arith}
+use Rattle.std.proofs.Common.{inl, arith}
 use Rattle.port_trait.specs.Number.{number}
 use Rattle.port_trait.proofs.Cells.{touches_more}
 use Rattle.list_tool.proofs.Loading.{loaded}

@@ -1,4 +1,4 @@
-use Rattle.std.proofs.Common.{◌≡◌, ℕ, ◌+◌, List, length, take}
+use Rattle.std.proofs.Common.{take}
 use Rattle.port_trait.specs.Number.{number}
 use Rattle.list_tool.proofs.Loading.{has_text, text_loaded}
 use Rattle.list_tool.proofs.catalog_file.load_opened.Goals as goal

@@ -1,9 +1,7 @@
-use Rattle.std.proofs.Common.{◌≡◌, ◌∙◌, ℕ, List, sym, ap, ap₂, subst}
-use Rattle.std.specs.Prelude.{Option, Result, Ok}
-use Rattle.port_trait.specs.World.{World}
+use Rattle.std.proofs.Common.{◌∙◌, ℕ, List, sym, ap, ap₂, subst}
+use Rattle.std.specs.Prelude.{Option}
 use Rattle.list_catalog.specs.Facts.{Facts}
 use Rattle.list_catalog.specs.Serving.{Serving, with_options}
-use Rattle.list_tool.specs.Asking.{table_for}
 use Rattle.list_tool.specs.Finding.{AnswersKeys}
 use Rattle.list_tool.specs.declared.table.ListTable.{ListTable}
 use Rattle.list_tool.proofs.LookedUp.{looked_up}
