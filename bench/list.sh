@@ -53,7 +53,7 @@ clock, busy, memory = best(builds)
 print(f"build of {count} lines: {clock:.2f} s, processor {busy:.2f} s, memory {memory / 2**20:.0f} MB, {memory / count:.1f} bytes a line")
 for n in threads:
     by_clock, by_busy, peak = best(sortings[n])
-    print(f"sort -u with {n} threads: {by_clock:.2f} s, processor {by_busy:.2f} s, memory {peak / 2**20:.0f} MB; "
+    print(f"sort -u --parallel={n}: {by_clock:.2f} s, processor {by_busy:.2f} s, memory {peak / 2**20:.0f} MB; "
           f"ratio {clock / by_clock:.2f}, of the processor {busy / by_busy:.2f}, of memory {memory / peak:.2f}", flush=True)
 with open(f"{work}/catalog") as file:
     text = file.read()
@@ -89,8 +89,8 @@ try:
             turn = [run(words) for words in fetches]
             fetched.append([sum(it[i] for it in turn) for i in (0, 1)])
         found, fetched = best(found), best(fetched)
-        print(f"find of {many} keys in {rows} rows of {width} bytes: {1e3 * found[0]:.1f} ms, processor {1e3 * found[1]:.1f}; "
-              f"{len(parts)} fetches of {q}: {1e3 * fetched[0]:.1f} ms, processor {1e3 * fetched[1]:.1f}; ratio {found[0] / fetched[0]:.2f}", flush=True)
+        print(f"keys {many}, among {rows} rows of {width} bytes: find {1e3 * found[0]:.1f} ms, processor {1e3 * found[1]:.1f}; "
+              f"fetches {len(parts)}, of {q} each: {1e3 * fetched[0]:.1f} ms, processor {1e3 * fetched[1]:.1f}; ratio {found[0] / fetched[0]:.2f}", flush=True)
     both(1)
     both(len(keys))
 finally:

@@ -1,16 +1,20 @@
 -- How many entries the fullest row has, by counting the entries of each row as they come.
-use Rattle.std.proofs.Common.{◌≡◌, ◌≢◌, ◌==◌, ℕ, zero, suc, ◌+◌, ◌-◌, ◌<◌, ◌≤◌, max, Bool, true, false, cond, if◌then◌else◌, List, [], length, take, map, refl, sym, ap, ap₂, ◌∙◌, arith, inl, inr, ne_eqb, eq-eqb}
+use Rattle.std.proofs.Common.{◌≡◌, ◌≢◌, ◌==◌, ℕ, zero, suc, ◌+◌, ◌-◌, ◌*◌, ◌/◌, ◌^◌, ◌<◌, ◌≤◌, max, Bool, true, false, cond, if◌then◌else◌, List, [], length, take, map, refl, sym, ap, ap₂, subst, ◌∙◌, arith, inl, inr, ne_eqb, eq-eqb}
 use Rattle.std.specs.List.{fold, range_with_len}
+use Rattle.std.proofs.Math.Nat.{div-div-eq-div-mul, div-lt_iff_lt-mul, mul_assoc, mul_comm, mul-div_cancel}
 use Rattle.std.proofs.lemmas.Bool.{cases_eq}
 use Rattle.std.proofs.lemmas.List.Filters.{length-filter_more}
 use Rattle.std.proofs.lemmas.List.FromFn.{map-range_with_len_more}
 use Rattle.std.proofs.lemmas.List.Sums.{fold_push}
-use Rattle.key_table.specs.Digest.{row_of}
+use Rattle.std.proofs.lemmas.Nat.{pow-add, pow_pos}
+use Rattle.key_table.specs.Digest.{number_of, row_of}
 use Rattle.key_table.specs.Entry.{Pair}
 use Rattle.key_table.specs.Looked.{pair}
 use Rattle.key_table.specs.Table.{pairs_in}
 use Rattle.key_table.specs.Width.{fullest}
-use Rattle.key_table.specs.Counting.{AreCounted, NeverFall, row_at}
+use Rattle.key_table.specs.Counting.{AreCounted, IsRun, NeverFall, row_at}
+use Rattle.key_table.specs.Places.{digest_at}
+use Rattle.key_table.specs.declared.runs.Run.{Run}
 use Rattle.key_table.specs.declared.shape.Counted.{Counted}
 
 -- the greatest of 1 and the first n numbers
@@ -48,6 +52,10 @@ greatest_grown f g r same grown (suc n) =
       ],
       λ le. let other : n ≢ r = omega (arith, le) in ap₂ max (before.1 (omega (arith, le))) (same n other),
     )
+
+-- the run that begins at an entry, behind another
+abbrev pub after : Run → ℕ → Run
+after run entry = record { start = entry; fullest = max run.fullest (entry - run.start) }
 
 module _ (rows : ℕ) (pairs : List Pair) where
   -- how many of the first pairs have a row
@@ -143,3 +151,78 @@ module _ (rows : ℕ) (pairs : List Pair) where
       few_run : (b : Bool) → run ≡ (if b then old.run + 1 else 1) → run ≤ done + 1
       few_run true e = omega (arith, e, h.few_run)
       few_run false e = omega (arith, e)
+
+  -- no pair was counted yet
+  pub run_none : IsRun rows pairs 0 (record { start = 0; fullest = 1 })
+  run_none = record { within = omega arith; counted = counted_start (row_at rows pairs 0) }
+
+  -- a pair that has the row of the one before it goes on with its run
+  pub run_on : (done : ℕ) (run : Run) → NeverFall rows pairs → done < length pairs → row_at rows pairs done < rows
+      → row_at rows pairs done ≡ row_at rows pairs (done - 1) → IsRun rows pairs done run → IsRun rows pairs (done + 1) run
+  run_on done run rise lt low same h =
+      let row = row_at rows pairs done in
+      let old : Counted = record { row = row_at rows pairs (done - 1); run = done - run.start; fullest = max run.fullest (done - run.start) } in
+      let yes : (if row == old.row then old.run + 1 else 1) ≡ (done - run.start) + 1 =
+      ap (λ (b : Bool). if b then old.run + 1 else 1) (eq-eqb row old.row same) in
+      let longer : done + 1 - run.start ≡ (done - run.start) + 1 = omega (arith, h.within) in
+      let more = count_more done old row (done + 1 - run.start) (max run.fullest (done + 1 - run.start)) rise lt refl low h.counted
+      (longer ∙ sym yes) (omega (arith, longer)) in
+      let last : done ≡ done + 1 - 1 = omega arith in
+      record {
+        within = omega (arith, h.within);
+        counted = subst (λ k. AreCounted rows pairs (done + 1)
+            (record { row = row_at rows pairs k; run = done + 1 - run.start; fullest = max run.fullest (done + 1 - run.start) })) last more;
+      }
+
+  -- a pair that has another row begins a run
+  pub run_new : (done : ℕ) (run : Run) → NeverFall rows pairs → done < length pairs → row_at rows pairs done < rows
+      → (row_at rows pairs done ≢ row_at rows pairs (done - 1)) → IsRun rows pairs done run
+      → IsRun rows pairs (done + 1) (after run done)
+  run_new done run rise lt low differ h =
+      let row = row_at rows pairs done in
+      let old : Counted = record { row = row_at rows pairs (done - 1); run = done - run.start; fullest = max run.fullest (done - run.start) } in
+      let no : (if row == old.row then old.run + 1 else 1) ≡ 1 = ap (λ (b : Bool). if b then old.run + 1 else 1) (ne_eqb row old.row differ) in
+      let one : done + 1 - done ≡ 1 = omega arith in
+      let more = count_more done old row (done + 1 - done) (max (max run.fullest (done - run.start)) (done + 1 - done)) rise lt refl low h.counted
+      (one ∙ sym no) refl in
+      let last : done ≡ done + 1 - 1 = omega arith in
+      record {
+        within = omega arith;
+        counted = subst (λ k. AreCounted rows pairs (done + 1)
+            (record { row = row_at rows pairs k; run = done + 1 - done; fullest = max (max run.fullest (done - run.start)) (done + 1 - done) })) last more;
+      }
+
+-- the row of a number among a lesser power of two rows is that among a greater one, divided
+row_halved : (a k j : ℕ) → a * 2 ^ k / 2 ^ 64 ≡ (a * 2 ^ (k + j) / 2 ^ 64) / 2 ^ j
+row_halved a k j =
+    let c = 2 ^ j in
+    let x = a * 2 ^ k in
+    let whole : x * c ≡ a * 2 ^ (k + j) = mul_assoc a (2 ^ k) c ∙ ap (λ n. a * n) (sym (pow-add 2 k j)) in
+    ap (λ n. n / 2 ^ 64) (sym (mul-div_cancel x (pow_pos j)))
+    ∙ div-div-eq-div-mul (x * c) c (2 ^ 64)
+    ∙ ap (λ n. x * c / n) (mul_comm c (2 ^ 64))
+    ∙ sym (div-div-eq-div-mul (x * c) (2 ^ 64) c)
+    ∙ ap (λ n. n / 2 ^ 64 / c) whole
+
+-- pairs that have one row have one for each lesser power of two
+pub same_below : (pairs : List Pair) (i j k m : ℕ) → k ≤ m → row_at (2 ^ m) pairs i ≡ row_at (2 ^ m) pairs j → row_at (2 ^ k) pairs i ≡ row_at (2 ^ k) pairs j
+same_below pairs i j k m le same =
+    let a = number_of (digest_at pairs i) in
+    let b = number_of (digest_at pairs j) in
+    let is : k + (m - k) ≡ m = omega (arith, le) in
+    row_halved a k (m - k)
+    ∙ ap (λ n. a * 2 ^ n / 2 ^ 64 / 2 ^ (m - k)) is
+    ∙ ap (λ n. n / 2 ^ (m - k)) same
+    ∙ ap (λ n. b * 2 ^ n / 2 ^ 64 / 2 ^ (m - k)) (sym is)
+    ∙ sym (row_halved b k (m - k))
+
+-- a row among a power of two rows is one of the rows among each lesser power too
+pub within_below : (pairs : List Pair) (i k m : ℕ) → k ≤ m → row_at (2 ^ m) pairs i < 2 ^ m → row_at (2 ^ k) pairs i < 2 ^ k
+within_below pairs i k m le low =
+    let a = number_of (digest_at pairs i) in
+    let c = 2 ^ (m - k) in
+    let is : k + (m - k) ≡ m = omega (arith, le) in
+    let halved : row_at (2 ^ k) pairs i ≡ row_at (2 ^ m) pairs i / c = row_halved a k (m - k) ∙ ap (λ n. a * 2 ^ n / 2 ^ 64 / c) is in
+    let whole : 2 ^ m ≡ 2 ^ k * c = ap (λ n. 2 ^ n) (sym is) ∙ pow-add 2 k (m - k) in
+    let below : row_at (2 ^ m) pairs i / c < 2 ^ k = (div-lt_iff_lt-mul (pow_pos (m - k))).1 (omega (arith, low, whole)) in
+    omega (arith, halved, below)

@@ -21,6 +21,7 @@ mod pairs;
 mod place;
 mod row;
 mod rows;
+mod runs;
 mod shape;
 mod tag;
 mod write;

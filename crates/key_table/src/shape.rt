@@ -1,6 +1,6 @@
 //! How many rows the table of a list has, and how many bytes each of them.
 
-ghost use Rattle.std.specs.Prelude.{◌≡◌, ◌==◌, ◌≤◌, ◌<◌, ◌+◌, ◌*◌, if◌then◌else◌};
+ghost use Rattle.std.specs.Prelude.{◌≡◌, ◌==◌, ◌≤◌, ◌<◌, ◌+◌, ◌*◌, ◌^◌, if◌then◌else◌};
 ghost use Rattle.key_table.specs.Counting.{CountsOne};
 ghost use Rattle.key_table.specs.Entry.{entry_size};
 ghost use Rattle.key_table.specs.Shapes.{BestOf, Judges, ShapesBest, ShapesOf, lesser};
@@ -153,6 +153,17 @@ impl SortedEntries {
         self.width_with(self.fullest(rows))
     }
 
+    /// The shape of a table with so many rows, of which the fullest has so many entries.
+    fn shape_with(&self, rows: u32, entries: u32) -> Result<Shape, ShapeFault>
+        requires some { 1 ≤ rows }
+        requires few { rows ≤ MOST_ROWS }
+        requires fullest { entries ≡ fullest rows self.now.pairs }
+        requires short { entries ≤ MOST_PAIRS + 1 }
+        ensures { ShapesOf self.now rows result }
+    {
+        judge_shape(rows, entries, self.width_with(entries))
+    }
+
     /// The shape of a table with so many rows.
     ///
     /// # Errors
@@ -163,16 +174,18 @@ impl SortedEntries {
         requires few { rows ≤ MOST_ROWS }
         ensures { ShapesOf self.now rows result }
     {
-        let entries = self.fullest(rows);
-        judge_shape(rows, entries, self.width_with(entries))
+        self.shape_with(rows, self.fullest(rows))
     }
 
-    /// The best shape of those powers of two that came before this one, and of this one.
-    fn better(&self, best: Option<Shape>, power: u32) -> Option<Shape>
-        requires { power ≤ 20 }
+    /// The best shape of those powers of two that came before this one, and of this one, whose fullest row has so many
+    /// entries.
+    fn better(&self, best: Option<Shape>, power: u32, entries: u32) -> Option<Shape>
+        requires power { power ≤ 20 }
+        requires fullest { entries ≡ fullest (2 ^ power) self.now.pairs }
+        requires short { entries ≤ MOST_PAIRS + 1 }
         ensures { BestOf self.now power best → BestOf self.now (power + 1) result }
     {
-        match self.shape_of(1 << power) {
+        match self.shape_with(1 << power, entries) {
             Ok(shape) => match best {
                 Some(other) => Some(lesser_of(other, shape)),
                 None => Some(shape),
@@ -190,9 +203,11 @@ impl SortedEntries {
     pub fn shape(&self) -> Result<Shape, ShapeFault>
         ensures { ShapesBest self.now result }
     {
+        let runs = self.runs();
+        let count = self.count() as u32;
         let mut best = None;
         for power in 0..21 {
-            best = self.better(best, power);
+            best = self.better(best, power, runs[power as usize].fullest_of(count));
         }
         match best {
             Some(shape) => Ok(shape),
