@@ -107,6 +107,11 @@ def _checked(code: int) -> int:
     return code
 
 
+def _number(number: int) -> int:
+    """A size or a row, which any number from 0 on is."""
+    return number if number >= 0 else _checked(number)
+
+
 class Verdict(NamedTuple):
     """What the answers agree on."""
 
@@ -138,8 +143,8 @@ class Query:
     def __init__(self, client: "Client", rows: Sequence[int], coins: bytes):
         self._client, self._count = client, len(rows)
         plan, numbers = ctypes.byref(client._plan), (ctypes.c_uint32 * len(rows))(*rows)
-        size = _checked(_LIBRARY.pir_query_size(plan, len(rows)))
-        self.answer_size = _checked(_LIBRARY.pir_answer_size(plan, len(rows)))
+        size = _number(_LIBRARY.pir_query_size(plan, len(rows)))
+        self.answer_size = _number(_LIBRARY.pir_answer_size(plan, len(rows)))
         self.session = int.from_bytes(coins[:8], "big")
         self.frames = []
         out, used = ctypes.create_string_buffer(size), ctypes.c_size_t()
@@ -205,7 +210,7 @@ class Client:
 
     def coins_size(self, count: int) -> int:
         """How many coins a query for so many rows takes."""
-        return _checked(_LIBRARY.pir_coins(ctypes.byref(self._plan), count))
+        return _number(_LIBRARY.pir_coins(ctypes.byref(self._plan), count))
 
     def ask(self, block: Union[int, Sequence[int]], coins: Optional[bytes] = None) -> Query:
         """The query for a row, or for up to 16 rows at once. The coins are random bytes of the system, if none are given."""
@@ -247,7 +252,7 @@ class KeyList:
 
     def row_of(self, key: bytes) -> int:
         """The row that a key belongs to."""
-        return _checked(_LIBRARY.pir_list_row(ctypes.byref(self._list), self.salt, key, len(key)))
+        return _number(_LIBRARY.pir_list_row(ctypes.byref(self._list), self.salt, key, len(key)))
 
     def look_in(self, row: bytes, key: bytes) -> Optional[bytes]:
         """The key's value by its row, empty where keys have none; None where the list hasn't the key. Raises `BrokenRow` where the row

@@ -29,7 +29,7 @@ fn worked_rows(rt: HostRuntime) {
 fn has_value(key: &[u8], want: &[u8]) -> bool {
     let mut out = [0xff; 5];
     match find_key(&NUMBERS, &SALT, &TAG, &ROW, key, &mut out) {
-        Ok(KeyFound::Present(size)) => out[..size] == *want,
+        Ok(KeyFound::Present(size)) => &out[..size] == want,
         _ => false,
     }
 }

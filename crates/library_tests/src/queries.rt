@@ -28,7 +28,7 @@ const CHOSEN: PlanNumbers = PlanNumbers {
 fn has_payload(plan: &PlanNumbers, coins: &[u8], index: u32, want: &[u8]) -> bool {
     let mut out = [0xff; 40];
     match write_query(plan, &[1], coins, index, &mut out) {
-        Ok(size) => size >= 24 && out[24..size] == *want,
+        Ok(size) => size >= 24 && &out[24..size] == want,
         Err(_) => false,
     }
 }

@@ -24,14 +24,13 @@ fn answers_of(alloc: Global, payloads: &[u8]) -> Result<Vec<u8>, Fail>
     requires { length payloads.now ≤ 6 }
 {
     let mut bytes = Vec::new(alloc);
-    let mut index = 1;
-    for payload in payloads {
+    for place in 0..payloads.len() {
+        let index = (place + 1) as u8;
         bytes.extend_from_slice(b"PIRA")?;
         bytes.extend_from_slice(&[
             1, 1, index, 0, 0, 0, 0, 0, 0, 0, 0, 7, 0, 0, 0, 4, 0, 0, 0, 1,
         ])?;
-        bytes.push(*payload)?;
-        index += 1;
+        bytes.push(payloads[place])?;
     }
     Ok(bytes)
 }
@@ -50,7 +49,7 @@ fn agree_on(alloc: Global, agreement: u32, payloads: &[u8], want: &[u8]) -> Resu
     let mut out = [0xff; 8];
     match judge_answers(alloc, &plan_of(n as u32, agreement), 1, 7, &answers) {
         Ok(Verdict::Listed(listing)) => match write_listing(&listing, &mut out) {
-            Ok(size) => Ok(out[..size] == *want),
+            Ok(size) => Ok(&out[..size] == want),
             Err(_) => Ok(false),
         },
         _ => Ok(false),
