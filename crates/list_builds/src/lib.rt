@@ -17,6 +17,7 @@ mod build;
 mod fault;
 mod gather;
 mod layout;
+mod no_shape;
 mod order;
 mod read;
 mod salt;

@@ -1,5 +1,5 @@
-//! Tests of lists of keys: their lines through ports in memory, the words of `pir_list`, checks of a list's table, and keys
-//! that are found in a list whose table three servers in memory hold.
+//! Tests of lists of keys: their lines through ports in memory, the words of `pir_list`, checks of a list's table, keys that
+//! are found in a list whose table three servers in memory hold, and runs of `pir_list` by their words.
 //! They stand in a crate of their own because a crate is proved once more for its tests.
 #![tactic(auto)]
 
@@ -12,4 +12,8 @@ mod keys;
 #[cfg(test)]
 mod lines;
 #[cfg(test)]
+mod runs;
+#[cfg(test)]
 mod words;
+#[cfg(test)]
+mod worked;

@@ -2,6 +2,7 @@ pub mod Loading
 pub mod KeysFile
 pub mod Asking
 pub mod Text
+pub mod Looked
 pub mod Finding
 pub mod BuildWords
 pub mod CheckText
