@@ -1,7 +1,9 @@
-# Completions of `pir` and `pir_show` for bash: source this file, or put it into /usr/share/bash-completion/completions as pir.
+# Completions of `pir`, `pir_list` and `pir_show` for bash: source this file, or put it into
+# /usr/share/bash-completion/completions as pir, pir_list and pir_show.
 # docs/check compares what it offers with the commands and options of the code.
 
 _pir_commands='fetch serve replay demo lookup split front selfrun'
+_pir_list_commands='build find check help'
 
 # Prints the options of a command, in the order in which the man page tells of them.
 _pir_options() {
@@ -17,6 +19,27 @@ _pir_options() {
   esac
 }
 
+# Prints the options of a command of pir_list, in the order in which the man page tells of them.
+_pir_list_options() {
+  case $1 in
+    build) echo --database --catalog --values --value-bytes --digest-bytes --rows --coins ;;
+    find) echo --keys --servers --degree --agree --coins --hex ;;
+  esac
+}
+
+# Offers those of the options that begin with a word and don't stand yet: each may stand once.
+_pir_offer() {
+  local word=$1 option offered=()
+  shift
+  for option; do
+    case " ${COMP_WORDS[*]:2:COMP_CWORD-2} " in
+      *" $option "*) ;;
+      *) offered+=("$option") ;;
+    esac
+  done
+  mapfile -t COMPREPLY < <(compgen -W "${offered[*]}" -- "$word")
+}
+
 # Offers files and folders that begin with a word.
 _pir_files() {
   compopt -o filenames 2>/dev/null
@@ -24,7 +47,7 @@ _pir_files() {
 }
 
 _pir() {
-  local word=${COMP_WORDS[COMP_CWORD]} before=${COMP_WORDS[COMP_CWORD-1]} option offered=()
+  local word=${COMP_WORDS[COMP_CWORD]} before=${COMP_WORDS[COMP_CWORD-1]}
   COMPREPLY=()
   if ((COMP_CWORD == 1)); then
     mapfile -t COMPREPLY < <(compgen -W "$_pir_commands" -- "$word")
@@ -44,14 +67,38 @@ _pir() {
         _pir_files "$word"
         return
       fi
-      # An option may stand once.
-      for option in $(_pir_options "${COMP_WORDS[1]}"); do
-        case " ${COMP_WORDS[*]:2:COMP_CWORD-2} " in
-          *" $option "*) ;;
-          *) offered+=("$option") ;;
-        esac
-      done
-      mapfile -t COMPREPLY < <(compgen -W "${offered[*]}" -- "$word")
+      # (options are words without blanks)
+      # shellcheck disable=SC2046
+      _pir_offer "$word" $(_pir_options "${COMP_WORDS[1]}")
+      ;;
+  esac
+}
+
+_pir_list() {
+  local word=${COMP_WORDS[COMP_CWORD]} before=${COMP_WORDS[COMP_CWORD-1]}
+  COMPREPLY=()
+  if ((COMP_CWORD == 1)); then
+    mapfile -t COMPREPLY < <(compgen -W "$_pir_list_commands --help --version" -- "$word")
+    return
+  fi
+  # (bash takes --rows=4 for three words)
+  if [ "$word" = = ]; then
+    word=
+  elif [ "$before" = = ]; then
+    before=${COMP_WORDS[COMP_CWORD-2]}
+  fi
+  case $before in
+    --catalog | --coins | --database | --keys) _pir_files "$word" ;;
+    --hex | --values | [!-]*)
+      # A command has files beside its options.
+      if [ "${word:0:1}" = - ]; then
+        # shellcheck disable=SC2046
+        _pir_offer "$word" $(_pir_list_options "${COMP_WORDS[1]}") --help
+      elif [ "${COMP_WORDS[1]}" = help ]; then
+        mapfile -t COMPREPLY < <(compgen -W "build find check" -- "$word")
+      else
+        _pir_files "$word"
+      fi
       ;;
   esac
 }
@@ -62,4 +109,5 @@ _pir_show() {
 }
 
 complete -F _pir pir
+complete -F _pir_list pir_list
 complete -F _pir_show pir_show

@@ -13,6 +13,8 @@ from concurrent.futures import ThreadPoolExecutor
 from documents.repository import LONGEST, TOP, found, lines_of
 
 LISTS = "crates/pir_list/out/pir_list"
+# Documents whose blocks stand on those before: where one can't be run, none is.
+CHAINED = ("docs/WALKTHROUGH.md",)
 
 
 def markdown_blocks(path):
@@ -140,8 +142,11 @@ def look_at_commands(program):
     texts = [("docs/pir.1", manual, True)]
     for path in ("README.md", "docs/WALKTHROUGH.md", "docs/SHARED_DATABASES.md", "docs/FRONT_SERVER.md", "docs/OPERATING.md"):
         blocks, others = markdown_blocks(path)
-        blocks = [it for it in blocks if can_run(path, it)]
-        texts.append((path, blocks, False))
+        can_be_run = [it for it in blocks if can_run(path, it)]
+        if path in CHAINED and len(can_be_run) < len(blocks):
+            found.note(f"{path}: skipped whole")
+        else:
+            texts.append((path, can_be_run, False))
         if others:
             found.note(f"{path}: skipped {others} block(s) marked console, which need other machines or the kit")
     if not program:

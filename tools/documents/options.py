@@ -25,24 +25,31 @@ def options_of_lists():
     return {command: lists.get(name, set()) for command, name in re.findall(r"name: \"([a-z]+)\",\s*about: [^\n]*\s*arguments: ([A-Z]+)", text)}
 
 
-def completed(*words):
-    """Returns what tools/pir.bash offers for the last of these words."""
-    script = 'source "$1"; shift; COMP_WORDS=("$@") COMP_CWORD=$(($# - 1)); _pir; printf "%s\\n" "${COMPREPLY[@]}"'
+def flags_of_lists():
+    """Returns the options of pir_list that have no value."""
+    return set(re.findall(r"name: \"([a-z-]+)\",\s*kind: Kind::Flag", sources("list_words")))
+
+
+def completed(program, *words):
+    """Returns what tools/pir.bash offers for the last of these words of a program."""
+    script = 'source "$1"; shift; COMP_WORDS=("$@") COMP_CWORD=$(($# - 1)); "_$1"; printf "%s\\n" "${COMPREPLY[@]}"'
+    words = (program, *words)
     ran = subprocess.run(["bash", "-c", script, "bash", f"{TOP}/tools/pir.bash", *words], stdin=subprocess.DEVNULL, stdout=subprocess.PIPE, text=True)
     return set(ran.stdout.split())
 
 
-def look_at_completions(said, compare):
-    """Compares what bash is told to offer with the commands and their options."""
-    where, flags = "tools/pir.bash", set(re.findall(r"\(\"([a-z-]+)\", Kind::Flag\)", sources("pir_words")))
-    if completed("pir", "") != set(said):
-        found.bad(where, f"it offers the commands {', '.join(sorted(completed('pir', '')))}, and there are {', '.join(sorted(said))}")
+def look_at_completions(program, said, flags, compare):
+    """Compares what bash is told to offer of a program with its commands and their options."""
+    where = "tools/pir.bash"
+    offered = {it for it in completed(program, "") if not it.startswith("--")} - {"help"}
+    if offered != set(said):
+        found.bad(where, f"{program}: it offers the commands {', '.join(sorted(offered))}, and there are {', '.join(sorted(said))}")
     for command in sorted(said):
-        compare(where, command, {it[2:] for it in completed("pir", command, "--")})
+        compare(where, command, {it[2:] for it in completed(program, command, "--")} - {"help"})
         for it in sorted(said[command]):
             # (behind an option with a value comes that value)
-            if bool(completed("pir", command, f"--{it}", "--")) != (it in flags and len(said[command]) > 1):
-                found.bad(where, f"{command} --{it}: {'no option is' if it in flags else 'options are'} offered behind it")
+            if bool(completed(program, command, f"--{it}", "--") - {"--help"}) != (it in flags and len(said[command]) > 1):
+                found.bad(where, f"{program} {command} --{it}: {'no option is' if it in flags else 'options are'} offered behind it")
 
 
 def look_at_options():
@@ -85,9 +92,15 @@ def look_at_options():
         told.setdefault(words.split()[0], set()).update(re.findall(r"--([a-z-]+)", words))
     for command in sorted(set(said) | set(told)):
         compare("docs/SPECIFICATION.md, Commands", command, told.get(command, set()))
-    look_at_completions(said, compare)
-    # those of pir_list, in the specification
+    look_at_completions("pir", said, set(re.findall(r"\(\"([a-z-]+)\", Kind::Flag\)", sources("pir_words"))), compare)
+    # those of pir_list, in the specification and in what bash offers
     lists = options_of_lists()
+
+    def compare_lists(where, command, told):
+        for it in sorted(lists.get(command, set()) ^ told):
+            found.bad(where, f"pir_list {command}: --{it} is in the code or here, and not in both")
+
+    look_at_completions("pir_list", lists, flags_of_lists(), compare_lists)
     told = {cells[0].strip("`"): set(re.findall(r"--([a-z-]+)", " ".join(cells))) for _, cells in table_rows("docs/SPECIFICATION.md", "Words of `pir_list`") if cells[0].startswith("`")}
     for command in sorted(set(lists) | set(told)):
         for it in sorted(lists.get(command, set()) ^ told.get(command, set())):

@@ -1,5 +1,6 @@
 //! What a building comes to.
 
+use crate::no_shape::no_shape;
 use key_table::ShapeFault;
 use list_keys::LineFault;
 use std::alloc::AllocError;
@@ -52,7 +53,7 @@ pub enum BuildFault {
         second: u32,
     },
     /// So many rows make no database of the list. No file to write was opened.
-    #[error("{} rows of {} bytes, the fullest of {} entries, are no database", .0.rows, .0.width, .0.entries)]
+    #[error("{}", no_shape(.0))]
     Unshaped(ShapeFault),
     /// A call on the file of the database failed. The file of the catalog was not opened.
     #[error("a call on the database failed")]

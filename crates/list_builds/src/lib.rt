@@ -18,6 +18,7 @@ mod build;
 mod fault;
 mod gather;
 mod layout;
+mod no_shape;
 mod order;
 mod read;
 mod salt;

@@ -10,16 +10,16 @@ pub enum CheckFault {
     #[error("row {row} is not a row of this list")]
     NoRow { row: u32 },
     /// The file has so many bytes, fewer than its rows have. Those rows that it has whole are rows of the list's table.
-    #[error("the file has {bytes} bytes, which are too few")]
+    #[error("the file has {bytes} bytes, fewer than its rows")]
     TooShort { bytes: u64 },
     /// The file has more bytes than its rows have, which are rows of the list's table.
     #[error("the file has more bytes than its rows")]
     TooLong,
     /// The SHA-256 of the file is another one. All rows are rows of the list's table.
-    #[error("the SHA-256 of the file is another one")]
+    #[error("the SHA-256 of the file is not the one that the catalog says")]
     OtherHash,
     /// The rows have so many entries, and it is said that there are more or fewer. All else holds.
-    #[error("the rows have {entries} entries")]
+    #[error("the rows have {entries} entries, and not as many as the catalog says")]
     OtherEntries { entries: u64 },
     /// A call on the file failed.
     #[error("a call on the database failed")]

@@ -1,10 +1,10 @@
-//! Keys in the list of `alpha`, `beta` and `gamma`, with the values `one`, nothing and `three`, whose table was made by
-//! an independent program with the salt of the bytes 0 to 15.
+//! Keys in the worked list of `alpha`, `beta` and `gamma`, with the values `one`, nothing and `three`.
 //!
 //! The coins are zeros, so that each server is asked for the rows themselves, and an honest one gives them.
 
 ghost use Rattle.std.specs.Prelude.{◌≡◌, ◌<◌, ◌≤◌, length};
 
+use crate::worked::{OTHER_ROW, ROWS_OF_VALUES as ROWS, SALT};
 use fetch_client::{FetchFault, FetchPlan};
 use gs_interpolate::Koetter;
 use list_finds::{Answer, Ending, Finds, KnownList, Search, find_keys};
@@ -25,30 +25,11 @@ const PLAN: FetchPlan = FetchPlan {
 };
 
 const LIST: KnownList = KnownList {
-    salt: [0, 1, 2, 3, 4, 5, 6, 7, 8, 9, 10, 11, 12, 13, 14, 15],
+    salt: SALT,
     tag: [0x73, 0xf1, 0xe1, 0x4a, 0xbd, 0xbe, 0xd3, 0x22],
     size: 8,
     most: 5,
 };
-
-/// The two rows of its table.
-const ROWS: [[u8; 40]; 2] = [
-    [
-        0x73, 0xf1, 0xe1, 0x4a, 0xbd, 0xbe, 0xd3, 0x22, 0x00, 0x01, 0x7e, 0xb2, 0xf2, 0x77, 0xbd,
-        0xd6, 0x01, 0x72, 0, 0, 0, 0, 0, 0, 0, 0, 0, 0, 0, 0, 0, 0, 0, 0, 0, 0, 0, 0, 0, 0,
-    ],
-    [
-        0x73, 0xf1, 0xe1, 0x4a, 0xbd, 0xbe, 0xd3, 0x22, 0x00, 0x02, 0xa6, 0xcb, 0xea, 0x7e, 0xc4,
-        0x12, 0xd1, 0x37, 0x00, 0x03, 0x6f, 0x6e, 0x65, 0x00, 0x00, 0xad, 0x45, 0xbe, 0x30, 0x0d,
-        0x8d, 0x97, 0xd6, 0x00, 0x05, 0x74, 0x68, 0x72, 0x65, 0x65,
-    ],
-];
-
-/// Row 0 of the table of another list.
-const OTHER_ROW: [u8; 40] = [
-    0x57, 0xc8, 0x3c, 0xd2, 0x9f, 0x54, 0x2f, 0xea, 0, 0, 0, 0, 0, 0, 0, 0, 0, 0, 0, 0, 0, 0, 0, 0,
-    0, 0, 0, 0, 0, 0, 0, 0, 0, 0, 0, 0, 0, 0, 0, 0,
-];
 
 /// Puts the header of a server's answer.
 fn put_header(

@@ -15,6 +15,7 @@ use Rattle.list_words.specs.declared.asked.Find.{Find}
 use Rattle.list_tool.specs.Asking.{Asks, table_for, wanted_for}
 use Rattle.list_tool.specs.KeysFile.{ReadsKeysFile, form_for}
 use Rattle.list_tool.specs.Loading.{LoadsCatalog}
+use Rattle.list_tool.specs.Looked.{Looked, NamesRow}
 use Rattle.list_tool.specs.Text.{text_of, value_text}
 use Rattle.list_tool.specs.declared.table.ListTable.{ListTable}
 use Rattle.list_tool.specs.declared.fault.FindFault.{FindFault}
@@ -31,12 +32,14 @@ pub record HasFound (order : Find) (table : ListTable) (servers : Serving) (keys
   pub has_keys : HasKeys order table keys old read
   pub asks : Asks (wanted_for table servers keys) order.coins.now (Ok come) read new
 
--- that was found, and then the lines of the keys were written, or a proper prefix of them until a call failed
-pub record Tells (order : Find) (table : ListTable) (servers : Serving) (come : Come) (written : Result (Unit {0}) Failed) (old new : World) : Type 0 where
+-- that was found, the broken row is named, if there is one, and then the lines of the keys were written, or a proper prefix
+-- of them until a call failed
+pub record Tells (order : Find) (table : ListTable) (servers : Serving) (looked : Looked) (written : Result (Unit {0}) Failed) (old new : World) : Type 0 where
   pub keys : List (List ℕ)
   pub asked : World
-  pub found : HasFound order table servers keys come old asked
-  pub text : Written OUTPUT (text_of (value_text table.list.most order.hex) keys come.answers) written asked new
+  pub found : HasFound order table servers keys looked.come old asked
+  pub row : NamesRow table keys looked.come looked.row
+  pub text : Written OUTPUT (text_of (value_text table.list.most order.hex) keys looked.come.answers) written asked new
   pub others : Touches OUTPUT asked new
 
 -- the keys were read, and the rows of them weren't fetched
@@ -47,13 +50,13 @@ pub record FailsToAsk (order : Find) (table : ListTable) (servers : Serving) (fa
   pub asks : Asks (wanted_for table servers keys) order.coins.now (Err fault) read new
 
 -- what looking up keys answers, once the table and the servers are known. For want of memory no server is asked
-abbrev pub AnswersKeys : Find → ListTable → Serving → Result Come FindFault → World → World → Type 0
-AnswersKeys order table servers (Ok come) old new = Tells order table servers come (Ok tt) old new
+abbrev pub AnswersKeys : Find → ListTable → Serving → Result Looked FindFault → World → World → Type 0
+AnswersKeys order table servers (Ok looked) old new = Tells order table servers looked (Ok tt) old new
 AnswersKeys order table servers (Err (Keys fault)) old new =
     ReadsKeysFile order.keys.now (form_for table.list.most) (Err fault) old new × Touches INPUT old new
 AnswersKeys order table servers (Err (Fetch fault)) old new = FailsToAsk order table servers (Fetch fault) old new
 AnswersKeys order table servers (Err WriteFault) old new =
-    (come : Come) × (failed : Failed) × Tells order table servers come (Err failed) old new
+    (looked : Looked) × (failed : Failed) × Tells order table servers looked (Err failed) old new
 AnswersKeys order table servers (Err Memory) old new = Touches INPUT old new
 AnswersKeys order table servers (Err (Catalog fault)) old new = ⊥
 AnswersKeys order table servers (Err (Servers fault)) old new = ⊥
@@ -68,7 +71,7 @@ abbrev pub servers_by : Find → Facts → Result Serving ServersFault
 servers_by order facts = with_options facts.servers (option_map (λ t. addresses_of t.now) order.servers) order.degree order.agree
 
 -- the catalog was read, it and the options name servers, and then the keys were looked up
-pub record LooksUp (order : Find) (result : Result Come FindFault) (old new : World) : Type 0 where
+pub record LooksUp (order : Find) (result : Result Looked FindFault) (old new : World) : Type 0 where
   pub facts : Facts
   pub servers : Serving
   pub read : World
@@ -82,7 +85,7 @@ TouchesFiles old new = TouchesOnly (One DATABASE ∷ One INPUT ∷ []) old new
 
 -- what `find` answers, and what it did then. For want of memory, but in a search that has begun, no server is asked and nothing
 -- is written
-abbrev pub FindsInList : Find → Result Come FindFault → World → World → Type 0
+abbrev pub FindsInList : Find → Result Looked FindFault → World → World → Type 0
 FindsInList order (Err (Catalog fault)) old new =
     LoadsCatalog DATABASE order.catalog.now (Err fault) old new × Touches DATABASE old new
 FindsInList order (Err (Servers fault)) old new =

@@ -3,6 +3,7 @@ pub mod KeysFile
 pub mod Asking
 pub mod Pending
 pub mod Text
+pub mod Looked
 pub mod Finding
 pub mod BuildWords
 pub mod CheckText

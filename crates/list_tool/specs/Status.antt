@@ -17,6 +17,7 @@ use Rattle.list_finds.specs.declared.finds.Unlisted.{Unlisted}
 use Rattle.list_keys.specs.declared.fault.LinesFault.{LinesFault}
 use Rattle.list_keys.specs.declared.fault.LinesFault.TheVariants.{ReadFault as KeysUnread, NoLine, Refused as LineRefused, Memory as LinesMemory}
 use Rattle.list_words.specs.declared.fault.WordsFault.TheVariants.{Memory as WordsMemory}
+use Rattle.list_tool.specs.Looked.{Looked}
 use Rattle.list_tool.specs.declared.check_command.CheckListFault.{CheckListFault}
 use Rattle.list_tool.specs.declared.check_command.CheckListFault.TheVariants.{Catalog as NoCatalog, Database, WriteFault as TextFault, Memory as TextMemory}
 use Rattle.list_tool.specs.declared.fault.FindFault.{FindFault}
@@ -80,8 +81,8 @@ fetch_code (CoinsEnded taken) = 10
 fetch_code FetchMemory = 12
 
 -- what `find` answers
-abbrev pub find_code : Result Come FindFault → ℕ
-find_code (Ok come) = finds_code come
+abbrev pub find_code : Result Looked FindFault → ℕ
+find_code (Ok looked) = finds_code looked.come
 find_code (Err (Catalog fault)) = load_code fault
 find_code (Err (Servers fault)) = 10
 find_code (Err (Keys fault)) = lines_code fault

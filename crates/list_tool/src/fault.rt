@@ -38,7 +38,7 @@ pub enum FindFault {
     #[error("{0}")]
     Catalog(LoadFault),
     /// The servers can't be asked as the catalog and the options say. Nothing else was opened.
-    #[error("{0}")]
+    #[error("servers: {0} (the catalog, or --servers, --degree and --agree say it)")]
     Servers(ServersFault),
     /// There are no keys. No server was asked.
     #[error("keys: {0}")]

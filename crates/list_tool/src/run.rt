@@ -7,9 +7,9 @@ use crate::build_command::order_for;
 use crate::check_command::{CheckListFault, check_list};
 use crate::fault::FindFault;
 use crate::find::find_in_list;
+use crate::looked::Looked;
 use list_builds::{BuildFault, Built, build_list};
 use list_checks::Tally;
-use list_finds::Finds;
 use list_words::{Asked, WordsFault, read_words};
 use port_trait::Ports;
 use std::alloc::Global;
@@ -26,7 +26,7 @@ pub enum ListEnd {
     /// What `build` answered.
     Built(Result<Built, BuildFault>),
     /// What `find` answered.
-    Found(Result<Finds, FindFault>),
+    Found(Result<Looked, FindFault>),
     /// What `check` answered.
     Checked(Result<Tally, CheckListFault>),
 }

@@ -7,6 +7,7 @@ ghost use Rattle.list_tool.specs.Status.{build_code, check_code, code_of, find_c
 
 use crate::check_command::CheckListFault;
 use crate::fault::{FindFault, LoadFault};
+use crate::looked::Looked;
 use crate::run::ListEnd;
 use block_decoder::Verdict;
 use list_builds::{BuildFault, Built};
@@ -85,11 +86,11 @@ fn lines_code(fault: &LinesFault) -> u8
 }
 
 /// The code of `find`.
-fn find_code(found: &Result<Finds, FindFault>) -> u8
+fn find_code(found: &Result<Looked, FindFault>) -> u8
     ensures { result ≡ find_code found.now }
 {
     match found {
-        Ok(finds) => finds_code(finds),
+        Ok(looked) => finds_code(&looked.finds),
         Err(FindFault::Catalog(fault)) => load_code(fault),
         Err(FindFault::Servers(_)) => 10,
         Err(FindFault::Keys(fault)) => lines_code(fault),
