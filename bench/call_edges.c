@@ -202,11 +202,55 @@ static void lists(void) {
     find("shorter values", (pir_list){8, 4, 2}, "gamma", 40, 5, PIR_BROKEN_ROW, 77);
 }
 
+/* A reply with buffers of exactly these sizes, for a database of the rows `AB` and `CD`. */
+static void reply(const char *what, const char *rows, size_t n_rows, uint32_t scheme, uint32_t width, const uint8_t *query, size_t n_guest,
+                  size_t n_out, int32_t code, size_t told, uint32_t how, const char *payload) {
+    uint8_t *database = bytes(n_rows), *guest = bytes(n_guest), *out = bytes(n_out);
+    memcpy(database, rows, strlen(rows) < n_rows ? strlen(rows) : n_rows), memcpy(guest, query, n_guest < 26 ? n_guest : 26);
+    size_t used = 77;
+    uint32_t met = 77;
+    expect(what, pir_reply(database, n_rows, scheme, width, guest, n_guest, out, n_out, &used, &met), code);
+    expect(what, used, told), expect(what, met, how);
+    if (code || !told) expect(what, untouched(out, n_out), 1);
+    else expect(what, memcmp(out, "PIRA", 4) || out[7] != how || memcmp(out + 24, payload, told - 24), 0);
+    free(database), free(guest), free(out);
+}
+
+static void replies(void) {
+    const uint8_t shamir[26] = {'P', 'I', 'R', 'Q', 1, 1, 2, 0, 0, 0, 0, 0, 0, 0, 0, 7, 0, 0, 0, 2, 0, 0, 0, 2, 0x01, 0x00};
+    const uint8_t chosen[26] = {'P', 'I', 'R', 'Q', 1, 2, 1, 0, 0, 0, 0, 0, 0, 0, 0, 7, 0, 0, 0, 2, 0, 0, 0, 2, 0xc0, 0xff};
+    uint8_t other[26], unused[26];
+    memcpy(other, shamir, 26), memcpy(unused, chosen, 26);
+    other[19] = 3, unused[24] = 0x81;
+    reply("a row", "ABCD", 4, PIR_SHAMIR, 2, shamir, 26, 26, PIR_DONE, 26, PIR_SERVED, "AB");
+    reply("a query with a byte behind", "ABCD", 4, PIR_SHAMIR, 2, shamir, 27, 30, PIR_DONE, 26, PIR_SERVED, "AB");
+    reply("the sum of two rows", "ABCD", 4, PIR_XOR, 2, chosen, 25, 26, PIR_DONE, 26, PIR_SERVED, "\x02\x06");
+    reply("room a byte short", "ABCD", 4, PIR_SHAMIR, 2, shamir, 26, 25, PIR_SMALL_ROOM, 26, PIR_SERVED, "");
+    reply("no room", "ABCD", 4, PIR_SHAMIR, 2, shamir, 26, 0, PIR_SMALL_ROOM, 26, PIR_SERVED, "");
+    reply("a query a byte short", "ABCD", 4, PIR_SHAMIR, 2, shamir, 25, 26, PIR_DONE, 0, PIR_GONE, "");
+    reply("a header a byte short", "ABCD", 4, PIR_SHAMIR, 2, shamir, 23, 26, PIR_DONE, 0, PIR_GONE, "");
+    reply("no byte", "ABCD", 4, PIR_SHAMIR, 2, shamir, 0, 0, PIR_DONE, 0, PIR_GONE, "");
+    reply("no header", "ABCD", 4, PIR_SHAMIR, 2, shamir + 1, 25, 24, PIR_DONE, 24, 1, "");
+    reply("another shape", "ABCD", 4, PIR_SHAMIR, 2, other, 26, 24, PIR_DONE, 24, 2, "");
+    reply("another scheme", "ABCD", 4, PIR_SHAMIR, 2, chosen, 25, 24, PIR_DONE, 24, 3, "");
+    reply("an unused bit", "ABCD", 4, PIR_XOR, 2, unused, 25, 24, PIR_DONE, 24, 1, "");
+    reply("a refusal with room a byte short", "ABCD", 4, PIR_SHAMIR, 2, chosen, 25, 23, PIR_SMALL_ROOM, 24, 3, "");
+    reply("rows that aren't whole", "ABCDE", 5, PIR_SHAMIR, 2, shamir, 26, 26, PIR_BAD_DATABASE, 77, 77, "");
+    reply("no rows", "", 0, PIR_SHAMIR, 2, shamir, 26, 26, PIR_BAD_DATABASE, 77, 77, "");
+    reply("rows of no byte", "ABCD", 4, PIR_SHAMIR, 0, shamir, 26, 26, PIR_BAD_DATABASE, 77, 77, "");
+    reply("rows that are too wide", "ABCD", 65537, PIR_SHAMIR, 65537, shamir, 26, 26, PIR_BAD_DATABASE, 77, 77, "");
+    reply("the greatest width", "ABCD", 4, PIR_SHAMIR, UINT32_MAX, shamir, 26, 26, PIR_BAD_DATABASE, 77, 77, "");
+    reply("too many rows", "", (1 << 20) + 1, PIR_SHAMIR, 1, shamir, 26, 26, PIR_BAD_DATABASE, 77, 77, "");
+    reply("no scheme", "ABCD", 4, 0, 2, shamir, 26, 26, PIR_BAD_DATABASE, 77, 77, "");
+    reply("scheme 257", "ABCD", 4, 257, 2, shamir, 26, 26, PIR_BAD_DATABASE, 77, 77, "");
+}
+
 int main(void) {
     expect("pir_version", pir_version(), PIR_INTERFACE);
     plans();
     queries();
     judgements();
     lists();
+    replies();
     return wrong;
 }

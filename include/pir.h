@@ -45,7 +45,8 @@ enum {
     PIR_FEW_COINS = -4,      /* there are too few coins */
     PIR_SMALL_ROOM = -5,     /* there is too little room; the call says how much is needed */
     PIR_BAD_ANSWERS = -6,    /* not a length and a mark for each server, or the lengths don't add up */
-    PIR_BAD_LIST = -7        /* the numbers are those of no list, or the row is longer than any */
+    PIR_BAD_LIST = -7,       /* the numbers are those of no list, or the row is longer than any */
+    PIR_BAD_DATABASE = -8    /* the bytes are no whole rows of a database, or the scheme is none */
 };
 
 /* The scheme of a plan. */
@@ -136,6 +137,19 @@ int64_t pir_list_row(const pir_list *list, const uint8_t salt[16], const uint8_t
  * bytes; PIR_SMALL_ROOM, and then the length is in `used` all the same. Where no value is written `out` is as it was. */
 int32_t pir_list_find(const pir_list *list, const uint8_t salt[16], const uint8_t tag[8], const uint8_t *row, size_t n_row,
                       const uint8_t *key, size_t n_key, uint8_t *out, size_t n_out, size_t *used);
+
+/* How a guest is met, beside the statuses 1 to 3 of a refusal. */
+enum {
+    PIR_SERVED = 0, /* its query is answered */
+    PIR_GONE = 4    /* its bytes end before its query does: nothing is to be sent */
+};
+
+/* What a server replies to the bytes of a guest, as `pir serve` does: `database` has its rows one behind another, each of `width`
+ * bytes, which are read where they lie. The reply goes to the front of `out`, its length into `used`, and into `met` how the guest is
+ * met: PIR_SERVED, 1 to 3 for a refusal with that status, or PIR_GONE with a reply of no byte. It takes one thread and no memory.
+ * PIR_DONE; PIR_BAD_DATABASE; PIR_SMALL_ROOM, and then `used` and `met` are told all the same, and `out` is as it was. */
+int32_t pir_reply(const uint8_t *database, size_t n_database, uint32_t scheme, uint32_t width, const uint8_t *guest, size_t n_guest,
+                  uint8_t *out, size_t n_out, size_t *used, uint32_t *met);
 
 #ifdef __cplusplus
 }

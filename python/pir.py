@@ -16,7 +16,7 @@ import os
 import secrets
 from typing import List, NamedTuple, Optional, Sequence, Union
 
-__all__ = ["Client", "KeyList", "Query", "Verdict", "PirError", "NoBlock", "SeveralBlocks", "BrokenRow", "SHAMIR", "XOR"]
+__all__ = ["Client", "KeyList", "Query", "Verdict", "PirError", "NoBlock", "SeveralBlocks", "BrokenRow", "reply", "SHAMIR", "XOR"]
 
 SHAMIR = 1
 XOR = 2
@@ -65,6 +65,7 @@ REFUSALS = {
     -5: "there is too little room",
     -6: "the answers aren't those of so many servers",
     -7: "the numbers are those of no list, or the row is too long",
+    -8: "the bytes are no whole rows of a database, or the scheme is none",
     12: "there is no memory",
 }
 
@@ -83,6 +84,11 @@ def _load() -> ctypes.CDLL:
     library.pir_list_find.argtypes = [
         *(ctypes.POINTER(_List), ctypes.c_char_p, ctypes.c_char_p, ctypes.c_char_p, size, ctypes.c_char_p, size),
         *(ctypes.POINTER(ctypes.c_char), size, ctypes.POINTER(size)),
+    ]
+    library.pir_reply.restype = ctypes.c_int32
+    library.pir_reply.argtypes = [
+        *(ctypes.c_char_p, size, ctypes.c_uint32, ctypes.c_uint32, ctypes.c_char_p, size),
+        *(ctypes.POINTER(ctypes.c_char), size, ctypes.POINTER(size), ctypes.POINTER(ctypes.c_uint32)),
     ]
     library.pir_query.restype = library.pir_liars.restype = ctypes.c_int32
     library.pir_query.argtypes = [
@@ -264,3 +270,26 @@ class KeyList:
         if code == 10:
             raise BrokenRow(code, "the row is none of the list")
         return None if code == 14 else out.raw[: used.value]
+
+
+class Reply(NamedTuple):
+    """What a server replies to a guest."""
+
+    frame: bytes
+    """The bytes to send; none where the guest's end before its query does."""
+    met: int
+    """0 where its query is answered, 1 to 3 where it is refused with that status, 4 where the guest is gone."""
+
+
+def reply(database: bytes, width: int, guest: bytes, scheme: int = SHAMIR) -> Reply:
+    """What a server of these rows, each of `width` bytes, replies to the bytes of a guest, as `pir serve` does."""
+    room, used, met = 24, ctypes.c_size_t(), ctypes.c_uint32()
+    while True:
+        out = ctypes.create_string_buffer(room)
+        words = (database, len(database), scheme, width, guest, len(guest), out, room, ctypes.byref(used), ctypes.byref(met))
+        code = _LIBRARY.pir_reply(*words)
+        if code != -5:
+            break
+        room = used.value
+    _checked(code)
+    return Reply(out.raw[: used.value], met.value)

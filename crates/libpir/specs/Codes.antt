@@ -4,7 +4,7 @@ use Rattle.client_calls.specs.declared.refusal.Refusal.{Refusal}
 use Rattle.client_calls.specs.declared.refusal.Refusal.TheVariants.{Plan, Blocks, Index, Coins, Answers, Room, Memory}
 use Rattle.libpir.specs.declared.code.Code.{Code}
 use Rattle.libpir.specs.declared.code.Code.TheVariants.{Done, NoBlock, Several, FewAnswers, WeakAgreement, HighCost, BrokenRow, NoMemory, NotInList}
-use Rattle.libpir.specs.declared.code.Code.TheVariants.{BadPlan, BadBlocks, BadIndex, FewCoins, SmallRoom, BadAnswers, BadList}
+use Rattle.libpir.specs.declared.code.Code.TheVariants.{BadPlan, BadBlocks, BadIndex, FewCoins, SmallRoom, BadAnswers, BadList, BadDatabase}
 
 -- its number: that of the program's status where it has one, and below 0 what only a caller can get wrong
 abbrev pub number_of : Code → ℤ
@@ -24,6 +24,7 @@ number_of FewCoins = negsuc 3
 number_of SmallRoom = negsuc 4
 number_of BadAnswers = negsuc 5
 number_of BadList = negsuc 6
+number_of BadDatabase = negsuc 7
 
 -- the code of a refusal
 abbrev pub refusal_code : Refusal → Code

@@ -5,3 +5,4 @@ pub mod Numbers
 pub mod Judgements
 pub mod Liars
 pub mod Lists
+pub mod Replies

@@ -41,6 +41,8 @@ pub(crate) enum Code {
     BadAnswers = -6,
     /// The numbers are those of no list, or the row is longer than any.
     BadList = -7,
+    /// The bytes are no rows of a database, or the scheme is none.
+    BadDatabase = -8,
 }
 
 impl Code {
@@ -65,6 +67,7 @@ impl Code {
             Code::SmallRoom => -5,
             Code::BadAnswers => -6,
             Code::BadList => -7,
+            Code::BadDatabase => -8,
         }
     }
 

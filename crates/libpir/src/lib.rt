@@ -13,6 +13,7 @@ mod liars;
 mod lists;
 mod numbers;
 mod queries;
+mod replies;
 mod sizes;
 
 ghost use Rattle.std.specs.Prelude.{◌≡◌};

@@ -1,0 +1,3 @@
+pub mod HeldLengths
+pub mod Guests
+pub mod Replying
