@@ -46,19 +46,27 @@ _pir_files() {
   mapfile -t COMPREPLY < <(compgen -f -- "$1")
 }
 
-_pir() {
-  local word=${COMP_WORDS[COMP_CWORD]} before=${COMP_WORDS[COMP_CWORD-1]}
+# Sets `word` and `before` of its caller to the word at the cursor and the one before it; where that word is a command,
+# offers these commands and succeeds.
+_pir_begin() {
   COMPREPLY=()
+  word=${COMP_WORDS[COMP_CWORD]} before=${COMP_WORDS[COMP_CWORD-1]}
   if ((COMP_CWORD == 1)); then
-    mapfile -t COMPREPLY < <(compgen -W "$_pir_commands" -- "$word")
-    return
+    mapfile -t COMPREPLY < <(compgen -W "$1" -- "$word")
+    return 0
   fi
-  # (bash takes --scheme=xor for three words)
+  # (bash takes --rows=4 for three words)
   if [ "$word" = = ]; then
     word=
   elif [ "$before" = = ]; then
     before=${COMP_WORDS[COMP_CWORD-2]}
   fi
+  return 1
+}
+
+_pir() {
+  local word before
+  _pir_begin "$_pir_commands" && return
   case $before in
     --coins | --database | --into | --record) _pir_files "$word" ;;
     --scheme) mapfile -t COMPREPLY < <(compgen -W 'shamir xor' -- "$word") ;;
@@ -75,18 +83,8 @@ _pir() {
 }
 
 _pir_list() {
-  local word=${COMP_WORDS[COMP_CWORD]} before=${COMP_WORDS[COMP_CWORD-1]}
-  COMPREPLY=()
-  if ((COMP_CWORD == 1)); then
-    mapfile -t COMPREPLY < <(compgen -W "$_pir_list_commands --help --version" -- "$word")
-    return
-  fi
-  # (bash takes --rows=4 for three words)
-  if [ "$word" = = ]; then
-    word=
-  elif [ "$before" = = ]; then
-    before=${COMP_WORDS[COMP_CWORD-2]}
-  fi
+  local word before
+  _pir_begin "$_pir_list_commands --help --version" && return
   case $before in
     --catalog | --coins | --database | --keys) _pir_files "$word" ;;
     --hex | --values | [!-]*)
