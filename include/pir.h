@@ -102,7 +102,7 @@ int32_t pir_query(const pir_plan *plan, const uint32_t *blocks, size_t n_blocks,
 /* Judges the answers of all servers to the queries for so many blocks. `answers` has what came of each, one behind another, and
  * `lengths` how many bytes those of each are; where `present` has a 0 the server was silent. Both have an entry for each server, in
  * the order of their indices. `session` is the number that the first eight coins spell, highest first. Of an answer that is longer
- * than a whole one its front counts.
+ * than a whole one its prefix counts.
  * The listed blocks go to the front of `out`, one behind another, ascending as byte strings, and what is told of them into
  * `listing`.
  * PIR_DONE, PIR_NO_BLOCK, PIR_SEVERAL, PIR_FEW_ANSWERS, PIR_WEAK_AGREEMENT, PIR_HIGH_COST; PIR_NO_MEMORY; PIR_BAD_PLAN,
