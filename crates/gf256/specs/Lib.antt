@@ -2,4 +2,5 @@ pub mod Field
 pub mod Sums
 pub mod Polynomial
 pub mod Product
+pub mod Products
 pub mod Rows

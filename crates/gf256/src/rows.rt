@@ -10,6 +10,7 @@ ghost use Rattle.std.specs.Prelude.{◌≡◌, ℕ, ◌+◌, ◌*◌, ◌<◌, �
 ghost use Rattle.std.specs.List.{range_with_len};
 ghost use Rattle.std.specs.Simd.Lanes.{chunk};
 ghost use Rattle.gf256.specs.Field.{◌⊕◌, ◌⊗◌};
+ghost use Rattle.gf256.specs.Products.{high_of, low_of};
 ghost use Rattle.gf256.specs.Rows.{multiple, IsAdded};
 
 use crate::mul;
@@ -19,22 +20,19 @@ use std::simd::prelude::*;
 /// The products with one factor, 16 at once. Contracts see the factor.
 #[derive(Drop)]
 pub struct Products {
-    factor: u8,
     low: u8x16,
     high: u8x16,
 }
 
 impl Model for Products {
-    ghost use Rattle.std.specs.Prelude.{◌≡◌, ℕ, ◌*◌, map};
-    ghost use Rattle.std.specs.List.{range_with_len};
-    ghost use Rattle.gf256.specs.Field.{◌⊗◌};
+    ghost use Rattle.std.specs.Prelude.{◌≡◌, ℕ, map, slice_index};
+    ghost use Rattle.gf256.specs.Products.{high_of, low_of};
 
     ghost Value = { ℕ };
 
-    ghost view = { λ p. p.factor };
+    ghost view = { λ p. slice_index p.low 1 };
 
-    ghost invariant = { λ p. (p.low ≡ map (λ i. p.factor ⊗ i) (range_with_len 0 16))
-        × (p.high ≡ map (λ i. p.factor ⊗ (i * 16)) (range_with_len 0 16)) };
+    ghost invariant = { λ p. (p.low ≡ low_of (slice_index p.low 1)) × (p.high ≡ high_of (slice_index p.low 1)) };
 }
 
 impl Products {
@@ -44,10 +42,27 @@ impl Products {
         ensures { result ≡ factor }
     {
         Products {
-            factor,
             low: low_products(factor),
             high: high_products(factor),
         }
+    }
+
+    /// The same once more, so that it can be held in registers while other bytes are written.
+    #[inline(always)]
+    pub fn copied(&self) -> Products
+        ensures { result ≡ self.now }
+    {
+        Products {
+            low: self.low,
+            high: self.high,
+        }
+    }
+
+    /// The factor, which is its own product with 1.
+    pub fn factor(&self) -> u8
+        ensures { result ≡ self.now }
+    {
+        self.low[1]
     }
 
     /// The product of each of 16 bytes with the factor.
@@ -134,7 +149,7 @@ fn row_of(table: &[u8; 256], j: u8) -> u8x16
 /// high four.
 #[inline(always)]
 fn low_products(factor: u8) -> u8x16
-    ensures { result ≡ map (λ i. factor ⊗ i) (range_with_len 0 16) }
+    ensures { result ≡ low_of factor }
 {
     row_of(&SMALL, factor & 15) ^ row_of(&MIDDLE, factor >> 4)
 }
@@ -142,7 +157,7 @@ fn low_products(factor: u8) -> u8x16
 /// The products of the factor with 0, 16, .. 240.
 #[inline(always)]
 fn high_products(factor: u8) -> u8x16
-    ensures { result ≡ map (λ i. factor ⊗ (i * 16)) (range_with_len 0 16) }
+    ensures { result ≡ high_of factor }
 {
     row_of(&MIDDLE, factor & 15) ^ row_of(&LARGE, factor >> 4)
 }
@@ -198,7 +213,7 @@ fn add_rest(acc: &mut [u8], row: &[u8], products: &Products, at: usize)
     }
     if acc.len() < 16 {
         for i in at..acc.len() {
-            acc[i] ^= mul(products.factor, row[i]);
+            acc[i] ^= mul(products.factor(), row[i]);
         }
         return;
     }

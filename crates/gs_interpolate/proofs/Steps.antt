@@ -1,12 +1,13 @@
 -- A step of the iteration in a row of polynomials side by side.
 use Rattle.std.proofs.Common.{◌≡◌, ◌≢◌, ℕ, zero, suc, ◌+◌, ◌-◌, ◌*◌, ◌<◌, ◌≤◌, List, ◌++◌, length, get_or, take, drop, replicate, refl, sym, ap, ap₂, subst, ◌∙◌, arith, inl, inr, add-one, add-mul}
+use Rattle.std.proofs.Math.Nat.{mul-le-mul_right}
 use Rattle.std.proofs.lemmas.Bool.{cases_lt}
 use Rattle.std.proofs.lemmas.List.{take_all, get_or_past, get_or_append_left, get_or-append_right, get_or-replicate, length-replicate}
 use borrow.Rule.Slice.PartMut.{put_mid}
 use Rattle.gf256.specs.Field.{◌⊕◌, ◌⊗◌}
-use Rattle.gf256.proofs.Xor.{add_comm}
-use Rattle.gf256.proofs.FieldLaws.{mul_add, mul_one}
-use Rattle.gs_interpolate.specs.Family.{multiplier, preceding, AreMultiplesAdded, IsCellStep, IsRowStep}
+use Rattle.gf256.proofs.Xor.{add_comm, add_zero}
+use Rattle.gf256.proofs.FieldLaws.{mul_add, mul_one, zero_mul}
+use Rattle.gs_interpolate.specs.Family.{multiplier, preceding, AreMultiplesAdded, IsCellStep, IsRowStep, IsStepCount}
 use Rattle.gf256.proofs.FlatRows.{row_within}
 use Rattle.gs_interpolate.proofs.Places.{part_here, part_elsewhere, part_before}
 
@@ -30,6 +31,31 @@ row_step-none factors row p = record {
   others = λ i g l m o. absurd (omega (arith, l));
   rest = λ k l. refl;
 }
+
+-- adding no multiple changes nothing
+no_multiple : (x y f : ℕ) → y ≡ 0 → x ⊕ y ⊗ f ≡ x
+no_multiple x y f none = ap (λ z. x ⊕ z ⊗ f) none ∙ ap (◌⊕◌ x) (zero_mul f) ∙ add_zero x
+
+-- a step at the powers at which it changes something is one at all
+pub row_step-all : {factors now before : List ℕ} {p count powers : ℕ} → IsStepCount (length factors) p before count powers
+    → IsRowStep factors p now before powers → IsRowStep factors p now before count
+row_step-all {factors = factors} {now = now} {before = before} {p = p} {count = count} {powers = powers} enough step =
+    let n = length factors in
+    let past = λ (i g : ℕ) (l : powers ≤ i). step.rest (i * n + g) (let e = mul-le-mul_right n l in omega (arith, e)) in
+    record {
+      pivot = λ i l. elim (cases_lt i powers) [
+        | inl low ↦ step.pivot i low
+        | inr high ↦
+            past i p high ∙ enough.own i high l
+            ∙ sym (ap (λ x. x ⊕ get_or before (i * n + p) 0 ⊗ multiplier factors p) (enough.before i high l)
+            ∙ no_multiple 0 (get_or before (i * n + p) 0) (multiplier factors p) (enough.own i high l))
+      ];
+      others = λ i g l m o. elim (cases_lt i powers) [
+        | inl low ↦ step.others i g low m o
+        | inr high ↦ past i g high ∙ sym (no_multiple (get_or before (i * n + g) 0) (get_or before (i * n + p) 0) (get_or factors g 0) (enough.own i high l))
+      ];
+      rest = λ k l. step.rest k (let e = mul-le-mul_right n enough.few in omega (arith, e, l));
+    }
 
 -- the coefficient before the next one
 pub preceding-next : (n p : ℕ) (row : List ℕ) (i : ℕ) → preceding n p row (i + 1) ≡ get_or row (i * n + p) 0

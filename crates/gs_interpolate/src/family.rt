@@ -5,7 +5,7 @@
 ghost use Rattle.std.specs.Prelude.{ℕ, ◌≡◌, ◌≢◌, ◌+◌, ◌*◌, ◌<◌, ◌≤◌, length, slice_index, IfOk};
 ghost use Rattle.std.specs.Simd.Lanes.{chunk};
 ghost use Rattle.gf256.specs.Field.{◌⊕◌};
-ghost use Rattle.gs_interpolate.specs.Family.{bytes_of, AreCoefficients, AreMultiplesAdded, IsCellStep, IsFamilyStep, IsRowStep, StaysWhole};
+ghost use Rattle.gs_interpolate.specs.Family.{bytes_of, AreCoefficients, AreMultiplesAdded, IsCellStep, IsFamilyStep, IsRowStep, IsStepCount, StaysWhole};
 
 use crate::basis::MOST_PLACES;
 use gf256::rows::{Products, add_scaled_row};
@@ -98,8 +98,8 @@ fn last_lanes<const VECTORS: usize>(factors: &[u8]) -> u8x16
     }
 }
 
-/// Adds `own` times the factors, where these are the vector `low`, or the two vectors `low` and `high`. Where it is 0, there is
-/// nothing to do.
+/// Adds `own` times the factors, where these are the vector `low`, or the two vectors `low` and `high`. Where it is 0, zeros are
+/// added: to look whether it is would take longer.
 #[inline(always)]
 fn add_held_multiple<const VECTORS: usize>(
     cell: &mut [u8],
@@ -116,16 +116,16 @@ fn add_held_multiple<const VECTORS: usize>(
     requires high { VECTORS ≡ 2 → high ≡ chunk 16 16 factors.now }
     ensures { AreMultiplesAdded factors.now own cell.new cell.old }
 {
-    if own == 0 {
-        return;
-    }
     let products = tables.products(own);
-    let first = u8x16::from_slice(&cell[0..]) ^ products.times(low);
+    // Both are made before either is written, so that the products are read once.
+    let by_low = products.times(low);
+    let by_high = products.times(high);
+    let first = u8x16::from_slice(&cell[0..]) ^ by_low;
     first.copy_to_slice(&mut cell[0..]);
     if VECTORS == 1 {
         return;
     }
-    let second = u8x16::from_slice(&cell[16..]) ^ products.times(high);
+    let second = u8x16::from_slice(&cell[16..]) ^ by_high;
     second.copy_to_slice(&mut cell[16..]);
 }
 
@@ -187,6 +187,20 @@ pub(crate) fn step_row(row: &mut [u8], factors: &[u8], p: usize, count: usize, t
     }
 }
 
+/// How many of the first `count` powers of x a step is taken at: past the last at which the polynomial at place `p` has a
+/// coefficient, and the power behind that, there is nothing to do.
+fn powers_to_step(row: &[u8], lanes: usize, p: usize, count: usize) -> usize
+    requires inside { p < lanes }
+    requires room { count * lanes ≤ length row.now }
+    ensures { IsStepCount lanes p row.now count result }
+{
+    let mut powers = count;
+    'zeros: while powers > 0 && row[(powers - 1) * lanes + p] == 0 {
+        powers -= 1;
+    }
+    count.min(powers + 1)
+}
+
 /// Takes a step in one row, as `step_row` does. A row that has no place for so many coefficients is made longer, by zeros.
 ///
 /// `AllocError` where there is no memory for them.
@@ -205,7 +219,8 @@ fn step_long_row(
     let room = count * factors.len();
     let missing = room.saturating_sub(row.len());
     row.resize(row.len() + missing, 0)?;
-    step_row(row, factors, p, count, tables);
+    let powers = powers_to_step(row, factors.len(), p, count);
+    step_row(row, factors, p, powers, tables);
     Ok(())
 }
 

@@ -11,40 +11,47 @@ use std::marker::Model;
 use std::mem;
 use std::simd::prelude::*;
 
-/// Makes each byte of `sums` that of `row` plus `a` times that of `multiplied`; all three are as long.
-fn set_sums(sums: &mut [u8], row: &[u8], multiplied: &[u8], a: u8)
+/// Makes each byte of `sums` that of `row` plus the product of that of `multiplied`; all three are as long.
+fn set_sums(sums: &mut [u8], row: &[u8], multiplied: &[u8], products: &Products)
     requires row { length row.now ≡ length sums.old }
     requires multiplied { length multiplied.now ≡ length sums.old }
-    ensures { AreSums a (length sums.old) sums.new row.now multiplied.now }
+    ensures { AreSums products.now (length sums.old) sums.new row.now multiplied.now }
 {
-    let products = Products::of(a);
+    let held = products.copied();
     let mut at = 0;
     'lanes: while sums.len() - at >= 16 {
-        let sum = u8x16::from_slice(&row[at..])
-            ^ products.times(u8x16::from_slice(&multiplied[at..]));
+        let sum = u8x16::from_slice(&row[at..]) ^ held.times(u8x16::from_slice(&multiplied[at..]));
         sum.copy_to_slice(&mut sums[at..]);
         at += 16;
     }
     for k in at..sums.len() {
-        sums[k] = gf256::add(row[k], gf256::mul(a, multiplied[k]));
+        sums[k] = gf256::add(row[k], gf256::mul(products.factor(), multiplied[k]));
     }
 }
 
 /// Takes a step of Horner's rule for polynomials side by side: `next` becomes `x + a` times the polynomials whose first
-/// coefficients are `sums`, plus the constants `first`. There is room for as many coefficients as before.
-fn horner(next: &mut [u8], sums: &[u8], first: &[u8], a: u8)
+/// coefficients are `sums`, plus the constants `first`, where `products` are those with a. There is room for as many
+/// coefficients as before.
+fn horner(next: &mut [u8], sums: &[u8], first: &[u8], products: &Products)
     requires same { length next.old ≡ length sums.now }
     requires room { length first.now ≤ length sums.now }
-    ensures { AreSums a (length sums.now) next.new (first.now ++ sums.now) sums.now }
+    ensures { AreSums products.now (length sums.now) next.new (first.now ++ sums.now) sums.now }
 {
     let (low, high) = next.split_at_mut(first.len());
-    set_sums(low, first, &sums[..first.len()], a);
-    set_sums(high, &sums[..high.len()], &sums[first.len()..], a);
+    set_sums(low, first, &sums[..first.len()], products);
+    set_sums(high, &sums[..high.len()], &sums[first.len()..], products);
 }
 
-/// Makes `made` the first `m` coefficients about `a`, those of the powers of `x - a`, of each of the polynomials in one row.
-/// `next` is as long, and what it holds is of no use.
-fn expand(made: &mut Vec<u8>, next: &mut Vec<u8>, row: &[u8], lanes: usize, m: usize, a: u8)
+/// Makes `made` the first `m` coefficients about a, those of the powers of `x - a`, of each of the polynomials in one row,
+/// where `products` are those with a. `next` is as long, and what it holds is of no use.
+fn expand(
+    made: &mut Vec<u8>,
+    next: &mut Vec<u8>,
+    row: &[u8],
+    lanes: usize,
+    m: usize,
+    products: &Products,
+)
     requires some { 1 ≤ lanes }
     requires terms { 1 ≤ m }
     requires whole { length row.now % lanes ≡ 0 }
@@ -52,12 +59,12 @@ fn expand(made: &mut Vec<u8>, next: &mut Vec<u8>, row: &[u8], lanes: usize, m: u
     requires room { length next.old.items ≡ m * lanes }
     ensures size { length made.new.items ≡ m * lanes }
     ensures room { length next.new.items ≡ m * lanes }
-    ensures expanded { AreExpanded lanes m a made.new.items (λ g. lane lanes g row.now) }
+    ensures expanded { AreExpanded lanes m products.now made.new.items (λ g. lane lanes g row.now) }
 {
     clear(made);
     for i in (0..row.len() / lanes).rev() {
         let start = i * lanes;
-        horner(next, made, &row[start..start + lanes], a);
+        horner(next, made, &row[start..start + lanes], products);
         mem::swap(made, next);
     }
 }
@@ -122,9 +129,10 @@ impl Window {
         let mut next = vec![in alloc; 0; m * size]?;
         let mut first = vec![in alloc; 0; size]?;
         let mut spare = vec![in alloc; 0; size]?;
+        let (along_x, along_y) = (Products::of(a), Products::of(b));
         for j in (0..rows.len()).rev() {
-            expand(&mut first, &mut spare, &rows[j], lanes, m, a);
-            horner(&mut next, &cells, &first, b);
+            expand(&mut first, &mut spare, &rows[j], lanes, m, &along_x);
+            horner(&mut next, &cells, &first, &along_y);
             mem::swap(&mut cells, &mut next);
         }
         Ok(Window {

@@ -123,9 +123,11 @@ pub fn interpolate(alloc: Global, xs: &[u8], ys: &[u8]) -> Result<Vec<u8>, Alloc
 {
     let mut made = vec![in alloc; 0; xs.len()]?;
     let mut basis = vec![in alloc; 1]?;
-    for i in 0..xs.len() {
+    let last = xs.len() - 1;
+    for i in 0..last {
         pass_through(&mut made, &basis, xs[i], ys[i]);
         basis = mul_by_linear(alloc, &basis, xs[i])?;
     }
+    pass_through(&mut made, &basis, xs[last], ys[last]);
     Ok(made)
 }

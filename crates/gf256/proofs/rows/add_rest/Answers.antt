@@ -8,7 +8,7 @@ use Rattle.gf256.proofs.rows.add_rest.Goals as goal
 pub loop-i-preserved : goal.loop-i-preserved
 loop-i-preserved c =
     added-place c.loop-i.acc c.args.acc.now (multiple c.args.row.now c.args.products.now) c.args.at c.loop-i.i c.mul.result (omega arith) (omega arith)
-    (c.mul.ensures ∙ ap (λ f. f ⊗ get_or c.args.row.now c.loop-i.i 0) c.products.view_is) c.loop-i.invariant
+    (c.mul.ensures ∙ ap (λ f. f ⊗ get_or c.args.row.now c.loop-i.i 0) c.factor.ensures) c.loop-i.invariant
 
 pub returns : goal.returns
 returns c =

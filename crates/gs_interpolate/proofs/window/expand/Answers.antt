@@ -50,14 +50,14 @@ loop-i-init c =
     record {
       size = ap length back ∙ c.clear.auto.row ∙ ap length held ∙ c.requires.size;
       room = c.requires.room;
-      sums = expanded-none n m c.args.a _ (rest_from n row (length row / n)) (λ k l. ap (λ xs. get_or xs k 0) back ∙ c.clear.ensures k) (λ g e. rest-none n row g e c.requires.some c.requires.whole);
+      sums = expanded-none n m c.args.products.now _ (rest_from n row (length row / n)) (λ k l. ap (λ xs. get_or xs k 0) back ∙ c.clear.ensures k) (λ g e. rest-none n row g e c.requires.some c.requires.whole);
     }
 
 pub loop-i-preserved : goal.loop-i-preserved
 loop-i-preserved c =
     let n = c.args.lanes in
     let m = c.args.m in
-    let a = c.args.a in
+    let a = c.args.products.now in
     let row = c.args.row.now in
     let k = c.loop-i.i - 1 in
     let made = c.loop-i.made.items in

@@ -51,7 +51,7 @@ set_sums-requires-clause-multiplied c = length-take-le (length c.args.first.now)
 
 pub returns : goal.returns
 returns c =
-    sums_in_two c.args.first.now c.args.sums.now c.set_sums.new.sums c.set_sums-2.new.sums c.args.a (length c.split_at_mut-low.result.0.now) (length c.split_at_mut-low.result.1.now)
+    sums_in_two c.args.first.now c.args.sums.now c.set_sums.new.sums c.set_sums-2.new.sums c.args.products.now (length c.split_at_mut-low.result.0.now) (length c.split_at_mut-low.result.1.now)
     c.split_at_mut-low.ensures.front_len (c.split_at_mut-low.ensures.back_len ∙ c.requires.same) c.set_sums.auto.sums c.set_sums.ensures c.set_sums-2.ensures
 
 pub slice_bounds-set_sums-end-2 : goal.slice_bounds-set_sums-end-2

@@ -13,12 +13,12 @@ lanes-preserved c =
     let at = c.lanes.at in
     let row = c.args.row.now in
     let multiplied = c.args.multiplied.now in
-    let a = c.args.a in
+    let a = c.args.products.now in
     let room : at + 16 ≤ length sums = omega arith in
     let sum = zip2 bit_xor (chunk at 16 row) c.times.result in
     let size = length-put_chunk at sums sum in
     let products = times-lanes multiplied c.times.result a at (omega (arith, room, c.requires.multiplied, c.lanes.invariant.size))
-    (c.times.ensures ∙ ap (λ f. map (λ x. f ⊗ x) (chunk at 16 multiplied)) c.of-products.ensures) in
+    (c.times.ensures ∙ ap (λ f. map (λ x. f ⊗ x) (chunk at 16 multiplied)) c.copied-held.ensures) in
     let lanes = lanes-sum (chunk at 16 row) c.times.result _ _ at (lanes-of row at (omega (arith, room, c.requires.row, c.lanes.invariant.size))) products in
     record {
       size = size ∙ c.lanes.invariant.size;

@@ -1,4 +1,4 @@
-use Rattle.std.proofs.Common.{◌≡◌, ◌+◌, ◌-◌, ◌*◌, ◌/◌, ◌%◌, ◌<◌, ◌++◌, List, ℕ, [], length, map, get_or, drop, sym, ap, subst, ◌∙◌, arith, take_at, Vec, Global}
+use Rattle.std.proofs.Common.{◌≡◌, ◌+◌, ◌-◌, ◌*◌, ◌/◌, ◌%◌, ◌<◌, ◌++◌, List, ℕ, [], length, map, get_or, drop, sym, ap, subst, subst₂, ◌∙◌, arith, take_at, Vec, Global}
 use Rattle.std.proofs.lemmas.List.{length-replicate, get_or-replicate, length-map, get_or-map}
 use Rattle.std.proofs.lemmas.Result.{IfOk-from_err}
 use Rattle.gf256.specs.Field.{◌⊕◌, ◌⊗◌}
@@ -57,11 +57,11 @@ loop-j-preserved c =
     let held : c.deref.result.now ≡ row rows j = c.deref.ensures.value ∙ ap f c.index-rows-j.is ∙ sym (get_or-map f c.args.rows.now j _ [] (omega arith)) in
     let done = subst (λ i. AreExpanded s m b made (λ k. row_values n a k (drop i rows))) one c.loop-j.invariant.sums in
     let small : length first ≡ s = c.expand.ensures.size in
-    let each = subst (λ r. (u g : ℕ) → u < m → g < n → get_or first (u * n + g) 0 ≡ taylor (lane n g r) a u) held c.expand.ensures.expanded in
+    let each = subst₂ (λ r x. (u g : ℕ) → u < m → g < n → get_or first (u * n + g) 0 ≡ taylor (lane n g r) x u) held c.of-along_x.ensures c.expand.ensures.expanded in
     let is = λ (k : ℕ) (l : k < s). expanded-at n m a first (row rows j) k c.requires.some l each in
     let sums : (k : ℕ) → k < length made → get_or next k 0 ≡ get_or (first ++ made) k 0 ⊕ b ⊗ get_or made k 0 =
-    subst (λ (ys : List ℕ). (k : ℕ) → k < length made → get_or next k 0 ≡ get_or (ys ++ made) k 0 ⊕ b ⊗ get_or made k 0) c.deref-in-loop-j-2.ensures.value
-    (subst (λ (xs : List ℕ). (k : ℕ) → k < length xs → get_or next k 0 ≡ get_or (c.deref-in-loop-j-2.result.now ++ xs) k 0 ⊕ b ⊗ get_or xs k 0) c.deref-in-loop-j.ensures.value c.horner.ensures) in
+    subst₂ (λ (ys : List ℕ) x. (k : ℕ) → k < length made → get_or next k 0 ≡ get_or (ys ++ made) k 0 ⊕ x ⊗ get_or made k 0) c.deref-in-loop-j-2.ensures.value c.of-along_y.ensures
+    (subst (λ (xs : List ℕ). (k : ℕ) → k < length xs → get_or next k 0 ≡ get_or (c.deref-in-loop-j-2.result.now ++ xs) k 0 ⊕ c.of-along_y.result ⊗ get_or xs k 0) c.deref-in-loop-j.ensures.value c.horner.ensures) in
     let all = values-next s m n a b next rows j inside
     (expanded-next s m b made next first (λ k. taylor (lane n (k % n) (row rows j)) a (k / n)) (λ k. row_values n a k (drop (j + 1) rows))
     c.loop-j.invariant.size small is (λ k. taylor_lt (lane n (k % n) (row rows j)) a (k / n)) done sums) in
