@@ -1,11 +1,15 @@
 -- An entry: the digest of a key, and the key's value.
-use Rattle.std.specs.Prelude.{◌≡◌, ℕ, ◌+◌, ◌-◌, ◌<◌, ◌≤◌, ◌≢◌, ◌==◌, if◌then◌else◌, List, [], ◌++◌, length, replicate, slice_index, All}
+use Rattle.std.specs.Prelude.{◌≡◌, ℕ, ◌+◌, ◌-◌, ◌<◌, ◌≤◌, ◌≢◌, ◌==◌, if◌then◌else◌, List, [], ◌++◌, length, replicate, take, drop, slice_index, All}
 use Rattle.std.specs.Int.{w16, to_be_bytes}
 
 -- the digest of a key, and its value
 pub record Pair : Type 0 where
   pub digest : List ℕ
   pub value : List ℕ
+
+-- the pairs from a place up to another
+abbrev pub pairs_between : List Pair → ℕ → ℕ → List Pair
+pairs_between pairs start end = take (end - start) (drop start pairs)
 
 -- bytes: numbers below 256
 abbrev pub AreBytes : List ℕ → Type 0

@@ -4,7 +4,9 @@ use Rattle.std.specs.List.{flat_map}
 use Rattle.std.specs.List.Sorted.{IsStrictlySortedBy}
 use Rattle.std.specs.Cmp.Lexicographic.{slice_cmp}
 use Rattle.std.specs.Ordering.{nat_cmp}
+use Rattle.sha2.specs.Hashers.{Holds256}
 use Rattle.sha2.specs.Sha256.{sha256}
+use Rattle.sha2.specs.declared.Sha256.{Sha256}
 use Rattle.key_table.specs.Entry.{Pair, entry}
 
 -- lists of bytes ascend, each once
@@ -20,6 +22,10 @@ pub record AreSorted (most : ℕ) (list sorted : List Pair) : Type 0 where
 -- a list is clear where no digest stands with two values
 abbrev pub IsClear : List Pair → Type 0
 IsClear list = (p q : Pair) → Contains list p → Contains list q → p.digest ≡ q.digest → p ≡ q
+
+-- the hasher took these bytes behind all that it had taken
+abbrev pub Hashes : List ℕ → Sha256 → Sha256 → Type 0
+Hashes bytes old new = (taken : List ℕ) → Holds256 old taken → Holds256 new (taken ++ bytes)
 
 -- the tag of a list, by its pairs as they ascend: the first bytes of the SHA-256 of the salt and all entries
 abbrev pub tag_of : List ℕ → ℕ → List Pair → List ℕ

@@ -3,7 +3,7 @@
 ghost use Rattle.std.specs.Prelude.{◌≡◌, ◌≤◌, ◌<◌, ◌+◌, ◌-◌, ◌*◌, length, take, drop};
 ghost use Rattle.std.specs.List.{flat_map};
 ghost use Rattle.quantity_limits.specs.declared.TheConstants.{MOST_WIDTH};
-ghost use Rattle.key_table.specs.Entry.{entry, entry_size};
+ghost use Rattle.key_table.specs.Entry.{entry, entry_size, pairs_between};
 ghost use Rattle.key_table.specs.Rows.{StartsAt, row_bytes, rows_at};
 ghost use Rattle.key_table.specs.Table.{head_size, table_row};
 ghost use Rattle.key_table.specs.Width.{width_of};
@@ -62,7 +62,7 @@ fn write_entries(entries: &SortedEntries, start: usize, end: usize, out: &mut [u
     requires order { start ≤ end }
     requires within { end ≤ length entries.now.pairs }
     requires room { length out.old ≡ (end - start) * entry_size entries.now.size entries.now.most }
-    ensures { out.new ≡ flat_map (entry entries.now.most) (take (end - start) (drop start entries.now.pairs)) }
+    ensures { out.new ≡ flat_map (entry entries.now.most) (pairs_between entries.now.pairs start end) }
 {
     let step = entries.entry_size();
     for i in start..end {
@@ -83,7 +83,7 @@ fn write_row_of(entries: &SortedEntries, tag: &[u8; 8], start: usize, end: usize
     requires short { length out.old ≤ MOST_WIDTH }
     requires room { head_size + entry_size entries.now.size entries.now.most * (end - start) ≤ length out.old }
     ensures { out.new ≡ table_row (length out.old) tag.now entries.now.most
-        (take (end - start) (drop start entries.now.pairs)) }
+        (pairs_between entries.now.pairs start end) }
 {
     let count = end - start;
     let taken = entries.entry_size() * count;

@@ -1,9 +1,8 @@
 //! The tag of a list, by its entries as they ascend.
 
-ghost use Rattle.std.specs.Prelude.{◌≡◌, ◌≤◌, ◌++◌, ℕ, List, replicate, take, length};
-ghost use Rattle.sha2.specs.Hashers.{Holds256};
+ghost use Rattle.std.specs.Prelude.{◌≡◌, ◌≤◌, replicate, take, length};
 ghost use Rattle.key_table.specs.Entry.{entry, value_bytes};
-ghost use Rattle.key_table.specs.KeyList.{tag_of};
+ghost use Rattle.key_table.specs.KeyList.{Hashes, tag_of};
 ghost use Rattle.key_table.specs.Looked.{pair};
 
 use crate::MOST_VALUE;
@@ -15,7 +14,7 @@ const ZEROS: usize = 64;
 
 /// Hashes so many zeros behind what was hashed.
 fn hash_zeros(hasher: &mut Sha256, count: usize)
-    ensures { (m : List ℕ) → Holds256 hasher.old m → Holds256 hasher.new (m ++ replicate count 0) }
+    ensures { Hashes (replicate count 0) hasher.old hasher.new }
 {
     let zeros = [0u8; ZEROS];
     let mut left = count;
@@ -30,7 +29,7 @@ fn hash_zeros(hasher: &mut Sha256, count: usize)
 fn hash_value(hasher: &mut Sha256, value: &[u8], most: usize)
     requires most { most ≤ MOST_VALUE }
     requires value { length value.now ≤ most }
-    ensures { (m : List ℕ) → Holds256 hasher.old m → Holds256 hasher.new (m ++ value_bytes most value.now) }
+    ensures { Hashes (value_bytes most value.now) hasher.old hasher.new }
 {
     if most > 0 {
         let count = (value.len() as u16).to_be_bytes();
@@ -44,7 +43,7 @@ fn hash_value(hasher: &mut Sha256, value: &[u8], most: usize)
 fn hash_entry(hasher: &mut Sha256, digest: &[u8], value: &[u8], most: usize)
     requires most { most ≤ MOST_VALUE }
     requires value { length value.now ≤ most }
-    ensures { (m : List ℕ) → Holds256 hasher.old m → Holds256 hasher.new (m ++ entry most (pair digest.now value.now)) }
+    ensures { Hashes (entry most (pair digest.now value.now)) hasher.old hasher.new }
 {
     hasher.update(digest);
     hash_value(hasher, value, most);

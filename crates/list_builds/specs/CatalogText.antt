@@ -1,5 +1,6 @@
 -- The text of a catalog, which is written to its file or to Output.
-use Rattle.std.specs.Prelude.{◌≡◌, ℕ, List, Option, None, Some, Result, Ok, Err}
+use Rattle.std.specs.Prelude.{◌≡◌, ℕ, List, Option, None, Some, Result, Ok, Err, option_map}
+use Rattle.std.specs.Borrow.{Bor}
 use Rattle.port_trait.specs.World.{World}
 use Rattle.port_trait.specs.Number.{OUTPUT, share_file}
 use Rattle.port_trait.specs.Moves.{gave, named}
@@ -11,6 +12,10 @@ use Rattle.port_trait.specs.declared.port.Failed.{Failed}
 -- the port of the catalog's file
 abbrev pub CATALOG : ℕ
 CATALOG = share_file 1
+
+-- the name of the catalog's file, if it has one
+abbrev pub name_given : Option (Bor (List ℕ)) → Option (List ℕ)
+name_given name = option_map (λ n. n.now) name
 
 -- the port that a catalog goes to, by the name of its file, if it has one
 abbrev pub catalog_port : Option (List ℕ) → ℕ

@@ -1,10 +1,9 @@
 //! The text of a catalog, which is written to its file or to standard output.
 
 ghost use Rattle.std.specs.Prelude.{◌<◌, length};
-ghost use Rattle.std.specs.Option.{option_map};
 ghost use Rattle.port_trait.specs.Number.{share_file};
 ghost use Rattle.port_trait.specs.Moves.{Touches};
-ghost use Rattle.list_builds.specs.CatalogText.{WritesFile, WritesText, catalog_port};
+ghost use Rattle.list_builds.specs.CatalogText.{WritesFile, WritesText, catalog_port, name_given};
 
 use port_trait::{Failed, Port, Ports, write_all};
 
@@ -35,10 +34,8 @@ pub(crate) fn write_text<P: Ports>(
     text: &[u8],
 ) -> Result<(), Failed>
     requires { 0 < length text.now }
-    ensures writes { WritesText (option_map (λ n. n.now) name.entry) text.now result
-        (P.world ports.old) (P.world ports.new) }
-    ensures others { Touches (catalog_port (option_map (λ n. n.now) name.entry))
-        (P.world ports.old) (P.world ports.new) }
+    ensures writes { WritesText (name_given name.entry) text.now result (P.world ports.old) (P.world ports.new) }
+    ensures others { Touches (catalog_port (name_given name.entry)) (P.world ports.old) (P.world ports.new) }
 {
     match name {
         Some(name) => write_file(ports, name, text),

@@ -1,8 +1,8 @@
 //! The database of a list, and behind it the catalog.
 
 ghost use Rattle.std.specs.Prelude.{◌≡◌};
-ghost use Rattle.std.specs.Option.{option_map};
 ghost use Rattle.sha2.specs.Sha256.{sha256};
+ghost use Rattle.list_builds.specs.CatalogText.{name_given};
 ghost use Rattle.list_builds.specs.CatalogOf.{MakesText, facts_in, text_in};
 ghost use Rattle.list_builds.specs.Laid.{bytes_in};
 ghost use Rattle.list_builds.specs.Writing.{TouchesWritten, WritesList};
@@ -65,10 +65,9 @@ pub(crate) fn write_list<P: Ports>(
     database: &str,
     catalog: Option<&str>,
 ) -> Result<(), BuildFault>
-    ensures writes { WritesList database.now (option_map (λ name. name.now) catalog.entry) laid.now result
+    ensures writes { WritesList database.now (name_given catalog.entry) laid.now result
         (P.world ports.old) (P.world ports.new) }
-    ensures others { TouchesWritten (option_map (λ name. name.now) catalog.entry)
-        (P.world ports.old) (P.world ports.new) }
+    ensures others { TouchesWritten (name_given catalog.entry) (P.world ports.old) (P.world ports.new) }
 {
     let hash = write_database(alloc, ports, database, laid)?;
     let text = laid.catalog_text(alloc, hash)?;

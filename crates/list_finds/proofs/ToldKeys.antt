@@ -8,7 +8,7 @@ use Rattle.std.proofs.lemmas.List.{append-nil, get_or-replicate, length-replicat
 use Rattle.std.proofs.lemmas.List.Elements.{All-contains}
 use Rattle.key_table.specs.Entry.{IsPair}
 use Rattle.key_table.specs.Looked.{pair}
-use Rattle.list_finds.specs.Answers.{AnswersAt, AnswersInRow, AreAnswers, ValueFits}
+use Rattle.list_finds.specs.Answers.{AnswersBy, AnswersInRow, AreAnswers, ValueFits, row_at}
 use Rattle.list_finds.specs.Held.{Held}
 use Rattle.list_finds.specs.Known.{digest_in}
 use Rattle.list_finds.specs.Told.{TellsKeys, TellsNone}
@@ -28,15 +28,15 @@ value_fits list rows row key (Present value) is =
 module _ (list : KnownList) (rows width : ℕ) (block : Option (List ℕ)) where
   -- what is said of a place, a key and an answer is said of these too
   moved : (p q : ℕ) (k m : List ℕ) (a b : Answer (List ℕ)) → p ≡ q → k ≡ m → a ≡ b
-      → AnswersAt list rows width block q m b → AnswersAt list rows width block p k a
+      → AnswersBy list rows (row_at width block q) m b → AnswersBy list rows (row_at width block p) k a
   moved p q k m a b x y z h =
-      subst (λ (n : ℕ). AnswersAt list rows width block n k a) (sym x)
-      (subst (λ (l : List ℕ). AnswersAt list rows width block q l a) (sym y)
-      (subst (λ (v : Answer (List ℕ)). AnswersAt list rows width block q m v) (sym z) h))
+      subst (λ (n : ℕ). AnswersBy list rows (row_at width block n) k a) (sym x)
+      (subst (λ (l : List ℕ). AnswersBy list rows (row_at width block q) l a) (sym y)
+      (subst (λ (v : Answer (List ℕ)). AnswersBy list rows (row_at width block q) m v) (sym z) h))
 
   -- the answer to one more key
   answers_more : (keys : List (List ℕ)) (answers : List (Answer (List ℕ))) (key : List ℕ) (answer : Answer (List ℕ))
-      → AreAnswers list rows width block keys answers → AnswersAt list rows width block (length keys) key answer
+      → AreAnswers list rows width block keys answers → AnswersBy list rows (row_at width block (length keys)) key answer
       → AreAnswers list rows width block (keys ++ key ∷ []) (answers ++ answer ∷ [])
   answers_more keys answers key answer are last = record {
     count = let c = are.count in omega (arith, c, length-append keys (key ∷ []), length-append answers (answer ∷ []));
@@ -70,7 +70,7 @@ module _ (list : KnownList) (rows width : ℕ) (block : Option (List ℕ)) where
   -- one more is told
   pub told_more : (keys : List (List ℕ)) (n : ℕ) (old mid new : Held) (answer : Answer (List ℕ)) → n < length keys
       → TellsKeys list rows width block (take n keys) old mid → 0 < mid.room
-      → AnswersAt list rows width block n (slice_index_or keys n []) answer
+      → AnswersBy list rows (row_at width block n) (slice_index_or keys n []) answer
       → new ≡ record mid { answers = mid.answers ++ answer ∷ []; room = mid.room - 1 }
       → TellsKeys list rows width block (take (n + 1) keys) old new
   told_more keys n old mid new answer l tells some last is =
@@ -78,7 +78,7 @@ module _ (list : KnownList) (rows width : ℕ) (block : Option (List ℕ)) where
       let size : length (take n keys) ≡ n = length-take-le n keys (omega (arith, l)) in
       let more : take (n + 1) keys ≡ take n keys ++ key ∷ [] = take_more keys n [] l in
       let are = answers_more (take n keys) tells.told key answer tells.are
-      (subst (λ (k : ℕ). AnswersAt list rows width block k key answer) (sym size) last) in
+      (subst (λ (k : ℕ). AnswersBy list rows (row_at width block k) key answer) (sym size) last) in
       subst (λ (ks : List (List ℕ)). TellsKeys list rows width block ks old new) (sym more) (record {
         told = tells.told ++ answer ∷ [];
         are = are;

@@ -1,5 +1,6 @@
 -- What is said of a key.
 use Rattle.std.specs.Prelude.{◌≡◌, ◌≢◌, ℕ, ◌<◌, ◌≤◌, List, [], length, slice_index_or, Contains, Option, Some, None}
+use Rattle.std.specs.Borrow.{Bor}
 use Rattle.key_table.specs.Entry.{Pair}
 use Rattle.key_table.specs.Table.{IsRowOf}
 use Rattle.key_table.specs.Looked.{LacksDigest, pair}
@@ -15,6 +16,10 @@ map_answer f Unknown = Unknown
 map_answer f Broken = Broken
 map_answer f Absent = Absent
 map_answer f (Present value) = Present (f value)
+
+-- an answer whose value lies elsewhere
+abbrev pub answer_of : Answer (Bor (List ℕ)) → Answer (List ℕ)
+answer_of answer = map_answer (λ value. value.now) answer
 
 -- the value of an answer: no byte where it has none
 abbrev pub value_of : Answer (List ℕ) → List ℕ
@@ -41,18 +46,23 @@ AnswersInRow list rows row key Absent =
 AnswersInRow list rows row key (Present value) =
     (pairs : List Pair) × IsRowFor list rows key row pairs × Contains pairs (pair (digest_in list key) value)
 
--- the answer to the key at a place of a query, by the one block that the verdict on it lists, if it does: that has the
--- rows of all keys of the query, one behind another
-abbrev pub AnswersAt : KnownList → ℕ → ℕ → Option (List ℕ) → ℕ → List ℕ → Answer (List ℕ) → Type 0
-AnswersAt list rows width None place key answer = answer ≡ Unknown
-AnswersAt list rows width (Some block) place key answer = AnswersInRow list rows (piece width place block) key answer
+-- the row at a place of a query, by the one block that the verdict on it lists, if it does: that has the rows of all keys of
+-- the query, one behind another
+abbrev pub row_at : ℕ → Option (List ℕ) → ℕ → Option (List ℕ)
+row_at width None place = None
+row_at width (Some block) place = Some (piece width place block)
+
+-- the answer to a key by its row, if that came
+abbrev pub AnswersBy : KnownList → ℕ → Option (List ℕ) → List ℕ → Answer (List ℕ) → Type 0
+AnswersBy list rows None key answer = answer ≡ Unknown
+AnswersBy list rows (Some row) key answer = AnswersInRow list rows row key answer
 
 -- these are the answers to the keys of a query
 pub record AreAnswers (list : KnownList) (rows width : ℕ) (block : Option (List ℕ)) (keys : List (List ℕ))
     (answers : List (Answer (List ℕ))) : Type 0 where
   pub count : length answers ≡ length keys
   pub each : (place : ℕ) → place < length keys
-      → AnswersAt list rows width block place (slice_index_or keys place []) (slice_index_or answers place Unknown)
+      → AnswersBy list rows (row_at width block place) (slice_index_or keys place []) (slice_index_or answers place Unknown)
 
 -- the answer to a key, counted from 0
 abbrev pub answer_to : List (Answer (List ℕ)) → ℕ → Answer (List ℕ)

@@ -1,5 +1,5 @@
 -- Answers in memory.
-use Rattle.std.specs.Prelude.{ℕ, ◌≤◌, ⊤, List, [], length, slice_range}
+use Rattle.std.specs.Prelude.{ℕ, ◌-◌, ◌≤◌, ⊤, List, [], ◌∷◌, ◌++◌, length, slice_range}
 use Rattle.list_finds.specs.declared.answers.Answer.{Answer}
 use Rattle.list_finds.specs.declared.answers.Answer.TheVariants.{Unknown, Broken, Absent, Present}
 use Rattle.list_finds.specs.declared.answers.Span.{Span}
@@ -13,6 +13,10 @@ pub record Held : Type 0 where
 -- no answer yet, with room for so many, of values of at most so many bytes
 abbrev pub no_answers : ℕ → ℕ → Held
 no_answers keys most = record { answers = []; room = keys; most = most }
+
+-- the same with the answer to one more key
+abbrev pub with_answer : Held → Answer (List ℕ) → Held
+with_answer held answer = record held { answers = held.answers ++ answer ∷ []; room = held.room - 1 }
 
 -- the value that lies there among the bytes
 abbrev pub value_at : List ℕ → Span → List ℕ

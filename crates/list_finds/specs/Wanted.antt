@@ -1,5 +1,6 @@
 -- What is looked for, and of whom.
 use Rattle.std.specs.Prelude.{◌≡◌, ℕ, ◌+◌, ◌-◌, ◌*◌, ◌/◌, ◌≤◌, min, List, length, map, take, drop}
+use Rattle.std.specs.Borrow.{Bor}
 use Rattle.quantity_limits.specs.declared.TheConstants.{MOST_BLOCKS, MOST_WIDTH}
 use Rattle.wire_frames.specs.declared.scheme.TheConstants.{SHAMIR}
 use Rattle.query_rounds.specs.declared.coins.TheConstants.{NUMBER_LEN}
@@ -9,6 +10,10 @@ use Rattle.query_rounds.specs.Sent.{vector_coins}
 use Rattle.list_finds.specs.Known.{IsKnown, row_in}
 use Rattle.list_finds.specs.declared.TheConstants.{MOST_KEYS}
 use Rattle.list_finds.specs.declared.known_list.KnownList.{KnownList}
+
+-- keys that lie elsewhere
+abbrev pub held_keys : List (Bor (List ℕ)) → List (List ℕ)
+held_keys keys = map (λ key. key.now) keys
 
 -- the plan of each query, the list, the keys that are looked for in it, and the address of each server
 pub record Wanted : Type 0 where

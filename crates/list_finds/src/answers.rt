@@ -2,8 +2,8 @@
 
 ghost use Rattle.std.specs.Prelude.{◌≡◌, ◌≤◌, ◌<◌, ◌+◌, ◌-◌, ◌++◌, ◌∷◌, [], length, slice_index_or, IfOk, IsTrue, MatchOption, ◌↔◌, vec_len, vec_capacity};
 ghost use Rattle.key_table.specs.declared.TheConstants.{MOST_VALUE};
-ghost use Rattle.list_finds.specs.Answers.{HasNoBroken, IsFirstBroken, ValueFits, map_answer, value_of};
-ghost use Rattle.list_finds.specs.Held.{LiesIn, no_answers, value_at};
+ghost use Rattle.list_finds.specs.Answers.{HasNoBroken, IsFirstBroken, ValueFits, answer_of, map_answer, value_of};
+ghost use Rattle.list_finds.specs.Held.{LiesIn, no_answers, value_at, with_answer};
 ghost use Rattle.list_finds.specs.declared.TheConstants.{MOST_KEYS};
 
 use std::alloc::{AllocError, Global};
@@ -61,11 +61,11 @@ impl Model for Answers {
 
 /// Puts the value of an answer, if it has one, behind the others, for which there is room.
 fn keep(values: &mut Vec<u8>, answer: Answer<&[u8]>) -> Answer<Span>
-    requires { vec_len values.old + length (value_of (map_answer (λ v. v.now) answer)) ≤ vec_capacity values.old }
-    ensures values { values.new.items ≡ values.old.items ++ value_of (map_answer (λ v. v.now) answer.entry) }
+    requires { vec_len values.old + length (value_of (answer_of answer)) ≤ vec_capacity values.old }
+    ensures values { values.new.items ≡ values.old.items ++ value_of (answer_of answer.entry) }
     ensures capacity { vec_capacity values.old ≤ vec_capacity values.new }
     ensures lies { LiesIn values.new.items result }
-    ensures same { map_answer (value_at values.new.items) result ≡ map_answer (λ v. v.now) answer.entry }
+    ensures same { map_answer (value_at values.new.items) result ≡ answer_of answer.entry }
 {
     let value = match answer {
         Answer::Unknown => return Answer::Unknown,
@@ -102,11 +102,8 @@ impl Answers {
     /// The answer to the next key. It takes no memory.
     pub(crate) fn push(&mut self, answer: Answer<&[u8]>)
         requires room { 0 < self.old.room }
-        requires fits { ValueFits self.old.most (map_answer (λ v. v.now) answer) }
-        ensures { self.new ≡ record self.old {
-          answers = self.old.answers ++ map_answer (λ v. v.now) answer.entry ∷ [];
-          room = self.old.room - 1;
-        } }
+        requires fits { ValueFits self.old.most (answer_of answer) }
+        ensures { self.new ≡ with_answer self.old (answer_of answer.entry) }
     {
         let kept = keep(&mut self.values, answer);
         match self.kept.push(kept) {
@@ -126,7 +123,7 @@ impl Answers {
     /// The answer to key `i`, counted from 0.
     pub(crate) fn at(&self, i: usize) -> Answer<&[u8]>
         requires { i < length self.now.answers }
-        ensures { map_answer (λ v. v.now) result ≡ slice_index_or self.now.answers i Answer.Unknown }
+        ensures { answer_of result ≡ slice_index_or self.now.answers i Answer.Unknown }
     {
         match self.kept[i] {
             Answer::Unknown => Answer::Unknown,

@@ -3,7 +3,7 @@
 ghost use Rattle.std.specs.Prelude.{◌≡◌, ◌≤◌, ◌<◌, ◌+◌, ◌-◌, ◌*◌, ◌/◌, length, map, take, drop, All};
 ghost use Rattle.quantity_limits.specs.declared.TheConstants.{MOST_BLOCKS, MOST_WIDTH};
 ghost use Rattle.list_finds.specs.Known.{IsKnown, row_in};
-ghost use Rattle.list_finds.specs.Wanted.{keys_each};
+ghost use Rattle.list_finds.specs.Wanted.{held_keys, keys_each};
 ghost use Rattle.list_finds.specs.declared.TheConstants.{MOST_KEYS};
 
 use crate::known_list::KnownList;
@@ -36,7 +36,7 @@ pub(crate) fn queries_for(keys: usize, width: u32) -> usize
 pub(crate) fn keys_of<'a>(keys: &'a [&'a [u8]], each: usize, query: usize) -> &'a [&'a [u8]]
     requires few { query * each ≤ length keys.now }
     requires keys { length keys.now ≤ MOST_KEYS }
-    ensures own { map (λ k. k.now) result.now ≡ take each (drop (query * each) (map (λ k. k.now) keys.now)) }
+    ensures own { held_keys result.now ≡ take each (drop (query * each) (held_keys keys.now)) }
     ensures few { length result.now ≤ each }
 {
     let from = query * each;

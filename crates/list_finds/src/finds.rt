@@ -1,7 +1,7 @@
 //! What a search comes to.
 
 ghost use Rattle.std.specs.Prelude.{◌≡◌, ◌<◌, length, slice_index_or};
-ghost use Rattle.list_finds.specs.Answers.{map_answer};
+ghost use Rattle.list_finds.specs.Answers.{answer_of};
 ghost use Rattle.list_finds.specs.Ended.{EndsAs};
 
 use crate::answers::{Answer, Answers};
@@ -56,7 +56,7 @@ impl Finds {
     /// The answer to key `i`, counted from 0.
     pub fn answer(&self, i: usize) -> Answer<&[u8]>
         requires { i < length self.now.answers }
-        ensures { map_answer (λ v. v.now) result ≡ slice_index_or self.now.answers i Answer.Unknown }
+        ensures { answer_of result ≡ slice_index_or self.now.answers i Answer.Unknown }
     {
         self.answers.at(i)
     }

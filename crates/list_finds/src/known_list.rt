@@ -3,7 +3,7 @@
 ghost use Rattle.std.specs.Prelude.{◌≡◌, ◌≤◌, ◌<◌, length};
 ghost use Rattle.quantity_limits.specs.declared.TheConstants.{MOST_WIDTH};
 ghost use Rattle.list_finds.specs.Known.{IsKnown, row_in};
-ghost use Rattle.list_finds.specs.Answers.{AnswersInRow, map_answer};
+ghost use Rattle.list_finds.specs.Answers.{AnswersInRow, answer_of};
 
 use crate::answers::Answer;
 use key_table::{Finding, MOST_DIGEST, find_in_row, row_of, write_digest};
@@ -39,7 +39,7 @@ impl KnownList {
     pub(crate) fn look_for<'a>(&self, rows: u32, row: &'a [u8], key: &[u8]) -> Answer<&'a [u8]>
         requires known { IsKnown self.now }
         requires width { length row.now ≤ MOST_WIDTH }
-        ensures { AnswersInRow self.now rows row.now key.now (map_answer (λ v. v.now) result) }
+        ensures { AnswersInRow self.now rows row.now key.now (answer_of result) }
     {
         let mut room = [0u8; MOST_DIGEST];
         let digest = &mut room[..self.size];

@@ -48,7 +48,7 @@ impl<R: Clock + Eprint + AllocGlobal + Drop> Shown<R> {
         }
     }
 
-    /// The port handed out the front of these bytes.
+    /// The port handed out a prefix of these bytes.
     fn note_taken(&mut self, p: Port, into: &[u8], count: usize) {
         if p == Port::Input && count <= into.len() {
             self.progress.add_lines(&into[..count]);
@@ -68,7 +68,7 @@ impl<R: Clock + Eprint + AllocGlobal + Drop> Shown<R> {
         }
     }
 
-    /// The port took the front of a piece.
+    /// The port took a prefix of a piece.
     fn note_given(&mut self, p: Port, piece: &[u8], count: usize) {
         if p == Port::Record {
             self.progress.add_rows(piece, count);

@@ -47,7 +47,7 @@ struct Rows {
 }
 
 impl Rows {
-    /// The front of a piece was written.
+    /// A prefix of a piece was written.
     fn add(&mut self, piece: &[u8], count: usize) {
         if self.width == 0 {
             self.width = piece.len() as u64;
@@ -150,7 +150,7 @@ impl Progress {
         }
     }
 
-    /// The front of a piece of the table was written.
+    /// A prefix of a piece of the table was written.
     pub(crate) fn add_rows(&mut self, piece: &[u8], count: usize) {
         self.rows.add(piece, count);
     }

@@ -9,7 +9,6 @@ use Rattle.port_trait.specs.declared.port.Failed.{Failed}
 use Rattle.list_catalog.specs.Facts.{Facts}
 use Rattle.list_catalog.specs.Serving.{Serving, with_options}
 use Rattle.list_catalog.specs.declared.fault.ServersFault.{ServersFault}
-use Rattle.list_finds.specs.Found.{Come}
 use Rattle.list_words.specs.Values.{addresses_of}
 use Rattle.list_words.specs.declared.asked.Find.{Find}
 use Rattle.list_tool.specs.Asking.{Asks, table_for, wanted_for}
@@ -26,18 +25,14 @@ pub record HasKeys (order : Find) (table : ListTable) (keys : List (List ℕ)) (
   pub reads : ReadsKeysFile order.keys.now (form_for table.list.most) (Ok keys) old new
   pub others : Touches INPUT old new
 
--- the keys were read, and every server was asked in each query, which came to this
-pub record HasFound (order : Find) (table : ListTable) (servers : Serving) (keys : List (List ℕ)) (come : Come) (old new : World) : Type 0 where
-  pub read : World
-  pub has_keys : HasKeys order table keys old read
-  pub asks : Asks (wanted_for table servers keys) order.coins.now (Ok come) read new
-
--- that was found, the broken row is named, if there is one, and then the lines of the keys were written, or a proper prefix
--- of them until a call failed
+-- the keys were read, every server was asked in each query, the broken row that came is named, if there is one, and then the
+-- lines of the keys were written, or a proper prefix of them until a call failed
 pub record Tells (order : Find) (table : ListTable) (servers : Serving) (looked : Looked) (written : Result (Unit {0}) Failed) (old new : World) : Type 0 where
   pub keys : List (List ℕ)
+  pub read : World
   pub asked : World
-  pub found : HasFound order table servers keys looked.come old asked
+  pub has_keys : HasKeys order table keys old read
+  pub asks : Asks (wanted_for table servers keys) order.coins.now (Ok looked.come) read asked
   pub row : NamesRow table keys looked.come looked.row
   pub text : Written OUTPUT (text_of (value_text table.list.most order.hex) keys looked.come.answers) written asked new
   pub others : Touches OUTPUT asked new

@@ -4,6 +4,7 @@ ghost use Rattle.std.specs.Prelude.{◌≡◌, ◌≤◌, ◌<◌, length, map};
 ghost use Rattle.port_trait.specs.Number.{COINS};
 ghost use Rattle.query_rounds.specs.Gathered.{TouchesLinks};
 ghost use Rattle.list_finds.specs.Found.{FindsKeys};
+ghost use Rattle.list_finds.specs.Wanted.{held_keys};
 ghost use Rattle.list_finds.specs.declared.TheConstants.{MOST_KEYS};
 ghost use Rattle.list_tool.specs.Asking.{Asks, IsListTable, wanted_for};
 
@@ -54,7 +55,7 @@ pub(crate) fn ask<P: Ports>(
 ) -> Result<Finds, FindFault>
     requires table { IsListTable table.now }
     requires keys { length keys.now ≤ MOST_KEYS }
-    ensures { Asks (wanted_for table.now servers.now (map (λ key. key.now) keys.now)) coins.now result
+    ensures { Asks (wanted_for table.now servers.now (held_keys keys.now)) coins.now result
         (P.world ports.old) (P.world ports.new) }
 {
     let plan = plan_of(table, servers);

@@ -1,6 +1,7 @@
 //! The command `find`.
 
 ghost use Rattle.std.specs.Prelude.{◌≡◌, length, map};
+ghost use Rattle.list_finds.specs.Wanted.{held_keys};
 ghost use Rattle.list_tool.specs.Asking.{IsListTable};
 ghost use Rattle.list_tool.specs.Finding.{AnswersKeys, FindsInList};
 ghost use Rattle.list_tool.specs.Looked.{NamesRow};
@@ -23,7 +24,7 @@ use std::alloc::Global;
 fn broken_row(table: &ListTable, keys: &[&[u8]], finds: &Finds) -> Option<u32>
     requires table { IsListTable table.now }
     requires each { length keys.now ≡ length finds.now.answers }
-    ensures { NamesRow table.now (map (λ key. key.now) keys.now) finds.now result }
+    ensures { NamesRow table.now (held_keys keys.now) finds.now result }
 {
     match finds.end() {
         Ending::BrokenRow(place) => Some(table.list.row_of_key(table.rows, keys[place])),

@@ -2,7 +2,7 @@
 
 ghost use Rattle.std.specs.Prelude.{◌≡◌};
 ghost use Rattle.std.specs.List.{list_any};
-ghost use Rattle.list_finds.specs.Answers.{map_answer};
+ghost use Rattle.list_finds.specs.Answers.{answer_of};
 ghost use Rattle.list_tool.specs.Status.{build_code, check_code, code_of, find_code, finds_code, is_absent, lines_code, load_code, verdict_code};
 
 use crate::check_command::CheckListFault;
@@ -34,7 +34,7 @@ fn verdict_code(verdict: &Verdict) -> u8
 
 /// Whether the list doesn't have the key.
 fn is_absent(answer: Answer<&[u8]>) -> bool
-    ensures { result ≡ is_absent (map_answer (λ v. v.now) answer.entry) }
+    ensures { result ≡ is_absent (answer_of answer.entry) }
 {
     matches!(answer, Answer::Absent)
 }

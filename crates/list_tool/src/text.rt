@@ -4,7 +4,7 @@ ghost use Rattle.std.specs.Prelude.{◌≡◌, length};
 ghost use Rattle.port_trait.specs.Number.{OUTPUT};
 ghost use Rattle.port_trait.specs.Moves.{Touches};
 ghost use Rattle.port_trait.specs.Written.{Written};
-ghost use Rattle.list_finds.specs.Answers.{map_answer};
+ghost use Rattle.list_finds.specs.Answers.{answer_of};
 ghost use Rattle.list_tool.specs.Pending.{Puts};
 ghost use Rattle.list_tool.specs.Text.{line_of, present_line, text_of, value_text};
 
@@ -80,7 +80,7 @@ fn put_line<P: Ports>(
     key: &[u8],
     answer: Answer<&[u8]>,
 ) -> Result<(), Failed>
-    ensures puts { Puts (line_of values key.now (map_answer (λ v. v.now) answer.entry)) result pending.old pending.new
+    ensures puts { Puts (line_of values key.now (answer_of answer.entry)) result pending.old pending.new
         (P.world ports.old) (P.world ports.new) }
     ensures others { Touches OUTPUT (P.world ports.old) (P.world ports.new) }
 {

@@ -1,7 +1,5 @@
 -- A group of queries, and what the rows of a matrix give to its sums.
-use Rattle.std.specs.Prelude.{◌≡◌, ℕ, ◌+◌, ◌*◌, ◌<◌, List, length, slice_index}
-use Rattle.gf256.specs.Field.{◌⊕◌}
-use Rattle.gf256.specs.Sums.{run_sum}
+use Rattle.std.specs.Prelude.{ℕ, ◌+◌, ◌*◌, List, length}
 use Rattle.block_matrix.specs.Database.{Database}
 use Rattle.row_workers.specs.RowSums.{AddsBelow, AddsSums}
 use Rattle.row_workers.specs.Blocks.{laid_at, four_of}
@@ -29,8 +27,6 @@ abbrev pub AddsQuarters : (List ℕ → Database → ℕ → ℕ → ℕ) → Gr
 AddsQuarters gives group from quarter old new =
     AddsSums (block_gives gives group) (length old) from (from + 4 * quarter) old new
 
--- the sums of query v get the rows from `from` up to `to`
-abbrev pub AddsForQuery : (List ℕ → Database → ℕ → ℕ → ℕ) → Group → ℕ → ℕ → ℕ → List ℕ → List ℕ → Type 0
-AddsForQuery gives group v from to old new = (c : ℕ) → c < group.matrix.now.width
-    → slice_index new c
-    ≡ slice_index old c ⊕ run_sum (group_gives gives group (v * group.matrix.now.width + c)) from to
+-- what row j gives to place c of the sums of query v
+abbrev pub query_gives : (List ℕ → Database → ℕ → ℕ → ℕ) → Group → ℕ → ℕ → ℕ → ℕ
+query_gives gives group v c = group_gives gives group (v * group.matrix.now.width + c)

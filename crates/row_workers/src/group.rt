@@ -7,9 +7,9 @@ ghost use Rattle.row_workers.specs.RowSums.{AreSums, AddsSums};
 ghost use Rattle.row_workers.specs.Group.{
   group_gives,
   group_places,
+  query_gives,
   AddsFour,
   AddsQuarters,
-  AddsForQuery,
 };
 ghost use Rattle.row_workers.specs.declared.group.TheConstants.{MOST_LANES};
 
@@ -58,7 +58,8 @@ pub trait GroupSums {
         requires within { to ≤ length group.matrix.now.rows }
         requires queries { length group.queries.now ≡ group.count * query_size (length group.matrix.now.rows) }
         requires room { length sums.old ≡ group.matrix.now.width }
-        ensures { AddsForQuery gives group.entry v from to sums.old sums.new };
+        ensures { AddsSums (query_gives gives group.entry v) group.entry.matrix.now.width
+            from to sums.old sums.new };
 }
 
 /// Makes `sums` the sums over the rows from `from` up to `to` for each query of the group, those of

@@ -1,8 +1,8 @@
 -- What a server serves.
-use Rattle.std.specs.Prelude.{ℕ, length, ◌*◌}
+use Rattle.std.specs.Prelude.{ℕ, ◌≡◌, List, length, ◌*◌}
 use Rattle.block_matrix.specs.Database.{Database}
 use Rattle.wire_frames.specs.Sizes.{answer_len}
-use Rattle.serve_core.specs.Terms.{most_blocks_for}
+use Rattle.serve_core.specs.Terms.{most_blocks_for, payload_len_for}
 use Rattle.serve_core.specs.declared.terms.Terms.{Terms}
 
 -- the database, the number of the scheme, and how many workers sum the rows
@@ -18,6 +18,10 @@ terms_of service = record {
   rows = length service.database.rows;
   width = service.database.width;
 }
+
+-- the vectors are those of a query for so many blocks
+abbrev pub HasVectors : Service → ℕ → List ℕ → Type 0
+HasVectors service count vectors = length vectors ≡ payload_len_for (terms_of service) count
 
 -- how many bytes the sums of its workers have for so many blocks: each worker has a row for each
 abbrev pub sums_len_for : Service → ℕ → ℕ

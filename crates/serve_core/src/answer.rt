@@ -6,8 +6,8 @@ ghost use Rattle.wire_frames.specs.declared.sizes.TheConstants.{FRAME_HEADER_LEN
 ghost use Rattle.quantity_limits.specs.declared.TheConstants.{MOST_BLOCKS};
 ghost use Rattle.wire_frames.specs.Header.{answer_to, query_header};
 ghost use Rattle.wire_frames.specs.Limits.{IsQuery};
-ghost use Rattle.serve_core.specs.Terms.{payload_len_for};
 ghost use Rattle.serve_core.specs.Service.{
+  HasVectors,
   frame_len_for,
   most_frame_for,
   most_sums_for,
@@ -47,8 +47,7 @@ fn write_rows<R: Threads + Sync, G: Gate + Sync>(
     out: &mut [u8],
 )
     requires few { query.now.asked.count ≤ MOST_BLOCKS }
-    requires query { length query.now.vectors.now
-        ≡ payload_len_for (terms_of service.now) query.now.asked.count }
+    requires query { HasVectors service.now query.now.asked.count query.now.vectors.now }
     requires scratch { length scratch.old ≡ sums_len_for service.now query.now.asked.count }
     requires room { length out.old ≡ query.now.asked.count * service.now.database.width }
     ensures answers { out.new ≡ answers service.now query.now.asked.count query.now.vectors.now }
@@ -86,8 +85,7 @@ fn write_frame<R: Threads + Sync, G: Gate + Sync>(
     frame: &mut [u8],
 )
     requires good { IsGood (terms_of service.now) query.now.asked }
-    requires query { length query.now.vectors.now
-        ≡ payload_len_for (terms_of service.now) query.now.asked.count }
+    requires query { HasVectors service.now query.now.asked.count query.now.vectors.now }
     requires scratch { length scratch.old ≡ sums_len_for service.now query.now.asked.count }
     requires room { length frame.old ≡ frame_len_for service.now query.now.asked.count }
     ensures frame { frame.new ≡ answer_frame service.now (query_header query.now.asked) query.now.vectors.now }
@@ -108,8 +106,7 @@ fn write_within<R: Threads + Sync, G: Gate + Sync>(
     frame: &mut [u8],
 )
     requires good { IsGood (terms_of service.now) query.now.asked }
-    requires query { length query.now.vectors.now
-        ≡ payload_len_for (terms_of service.now) query.now.asked.count }
+    requires query { HasVectors service.now query.now.asked.count query.now.vectors.now }
     requires scratch { length scratch.old ≡ most_sums_for service.now }
     requires room { length frame.old ≡ most_frame_for service.now }
     ensures frame { take (frame_len_for service.now query.now.asked.count) frame.new

@@ -13,7 +13,7 @@ JudgesHeader terms header (Ok query) = IsSuited terms header query
 JudgesHeader terms header (Err status) = RefusedByHeader terms header status
 
 -- the bytes are a whole query that suits and is good, with this header and this payload; or they are refused with this
--- status; or they are the front of a query
+-- status; or they are a proper prefix of a query
 abbrev pub JudgesGuest : Terms → List ℕ → Judged → Type 0
 JudgesGuest terms guest (Query header query vectors) = IsWholeWith false terms guest
     × (header.now ≡ header_of guest) × IsSuited terms (header_of guest) query × (vectors.now ≡ payload terms guest)

@@ -36,6 +36,10 @@ abbrev pub answers_by : List ℕ → ℕ → ℕ → Scheme → ℕ → List ℕ
 answers_by bytes rows width scheme count vectors =
     in_turn count (λ i. answer scheme (database_of bytes rows width) (piece (payload_len scheme rows) i vectors))
 
+-- the same, by rows that are held
+abbrev pub answers_by_held : HeldRows → Scheme → ℕ → List ℕ → List ℕ
+answers_by_held rows = answers_by rows.bytes.now rows.count rows.width
+
 -- the frame stands at the front of the room, which else is as it was, and the guest is met so; or there is less room
 abbrev pub WritesFrame : List ℕ → Met → List ℕ → List ℕ → Result (Met × ℕ) ReplyRefusal → Type 0
 WritesFrame frame met old new (Ok done) = (done.0 ≡ met) × (done.1 ≡ length frame) × (done.1 ≤ length old)

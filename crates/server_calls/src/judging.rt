@@ -26,7 +26,7 @@ pub(crate) enum Judged<'a> {
     Query(&'a [u8; FRAME_HEADER_LEN], QueryHeader, &'a [u8]),
     /// A query that is refused with this status: the bytes of its header.
     Refused(&'a [u8; FRAME_HEADER_LEN], u8),
-    /// The front of a query.
+    /// A proper prefix of a query.
     Cut,
 }
 

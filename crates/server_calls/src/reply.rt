@@ -6,7 +6,7 @@ ghost use Rattle.wire_frames.specs.Header.{answer_to};
 ghost use Rattle.wire_frames.specs.Scheme.{payload_len};
 ghost use Rattle.wire_frames.specs.Sizes.{answer_len};
 ghost use Rattle.server_calls.specs.Held.{AreRows};
-ghost use Rattle.server_calls.specs.Reply.{HoldsRows, RepliesInto, SaysScheme, WritesFrame, answers_by, held};
+ghost use Rattle.server_calls.specs.Reply.{HoldsRows, RepliesInto, SaysScheme, WritesFrame, answers_by_held, held};
 
 use crate::judging::{Judged, judge_guest};
 use crate::sums::{HeldRows, write_answers};
@@ -85,7 +85,7 @@ fn write_frame(
     requires vectors { length vectors.now ≡ count * payload_len scheme rows.now.count }
     requires room { length frame.old ≡ answer_len count rows.now.width }
     ensures { frame.new ≡ answer_to header.now 0
-        ++ answers_by rows.now.bytes.now rows.now.count rows.now.width scheme count vectors.now }
+        ++ answers_by_held rows.now scheme count vectors.now }
 {
     let Some((head, body)) = frame.split_first_chunk_mut() else {
         unreachable!()
@@ -107,7 +107,7 @@ fn write_served(
     requires few { count ≤ MOST_BLOCKS }
     requires vectors { length vectors.now ≡ count * payload_len scheme rows.now.count }
     ensures { WritesFrame (answer_to header.now 0
-        ++ answers_by rows.now.bytes.now rows.now.count rows.now.width scheme count vectors.now)
+        ++ answers_by_held rows.now scheme count vectors.now)
         Met.Served out.old out.new result }
 {
     let size = answer_len(count, rows.width);

@@ -4,12 +4,11 @@ ghost use Rattle.std.specs.Prelude.{◌≡◌, ◌*◌, ◌<◌, ◌≤◌, [], 
 ghost use Rattle.gf256.specs.Product.{product};
 ghost use Rattle.quantity_limits.specs.declared.TheConstants.{MOST_BLOCKS, MOST_ROWS, MOST_WIDTH};
 ghost use Rattle.wire_frames.specs.Scheme.{payload_len};
-ghost use Rattle.wire_frames.specs.Turns.{in_turn, piece};
-ghost use Rattle.block_matrix.specs.Database.{rows_of};
 ghost use Rattle.chor_xor.specs.Bitmap.{size_of};
 ghost use Rattle.chor_xor.specs.Chosen.{chosen};
 ghost use Rattle.serve_core.specs.Reply.{answer};
-ghost use Rattle.server_calls.specs.Held.{database_of, AreRows};
+ghost use Rattle.server_calls.specs.Held.{held_database, AreRows};
+ghost use Rattle.server_calls.specs.Reply.{answers_by_held};
 
 use chor_xor::is_set;
 use gf256::rows::{add_row, clear};
@@ -29,7 +28,7 @@ impl<'a> HeldRows<'a> {
     fn row(&self, j: usize) -> &'a [u8]
         requires rows { AreRows self.now.bytes.now self.now.count self.now.width }
         requires within { j < self.now.count }
-        ensures { result.now ≡ slice_index_or (rows_of self.now.width self.now.count self.now.bytes.now) j [] }
+        ensures { result.now ≡ slice_index_or (held_database self.now).rows j [] }
     {
         let width = self.width as usize;
         &self.bytes[j * width..j * width + width]
@@ -46,7 +45,7 @@ fn write_product(rows: &HeldRows, vector: &[u8], out: &mut [u8])
     requires rows { AreRows rows.now.bytes.now rows.now.count rows.now.width }
     requires vector { length vector.now ≡ rows.now.count }
     requires room { length out.old ≡ rows.now.width }
-    ensures { out.new ≡ product (rows_of rows.now.width rows.now.count rows.now.bytes.now) rows.now.width vector.now }
+    ensures { out.new ≡ product (held_database rows.now).rows rows.now.width vector.now }
 {
     clear(out);
     for j in 0..vector.len() {
@@ -59,7 +58,7 @@ fn write_chosen(rows: &HeldRows, bitmap: &[u8], out: &mut [u8])
     requires rows { AreRows rows.now.bytes.now rows.now.count rows.now.width }
     requires bitmap { length bitmap.now ≡ size_of rows.now.count }
     requires room { length out.old ≡ rows.now.width }
-    ensures { out.new ≡ chosen (database_of rows.now.bytes.now rows.now.count rows.now.width) bitmap.now }
+    ensures { out.new ≡ chosen (held_database rows.now) bitmap.now }
 {
     are_bytes(rows.bytes);
     clear(out);
@@ -75,7 +74,7 @@ fn write_answer(rows: &HeldRows, scheme: Scheme, vector: &[u8], out: &mut [u8])
     requires rows { AreRows rows.now.bytes.now rows.now.count rows.now.width }
     requires vector { length vector.now ≡ payload_len scheme rows.now.count }
     requires room { length out.old ≡ rows.now.width }
-    ensures { out.new ≡ answer scheme (database_of rows.now.bytes.now rows.now.count rows.now.width) vector.now }
+    ensures { out.new ≡ answer scheme (held_database rows.now) vector.now }
 {
     match scheme {
         Scheme::Shamir => write_product(rows, vector, out),
@@ -95,8 +94,7 @@ pub(crate) fn write_answers(
     requires few { count ≤ MOST_BLOCKS }
     requires vectors { length vectors.now ≡ count * payload_len scheme rows.now.count }
     requires room { length out.old ≡ count * rows.now.width }
-    ensures { out.new ≡ in_turn count (λ i. answer scheme (database_of rows.now.bytes.now rows.now.count rows.now.width)
-        (piece (payload_len scheme rows.now.count) i vectors.now)) }
+    ensures { out.new ≡ answers_by_held rows.now scheme count vectors.now }
 {
     let size = scheme.payload_len(rows.count);
     let width = rows.width as usize;

@@ -111,11 +111,10 @@ gave_whole spread links GuestFault visit none g = absurd (none g.0)
 pub honest_told : (spread : Spread) (met : Relayed) (w u : World) → IsSpread spread → FrontsTold spread met w u → HonestTold spread met w u
 honest_told spread met w u is told matrix guest held before is_matrix holds accepted links none =
     let t = told guest held before holds accepted links in
-    let of : Links = record { held = held; failed = t.failed } in
-    record {
-      frame = t.out;
-      accepted = t.accepted;
-      honest = λ honest. relay_is_reply spread is matrix is_matrix guest of
+    let of : Links = record { held = held; failed = t.failed } in (
+      t.out,
+      t.accepted,
+      λ honest. relay_is_reply spread is matrix is_matrix guest of
           (λ i there. not_failed (t.failed i) (w.at (link 1 + i)).faults (u.at (link 1 + i)).faults (λ once. none.links i there (once_rose _ _ once)) (t.links.failed i there))
-          honest met t.out (gave_whole spread of met (visit_of guest t.out w u) (λ once. none.guest (once_rose _ _ once)) t.gives);
-    }
+          honest met t.out (gave_whole spread of met (visit_of guest t.out w u) (λ once. none.guest (once_rose _ _ once)) t.gives),
+    )

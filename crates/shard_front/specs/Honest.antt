@@ -61,18 +61,12 @@ pub record NoneRose (spread : Spread) (old new : World) : Type 0 where
   pub guest : Rose (old.at GUEST).faults (new.at GUEST).faults → ⊥
   pub links : (i : ℕ) → i < shards spread → Rose (old.at (link 1 + i)).faults (new.at (link 1 + i)).faults → ⊥
 
--- the guest was given a frame, which is that one where the links are honest
-pub record GivesHonest (spread : Spread) (matrix : List (List ℕ)) (guest : List ℕ) (held : ℕ → List ℕ) (before : List ℕ)
-    (met : Relayed) (new : World) : Type 0 where
-  pub frame : List ℕ
-  pub accepted : (new.at GUEST).accepted ≡ Some (before ++ frame)
-  pub honest : HonestShards spread matrix guest held met frame
-
--- so it is for every matrix of all rows where no count rose, and what Guest and the links hold is told
+-- for every matrix of all rows, where no count rose, and what Guest and the links hold is told, the guest was given a frame,
+-- which is that one where the links are honest
 abbrev pub HonestTold : Spread → Relayed → World → World → Type 0
 HonestTold spread met old new = (matrix : List (List ℕ)) (guest : List ℕ) (held : ℕ → List ℕ) (accepted : List ℕ)
     → IsMatrix matrix spread.rows spread.width
     → (old.at GUEST).holds ≡ Some guest → (old.at GUEST).accepted ≡ Some accepted
     → ((i : ℕ) → i < shards spread → (old.at (link 1 + i)).holds ≡ Some (held i))
     → NoneRose spread old new
-    → GivesHonest spread matrix guest held accepted met new
+    → (frame : List ℕ) × ((new.at GUEST).accepted ≡ Some (accepted ++ frame)) × HonestShards spread matrix guest held met frame
