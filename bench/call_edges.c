@@ -245,6 +245,59 @@ static void replies(void) {
     reply("scheme 257", "ABCD", 4, 257, 2, shamir, 26, 26, PIR_BAD_DATABASE, 77, 77, "");
 }
 
+/* A replay with buffers of exactly these sizes: of a session of n servers, of which so many have to agree, with the bytes `payloads` as
+ * their answers of a byte, or silent where `payloads` ends, and cut to `n_session` bytes or with others behind it. */
+static void replay(const char *what, uint8_t scheme, uint8_t degree, uint8_t agreement, uint8_t n, const char *payloads, size_t n_session,
+                   size_t n_out, int32_t code, size_t told, const char *text) {
+    const uint8_t head[28] = {'P', 'I', 'R', 'S', 1, scheme, degree, agreement, n, 0, 0, 0, 0, 0, 0, 0, 0, 0, 0, 7, 0, 0, 0, 4, 0, 0, 0, 1};
+    uint8_t whole[28 + 255 * 31], *end = whole + 28;
+    memcpy(whole, head, 28);
+    for (uint8_t i = 0; i < n; i++) {
+        int present = i < strlen(payloads);
+        const uint8_t record[31] = {i + 1, present, 0, 0, 0, present * 25, 'P', 'I', 'R', 'A', 1, scheme, i + 1, 0, 0, 0, 0, 0, 0, 0, 0, 7,
+                                    0, 0, 0, 4, 0, 0, 0, 1, present ? payloads[i] : 0};
+        memcpy(end, record, present ? 31 : 6);
+        end += present ? 31 : 6;
+    }
+    size_t size = end - whole;
+    if (n_session == SIZE_MAX) n_session = size;
+    uint8_t *session = bytes(n_session), *out = bytes(n_out);
+    memcpy(session, whole, n_session < size ? n_session : size);
+    size_t used = 77;
+    expect(what, pir_replay(session, n_session, out, n_out, &used), code);
+    expect(what, used, told);
+    size_t written = strlen(text);
+    expect(what, memcmp(out, text, written), 0);
+    expect(what, untouched(out + written, n_out - written), 1);
+    free(session), free(out);
+}
+
+static void replays(void) {
+    const size_t all = SIZE_MAX;
+    replay("three that agree", PIR_SHAMIR, 1, 2, 3, "CCC", all, 12, PIR_DONE, 12, "blocks 1\n43\n");
+    replay("three that agree, with more room", PIR_SHAMIR, 1, 2, 3, "CCC", all, 100, PIR_DONE, 12, "blocks 1\n43\n");
+    replay("three that agree, with room a byte short", PIR_SHAMIR, 1, 2, 3, "CCC", all, 11, PIR_SMALL_ROOM, 12, "");
+    replay("three that agree, with no room", PIR_SHAMIR, 1, 2, 3, "CCC", all, 0, PIR_SMALL_ROOM, 12, "");
+    replay("three of which all have to agree", PIR_SHAMIR, 1, 3, 3, "CCD", all, 9, PIR_NO_BLOCK, 9, "blocks 0\n");
+    replay("three of which any two agree", PIR_SHAMIR, 1, 2, 3, "@AB", all, 18, PIR_SEVERAL, 18, "blocks 3\n41\n47\nb6\n");
+    replay("three that are silent", PIR_SHAMIR, 1, 2, 3, "", all, 12, PIR_FEW_ANSWERS, 12, "too few 0 2\n");
+    replay("three that are silent, with room a byte short", PIR_SHAMIR, 1, 2, 3, "", all, 11, PIR_SMALL_ROOM, 12, "");
+    replay("four whose agreement is weak", PIR_SHAMIR, 1, 2, 4, "CCCC", all, 15, PIR_WEAK_AGREEMENT, 15, "too weak 4 1 2\n");
+    replay("the most servers", PIR_SHAMIR, 254, 255, 255, "", all, 14, PIR_FEW_ANSWERS, 14, "too few 0 255\n");
+    replay("the XOR scheme", PIR_XOR, 1, 2, 2, "AB", all, 12, PIR_DONE, 12, "blocks 1\n03\n");
+    replay("the XOR scheme, with one that is silent", PIR_XOR, 1, 2, 2, "A", all, 12, PIR_FEW_ANSWERS, 12, "too few 1 2\n");
+    replay("no byte", PIR_SHAMIR, 1, 2, 3, "CCC", 0, 12, PIR_BAD_SESSION, 0, "");
+    replay("no byte and no room", PIR_SHAMIR, 1, 2, 3, "CCC", 0, 0, PIR_BAD_SESSION, 0, "");
+    replay("a header a byte short", PIR_SHAMIR, 1, 2, 3, "CCC", 27, 12, PIR_BAD_SESSION, 27, "");
+    replay("a header", PIR_SHAMIR, 1, 2, 3, "CCC", 28, 12, PIR_BAD_SESSION, 28, "");
+    replay("a session a byte short", PIR_SHAMIR, 1, 2, 3, "CCC", 120, 12, PIR_BAD_SESSION, 120, "");
+    replay("a session with a byte behind", PIR_SHAMIR, 1, 2, 3, "CCC", 122, 12, PIR_BAD_SESSION, 121, "");
+    replay("no scheme", 3, 1, 2, 3, "CCC", all, 12, PIR_BAD_SESSION, 5, "");
+    replay("degree 0", PIR_SHAMIR, 0, 2, 3, "CCC", all, 12, PIR_BAD_SESSION, 6, "");
+    replay("an agreement of the degree", PIR_SHAMIR, 2, 2, 3, "CCC", all, 12, PIR_BAD_SESSION, 7, "");
+    replay("fewer servers than have to agree", PIR_SHAMIR, 1, 3, 2, "CC", all, 12, PIR_BAD_SESSION, 8, "");
+}
+
 int main(void) {
     expect("pir_version", pir_version(), PIR_INTERFACE);
     plans();
@@ -252,5 +305,6 @@ int main(void) {
     judgements();
     lists();
     replies();
+    replays();
     return wrong;
 }

@@ -37,6 +37,7 @@ enum {
     PIR_WEAK_AGREEMENT = 6,  /* the agreement is too weak for so many answers */
     PIR_HIGH_COST = 7,       /* the list decoding costs too much */
     PIR_BROKEN_ROW = 10,     /* the row is none of the list */
+    PIR_BAD_SESSION = 10,    /* the bytes are no session: the same number, of another call */
     PIR_NO_MEMORY = 12,      /* there is no memory */
     PIR_NOT_IN_LIST = 14,    /* the key isn't in the list */
     PIR_BAD_PLAN = -1,       /* the numbers are those of no plan */
@@ -57,7 +58,8 @@ enum {
 
 /* What is fetched, and how. In range: 1 <= degree, degree + tau < agreement <= servers <= 255; rows from 1 to 2^20, width from 1 to
  * 2^16, rows * width at most 2^30; in the XOR scheme tau 0 and degree + 1 = agreement = servers. Take
- * 2 * agreement > servers + degree + tau: then no more than one block is ever listed. */
+ * 2 * agreement > servers + degree + tau: then no more than one block is listed, and it is the right one where `agreement` servers
+ * are honest; agreement - degree - tau liars who work together can have a wrong one listed. */
 typedef struct pir_plan {
     uint32_t scheme;    /* PIR_SHAMIR or PIR_XOR */
     uint32_t degree;    /* so many servers together learn nothing of the block: t */
@@ -74,9 +76,9 @@ typedef struct pir_listing {
     uint64_t block_size; /* bytes of the first of them, as of each: those of all rows that were asked for together */
     uint64_t needed;     /* bytes that all of them have */
     uint64_t answers;    /* usable answers k, of PIR_FEW_ANSWERS and PIR_WEAK_AGREEMENT */
-    uint64_t degree;     /* degree of the answers t, of PIR_WEAK_AGREEMENT */
+    uint64_t degree;     /* degree of the answers, degree + tau of the plan, of PIR_WEAK_AGREEMENT */
     uint64_t agreement;  /* how many have to agree h, of the same two */
-    uint64_t cost;       /* what the decoding would cost, of PIR_HIGH_COST */
+    uint64_t cost;       /* equations that the decoding would take, of PIR_HIGH_COST: more than 2^15 */
 } pir_listing;
 
 /* Gives PIR_INTERFACE of the library that is linked. */
@@ -105,8 +107,8 @@ int32_t pir_query(const pir_plan *plan, const uint32_t *blocks, size_t n_blocks,
  * than a whole one its prefix counts.
  * The listed blocks go to the front of `out`, one behind another, ascending as byte strings, and what is told of them into
  * `listing`.
- * PIR_DONE, PIR_NO_BLOCK, PIR_SEVERAL, PIR_FEW_ANSWERS, PIR_WEAK_AGREEMENT, PIR_HIGH_COST; PIR_NO_MEMORY; PIR_BAD_PLAN,
- * PIR_BAD_BLOCKS, PIR_BAD_ANSWERS, which leave `out` and `listing` as they were; PIR_SMALL_ROOM, where `listing` is written, with
+ * PIR_DONE, PIR_NO_BLOCK, PIR_SEVERAL, PIR_FEW_ANSWERS, PIR_WEAK_AGREEMENT, PIR_HIGH_COST; PIR_NO_MEMORY, PIR_BAD_PLAN,
+ * PIR_BAD_BLOCKS, PIR_BAD_ANSWERS, which all leave `out` and `listing` as they were; PIR_SMALL_ROOM, where `listing` is written, with
  * `needed`, and `out` is as it was. */
 int32_t pir_judge(const pir_plan *plan, size_t blocks, uint64_t session, const uint8_t *answers, size_t n_answers,
                   const size_t *lengths, size_t n_lengths, const uint8_t *present, size_t n_present, uint8_t *out, size_t n_out,
@@ -134,7 +136,8 @@ int64_t pir_list_row(const pir_list *list, const uint8_t salt[16], const uint8_t
 /* What its row, as it was fetched, says of a key, by the salt and the 8 bytes of the list's tag: PIR_DONE where the list has the
  * key; then its value goes to the front of `out`, and its length into `used`. PIR_NOT_IN_LIST where it hasn't; PIR_BROKEN_ROW where
  * the bytes are the key's row in no table of this list, so that nothing is known; PIR_BAD_LIST, also of a row of more than 2^16
- * bytes; PIR_SMALL_ROOM, and then the length is in `used` all the same. Where no value is written `out` is as it was. */
+ * bytes; PIR_SMALL_ROOM, and then the length is in `used` all the same. Where no value is written `out` is as it was, and `used` where
+ * no length is told. A row's form is looked at alone: hand in the block of a verdict. */
 int32_t pir_list_find(const pir_list *list, const uint8_t salt[16], const uint8_t tag[8], const uint8_t *row, size_t n_row,
                       const uint8_t *key, size_t n_key, uint8_t *out, size_t n_out, size_t *used);
 
@@ -150,6 +153,14 @@ enum {
  * PIR_DONE; PIR_BAD_DATABASE; PIR_SMALL_ROOM, and then `used` and `met` are told all the same, and `out` is as it was. */
 int32_t pir_reply(const uint8_t *database, size_t n_database, uint32_t scheme, uint32_t width, const uint8_t *guest, size_t n_guest,
                   uint8_t *out, size_t n_out, size_t *used, uint32_t *met);
+
+/* Judges a recorded session, as `pir replay` does: `session` has the bytes of its file (docs/SPECIFICATION.md), one that `pir fetch
+ * --record` wrote, or that a caller put together of what its servers answered. The text that the program prints goes to the front of
+ * `out`, with no 0 behind it, and its length into `used`. All texts but those of several blocks are shorter than their sessions.
+ * PIR_DONE, PIR_NO_BLOCK, PIR_SEVERAL, PIR_FEW_ANSWERS, PIR_WEAK_AGREEMENT, PIR_HIGH_COST, each with its text; PIR_BAD_SESSION where
+ * the bytes are no session, and then `used` is the length of their longest prefix that begins one; PIR_NO_MEMORY; PIR_SMALL_ROOM, and
+ * then the length is in `used` all the same. Where no text is written `out` is as it was. */
+int32_t pir_replay(const uint8_t *session, size_t n_session, uint8_t *out, size_t n_out, size_t *used);
 
 #ifdef __cplusplus
 }

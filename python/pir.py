@@ -4,23 +4,31 @@ The caller brings the sockets. A fetch of row 17 from four servers, of which one
 
     client = Client(rows=1000, width=32, degree=1, agree=3, servers=4)
     query = client.ask(17)
-    answers = [talk_to(server, frame) for server, frame in zip(servers, query.frames)]
+    links = [send(server, frame) for server, frame in zip(servers, query.frames)]
+    answers = [read(link, query.answer_size) for link in links]
     verdict = query.judge(answers)
-    verdict.block                    # the row, as bytes
+    verdict.block                    # the row, as bytes: the right one where 3 servers are honest
 
-`talk_to` sends the frame, and gives back the bytes that come, at most `query.answer_size`, or None where the server was silent.
-It stands on libpir.so, which is proved; this module hands bytes on to it. PIR_LIBRARY names the file, if it isn't beside this
-module or where the system looks for libraries. It needs Python 3.8, and nothing else."""
+All servers are sent to before an answer is awaited. `read` gives back the bytes that come, so many at most, or None where the
+server was silent. It stands on libpir.so, which is proved; this module hands bytes on to it. PIR_LIBRARY names the file, if it
+isn't beside this module or where the system looks for libraries. It needs Python 3.8, and nothing else."""
 import ctypes
+import json
 import os
+import re
 import secrets
 from typing import List, NamedTuple, Optional, Sequence, Union
 
-__all__ = ["Client", "KeyList", "Query", "Verdict", "PirError", "NoBlock", "SeveralBlocks", "BrokenRow", "reply", "SHAMIR", "XOR"]
+__all__ = ["Client", "KeyList", "Query", "Verdict", "PirError", "NoBlock", "SeveralBlocks", "BadCatalog", "BrokenRow", "BadSession"]
+__all__ += ["reply", "replay", "SHAMIR", "XOR"]
 
 SHAMIR = 1
 XOR = 2
 INTERFACE = 1
+# Of a catalog: its most bytes, the hexadecimal digits of its texts, and the ranges of its numbers.
+MOST_CATALOG = 65536
+DIGITS = {"list": 16, "salt": 32, "sha256": 64}
+RANGES = {"digest": (8, 32), "entries": (1, 1 << 26), "format": (1, 1), "rows": (1, 1 << 20), "value": (0, 16384), "width": (1, 65536)}
 
 
 class _Plan(ctypes.Structure):
@@ -53,8 +61,23 @@ class SeveralBlocks(PirError):
     """Several blocks have; they are in `Verdict.blocks`."""
 
 
+class BadCatalog(PirError):
+    """The file is no catalog of a list."""
+
+    def __init__(self, text: str):
+        super().__init__(-7, text)
+
+
 class BrokenRow(PirError):
     """The row is none of the list, so that nothing is known of the key."""
+
+
+class BadSession(PirError):
+    """The bytes are no session. `place` is the length of their longest prefix that begins one."""
+
+    def __init__(self, code: int, place: int):
+        super().__init__(code, f"no session from byte {place} on")
+        self.place = place
 
 
 REFUSALS = {
@@ -90,6 +113,8 @@ def _load() -> ctypes.CDLL:
         *(ctypes.c_char_p, size, ctypes.c_uint32, ctypes.c_uint32, ctypes.c_char_p, size),
         *(ctypes.POINTER(ctypes.c_char), size, ctypes.POINTER(size), ctypes.POINTER(ctypes.c_uint32)),
     ]
+    library.pir_replay.restype = ctypes.c_int32
+    library.pir_replay.argtypes = [ctypes.c_char_p, size, ctypes.POINTER(ctypes.c_char), size, ctypes.POINTER(size)]
     library.pir_query.restype = library.pir_liars.restype = ctypes.c_int32
     library.pir_query.argtypes = [
         *(plan, ctypes.POINTER(ctypes.c_uint32), size, ctypes.c_char_p, size),
@@ -128,7 +153,8 @@ class Verdict(NamedTuple):
     text: str
     """The verdict in words."""
     servers: Optional[List[int]]
-    """Of each server 0 where it was silent or its answer isn't usable, 1 where it agrees, 2 where it lied; None where that can't be told."""
+    """Of each server 0 where it was silent or its answer isn't usable, 1 where it agrees, 2 where it lied; None where that can't be told.
+    It holds where `agree` servers are honest: more liars, who work together, can have honest ones told as liars."""
 
     @property
     def block(self) -> bytes:
@@ -192,9 +218,9 @@ class Query:
 class Client:
     """A database that several servers hold, and how it is asked.
 
-    `degree` servers together learn nothing of the row; `agree` answers have to agree. Take 2 * agree > servers + degree: then a
-    verdict has one block at most. `tau` is that of a database that is shared among the servers. In the scheme XOR all servers have
-    to answer: leave `degree` and `agree` out there."""
+    `degree` servers together learn nothing of the row; `agree` answers have to agree. Take 2 * agree > servers + degree + tau:
+    then a verdict has one block at most, and it is the right one where `agree` servers are honest. `tau` is that of a database
+    that is shared among the servers. In the scheme XOR all servers have to answer: leave `degree` and `agree` out there."""
 
     def __init__(
         self,
@@ -216,6 +242,8 @@ class Client:
 
     def coins_size(self, count: int) -> int:
         """How many coins a query for so many rows takes."""
+        if not 0 <= count < 1 << 64:
+            raise PirError(-2, REFUSALS[-2])
         return _number(_LIBRARY.pir_coins(ctypes.byref(self._plan), count))
 
     def ask(self, block: Union[int, Sequence[int]], coins: Optional[bytes] = None) -> Query:
@@ -224,7 +252,47 @@ class Client:
         if not all(0 <= it < 1 << 32 for it in rows):
             raise PirError(-2, REFUSALS[-2])
         needed = self.coins_size(len(rows))
-        return Query(self, rows, secrets.token_bytes(needed) if coins is None else coins)
+        return Query(self, rows, secrets.token_bytes(needed) if coins is None else bytes(coins))
+
+
+def _lines(text: str) -> dict:
+    """The members of a text of the form that `pir_list build` writes, where Python has no reader of TOML (before 3.11)."""
+    said: dict = {}
+    members = said
+    for line in filter(None, map(str.strip, text.splitlines())):
+        name, found, value = line.partition("=")
+        if line == "[servers]" and "servers" not in said:
+            members = said["servers"] = {}
+        elif found and name.strip() not in members:
+            members[name.strip()] = json.loads(value)
+        else:
+            raise ValueError(f"not understood: {line}")
+    return said
+
+
+def _catalog(text: bytes) -> dict:
+    """The members of a catalog, each in its range (docs/SPECIFICATION.md, "The catalog of a list")."""
+    try:
+        if len(text) > MOST_CATALOG:
+            raise ValueError("too long")
+        try:
+            from tomllib import loads
+        except ImportError:
+            loads = _lines
+        said = loads(text.decode())
+    except ValueError as error:
+        raise BadCatalog(f"no catalog: {error}") from None
+    wrong = [it for it in said if it not in (*DIGITS, *RANGES, "servers")] + [it for it in (*DIGITS, *RANGES) if it not in said]
+    wrong += [it for it in DIGITS if not (isinstance(said.get(it), str) and re.fullmatch(f"[0-9a-fA-F]{{{DIGITS[it]}}}", said[it]))]
+    wrong += [it for it in RANGES if not (type(said.get(it)) is int and RANGES[it][0] <= said[it] <= RANGES[it][1])]
+    if not wrong:
+        entry = said["digest"] + (said["value"] and 2 + said["value"])
+        fitting = (said["width"] - 10) // entry * said["rows"]
+        holds = {"width": 10 + entry <= said["width"], "rows": said["rows"] * said["width"] <= 1 << 30, "entries": said["entries"] <= fitting}
+        wrong = [it for it in holds if not holds[it]]
+    if wrong:
+        raise BadCatalog(f"no catalog of this format: {wrong[0]}")
+    return said
 
 
 class KeyList:
@@ -245,12 +313,11 @@ class KeyList:
 
     @classmethod
     def read(cls, path: str) -> "KeyList":
-        """That of a catalog's file, as `pir_list build` writes it."""
-        with open(path, encoding="utf-8") as it:
-            parts = (line.partition("=") for line in it)
-            said = {name.strip(): value.strip().strip('"') for name, found, value in parts if found}
-        numbers = (int(said[it]) for it in ("digest", "value", "rows", "width"))
-        return cls(bytes.fromhex(said["salt"]), bytes.fromhex(said["list"]), *numbers)
+        """That of a catalog's file, as `pir_list build` writes it. Raises `BadCatalog` where it is none. What it says of servers is
+        passed over."""
+        with open(path, "rb") as it:
+            said = _catalog(it.read(MOST_CATALOG + 1))
+        return cls(bytes.fromhex(said["salt"]), bytes.fromhex(said["list"]), *(said[it] for it in ("digest", "value", "rows", "width")))
 
     def client(self, degree: int, agree: int, servers: int) -> Client:
         """The client of the list's table."""
@@ -258,11 +325,15 @@ class KeyList:
 
     def row_of(self, key: bytes) -> int:
         """The row that a key belongs to."""
+        key = bytes(key)
         return _number(_LIBRARY.pir_list_row(ctypes.byref(self._list), self.salt, key, len(key)))
 
     def look_in(self, row: bytes, key: bytes) -> Optional[bytes]:
         """The key's value by its row, empty where keys have none; None where the list hasn't the key. Raises `BrokenRow` where the row
-        is none of the list: then nothing is known of the key."""
+        is none of the list: then nothing is known of the key. A row is looked at for its form alone: take it from a verdict."""
+        row, key = bytes(row), bytes(key)
+        if len(row) != self.width:
+            raise BrokenRow(10, f"a row of the list has {self.width} bytes, and this one {len(row)}")
         room, used = max(self._list.value_bytes, 1), ctypes.c_size_t()
         out = ctypes.create_string_buffer(room)
         words = (row, len(row), key, len(key), out, room, ctypes.byref(used))
@@ -282,7 +353,11 @@ class Reply(NamedTuple):
 
 
 def reply(database: bytes, width: int, guest: bytes, scheme: int = SHAMIR) -> Reply:
-    """What a server of these rows, each of `width` bytes, replies to the bytes of a guest, as `pir serve` does."""
+    """What a server of these rows, each of `width` bytes, replies to the bytes of a guest, as `pir serve` does. Where `met` is 4 of what
+    came so far, read on and ask again; a refusal is known after 24 bytes. Then send, and read on till the guest closes."""
+    if not all(0 <= it < 1 << 32 for it in (width, scheme)):
+        raise PirError(-8, REFUSALS[-8])
+    guest = bytes(guest)
     room, used, met = 24, ctypes.c_size_t(), ctypes.c_uint32()
     while True:
         out = ctypes.create_string_buffer(room)
@@ -293,3 +368,28 @@ def reply(database: bytes, width: int, guest: bytes, scheme: int = SHAMIR) -> Re
         room = used.value
     _checked(code)
     return Reply(out.raw[: used.value], met.value)
+
+
+class Replayed(NamedTuple):
+    """What a recorded session comes to."""
+
+    code: int
+    """That of `Verdict`."""
+    text: str
+    """The lines that `pir replay` prints."""
+
+
+def replay(session: bytes) -> Replayed:
+    """The verdict on a recorded session, as `pir replay` gives it. Raises `BadSession` where the bytes are none."""
+    session = bytes(session)
+    # (a text is longer than its session only where several blocks are listed)
+    room, used = max(len(session), 1), ctypes.c_size_t()
+    while True:
+        out = ctypes.create_string_buffer(room)
+        code = _LIBRARY.pir_replay(session, len(session), out, room, ctypes.byref(used))
+        if code != -5:
+            break
+        room = used.value
+    if _checked(code) == 10:
+        raise BadSession(code, used.value)
+    return Replayed(code, out.raw[: used.value].decode())

@@ -3,3 +3,5 @@ pub mod Frames
 pub mod Records
 pub mod Joined
 mod FirstAnswers
+pub mod Adding
+pub mod Replays

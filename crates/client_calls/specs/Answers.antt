@@ -28,7 +28,7 @@ pub record AreAnswers (servers : ℕ) (g : Given) : Type 0 where
 abbrev pub answer_at : Given → ℕ → List ℕ
 answer_at g i = take (slice_index g.lengths i) (drop (total (take i g.lengths)) g.bytes)
 
--- its record: the front of the answer, as long as a whole one is, or that the server was silent
+-- its record: the prefix of the answer that is as long as a whole one, or that the server was silent
 abbrev pub record_of : ℕ → ℕ → List ℕ → Option (List ℕ)
 record_of most mark answer = if mark == 0 then None else Some (take most answer)
 

@@ -5,3 +5,4 @@ pub mod Answers
 pub mod Judging
 pub mod Listing
 pub mod Liars
+pub mod Replaying

@@ -31,8 +31,8 @@ fn add_up(lengths: &[usize], whole: usize) -> bool
     left == 0
 }
 
-/// Adds the record of the next server to a session: the front of its answer, as long as a whole one is, or that it was
-/// silent.
+/// Adds the record of the next server to a session: the prefix of its answer that is as long as a whole one, or that it
+/// was silent.
 fn add_record(session: &mut Session, mark: u8, answer: &[u8], most: usize)
     requires few { length session.old.records < session.old.params.n }
     requires most { most ≡ answer_len session.old.params.count session.old.params.s }

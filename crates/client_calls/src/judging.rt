@@ -53,9 +53,17 @@ fn judge_uncounted<C: Ledger, N: Ledger>(
     judge(alloc, &Koetter, session, &mut cols, &mut nodes)
 }
 
+/// The verdict on a session.
+pub(crate) fn verdict_on(alloc: Global, session: &Session) -> Result<Verdict, AllocError>
+    requires all { length session.now.records ≡ session.now.params.n }
+    ensures { IfOk result (IsVerdict session.now) }
+{
+    let (cols, nodes) = (Blank::new(1), Blank::new(1));
+    judge_uncounted::<Brand, Brand>(alloc, cols, nodes, session)
+}
+
 /// The verdict on the answers of all servers to the queries for so many blocks, in the session with this number, which
-/// is that of the first eight coins. An answer that is longer than a whole one counts by its front, as long as a whole
-/// one is.
+/// is that of the first eight coins. Of an answer that is longer than a whole one counts the prefix that is as long.
 ///
 /// # Errors
 ///
@@ -76,6 +84,5 @@ pub fn judge_answers(
         return Err(Refusal::Answers);
     }
     let session = session_of(alloc, &asking, number, answers)?;
-    let (cols, nodes) = (Blank::new(1), Blank::new(1));
-    Ok(judge_uncounted::<Brand, Brand>(alloc, cols, nodes, &session)?)
+    Ok(verdict_on(alloc, &session)?)
 }

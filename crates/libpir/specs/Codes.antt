@@ -3,7 +3,7 @@ use Rattle.std.specs.Prelude.{ℤ, pos, negsuc}
 use Rattle.client_calls.specs.declared.refusal.Refusal.{Refusal}
 use Rattle.client_calls.specs.declared.refusal.Refusal.TheVariants.{Plan, Blocks, Index, Coins, Answers, Room, Memory}
 use Rattle.libpir.specs.declared.code.Code.{Code}
-use Rattle.libpir.specs.declared.code.Code.TheVariants.{Done, NoBlock, Several, FewAnswers, WeakAgreement, HighCost, BrokenRow, NoMemory, NotInList}
+use Rattle.libpir.specs.declared.code.Code.TheVariants.{Done, NoBlock, Several, FewAnswers, WeakAgreement, HighCost, BrokenRow, BadSession, NoMemory, NotInList}
 use Rattle.libpir.specs.declared.code.Code.TheVariants.{BadPlan, BadBlocks, BadIndex, FewCoins, SmallRoom, BadAnswers, BadList, BadDatabase}
 
 -- its number: that of the program's status where it has one, and below 0 what only a caller can get wrong
@@ -15,6 +15,7 @@ number_of FewAnswers = pos 5
 number_of WeakAgreement = pos 6
 number_of HighCost = pos 7
 number_of BrokenRow = pos 10
+number_of BadSession = pos 10
 number_of NoMemory = pos 12
 number_of NotInList = pos 14
 number_of BadPlan = negsuc 0

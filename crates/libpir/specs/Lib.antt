@@ -6,3 +6,4 @@ pub mod Judgements
 pub mod Liars
 pub mod Lists
 pub mod Replies
+pub mod Replays

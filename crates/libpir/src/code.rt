@@ -5,44 +5,46 @@ ghost use Rattle.libpir.specs.Codes.{number_of, refusal_code};
 
 use client_calls::Refusal;
 
-/// What became of a call. Where the program has a status for it, the number is that status; what only a caller can get
-/// wrong has a negative number.
+/// What became of a call. Where the program has a status for it, its number is that status, which two of them share;
+/// what only a caller can get wrong has a negative number.
 #[derive(Clone, Copy, Debug, PartialEq, Eq)]
 pub(crate) enum Code {
     /// All is done as asked.
-    Done = 0,
+    Done,
     /// No block is listed.
-    NoBlock = 3,
+    NoBlock,
     /// Several blocks are listed.
-    Several = 4,
+    Several,
     /// There are fewer usable answers than have to agree.
-    FewAnswers = 5,
+    FewAnswers,
     /// The agreement is too weak for so many answers.
-    WeakAgreement = 6,
+    WeakAgreement,
     /// The list decoding costs too much.
-    HighCost = 7,
+    HighCost,
     /// The row is none of the list.
-    BrokenRow = 10,
+    BrokenRow,
+    /// The bytes are no session.
+    BadSession,
     /// There is no memory.
-    NoMemory = 12,
+    NoMemory,
     /// The key isn't in the list.
-    NotInList = 14,
+    NotInList,
     /// The numbers are those of no plan.
-    BadPlan = -1,
+    BadPlan,
     /// No block is asked for, too many, or one that isn't a row.
-    BadBlocks = -2,
+    BadBlocks,
     /// The index is that of no server.
-    BadIndex = -3,
+    BadIndex,
     /// There are too few coins.
-    FewCoins = -4,
+    FewCoins,
     /// There is too little room for what is to be written.
-    SmallRoom = -5,
+    SmallRoom,
     /// The answers aren't those of so many servers.
-    BadAnswers = -6,
+    BadAnswers,
     /// The numbers are those of no list, or the row is longer than any.
-    BadList = -7,
+    BadList,
     /// The bytes are no rows of a database, or the scheme is none.
-    BadDatabase = -8,
+    BadDatabase,
 }
 
 impl Code {
@@ -58,6 +60,7 @@ impl Code {
             Code::WeakAgreement => 6,
             Code::HighCost => 7,
             Code::BrokenRow => 10,
+            Code::BadSession => 10,
             Code::NoMemory => 12,
             Code::NotInList => 14,
             Code::BadPlan => -1,

@@ -11,7 +11,7 @@ use client_calls::{Answers, PlanNumbers, Refusal, judge_answers, write_listing};
 use std::alloc::Global;
 
 /// The code of a listing that is written.
-fn listed_code(listing: &Listing) -> Code
+pub(crate) fn listed_code(listing: &Listing) -> Code
     ensures { result ≡ listed_code listing.now }
 {
     match listing.len() {

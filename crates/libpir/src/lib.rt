@@ -13,6 +13,7 @@ mod liars;
 mod lists;
 mod numbers;
 mod queries;
+mod replays;
 mod replies;
 mod sizes;
 

@@ -1,4 +1,4 @@
-use Rattle.client_calls.proofs.judging.judge_answers.Given as goal
+use Rattle.client_calls.proofs.judging.verdict_on.Given as goal
 
 -- a caller that counts nothing picks both ledgers
 abbrev pub ghosts-judge_uncounted-C-Ledger : goal.ghosts-judge_uncounted-C-Ledger
