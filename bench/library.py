@@ -13,6 +13,8 @@ import sys
 import tempfile
 import time
 
+from servers import free_ports, serve
+
 TOP = os.path.dirname(os.path.dirname(os.path.abspath(__file__)))
 RUNS = int(sys.argv[1]) if len(sys.argv) > 1 else 200
 PROGRAM = os.path.abspath(sys.argv[2] if len(sys.argv) > 2 else os.environ.get("PIR", f"{TOP}/crates/pir/out/pir"))
@@ -23,26 +25,6 @@ SERVERS, DEGREE, AGREE = 4, 1, 3
 os.environ["PIR_LIBRARY"] = LIBRARY
 sys.path.insert(0, f"{TOP}/python")
 import pir  # noqa: E402  (it loads the library that is named above)
-
-
-def free_ports():
-    doors = [socket.create_server(("127.0.0.1", 0)) for _ in range(SERVERS)]
-    ports = [door.getsockname()[1] for door in doors]
-    for door in doors:
-        door.close()
-    return ports
-
-
-def serve(folder, width, ports):
-    """Starts the servers, and returns them once each is ready."""
-    servers = []
-    for port in ports:
-        words = ["serve", "--database", f"{folder}/database", "--width", width, "--conns", 65535, "--listen", f"127.0.0.1:{port}"]
-        servers.append(subprocess.Popen([PROGRAM, *map(str, words)], stdout=subprocess.PIPE))
-    for server in servers:
-        if server.stdout.readline() != b"ready\n":
-            sys.exit("a server didn't start")
-    return servers
 
 
 def read(link, most):
@@ -86,8 +68,8 @@ def measure(rows, width, folder):
     with open(f"{folder}/database", "wb") as file:
         for j in range(rows):
             file.write(j.to_bytes(4, "big").ljust(width, b"."))
-    ports = free_ports()
-    servers = serve(folder, width, ports)
+    ports = free_ports(SERVERS)
+    servers = serve(PROGRAM, folder, width, ports)
     client = pir.Client(rows=rows, width=width, degree=DEGREE, agree=AGREE, servers=SERVERS)
     wanted = row.to_bytes(4, "big").ljust(width, b".")
     words = ["fetch", "--rows", rows, "--width", width, "--degree", DEGREE, "--agree", AGREE, "--block", row]

@@ -6,11 +6,12 @@ which does next to nothing, is taken off each before they are compared. It print
 
     bench/lookup.py [RUNS [PROGRAM [ROWSxWIDTH ..]]]      (PIR, or crates/pir/out/pir, where none is named)"""
 import os
-import socket
 import subprocess
 import sys
 import tempfile
 import time
+
+from servers import free_ports, serve
 
 TOP = os.path.dirname(os.path.dirname(os.path.abspath(__file__)))
 RUNS = int(sys.argv[1]) if len(sys.argv) > 1 else 20
@@ -22,26 +23,6 @@ SERVERS, KEY_LEN = 3, 8
 def rows_of(rows, width):
     """Rows that ascend: the number of each, and filler."""
     return b"".join((3 * j).to_bytes(KEY_LEN, "big").ljust(width, b".") for j in range(rows))
-
-
-def free_ports():
-    doors = [socket.create_server(("127.0.0.1", 0)) for _ in range(SERVERS)]
-    ports = [door.getsockname()[1] for door in doors]
-    for door in doors:
-        door.close()
-    return ports
-
-
-def serve(folder, width, ports):
-    """Starts the servers, and returns them once each is ready."""
-    servers = []
-    for port in ports:
-        words = ["serve", "--database", f"{folder}/database", "--width", width, "--conns", 65535, "--listen", f"127.0.0.1:{port}"]
-        servers.append(subprocess.Popen([PROGRAM, *map(str, words)], stdout=subprocess.PIPE))
-    for server in servers:
-        if server.stdout.readline() != b"ready\n":
-            sys.exit("a server didn't start")
-    return servers
 
 
 def seconds(words, times, status, begins):
@@ -57,8 +38,8 @@ def seconds(words, times, status, begins):
 def measure(rows, width, folder):
     with open(f"{folder}/database", "wb") as file:
         file.write(rows_of(rows, width))
-    ports = free_ports()
-    servers = serve(folder, width, ports)
+    ports = free_ports(SERVERS)
+    servers = serve(PROGRAM, folder, width, ports)
     try:
         shape = ["--rows", rows, "--width", width, "--degree", 1, "--agree", 3]
         addresses = [f"127.0.0.1:{port}" for port in ports]
