@@ -214,8 +214,9 @@ def beside(program, work, seconds):
         ports, _ = one_server(started, it, work)
         rate, _ = clients_at(ports, 4, it.frame(), HEADER + 1, None, seconds)
         print(f"a list of one byte, one server, four clients: {rate:.0f} guests a second")
-        other, _ = one_server(started, it, work)
-        words = [program, *"fetch --rows 1 --width 1 --block 0 --degree 1 --agree 2".split(), *(f"127.0.0.1:{port}" for port in ports + other)]
+        # (servers anew, since one meets 65535 guests at most)
+        fresh = [one_server(started, it, work)[0][0] for _ in range(2)]
+        words = [program, *"fetch --rows 1 --width 1 --block 0 --degree 1 --agree 2".split(), *(f"127.0.0.1:{port}" for port in fresh)]
         until, runs = time.monotonic() + seconds, 0
         while time.monotonic() < until:
             runs += subprocess.run(words, stdin=subprocess.DEVNULL, stdout=subprocess.DEVNULL, check=True).returncode == 0
@@ -248,7 +249,7 @@ def main():
                         "subjectAltName=IP:127.0.0.1", "-keyout", f"{work}/key", "-out", f"{work}/certificate"], check=True, **QUIET)
         with open(f"{work}/pem", "w") as both:
             both.write(open(f"{work}/key").read() + open(f"{work}/certificate").read())
-        beside(program, work, words.seconds or 5)
+        beside(program, work, words.seconds or 3)
         for shape in words.lists.split(","):
             rows, width = map(int, shape.split("x"))
             seconds = words.seconds or (10 if rows * width > 1 << 28 else 5)
