@@ -1,5 +1,5 @@
 -- Multiples of a row added to another, in pieces.
-use Rattle.std.proofs.Common.{◌≡◌, ℕ, ◌+◌, ◌-◌, ◌<◌, ◌≤◌, List, length, get_or, bit_xor, map, refl, ap, subst, ◌∙◌, arith}
+use Rattle.std.proofs.Common.{◌≡◌, ℕ, ◌+◌, ◌-◌, ◌<◌, ◌≤◌, List, length, get_or, bit_xor, map, ap, subst, ◌∙◌, arith}
 use Rattle.std.specs.Simd.Lanes.{zip2, chunk, put_chunk}
 use Rattle.std.proofs.lemmas.List.{get_or_past}
 use Rattle.gf256.specs.Field.{◌⊕◌, ◌⊗◌}
@@ -43,14 +43,14 @@ added-last old row products rest f at same within few room e long zeros kept =
     (kept (k - last) (omega (arith, l, m)) ∙ products_are.each (k - last) (omega (arith, l, i)) ∙ ap (multiple row f) place))
     (added-none old (multiple row f) at))
 
--- 16 places at once
-pub added-sixteen : (acc row products : List ℕ) (f at : ℕ) → at + 16 ≤ length acc → length row ≡ length acc
-    → products ≡ map (λ x. f ⊗ x) (chunk at 16 row)
-    → IsAdded (put_chunk at acc (zip2 bit_xor (chunk at 16 acc) products)) acc (multiple row f) at (at + 16)
-added-sixteen acc row products f at room same e =
-    added-lanes acc acc (zip2 bit_xor (chunk at 16 acc) products) (multiple row f) (λ k. get_or acc k 0 ⊕ multiple row f k) at at at
+-- the next 16 places at once
+pub added-next : (acc old row products : List ℕ) (f at : ℕ) → at + 16 ≤ length acc → length row ≡ length acc
+    → products ≡ map (λ x. f ⊗ x) (chunk at 16 row) → IsAdded acc old (multiple row f) 0 at
+    → IsAdded (put_chunk at acc (zip2 bit_xor (chunk at 16 acc) products)) old (multiple row f) 0 (at + 16)
+added-next acc old row products f at room same e done =
+    added-lanes acc old (zip2 bit_xor (chunk at 16 acc) products) (multiple row f) (λ k. get_or acc k 0 ⊕ multiple row f k) 0 at at
     room (lanes-sum (chunk at 16 acc) products _ _ at (lanes-of acc at room) (times-lanes row products f at (omega arith) e))
     (omega arith) (omega arith) (omega arith)
-    (λ k l m. absurd (omega (arith, l, m)))
-    (λ k l m i. refl)
-    (added-none acc (multiple row f) at)
+    (λ k l m. absurd (omega (arith, m)))
+    (λ k l m i. ap (λ x. x ⊕ multiple row f k) (done.after k l))
+    done

@@ -74,27 +74,6 @@ impl Products {
         let high = self.high.swizzle_dyn_within::<16>(bytes >> u8x16::splat(4));
         low ^ high
     }
-
-    /// Adds the factor times `row` to `acc`, which is as long: `acc[i]` becomes
-    /// `acc[i] + factor * row[i]`, for each place i.
-    pub fn add_multiple(&self, acc: &mut [u8], row: &[u8])
-        requires { length row.now ≡ length acc.old }
-        ensures { (k : ℕ) →
-            slice_index acc.new k ≡ slice_index acc.old k ⊕ self.now ⊗ slice_index row.now k }
-    {
-        let products = self.copied();
-        let mut at = 0;
-        'pairs: while acc.len() - at >= 32 {
-            add_lanes(acc, row, &products, at);
-            add_lanes(acc, row, &products, at + 16);
-            at += 32;
-        }
-        if acc.len() - at >= 16 {
-            add_lanes(acc, row, &products, at);
-            at += 16;
-        }
-        add_rest(acc, row, &products, at);
-    }
 }
 
 /// Row j, of 16 bytes, has the products of j with 0 to 15.
@@ -211,18 +190,14 @@ pub fn add_scaled_row(acc: &mut [u8], row: &[u8], factor: u8)
     ensures { (k : ℕ) →
         slice_index acc.new k ≡ slice_index acc.old k ⊕ factor ⊗ slice_index row.now k }
 {
-    Products::of(factor).add_multiple(acc, row);
-}
-
-/// Adds the products of the 16 bytes of `row` from place `at` on to those of `acc`.
-#[inline(always)]
-fn add_lanes(acc: &mut [u8], row: &[u8], products: &Products, at: usize)
-    requires same { length row.now ≡ length acc.old }
-    requires inside { at + 16 ≤ length acc.old }
-    ensures { IsAdded acc.new acc.old (multiple row.now products.now) at (at + 16) }
-{
-    let sum = u8x16::from_slice(&acc[at..]) ^ products.times(u8x16::from_slice(&row[at..]));
-    sum.copy_to_slice(&mut acc[at..]);
+    let products = Products::of(factor);
+    let mut at = 0;
+    'lanes: while acc.len() - at >= 16 {
+        let sum = u8x16::from_slice(&acc[at..]) ^ products.times(u8x16::from_slice(&row[at..]));
+        sum.copy_to_slice(&mut acc[at..]);
+        at += 16;
+    }
+    add_rest(acc, row, &products, at);
 }
 
 /// Adds the products of the bytes of `row` from place `at` on, which are fewer than 16, to those of

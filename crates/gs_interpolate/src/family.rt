@@ -8,7 +8,7 @@ ghost use Rattle.gf256.specs.Field.{◌⊕◌};
 ghost use Rattle.gs_interpolate.specs.Family.{bytes_of, AreCoefficients, AreMultiplesAdded, IsCellStep, IsFamilyStep, IsRowStep, IsStepCount, StaysWhole};
 
 use crate::basis::MOST_PLACES;
-use gf256::rows::Products;
+use gf256::rows::{Products, add_scaled_row};
 use quantity_limits::MOST_DEGREE;
 use std::alloc::{AllocError, Global};
 use std::marker::Model;
@@ -51,14 +51,14 @@ impl Tables {
 }
 
 /// Adds `own` times the factors. Where it is 0, there is nothing to do.
-fn add_multiple(cell: &mut [u8], factors: &[u8], own: u8, tables: &Tables)
+fn add_multiple(cell: &mut [u8], factors: &[u8], own: u8)
     requires { length factors.now ≡ length cell.old }
     ensures { AreMultiplesAdded factors.now own cell.new cell.old }
 {
     if own == 0 {
         return;
     }
-    tables.products(own).add_multiple(cell, factors);
+    add_scaled_row(cell, factors, own);
 }
 
 /// Adds `carry` to the coefficient of the polynomial at place `p`.
@@ -73,14 +73,14 @@ fn add_carry(cell: &mut [u8], p: usize, carry: u8)
 
 /// Takes a step at one power of x, whose coefficients are `cell`. The polynomial at place `p` had the coefficient `carry` at
 /// the power before, and has the result here.
-fn step_cell(cell: &mut [u8], factors: &[u8], p: usize, carry: u8, tables: &Tables) -> u8
+fn step_cell(cell: &mut [u8], factors: &[u8], p: usize, carry: u8) -> u8
     requires size { length factors.now ≡ length cell.old }
     requires inside { p < length cell.old }
     ensures own { result ≡ slice_index cell.old p }
     ensures step { IsCellStep factors.now p carry cell.new cell.old }
 {
     let own = cell[p];
-    add_multiple(cell, factors, own, tables);
+    add_multiple(cell, factors, own);
     add_carry(cell, p, carry);
     own
 }
@@ -159,7 +159,7 @@ fn step_held_row<const VECTORS: usize>(
 }
 
 /// Takes a step in one row, as `step_row` does, whatever the lanes are.
-fn step_row_of_any(row: &mut [u8], factors: &[u8], p: usize, count: usize, tables: &Tables)
+fn step_row_of_any(row: &mut [u8], factors: &[u8], p: usize, count: usize)
     requires inside { p < length factors.now }
     requires room { count * length factors.now ≤ length row.old }
     ensures { IsRowStep factors.now p row.new row.old count }
@@ -168,8 +168,7 @@ fn step_row_of_any(row: &mut [u8], factors: &[u8], p: usize, count: usize, table
     let mut carry = 0;
     for i in 0..count {
         let start = i * lanes;
-        let cell = &mut row[start..start + lanes];
-        carry = step_cell(cell, factors, p, carry, tables);
+        carry = step_cell(&mut row[start..start + lanes], factors, p, carry);
     }
 }
 
@@ -184,7 +183,7 @@ pub(crate) fn step_row(row: &mut [u8], factors: &[u8], p: usize, count: usize, t
     match factors.len() {
         16 => step_held_row::<1>(row, factors, p, count, tables),
         32 => step_held_row::<2>(row, factors, p, count, tables),
-        _ => step_row_of_any(row, factors, p, count, tables),
+        _ => step_row_of_any(row, factors, p, count),
     }
 }
 

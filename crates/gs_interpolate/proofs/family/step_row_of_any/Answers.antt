@@ -43,17 +43,17 @@ loop-i-preserved c =
 pub overflow_mul-start : goal.overflow_mul-start
 overflow_mul-start c = omega (arith, row_within c.loop-i.i c.args.count (length c.args.factors.now) c.loop-i-test.true, c.requires.room)
 
-pub overflow_add-cell : goal.overflow_add-cell
-overflow_add-cell c = omega (arith, row_within c.loop-i.i c.args.count (length c.args.factors.now) c.loop-i-test.true, c.requires.room)
+pub overflow_add-start : goal.overflow_add-start
+overflow_add-start c = omega (arith, row_within c.loop-i.i c.args.count (length c.args.factors.now) c.loop-i-test.true, c.requires.room)
 
-pub slice_bounds-cell-count : goal.slice_bounds-cell-count
-slice_bounds-cell-count c = omega arith
+pub slice_bounds-step_cell-count : goal.slice_bounds-step_cell-count
+slice_bounds-step_cell-count c = omega arith
 
-pub slice_bounds-cell-start : goal.slice_bounds-cell-start
-slice_bounds-cell-start c = omega arith
+pub slice_bounds-step_cell-start : goal.slice_bounds-step_cell-start
+slice_bounds-step_cell-start c = omega arith
 
-pub slice_bounds-cell-end : goal.slice_bounds-cell-end
-slice_bounds-cell-end c = omega (arith, row_within c.loop-i.i c.args.count (length c.args.factors.now) c.loop-i-test.true, c.requires.room, c.loop-i.auto.row)
+pub slice_bounds-step_cell-end : goal.slice_bounds-step_cell-end
+slice_bounds-step_cell-end c = omega (arith, row_within c.loop-i.i c.args.count (length c.args.factors.now) c.loop-i-test.true, c.requires.room, c.loop-i.auto.row)
 
 pub step_cell-carry-requires-clause-size : goal.step_cell-carry-requires-clause-size
 step_cell-carry-requires-clause-size c =
