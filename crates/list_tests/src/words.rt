@@ -167,6 +167,18 @@ fn wrong_values_are_told(rt: HostRuntime) -> Result<(), AllocError> {
             "build - --database t --values --value-bytes 16385",
             "--value-bytes 16385 is not among 0 to 16384",
         ),
+        (
+            "build keys --database keys",
+            "--database would be written over the file of the keys, which has the same name",
+        ),
+        (
+            "build keys --database t --catalog keys",
+            "--catalog would be written over the file of the keys, which has the same name",
+        ),
+        (
+            "build - --database t --catalog t",
+            "--catalog would be written over --database, which has the same name",
+        ),
         ("find c --degree 255", "--degree 255 is not among 1 to 254"),
         ("find c --agree 256", "--agree 256 is not among 1 to 255"),
         (

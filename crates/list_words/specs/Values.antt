@@ -1,5 +1,5 @@
 -- The values of each command, and what may be wrong with them.
-use Rattle.std.specs.Prelude.{◌≡◌, ℕ, Bool, ◌&&◌, ◌==◌, not, nat_le, if◌then◌else◌, List, [], length, Option, None, Some, is_some, option_and_then, option_map, unwrap_or, codes}
+use Rattle.std.specs.Prelude.{◌≡◌, ℕ, Bool, false, ◌&&◌, ◌==◌, not, nat_le, if◌then◌else◌, List, [], length, Option, None, Some, is_some, option_and_then, option_map, unwrap_or, codes}
 use Rattle.std.specs.Borrow.{Bor}
 use Rattle.std.specs.List.{list_any, slice_split}
 use Rattle.std.specs.Option.{option_map_or, option_or}
@@ -14,7 +14,8 @@ use Rattle.list_words.specs.declared.asked.Build.{Build}
 use Rattle.list_words.specs.declared.asked.Check.{Check}
 use Rattle.list_words.specs.declared.asked.Find.{Find}
 use Rattle.list_words.specs.declared.fault.ValueFault.{ValueFault}
-use Rattle.list_words.specs.declared.fault.ValueFault.TheVariants.{NoNumber, OutOfRange, WithoutValues, EmptyAddress}
+use Rattle.list_words.specs.declared.fault.ValueFault.TheVariants.{NoNumber, OutOfRange, WithoutValues, EmptyAddress, OneFile}
+use Rattle.list_words.specs.declared.fault.BuildFile.TheVariants.{Keys, Database, Catalog}
 
 -- what is wrong with a number, if anything
 abbrev pub range_fault : Amount → ℕ → Option ValueFault
@@ -56,9 +57,39 @@ has_empty text = list_any (λ address. length address == 0) (addresses_of text)
 unfoldable pub servers_fault : List Row → Option ValueFault
 servers_fault m = option_and_then (λ text. if has_empty text then Some EmptyAddress else None) (first_of (codes "servers") m)
 
+-- whether the argument is given, and has this text
+abbrev pub has_text : Text → Option Text → Bool
+has_text text None = false
+has_text text (Some own) = bytes_eq own text
+
+-- whether both arguments are given, with one text
+unfoldable pub have_one_text : Text → Text → List Row → Bool
+have_one_text a b m = option_map_or (λ text. has_text text (first_of b m)) (first_of a m) false
+
+-- whether the keys are standard input
+unfoldable pub is_input : List Row → Bool
+is_input m = has_text (codes "-") (first_of (codes "keys") m)
+
+-- a file that is written has the name of the keys' file
+unfoldable pub over_keys : Text → ValueFault → List Row → Option ValueFault
+over_keys id fault m = if have_one_text id (codes "keys") m && not (is_input m) then Some fault else None
+
+-- the catalog has the name of the database
+unfoldable pub over_database : List Row → Option ValueFault
+over_database m = if have_one_text (codes "catalog") (codes "database") m then Some (OneFile Catalog Database) else None
+
+-- a file would be written over another
+unfoldable pub files_fault : List Row → Option ValueFault
+files_fault m = option_or (over_keys (codes "database") (OneFile Database Keys) m)
+    (option_or (over_keys (codes "catalog") (OneFile Catalog Keys) m) (over_database m))
+
+-- the first fault of the numbers of `build`
+unfoldable pub build_amount_fault : List Row → Option ValueFault
+build_amount_fault m = option_or (amount_fault DigestBytes m) (option_or (amount_fault Rows m) (option_or (values_fault m) (amount_fault ValueBytes m)))
+
 -- the first fault of the values of `build`
 unfoldable pub build_fault : List Row → Option ValueFault
-build_fault m = option_or (amount_fault DigestBytes m) (option_or (amount_fault Rows m) (option_or (values_fault m) (amount_fault ValueBytes m)))
+build_fault m = option_or (build_amount_fault m) (files_fault m)
 
 -- and of those of `find`
 unfoldable pub find_fault : List Row → Option ValueFault

@@ -23,6 +23,34 @@ pub enum ValueFault {
     WithoutValues,
     /// One of the addresses is empty.
     EmptyAddress,
+    /// A file that is written has the name of another that is read or written, which would be lost.
+    OneFile {
+        /// The file that is written.
+        written: BuildFile,
+        /// The other.
+        other: BuildFile,
+    },
+}
+
+/// A file that `build` reads or writes.
+#[derive(Clone, Copy, Debug, PartialEq, Eq)]
+pub enum BuildFile {
+    /// That of the keys.
+    Keys,
+    /// That of the table.
+    Database,
+    /// That of the catalog.
+    Catalog,
+}
+
+impl Display for BuildFile {
+    fn fmt<W: Write>(&self, f: &mut Formatter<W>) -> fmt::Result {
+        f.write_str(match self {
+            BuildFile::Keys => "the file of the keys",
+            BuildFile::Database => "--database",
+            BuildFile::Catalog => "--catalog",
+        })
+    }
 }
 
 impl Display for ValueFault {
@@ -38,6 +66,12 @@ impl Display for ValueFault {
             }
             ValueFault::WithoutValues => f.write_str("--value-bytes needs --values"),
             ValueFault::EmptyAddress => f.write_str("--servers has an empty address"),
+            ValueFault::OneFile { written, other } => {
+                write!(
+                    f,
+                    "{written} would be written over {other}, which has the same name"
+                )
+            }
         }
     }
 }

@@ -1,7 +1,7 @@
 //! The words of `pir_list`, read to a command.
 //!
 //! Promised: words give a command with its values exactly where `clap` takes them by the commands that are built
-//! here, and each number is in its range, and no address is empty;
+//! here, and each number is in its range, no address is empty, and no file that is written has another's name;
 //! else what is wrong with them, or help or the version where they ask for it; want of memory aside.
 //!
 //! Not promised: what help and the sentences of `clap` say, and that a file or an address is one.
@@ -20,7 +20,7 @@ pub use address_list::addresses;
 pub use amount::Amount;
 pub use asked::{Asked, Build, Check, Find};
 pub use command::list_command;
-pub use fault::{ValueFault, WordsFault};
+pub use fault::{BuildFile, ValueFault, WordsFault};
 pub use read::read_words;
 
 /// How many bytes a digest has where the words don't say it.

@@ -5,13 +5,15 @@ ghost use Rattle.pir_words.specs.Numbers.{given};
 ghost use Rattle.list_words.specs.Amounts.{most_of};
 ghost use Rattle.list_words.specs.declared.TheConstants.{USUAL_DIGEST};
 ghost use Rattle.list_words.specs.declared.amount.Amount.TheVariants.{DigestBytes, ValueBytes};
-ghost use Rattle.list_words.specs.Values.{IsBuild, IsCheck, IsFind, amount_fault, amount_in, build_fault, find_fault, is_set, servers_fault, text_fault, text_or, values_fault};
+ghost use Rattle.list_words.specs.declared.fault.BuildFile.TheVariants.{Keys};
+ghost use Rattle.list_words.specs.declared.fault.ValueFault.TheVariants.{OneFile};
+ghost use Rattle.list_words.specs.Values.{IsBuild, IsCheck, IsFind, amount_fault, amount_in, build_amount_fault, build_fault, files_fault, find_fault, have_one_text, is_input, is_set, over_database, over_keys, servers_fault, text_fault, text_or, values_fault};
 
 use crate::USUAL_DIGEST;
 use crate::address_list::has_empty;
 use crate::amount::Amount;
 use crate::asked::{Build, Check, Find};
-use crate::fault::ValueFault;
+use crate::fault::{BuildFile, ValueFault};
 use clap::ArgMatches;
 use pir_words::{limited_at, number_of, text_at};
 
@@ -89,14 +91,83 @@ fn servers_fault(matches: &ArgMatches) -> Option<ValueFault>
     }
 }
 
+/// Whether both arguments are given, with one text.
+#[tactic(auto, unfolding(crate::specs::Values::have_one_text))]
+fn have_one_text(matches: &ArgMatches, a: &str, b: &str) -> bool
+    ensures { result ≡ have_one_text a.now b.now (given matches.now) }
+{
+    match (text_at(matches, a), text_at(matches, b)) {
+        (Some(text), Some(own)) => own == text,
+        _ => false,
+    }
+}
+
+/// Whether the keys are standard input.
+#[tactic(auto, unfolding(crate::specs::Values::is_input))]
+fn is_input(matches: &ArgMatches) -> bool
+    ensures { result ≡ is_input (given matches.now) }
+{
+    matches!(text_at(matches, "keys"), Some("-"))
+}
+
+/// That a file that is written has the name of the keys' file.
+#[tactic(auto, unfolding(crate::specs::Values::over_keys))]
+fn over_keys(matches: &ArgMatches, id: &str, written: BuildFile) -> Option<ValueFault>
+    ensures { result ≡ over_keys id.now (OneFile written Keys) (given matches.now) }
+{
+    if have_one_text(matches, id, "keys") && !is_input(matches) {
+        Some(ValueFault::OneFile {
+            written,
+            other: BuildFile::Keys,
+        })
+    } else {
+        None
+    }
+}
+
+/// That the catalog has the name of the database.
+#[tactic(auto, unfolding(crate::specs::Values::over_database))]
+fn over_database(matches: &ArgMatches) -> Option<ValueFault>
+    ensures { result ≡ over_database (given matches.now) }
+{
+    if have_one_text(matches, "catalog", "database") {
+        Some(ValueFault::OneFile {
+            written: BuildFile::Catalog,
+            other: BuildFile::Database,
+        })
+    } else {
+        None
+    }
+}
+
+/// That a file would be written over another.
+#[tactic(auto, unfolding(crate::specs::Values::files_fault))]
+fn files_fault(matches: &ArgMatches) -> Option<ValueFault>
+    ensures { result ≡ files_fault (given matches.now) }
+{
+    over_keys(matches, "database", BuildFile::Database).or(over_keys(
+        matches,
+        "catalog",
+        BuildFile::Catalog,
+    ).or(over_database(matches)))
+}
+
+/// The first fault of the numbers of `build`.
+#[tactic(auto, unfolding(crate::specs::Values::build_amount_fault))]
+fn build_amount_fault(matches: &ArgMatches) -> Option<ValueFault>
+    ensures { result ≡ build_amount_fault (given matches.now) }
+{
+    amount_fault(matches, Amount::DigestBytes).or(amount_fault(matches, Amount::Rows).or(
+        values_fault(matches).or(amount_fault(matches, Amount::ValueBytes)),
+    ))
+}
+
 /// The first fault of the values of `build`.
 #[tactic(auto, unfolding(crate::specs::Values::build_fault))]
 pub(crate) fn build_fault(matches: &ArgMatches) -> Option<ValueFault>
     ensures { result ≡ build_fault (given matches.now) }
 {
-    amount_fault(matches, Amount::DigestBytes).or(amount_fault(matches, Amount::Rows).or(
-        values_fault(matches).or(amount_fault(matches, Amount::ValueBytes)),
-    ))
+    build_amount_fault(matches).or(files_fault(matches))
 }
 
 /// The first fault of the values of `find`.
