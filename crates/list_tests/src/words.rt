@@ -167,6 +167,23 @@ fn wrong_values_are_told(rt: HostRuntime) -> Result<(), AllocError> {
             "build - --database t --values --value-bytes 16385",
             "--value-bytes 16385 is not among 0 to 16384",
         ),
+        ("find c --degree 255", "--degree 255 is not among 1 to 254"),
+        ("find c --agree 256", "--agree 256 is not among 1 to 255"),
+        (
+            "find c --agree +2",
+            "--agree is no decimal number below 2^64",
+        ),
+        ("find c --servers a,,b", "--servers has an empty address"),
+        ("", "no command; try --help"),
+    ] {
+        assert!(rt; says(rt.alloc(), line, sentence)?, "{line}");
+    }
+    Ok(())
+}
+
+#[test]
+fn files_of_one_name_are_told(rt: HostRuntime) -> Result<(), AllocError> {
+    for (line, sentence) in [
         (
             "build keys --database keys",
             "--database would be written over the file of the keys, which has the same name",
@@ -179,14 +196,6 @@ fn wrong_values_are_told(rt: HostRuntime) -> Result<(), AllocError> {
             "build - --database t --catalog t",
             "--catalog would be written over --database, which has the same name",
         ),
-        ("find c --degree 255", "--degree 255 is not among 1 to 254"),
-        ("find c --agree 256", "--agree 256 is not among 1 to 255"),
-        (
-            "find c --agree +2",
-            "--agree is no decimal number below 2^64",
-        ),
-        ("find c --servers a,,b", "--servers has an empty address"),
-        ("", "no command; try --help"),
     ] {
         assert!(rt; says(rt.alloc(), line, sentence)?, "{line}");
     }
