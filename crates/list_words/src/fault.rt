@@ -23,7 +23,7 @@ pub enum ValueFault {
     WithoutValues,
     /// One of the addresses is empty.
     EmptyAddress,
-    /// A file that is written has the name of another that is read or written, which would be lost.
+    /// A file that `build` writes has the name of another of these, which would be lost.
     OneFile {
         /// The file that is written.
         written: BuildFile,
@@ -32,7 +32,7 @@ pub enum ValueFault {
     },
 }
 
-/// A file that `build` reads or writes.
+/// A file that `build` reads or writes, but for that of the coins.
 #[derive(Clone, Copy, Debug, PartialEq, Eq)]
 pub enum BuildFile {
     /// That of the keys.

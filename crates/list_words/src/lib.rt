@@ -1,7 +1,8 @@
 //! The words of `pir_list`, read to a command.
 //!
 //! Promised: words give a command with its values exactly where `clap` takes them by the commands that are built
-//! here, and each number is in its range, no address is empty, and no file that is written has another's name;
+//! here, and each number is in its range, no address is empty, and of the files of `build` for keys, database and
+//! catalog no two have one name;
 //! else what is wrong with them, or help or the version where they ask for it; want of memory aside.
 //!
 //! Not promised: what help and the sentences of `clap` say, and that a file or an address is one.

@@ -68,7 +68,7 @@ fn read_error<'a>(alloc: Global, error: &clap::Error) -> Result<Asked<'a>, Words
 ///
 /// Options come in any order, each once, as `--rows 2` or `--rows=2`.
 /// A number is one or more decimal digits, in the range of its [`Amount`](crate::Amount); no address is empty.
-/// No file that `build` writes has the name of another that it reads or writes.
+/// Of the files of `build` for keys, database and catalog no two have one name; keys that are standard input have none.
 /// `--help`, `help` and `--version` ask for a text.
 ///
 /// # Errors
