@@ -3,6 +3,7 @@
 use Rattle.std.specs.Prelude.{◌≡◌, ◌≢◌, ℕ, zero, suc, ◌+◌, ◌-◌, ◌*◌, ◌%◌, ◌<◌, ◌≤◌, List, length, map, slice_index, Vec}
 use Rattle.std.specs.declared.alloc.Global.{Global}
 use Rattle.std.specs.List.{range_with_len}
+use Rattle.std.specs.Simd.Lanes.{chunk}
 use Rattle.gf256.specs.Field.{◌⊕◌, ◌⊗◌}
 use Rattle.bi_poly.specs.Rows.{row}
 
@@ -35,6 +36,10 @@ with_multiple x y factor = x ⊕ y ⊗ factor
 abbrev pub AreMultiplesAdded : List ℕ → ℕ → List ℕ → List ℕ → Type 0
 AreMultiplesAdded factors own now before =
     (g : ℕ) → slice_index now g ≡ with_multiple (slice_index before g) own (slice_index factors g)
+
+-- these are bytes in vectors of 16, so many
+abbrev pub AreVectors : ℕ → List ℕ → List (List ℕ) → Type 0
+AreVectors n bytes vectors = (v : ℕ) → v < n → row vectors v ≡ chunk (v * 16) 16 bytes
 
 -- what the polynomial at place p is multiplied by, at each power of x, where its own multiple by its factor is added to it
 abbrev pub multiplier : List ℕ → ℕ → ℕ

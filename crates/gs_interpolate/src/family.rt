@@ -3,9 +3,8 @@
 //! more lanes than polynomials.
 
 ghost use Rattle.std.specs.Prelude.{ℕ, ◌≡◌, ◌≢◌, ◌+◌, ◌*◌, ◌<◌, ◌≤◌, length, slice_index, IfOk};
-ghost use Rattle.std.specs.Simd.Lanes.{chunk};
 ghost use Rattle.gf256.specs.Field.{◌⊕◌};
-ghost use Rattle.gs_interpolate.specs.Family.{bytes_of, AreCoefficients, AreMultiplesAdded, IsCellStep, IsFamilyStep, IsRowStep, IsStepCount, StaysWhole};
+ghost use Rattle.gs_interpolate.specs.Family.{bytes_of, AreCoefficients, AreMultiplesAdded, IsCellStep, IsFamilyStep, IsRowStep, AreVectors, IsStepCount, StaysWhole};
 
 use crate::basis::MOST_PLACES;
 use gf256::rows::{Products, add_scaled_row};
@@ -13,6 +12,9 @@ use quantity_limits::MOST_DEGREE;
 use std::alloc::{AllocError, Global};
 use std::marker::Model;
 use std::simd::prelude::*;
+
+/// As many vectors of factors as are held at once. A list within the limit on costs has no more.
+pub(crate) const MOST_VECTORS: usize = 16;
 
 /// The products with every byte, made once. Contracts see the bytes.
 #[derive(Drop)]
@@ -85,51 +87,44 @@ fn step_cell(cell: &mut [u8], factors: &[u8], p: usize, carry: u8) -> u8
     own
 }
 
-/// The last 16 factors, where there are two vectors of them; else those that there are.
-fn last_lanes<const VECTORS: usize>(factors: &[u8]) -> u8x16
-    requires vectors { (1 ≤ VECTORS) × (VECTORS ≤ 2) }
-    requires lanes { length factors.now ≡ VECTORS * 16 }
-    ensures { VECTORS ≡ 2 → result ≡ chunk 16 16 factors.now }
+/// These bytes, 16 in a vector.
+#[inline(always)]
+fn vectors_of<const VECTORS: usize>(bytes: &[u8]) -> [u8x16; VECTORS]
+    requires few { VECTORS ≤ MOST_VECTORS }
+    requires whole { length bytes.now ≡ VECTORS * 16 }
+    ensures { AreVectors VECTORS bytes.now result }
 {
-    if VECTORS == 2 {
-        u8x16::from_slice(&factors[16..])
-    } else {
-        u8x16::from_slice(&factors[0..])
+    let mut vectors = [u8x16::splat(0); VECTORS];
+    for v in 0..VECTORS {
+        vectors[v] = u8x16::from_slice(&bytes[v * 16..]);
     }
+    vectors
 }
 
-/// Adds `own` times the factors, where these are the vector `low`, or the two vectors `low` and `high`. Where it is 0, zeros are
-/// added: to look whether it is would take longer.
+/// Adds `own` times the factors, which are in the vectors `held`. Where it is 0, zeros are added: to look whether it is would
+/// take longer.
 #[inline(always)]
 fn add_held_multiple<const VECTORS: usize>(
     cell: &mut [u8],
     factors: &[u8],
-    low: u8x16,
-    high: u8x16,
+    held: &[u8x16; VECTORS],
     own: u8,
     tables: &Tables,
 )
-    requires vectors { (1 ≤ VECTORS) × (VECTORS ≤ 2) }
     requires same { length factors.now ≡ length cell.old }
     requires size { length cell.old ≡ VECTORS * 16 }
-    requires low { low ≡ chunk 0 16 factors.now }
-    requires high { VECTORS ≡ 2 → high ≡ chunk 16 16 factors.now }
+    requires held { AreVectors VECTORS factors.now held.now }
     ensures { AreMultiplesAdded factors.now own cell.new cell.old }
 {
-    let products = tables.products(own);
-    // Both are made before either is written, so that the products are read once.
-    let by_low = products.times(low);
-    let by_high = products.times(high);
-    let first = u8x16::from_slice(&cell[0..]) ^ by_low;
-    first.copy_to_slice(&mut cell[0..]);
-    if VECTORS == 1 {
-        return;
+    // Read once, and not again after each write.
+    let products = tables.products(own).copied();
+    for v in 0..VECTORS {
+        let sum = u8x16::from_slice(&cell[v * 16..]) ^ products.times(held[v]);
+        sum.copy_to_slice(&mut cell[v * 16..]);
     }
-    let second = u8x16::from_slice(&cell[16..]) ^ by_high;
-    second.copy_to_slice(&mut cell[16..]);
 }
 
-/// Takes a step in one row of 16 or 32 lanes, as `step_row` does. The factors stay in one vector or two.
+/// Takes a step in one row of so many vectors of lanes, as `step_row` does. The factors stay in vectors.
 #[inline(always)]
 fn step_held_row<const VECTORS: usize>(
     row: &mut [u8],
@@ -138,21 +133,20 @@ fn step_held_row<const VECTORS: usize>(
     count: usize,
     tables: &Tables,
 )
-    requires vectors { (1 ≤ VECTORS) × (VECTORS ≤ 2) }
+    requires vectors { (1 ≤ VECTORS) × (VECTORS ≤ MOST_VECTORS) }
     requires lanes { length factors.now ≡ VECTORS * 16 }
     requires inside { p < length factors.now }
     requires room { count * length factors.now ≤ length row.old }
     ensures { IsRowStep factors.now p row.new row.old count }
 {
     let lanes = factors.len();
-    let low = u8x16::from_slice(&factors[0..]);
-    let high = last_lanes::<VECTORS>(factors);
+    let held = vectors_of::<VECTORS>(factors);
     let mut carry = 0;
     for i in 0..count {
         let start = i * lanes;
         let cell = &mut row[start..start + lanes];
         let own = cell[p];
-        add_held_multiple::<VECTORS>(cell, factors, low, high, own, tables);
+        add_held_multiple::<VECTORS>(cell, factors, &held, own, tables);
         add_carry(cell, p, carry);
         carry = own;
     }
@@ -172,6 +166,32 @@ fn step_row_of_any(row: &mut [u8], factors: &[u8], p: usize, count: usize)
     }
 }
 
+/// Takes a step in one row of more than two vectors of lanes, as `step_row` does.
+#[inline(never)]
+fn step_wide_row(row: &mut [u8], factors: &[u8], p: usize, count: usize, tables: &Tables)
+    requires inside { p < length factors.now }
+    requires room { count * length factors.now ≤ length row.old }
+    ensures { IsRowStep factors.now p row.new row.old count }
+{
+    match factors.len() {
+        48 => step_held_row::<3>(row, factors, p, count, tables),
+        64 => step_held_row::<4>(row, factors, p, count, tables),
+        80 => step_held_row::<5>(row, factors, p, count, tables),
+        96 => step_held_row::<6>(row, factors, p, count, tables),
+        112 => step_held_row::<7>(row, factors, p, count, tables),
+        128 => step_held_row::<8>(row, factors, p, count, tables),
+        144 => step_held_row::<9>(row, factors, p, count, tables),
+        160 => step_held_row::<10>(row, factors, p, count, tables),
+        176 => step_held_row::<11>(row, factors, p, count, tables),
+        192 => step_held_row::<12>(row, factors, p, count, tables),
+        208 => step_held_row::<13>(row, factors, p, count, tables),
+        224 => step_held_row::<14>(row, factors, p, count, tables),
+        240 => step_held_row::<15>(row, factors, p, count, tables),
+        256 => step_held_row::<16>(row, factors, p, count, tables),
+        _ => step_row_of_any(row, factors, p, count),
+    }
+}
+
 /// Takes a step in one row, at the powers of x below `x^count`: to each other polynomial the multiple of that at place `p`,
 /// the pivot, by its factor is added, and the pivot is multiplied by `x - a`, where its own factor is `a + 1`. For with
 /// `a + 1` times itself it is a times itself, and to that its product with x is added.
@@ -183,7 +203,7 @@ pub(crate) fn step_row(row: &mut [u8], factors: &[u8], p: usize, count: usize, t
     match factors.len() {
         16 => step_held_row::<1>(row, factors, p, count, tables),
         32 => step_held_row::<2>(row, factors, p, count, tables),
-        _ => step_row_of_any(row, factors, p, count),
+        _ => step_wide_row(row, factors, p, count, tables),
     }
 }
 

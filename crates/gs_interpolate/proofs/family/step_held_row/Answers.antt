@@ -42,15 +42,6 @@ loop-i-preserved g c =
       done = subst (λ k. IsRowStep factors p (put_mid (i * n) k row part) before (i + 1)) (sym whole) (row_step-next next);
     }
 
-pub bounds-factors-0 : goal.bounds-factors-0
-bounds-factors-0 g c = omega (arith, c.requires.vectors.0, c.requires.lanes)
-
-pub last_lanes-high-requires-clause-vectors : goal.last_lanes-high-requires-clause-vectors
-last_lanes-high-requires-clause-vectors g c = c.requires.vectors
-
-pub last_lanes-high-requires-clause-lanes : goal.last_lanes-high-requires-clause-lanes
-last_lanes-high-requires-clause-lanes g c = c.requires.lanes
-
 pub overflow_mul-start : goal.overflow_mul-start
 overflow_mul-start g c = omega (arith, row_within c.loop-i.i c.args.count (length c.args.factors.now) c.loop-i-test.true, c.requires.room)
 
@@ -66,22 +57,11 @@ slice_bounds-cell-start g c = omega arith
 pub slice_bounds-cell-end : goal.slice_bounds-cell-end
 slice_bounds-cell-end g c = omega (arith, row_within c.loop-i.i c.args.count (length c.args.factors.now) c.loop-i-test.true, c.requires.room, c.loop-i.auto.row)
 
-pub add_held_multiple-requires-clause-vectors : goal.add_held_multiple-requires-clause-vectors
-add_held_multiple-requires-clause-vectors g c = c.requires.vectors
-
-pub add_held_multiple-requires-clause-same : goal.add_held_multiple-requires-clause-same
-add_held_multiple-requires-clause-same g c =
-    sym (length-power c.loop-i.row (length c.args.factors.now) c.loop-i.i c.args.count _ c.loop-i-test.true c.requires.room c.loop-i.auto.row)
-
-pub add_held_multiple-requires-clause-size : goal.add_held_multiple-requires-clause-size
-add_held_multiple-requires-clause-size g c =
-    length-power c.loop-i.row (length c.args.factors.now) c.loop-i.i c.args.count _ c.loop-i-test.true c.requires.room c.loop-i.auto.row ∙ c.requires.lanes
-
-pub add_held_multiple-requires-clause-low : goal.add_held_multiple-requires-clause-low
-add_held_multiple-requires-clause-low g c = refl
-
-pub add_held_multiple-requires-clause-high : goal.add_held_multiple-requires-clause-high
-add_held_multiple-requires-clause-high g c = c.last_lanes-high.ensures
+pub add_held_multiple-requires : goal.add_held_multiple-requires
+add_held_multiple-requires g c =
+    let factors = c.args.factors.now in
+    let power = length-power c.loop-i.row (length factors) c.loop-i.i c.args.count _ c.loop-i-test.true c.requires.room c.loop-i.auto.row in
+    (omega (arith, c.requires.vectors.1), (sym power, (power ∙ c.requires.lanes, c.vectors_of-held.ensures)))
 
 pub add_carry-requires : goal.add_carry-requires
 add_carry-requires g c =
