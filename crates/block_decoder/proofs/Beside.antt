@@ -8,9 +8,11 @@ use Rattle.block_decoder.specs.Agreed.{HasColumns}
 use Rattle.block_decoder.specs.Numbers.{bound_of}
 use Rattle.block_decoder.specs.Report.{Agreement, IsReport}
 use Rattle.block_decoder.specs.Reported.{ListsBlocksOf, IsListedFrom, IsReportBeside, ReportsNoMoreThan}
-use Rattle.block_decoder.specs.Verdict.{IsDecided, IsRefusal, ListsNoMoreThan, least_columns}
+use Rattle.block_decoder.specs.Verdict.{IsDecided, IsRefusal, ListsNoMoreThan, least_coefficients, least_columns}
 use Rattle.block_decoder.specs.declared.verdict.Verdict.{Verdict}
 use Rattle.block_decoder.specs.declared.verdict.Verdict.TheVariants.{Listed, TooFew, TooWeak, TooCostly}
+use Rattle.block_decoder.proofs.Candidates.{not_before}
+use Rattle.block_decoder.proofs.Continued.{Contains-one}
 use Rattle.block_decoder.proofs.FewBlocks.{few_agreements}
 use Rattle.block_decoder.proofs.Reported.{reported-lists}
 
@@ -67,10 +69,33 @@ least_listed agreements width c0 c1 (TooFew k agree) lists tried found = absurd 
 least_listed agreements width c0 c1 (TooWeak k degree agree) lists tried found = absurd lists
 least_listed agreements width c0 c1 (TooCostly equations) lists tried found = absurd lists
 
--- where nothing is listed no column is taken, and there is no report
+-- different blocks are those of different agreements
+two_blocks : (agreements : List Agreement) (block other : List ℕ) (blocks : List (List ℕ))
+    → ListsBlocksOf agreements (Listed (block ∷ other ∷ blocks)) → 1 < length agreements
+two_blocks [] block other blocks lists =
+    let (i, within, is) = (lists.1 block).0 (0, omega arith, refl) in absurd (omega (arith, within))
+two_blocks (one ∷ []) block other blocks lists =
+    let all = block ∷ other ∷ blocks in
+    let first = Contains-one one.block block ((lists.1 block).0 (0, omega arith, refl)) in
+    let second = Contains-one one.block other ((lists.1 other).0 (1, omega arith, refl)) in
+    absurd (not_before all 1 lists.0 (omega arith) (0, omega arith, first ∙ sym second))
+two_blocks (one ∷ more ∷ agreements) block other blocks lists = omega arith
+
+-- a listing of several blocks takes the coefficients of a polynomial
+pub least_several : (agreements : List Agreement) (t n0 n1 : ℕ) (verdict : Verdict) → ListsBlocksOf agreements verdict
+    → n0 ≤ n1 → (1 < length agreements → n0 + (t + 1) ≤ n1) → n0 + least_coefficients t verdict ≤ n1
+least_several agreements t n0 n1 (Listed []) lists rises several = omega (arith, rises)
+least_several agreements t n0 n1 (Listed (block ∷ [])) lists rises several = omega (arith, rises)
+least_several agreements t n0 n1 (Listed (block ∷ other ∷ blocks)) lists rises several =
+    several (two_blocks agreements block other blocks lists)
+least_several agreements t n0 n1 (TooFew k agree) lists rises several = absurd lists
+least_several agreements t n0 n1 (TooWeak k degree agree) lists rises several = absurd lists
+least_several agreements t n0 n1 (TooCostly equations) lists rises several = absurd lists
+
+-- where nothing is listed no column is taken and no coefficient fixed, and there is no report
 pub refused : (answers : List Answer) (width t h most : ℕ) (verdict : Verdict) → IsRefusal (length answers) t h verdict
-    → IsDecided answers width t h verdict × (least_columns width verdict ≡ 0) × ListsNoMoreThan most verdict × IsReportBeside answers width t h verdict None
-refused answers width t h most (TooFew k agree) is = (is, refl, tt, refl)
-refused answers width t h most (TooWeak k degree agree) is = (is, refl, tt, refl)
-refused answers width t h most (TooCostly equations) is = (is, refl, tt, refl)
+    → IsDecided answers width t h verdict × (least_columns width verdict ≡ 0) × (least_coefficients t verdict ≡ 0) × ListsNoMoreThan most verdict × IsReportBeside answers width t h verdict None
+refused answers width t h most (TooFew k agree) is = (is, refl, refl, tt, refl)
+refused answers width t h most (TooWeak k degree agree) is = (is, refl, refl, tt, refl)
+refused answers width t h most (TooCostly equations) is = (is, refl, refl, tt, refl)
 refused answers width t h most (Listed blocks) is = absurd is

@@ -12,10 +12,10 @@ use Rattle.block_decoder.specs.Decoding.{decoding, most_columns_of, most_nodes_o
 use Rattle.block_decoder.specs.Judging.{most_blocks_of, DecidesWith, Judgement, JudgesWith}
 use Rattle.block_decoder.specs.Report.{Agreement}
 use Rattle.block_decoder.specs.Reported.{IsListedFrom, IsReportBeside, IsReportOn, ReportsNoMoreThan}
-use Rattle.block_decoder.specs.Verdict.{IsCombined, IsDecided, IsRefusal, IsUnlisted, IsVerdict, ListsNoMoreThan, least_columns}
+use Rattle.block_decoder.specs.Verdict.{IsCombined, IsDecided, IsRefusal, IsUnlisted, IsVerdict, ListsNoMoreThan, least_coefficients, least_columns}
 use Rattle.block_decoder.specs.declared.decoding.Decoding.{Decoding}
 use Rattle.block_decoder.specs.declared.verdict.Verdict.{Verdict}
-use Rattle.block_decoder.proofs.Beside.{decided, beside, few_beside, least_listed, refused}
+use Rattle.block_decoder.proofs.Beside.{decided, beside, few_beside, least_listed, least_several, refused}
 use Rattle.std.proofs.Math.Nat.{le-add_right}
 use Rattle.block_decoder.proofs.Costs.{no_steps}
 use Rattle.block_decoder.proofs.FewBlocks.{few_decided}
@@ -24,7 +24,7 @@ use Rattle.block_decoder.proofs.FewBlocks.{few_decided}
 pub refused_with : (wanted : Bool) (d : Decoding) {E : Type 0} (verdict : Verdict) (a : Counters)
     → IsRefusal (length d.answers) d.degree d.agreement verdict → DecidesWith wanted d {E = E} (Ok (verdict, None)) a a
 refused_with wanted d verdict a is =
-    let (decided, nothing, few, none) = refused d.answers d.width d.degree d.agreement (most_blocks_of d) verdict is in
+    let (decided, nothing, nothing_fixed, few, none) = refused d.answers d.width d.degree d.agreement (most_blocks_of d) verdict is in
     record {
       verdict = decided;
       report = λ asked. none;
@@ -34,6 +34,7 @@ refused_with wanted d verdict a is =
       least = le_refl a.cols;
       least_nodes = le_refl a.nodes;
       listed = omega (arith, nothing);
+      several = omega (arith, nothing_fixed);
       unlisted = λ unlisted. no_steps a.cols a.nodes;
       few = few;
       few_agree = λ agreements given. (cc);
@@ -53,6 +54,7 @@ untold_with wanted d result a b none most most_of_nodes least can = record {
   least = least.0;
   least_nodes = least.1;
   listed = none _;
+  several = none _;
   unlisted = λ unlisted. absurd (can unlisted);
   few = none _;
   few_agree = none _;
@@ -64,10 +66,11 @@ pub listed_with : (wanted : Bool) (d : Decoding) {E : Type 0} (result : Result J
     → (d.agreement ≤ length d.answers) × (length d.answers * d.degree < d.agreement * d.agreement)
     × (cost (length d.answers) d.degree d.agreement ≤ MOST_COST)
     → IsReportOf d report → IfOk result (IsListedFrom wanted report) → a.cols < b.cols
-    → (0 < length report → a.cols + d.width ≤ b.cols) → b.cols ≤ a.cols + most_columns_of d
+    → (0 < length report → a.cols + d.width ≤ b.cols)
+    → (1 < length report → a.nodes + (d.degree + 1) ≤ b.nodes) → b.cols ≤ a.cols + most_columns_of d
     → b.nodes ≤ a.nodes + most_nodes_of d → (a.cols ≤ b.cols) × (a.nodes ≤ b.nodes)
     → ¬ IsUnlisted (length d.answers) d.degree d.agreement → DecidesWith wanted d result a b
-listed_with wanted d result a b report has less can_be is lists tried found most most_of_nodes least can =
+listed_with wanted d result a b report has less can_be is lists tried found several most most_of_nodes least can =
     let all = d.answers in
     let width = d.width in
     let t = d.degree in
@@ -86,6 +89,8 @@ listed_with wanted d result a b report has less can_be is lists tried found most
       least_nodes = least.1;
       listed = IfOk-weaker result (IsListedFrom wanted report) (λ (found : Judgement). a.cols + least_columns width found.0 ≤ b.cols)
           (λ of listed. least_listed report width a.cols b.cols of.0 listed.0 tried found) lists;
+      several = IfOk-weaker result (IsListedFrom wanted report) (λ (found : Judgement). a.nodes + least_coefficients t found.0 ≤ b.nodes)
+          (λ of listed. least_several report t a.nodes b.nodes of.0 listed.0 least.1 several) lists;
       unlisted = λ unlisted. absurd (can unlisted);
       few = IfOk-weaker result (λ (found : Judgement). IsDecided all width t h found.0)
           (λ (found : Judgement). ListsNoMoreThan (most_blocks_of d) found.0)
@@ -119,6 +124,7 @@ judged wanted session all s t h result a b shamir same width degree agree is =
       least = decides.least;
       least_nodes = decides.least_nodes;
       listed = λ one. decides.listed;
+      several = λ one. decides.several;
       unlisted = decides.unlisted;
       few = λ one. decides.few;
       few_agree = λ one. decides.few_agree;
@@ -137,6 +143,7 @@ unjudged wanted session result a none = record {
   least = le_refl a.cols;
   least_nodes = le_refl a.nodes;
   listed = λ one. none _;
+  several = λ one. none _;
   unlisted = λ is. (refl, refl);
   few = λ one. none _;
   few_agree = λ one. none _;
@@ -158,6 +165,7 @@ combined wanted session verdict a xor is =
       least = le_refl a.cols;
       least_nodes = le_refl a.nodes;
       listed = λ one. absurd (no_shamir one);
+      several = λ one. absurd (no_shamir one);
       unlisted = λ none. (refl, refl);
       few = λ one. absurd (no_shamir one);
       few_agree = λ one. absurd (no_shamir one);

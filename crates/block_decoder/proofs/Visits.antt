@@ -144,7 +144,7 @@ few_visits d columns less strong vs are =
     (λ i z l. (are.each i z l).heavy) (λ i z l. (are.each i z l).short)
 
 -- where no polynomial is close, each misses an answer or more
-misses-some : (t h : ℕ) → t < h → 0 < least_misses t h
+pub misses-some : (t h : ℕ) → t < h → 0 < least_misses t h
 unfolding least_misses
 misses-some t h less = le-min {k = 1} {a = h - t} {b = h / (t + 1)} (omega (arith, less)) (le-div 1 h (t + 1) (omega arith) (omega (arith, less)))
 

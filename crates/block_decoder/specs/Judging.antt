@@ -7,7 +7,7 @@ use Rattle.block_decoder.specs.Decoding.{most_columns_of, most_nodes_of, Counter
 use Rattle.block_decoder.specs.Numbers.{bound_of, most_columns, most_nodes}
 use Rattle.block_decoder.specs.Report.{Agreement}
 use Rattle.block_decoder.specs.Reported.{IsReportBeside, IsReportOn, ReportsNoMoreThan}
-use Rattle.block_decoder.specs.Verdict.{IsDecided, IsUnlisted, IsVerdict, ListsNoMoreThan, least_columns}
+use Rattle.block_decoder.specs.Verdict.{IsDecided, IsUnlisted, IsVerdict, ListsNoMoreThan, least_coefficients, least_columns}
 use Rattle.block_decoder.specs.declared.decoding.Decoding.{Decoding}
 use Rattle.block_decoder.specs.declared.verdict.Verdict.{Verdict}
 
@@ -34,6 +34,7 @@ pub record DecidesWith (wanted : Bool) (decoding : Decoding) {E : Type 0} (resul
   pub least : before.cols ≤ after.cols
   pub least_nodes : before.nodes ≤ after.nodes
   pub listed : IfOk result (λ found. before.cols + least_columns decoding.width found.0 ≤ after.cols)
+  pub several : IfOk result (λ found. before.nodes + least_coefficients decoding.degree found.0 ≤ after.nodes)
   pub unlisted : IsUnlisted (length decoding.answers) decoding.degree decoding.agreement
       → (after.cols ≡ before.cols) × (after.nodes ≡ before.nodes)
   pub few : IfOk result (λ found. ListsNoMoreThan (most_blocks_of decoding) found.0)
@@ -58,6 +59,10 @@ session_blocks session = bound_of (length (answers session)) session.params.t se
 -- how many of its columns a verdict takes at least in that scheme
 abbrev pub session_least : Transcript → Verdict → ℕ
 session_least session = least_columns (block_len session.params)
+
+-- and how many coefficients are fixed at least
+abbrev pub session_coefficients : Transcript → Verdict → ℕ
+session_coefficients session = least_coefficients session.params.t
 
 -- none of its columns is decoded
 abbrev pub IsUnlistedSession : Transcript → Type 0
@@ -90,6 +95,8 @@ pub record JudgesWith (wanted : Bool) (session : Transcript) {E : Type 0} (resul
   pub least : before.cols ≤ after.cols
   pub least_nodes : before.nodes ≤ after.nodes
   pub listed : IsShamirSession session → IfOk result (λ found. before.cols + session_least session found.0 ≤ after.cols)
+  pub several : IsShamirSession session
+      → IfOk result (λ found. before.nodes + session_coefficients session found.0 ≤ after.nodes)
   pub unlisted : IsUnlistedSession session → (after.cols ≡ before.cols) × (after.nodes ≡ before.nodes)
   pub few : IsShamirSession session → IfOk result (λ found. ListsFew session found.0)
   pub few_agree : IsShamirSession session → IfOk result (λ found. ReportsFew session found.1)

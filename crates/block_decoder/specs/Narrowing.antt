@@ -159,6 +159,11 @@ pub record IsExtended (decoding : Decoding) (candidate : Candidate) (before afte
   pub some : candidate.column < decoding.width → before.cols < after.cols
   pub found : (after.report ≡ before.report) ⊎ (before.cols + (decoding.width - candidate.column) ≤ after.cols)
 
+-- so many agreements more at most; or else a list proper was made, in which the coefficients of a polynomial were fixed
+abbrev pub GrewBy : Decoding → ℕ → List Agreement → List Agreement → ℕ → ℕ → Type 0
+GrewBy decoding most old new before after =
+    (length new ≤ length old + most) ⊎ (before + (decoding.degree + 1) ≤ after)
+
 -- ---- what comes of the first polynomials of a column
 
 -- a visited vector that begins with v and one of these polynomials

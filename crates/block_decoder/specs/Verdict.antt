@@ -1,5 +1,5 @@
 -- The verdict on the answers of a session.
-use Rattle.std.specs.Prelude.{◌≡◌, ℕ, ◌*◌, ◌<◌, ◌≤◌, ◌⊎◌, ⊤, List, [], ◌∷◌, length, map}
+use Rattle.std.specs.Prelude.{◌≡◌, ℕ, ◌+◌, ◌*◌, ◌<◌, ◌≤◌, ◌⊎◌, ⊤, List, [], ◌∷◌, length, map}
 use Rattle.wire_frames.specs.declared.scheme.TheConstants.{SHAMIR, XOR}
 use Rattle.wire_frames.specs.Answer.{block_len, Answer, answers}
 use Rattle.wire_frames.specs.Session.{Transcript}
@@ -60,6 +60,16 @@ least_columns width (TooWeak k degree agree) = 0
 least_columns width (TooCostly equations) = 0
 least_columns width (Listed []) = 1
 least_columns width (Listed (block ∷ blocks)) = width
+
+-- how many coefficients are fixed at least: those of a polynomial where several blocks are listed, since a list proper was
+-- made where their answers part
+abbrev pub least_coefficients : ℕ → Verdict → ℕ
+least_coefficients t (TooFew k agree) = 0
+least_coefficients t (TooWeak k degree agree) = 0
+least_coefficients t (TooCostly equations) = 0
+least_coefficients t (Listed []) = 0
+least_coefficients t (Listed (block ∷ [])) = 0
+least_coefficients t (Listed (block ∷ other ∷ blocks)) = t + 1
 
 -- some verdict is that on the session
 pub record HasVerdict (session : Transcript) : Type 0 where

@@ -1,6 +1,6 @@
 //! Who agrees: blocks, each with the servers whose answers agree on it.
 
-ghost use Rattle.std.specs.Prelude.{◌≡◌, [], length, IfOk, OnOk, OnErr};
+ghost use Rattle.std.specs.Prelude.{◌≡◌, ◌+◌, ◌≤◌, [], length, IfOk, OnOk, OnErr};
 ghost use Rattle.std.specs.Cmp.Lexicographic.{slice_cmp};
 ghost use Rattle.std.specs.List.Sorted.{IsStrictlySortedBy, IsSearchInRange, IsBinarySearchResult};
 ghost use Rattle.std.specs.Ordering.{nat_cmp};
@@ -114,6 +114,7 @@ impl Report {
     ) -> Result<(), AllocError>
         requires { IsStrictlySortedBy agreement_cmp self.old }
         ensures ascending { IsStrictlySortedBy agreement_cmp self.new }
+        ensures one { length self.new ≤ length self.old + 1 }
         ensures ok { OnOk result (Gains (IsAgreementOf block.now agreeing.now) self.old self.new) }
         ensures err { OnErr result (self.new ≡ self.old) }
     {
@@ -123,6 +124,7 @@ impl Report {
     /// Puts the agreement in its place, where it is not there yet.
     fn insert(&mut self, agreement: Agreement) -> Result<(), AllocError>
         ensures ascending { IsStrictlySortedBy agreement_cmp self.new }
+        ensures one { length self.new ≤ length self.old + 1 }
         ensures ok { OnOk result (Gains (λ a. a ≡ agreement) self.old self.new) }
         ensures err { OnErr result (self.new ≡ self.old) }
     {

@@ -12,7 +12,7 @@ ghost use Rattle.block_decoder.specs.Report.{HasListedBlocks, IsReport};
 ghost use Rattle.block_decoder.specs.Reported.{IsListedFrom};
 ghost use Rattle.block_decoder.specs.Judging.{DecidesWith};
 ghost use Rattle.block_decoder.specs.Vectors.{HeavyVectorsAreFew};
-ghost use Rattle.block_decoder.specs.Verdict.{IsDecided, IsRefusal, IsUnlisted, ListsNoMoreThan, least_columns};
+ghost use Rattle.block_decoder.specs.Verdict.{IsDecided, IsRefusal, IsUnlisted, ListsNoMoreThan, least_coefficients, least_columns};
 
 use crate::agreements::Report;
 use crate::answer_set::AnswerSet;
@@ -54,8 +54,9 @@ use uni_poly::steps::Steps;
 /// `t`, and there are at most `bound(k, t, a)` (Johnson 1962). This count of lists is the decoder's own, and never more than
 /// [`bound`] times k - `h` + 1 ([`lists_are_few`](crate::laws::lists_are_few)).
 ///
-/// `cols` rises by at least one for a listing, and by `s` where a block is listed; for the other verdicts neither rises. A
-/// listing has at most [`bound`] blocks.
+/// `cols` rises by at least one for a listing, and by `s` where a block is listed. `nodes` rises by at least `t + 1` where
+/// several blocks are listed, since their answers part in a list. For the other verdicts neither rises. A listing has at most
+/// [`bound`] blocks.
 ///
 /// The payloads are read where they lie. Memory is taken for one block, for the places of all answers and of those of each
 /// candidate, for the list that it comes from, and for the blocks that are listed; none column by column.
@@ -88,6 +89,7 @@ pub fn decide<I: Interpolate, C: Ledger, N: Ledger>(
     ensures least { cols.old ≤ cols.new }
     ensures least_nodes { nodes.old ≤ nodes.new }
     ensures listed { IfOk result (λ verdict. cols.old + least_columns s verdict ≤ cols.new) }
+    ensures several { IfOk result (λ verdict. nodes.old + least_coefficients t verdict ≤ nodes.new) }
     ensures unlisted { IsUnlisted (length indices.now) t h → (cols.new ≡ cols.old) × (nodes.new ≡ nodes.old) }
     ensures few { IfOk result (ListsNoMoreThan (bound_of (length indices.now) t h)) }
 {
@@ -145,6 +147,7 @@ pub fn report<I: Interpolate, C: Ledger, N: Ledger>(
     ensures least_nodes { nodes.old ≤ nodes.new }
     ensures tried { OnOk result (cols.old < cols.new) }
     ensures found { IfOk result (λ report. 0 < length report → cols.old + s ≤ cols.new) }
+    ensures several { IfOk result (λ report. 1 < length report → nodes.old + (t + 1) ≤ nodes.new) }
     ensures few { IfOk result (λ report. length report ≤ bound_of (length indices.now) t h) }
 {
     let answers = PackedAnswers::new(indices, bytes, s as usize).to_set(alloc)?;

@@ -39,6 +39,7 @@ pub fn close_list<C: Ledger>(
     requires agreement { h ≤ length points.now }
     requires distinct { AllPairs (λ p q. p.0 ≢ q.0) points.now }
     ensures exact { IfOk result (λ found. IfSome found (λ list. ListsAgreeing (lists_of list.items) points.now t h)) }
+    ensures one { IfOk result (λ found. IfSome found (λ list. length list.items ≤ 1)) }
     ensures far { IfOk result (λ found. IfNone found (EachMisses (least_misses t h) points.now t)) }
     ensures many { IfOk result (λ found. IfNone found (h + least_misses t h ≤ length points.now)) }
     ensures cols { MatchResult result (λ found. MatchOption found (cols.new ≡ cols.old) (λ _. cols.new ≡ cols.old + 1))

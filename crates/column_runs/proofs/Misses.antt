@@ -1,12 +1,14 @@
 -- Points off a polynomial, counted in groups: some group has none of them where fewer are off it than there are groups.
-use Rattle.std.proofs.Common.{◌≡◌, ◌≢◌, ℕ, ◌+◌, ◌-◌, ◌*◌, ◌/◌, ◌<◌, ◌≤◌, not, cond, ◌==◌, List, length, get_or, take, drop, min, All, inl, inr, sym, ap, ◌∙◌, arith}
+use Rattle.std.proofs.Common.{◌≡◌, ◌≢◌, ℕ, ◌+◌, ◌-◌, ◌*◌, ◌/◌, ◌<◌, ◌≤◌, not, cond, ◌==◌, List, [], ◌∷◌, length, get_or, take, drop, min, All, inl, inr, refl, sym, ap, ◌∙◌, arith}
 use Rattle.std.specs.List.{sum_by}
 use Rattle.std.proofs.lemmas.Bool.{cases_Bool, eqb-true, eq-eqb, ne_eqb, not_from_true, not_from_false, cases_lt}
 use Rattle.std.proofs.lemmas.List.{drop-take, take-take}
-use Rattle.std.proofs.lemmas.List.Sums.{sum_by-take-drop, sum_by-take-le, count_by_more_yes, count_by_more_no}
+use Rattle.std.proofs.lemmas.List.Elements.{All-head, All-tail}
+use Rattle.std.proofs.lemmas.List.Sums.{sum_by-cons, sum_by-take-drop, sum_by-take-le, count_by_more_yes, count_by_more_no}
 use Rattle.std.proofs.lemmas.Nat.{le-div}
 use Rattle.gf256.specs.Polynomial.{val}
-use Rattle.column_runs.specs.Close.{misses, least_misses}
+use Rattle.column_runs.specs.Close.{misses, least_misses, EachMisses}
+use Rattle.column_runs.specs.OnOne.{LieOnOne}
 
 -- of some of the points no more are off it
 pub misses-take : (phi : List ℕ) (points : List (ℕ × ℕ)) (n : ℕ) → misses phi (take n points) ≤ misses phi points
@@ -51,6 +53,24 @@ on-all phi points none = λ k d l.
           let some = misses-take phi points (k + 1) in
           absurd (omega (arith, one, some, none))
     ]
+
+-- and where all lie on it, none is off it
+off-none : (phi : List ℕ) (points : List (ℕ × ℕ)) → All (λ p. val phi p.0 ≡ p.1) points → misses phi points ≡ 0
+unfolding misses
+off-none phi [] on = refl
+off-none phi (p ∷ points) on =
+    let lies : ℕ × ℕ → Type 0 = λ q. val phi q.0 ≡ q.1 in
+    let first = ap {B = ℕ} (λ b. cond b 1 0) (not_from_true _ (eq-eqb _ _ (All-head lies p points on))) in
+    let rest = off-none phi points (All-tail lies p points on) in
+    let whole = sum_by-cons (λ q. cond (not (val phi q.0 == q.1)) 1 0) p points in
+    omega (arith, first, rest, whole)
+
+-- points of which each polynomial misses some don't all lie on one
+pub apart_misses : (n : ℕ) (points : List (ℕ × ℕ)) (t : ℕ) → 0 < n → EachMisses n points t → ¬ LieOnOne points t
+apart_misses n points t some each (phi, is, on) =
+    let many = each phi is in
+    let none = off-none phi points on in
+    omega (arith, some, many, none)
 
 -- a group of which some are off it, after groups of each of which some are
 pub one_group_more : (psi : List ℕ) (points : List (ℕ × ℕ)) (group size : ℕ) → group ≤ misses psi (take (group * size) points)

@@ -12,7 +12,7 @@ use Rattle.block_decoder.specs.Decoding.{counters}
 use Rattle.block_decoder.specs.Numbers.{most_columns, most_nodes}
 use Rattle.block_decoder.specs.Judging.{JudgesWith}
 use Rattle.block_decoder.specs.Report.{Agreement}
-use Rattle.block_decoder.specs.Verdict.{least_columns}
+use Rattle.block_decoder.specs.Verdict.{least_coefficients, least_columns}
 use Rattle.block_decoder.specs.declared.verdict.Verdict.{Verdict}
 use Rattle.block_decoder.proofs.UsableAnswers.{length-answers_from-le}
 use Rattle.query_rounds.specs.declared.plan.FetchPlan.{FetchPlan}
@@ -72,6 +72,7 @@ none_counted p blocks result fault cols nodes is =
       least = le_refl cols;
       least_nodes = le_refl nodes;
       listed = λ one. tt;
+      several = λ one. tt;
       xor = λ two. (refl, refl);
     }
 
@@ -148,6 +149,7 @@ module _ (wanted : Bool) (r : Request) (old new : World) where
             least = judges.least;
             least_nodes = judges.least_nodes;
             listed = λ one. tt;
+            several = λ one. tt;
             xor = no_step judges.xor;
           }
 
@@ -161,6 +163,8 @@ module _ (wanted : Bool) (r : Request) (old new : World) where
         least_nodes = judges.least_nodes;
         listed = λ one. subst (λ (q : SessionParams). cols + least_columns (block_len q) verdict ≤ cols_now) params
             (judges.listed (ap (λ (q : SessionParams). q.scheme) params ∙ one));
+        several = λ one. subst (λ (q : SessionParams). nodes + least_coefficients q.t verdict ≤ nodes_now) params
+            (judges.several (ap (λ (q : SessionParams). q.scheme) params ∙ one));
         xor = no_step judges.xor;
       }
 

@@ -8,7 +8,7 @@ use Rattle.block_decoder.specs.Decoding.{Counters}
 use Rattle.block_decoder.specs.Numbers.{most_columns, most_nodes}
 use Rattle.block_decoder.specs.Report.{Agreement}
 use Rattle.block_decoder.specs.Reported.{IsReportOn}
-use Rattle.block_decoder.specs.Verdict.{IsVerdict, least_columns}
+use Rattle.block_decoder.specs.Verdict.{IsVerdict, least_coefficients, least_columns}
 use Rattle.block_decoder.specs.declared.verdict.Verdict.{Verdict}
 use Rattle.query_rounds.specs.declared.plan.FetchPlan.{FetchPlan}
 use Rattle.query_rounds.specs.declared.plan.FetchFault.{FetchFault}
@@ -84,6 +84,11 @@ abbrev pub CountsListed : {T : Type 0} → (T → Verdict) → FetchPlan → Lis
 CountsListed verdict_of p blocks result before now = p.scheme ≡ SHAMIR
     → IfOk result (λ found. before + least_columns (length blocks * p.s) (verdict_of found) ≤ now)
 
+-- and at least as many coefficients are fixed
+abbrev pub CountsSeveral : {T : Type 0} → (T → Verdict) → FetchPlan → Result T FetchFault → ℕ → ℕ → Type 0
+CountsSeveral verdict_of p result before now = p.scheme ≡ SHAMIR
+    → IfOk result (λ found. before + least_coefficients p.t (verdict_of found) ≤ now)
+
 -- how many steps a fetch takes
 pub record CountsSteps (p : FetchPlan) (blocks : List ℕ) (result : Result (Transcript × Verdict × Option (List Agreement)) FetchFault)
     (before now : Counters) : Type 0 where
@@ -92,4 +97,5 @@ pub record CountsSteps (p : FetchPlan) (blocks : List ℕ) (result : Result (Tra
   pub least : before.cols ≤ now.cols
   pub least_nodes : before.nodes ≤ now.nodes
   pub listed : CountsListed (λ found. found.1) p blocks result before.cols now.cols
+  pub several : CountsSeveral (λ found. found.1) p result before.nodes now.nodes
   pub xor : p.scheme ≡ XOR → (now.cols ≡ before.cols) × (now.nodes ≡ before.nodes)

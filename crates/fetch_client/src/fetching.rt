@@ -6,7 +6,7 @@ ghost use Rattle.query_rounds.specs.Plan.{AreBlocks, IsPlan};
 ghost use Rattle.block_decoder.specs.Numbers.{most_columns, most_nodes};
 ghost use Rattle.query_rounds.specs.Gathered.{TouchesLinks};
 ghost use Rattle.query_rounds.specs.Request.{request};
-ghost use Rattle.fetch_client.specs.Fetched.{CountsListed, CountsSteps, FetchCounts, FetchCountsWhole};
+ghost use Rattle.fetch_client.specs.Fetched.{CountsListed, CountsSeveral, CountsSteps, FetchCounts, FetchCountsWhole};
 ghost use Rattle.fetch_client.specs.Fetched.{Fetches, FetchesWhole, FetchesWith};
 ghost use Rattle.block_decoder.specs.Decoding.{counters};
 
@@ -68,6 +68,7 @@ pub fn fetch<I: Interpolate, C: Ledger, N: Ledger, P: Ports>(
     ensures least { cols.old ≤ cols.new }
     ensures least_nodes { nodes.old ≤ nodes.new }
     ensures listed { CountsListed (λ both. both.1) plan.now blocks.now result cols.old cols.new }
+    ensures several { CountsSeveral (λ both. both.1) plan.now result nodes.old nodes.new }
     ensures xor { plan.now.scheme ≡ XOR → (cols.new ≡ cols.old) × (nodes.new ≡ nodes.old) }
 {
     let inputs = Inputs {
@@ -108,6 +109,7 @@ pub fn fetch_report<I: Interpolate, C: Ledger, N: Ledger, P: Ports>(
     ensures least { cols.old ≤ cols.new }
     ensures least_nodes { nodes.old ≤ nodes.new }
     ensures listed { CountsListed (λ found. found.1) plan.now blocks.now result cols.old cols.new }
+    ensures several { CountsSeveral (λ found. found.1) plan.now result nodes.old nodes.new }
     ensures xor { plan.now.scheme ≡ XOR → (cols.new ≡ cols.old) × (nodes.new ≡ nodes.old) }
 {
     let inputs = Inputs {

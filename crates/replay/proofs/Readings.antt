@@ -13,6 +13,7 @@ use Rattle.port_trait.proofs.Cells.{at_told, took_none, reads_more, reads_end, t
 use Rattle.wire_frames.specs.declared.scheme.TheConstants.{SHAMIR, XOR}
 use Rattle.wire_frames.specs.Sizes.{answer_len}
 use Rattle.wire_frames.specs.Answer.{answers, block_len}
+use Rattle.wire_frames.specs.declared.session.SessionParams.{SessionParams}
 use Rattle.wire_frames.specs.Session.{Transcript, IsSession, Fits, session_bytes}
 use Rattle.wire_frames.specs.Beginning.{Begins, IsPlace}
 use Rattle.wire_frames.specs.Reading.{Reading, SoFar, Refused, Feeds, Ends}
@@ -22,11 +23,10 @@ use Rattle.wire_frames.specs.declared.reader.BadSession.{BadSession as SessionFa
 use Rattle.wire_frames.proofs.Beginnings.{begins_short}
 use Rattle.wire_frames.proofs.OneSession.{one_session}
 use Rattle.wire_frames.proofs.StopPlaces.{stops-prefix, stops-none}
-use Rattle.block_decoder.specs.Verdict.{least_columns}
 use Rattle.block_decoder.specs.declared.verdict.Verdict.{Verdict}
 use Rattle.replay.specs.declared.TheConstants.{PIECE_LEN}
 use Rattle.replay.specs.Faults.{of_feed}
-use Rattle.replay.specs.Replayed.{Spells, NoSession, ReadsWhole, Refuses, BreaksOff, ReadTo, ReplayCounts, CountsListed}
+use Rattle.replay.specs.Replayed.{Spells, NoSession, ReadsWhole, Refuses, BreaksOff, ReadTo, ReplayCounts, CountsLeast}
 
 -- no session is longer
 abbrev pub longest : ℕ
@@ -249,15 +249,15 @@ one_read session other bytes old new reads told is =
     let all = at_told (λ held. reads.read ≡ held) old.holds bytes told reads.all in
     one_session bytes session other (subst (Spells session) all reads.is) is
 
--- and columns are counted for it where its verdict lists blocks
-pub counts_listed : (session : Transcript) (verdict : Verdict) (old new : Cell) (before now : ℕ)
+-- and steps are counted for it, as many as its verdict takes at least
+pub counts_least : (least : SessionParams → Verdict → ℕ) (session : Transcript) (verdict : Verdict) (old new : Cell) (before now : ℕ)
     → ReadsWhole (Spells session) old new
-    → (session.params.scheme ≡ SHAMIR → before + least_columns (block_len session.params) verdict ≤ now)
-    → CountsListed old.holds before now verdict
-counts_listed session verdict old new before now reads least = λ bytes other told is scheme.
+    → (session.params.scheme ≡ SHAMIR → before + least session.params verdict ≤ now)
+    → CountsLeast least old.holds before now verdict
+counts_least least session verdict old new before now reads many = λ bytes other told is scheme.
     let same = one_read session other bytes old new reads told is in
-    subst (λ (t : Transcript). before + least_columns (block_len t.params) verdict ≤ now) same
-    (least (ap (λ (t : Transcript). t.params.scheme) same ∙ scheme))
+    subst (λ (t : Transcript). before + least t.params verdict ≤ now) same
+    (many (ap (λ (t : Transcript). t.params.scheme) same ∙ scheme))
 
 -- steps are counted for the one session that Input held
 pub counts_of : (bound : ℕ → ℕ → ℕ → ℕ → ℕ) (session : Transcript) (old new : Cell) (before now : ℕ)

@@ -6,12 +6,13 @@ use Rattle.port_trait.specs.Moves.{RoseOnce, took, counted}
 use Rattle.port_trait.specs.Whole.{IsPrefix}
 use Rattle.wire_frames.specs.declared.scheme.TheConstants.{SHAMIR, XOR}
 use Rattle.wire_frames.specs.declared.sizes.TheConstants.{SESSION_HEADER_LEN}
+use Rattle.wire_frames.specs.declared.session.SessionParams.{SessionParams}
 use Rattle.wire_frames.specs.Session.{Transcript, IsSession}
 use Rattle.wire_frames.specs.Beginning.{Begins, IsPlace}
 use Rattle.wire_frames.specs.Answer.{answers, block_len}
 use Rattle.block_decoder.specs.Report.{Agreement}
 use Rattle.block_decoder.specs.Reported.{IsReportOn}
-use Rattle.block_decoder.specs.Verdict.{IsVerdict, least_columns}
+use Rattle.block_decoder.specs.Verdict.{IsVerdict, least_coefficients, least_columns}
 use Rattle.block_decoder.specs.declared.verdict.Verdict.{Verdict}
 use Rattle.replay.specs.declared.TheConstants.{PIECE_LEN}
 use Rattle.replay.specs.declared.ReplayFault.{ReplayFault}
@@ -92,11 +93,18 @@ pub record ReplayCounts (bound : ℕ → ℕ → ℕ → ℕ → ℕ) (held : Op
       → session.params.scheme ≡ XOR → now ≡ before
   pub none : (bytes : List ℕ) → held ≡ Some bytes → (SpellsOne bytes → ⊥) → now ≡ before
 
--- where this held a session of Shamir's scheme, no fewer columns are counted than a listing of its verdict takes
+-- where this held a session of Shamir's scheme, no fewer steps are counted than its verdict takes at least
+abbrev pub CountsLeast : (SessionParams → Verdict → ℕ) → Option (List ℕ) → ℕ → ℕ → Verdict → Type 0
+CountsLeast least held before now verdict = (bytes : List ℕ) (session : Transcript) → held ≡ Some bytes
+    → IsSession bytes session → session.params.scheme ≡ SHAMIR → before + least session.params verdict ≤ now
+
+-- no fewer columns than a listing takes
 abbrev pub CountsListed : Option (List ℕ) → ℕ → ℕ → Verdict → Type 0
-CountsListed held before now verdict = (bytes : List ℕ) (session : Transcript) → held ≡ Some bytes
-    → IsSession bytes session
-    → session.params.scheme ≡ SHAMIR → before + least_columns (block_len session.params) verdict ≤ now
+CountsListed = CountsLeast (λ params. least_columns (block_len params))
+
+-- and no fewer coefficients than a listing of several blocks
+abbrev pub CountsSeveral : Option (List ℕ) → ℕ → ℕ → Verdict → Type 0
+CountsSeveral = CountsLeast (λ params. least_coefficients params.t)
 
 -- where nothing is judged no step is counted
 abbrev pub CountsNone : {T : Type 0} → Result T ReplayFault → ℕ → ℕ → Type 0

@@ -1,9 +1,11 @@
 use Rattle.std.proofs.Common.{le_refl}
 use Rattle.std.proofs.lemmas.Result.{IfOk-from_err, err_from_is_err_and}
+use Rattle.wire_frames.specs.Answer.{block_len}
 use Rattle.block_decoder.specs.Numbers.{most_columns, most_nodes}
+use Rattle.block_decoder.specs.Verdict.{least_coefficients, least_columns}
 use Rattle.replay.specs.Replayed.{Judged, Spells}
 use Rattle.replay.proofs.Judged.{any_steps, failed_alike, no_step, no_verdict}
-use Rattle.replay.proofs.Readings.{counts_listed, counts_nothing, counts_of}
+use Rattle.replay.proofs.Readings.{counts_least, counts_nothing, counts_of}
 use Rattle.replay.proofs.replay.Goals as goal
 
 pub returns-in_err-session-clause-replayed : goal.returns-in_err-session-clause-replayed
@@ -96,8 +98,19 @@ returns-clause-least_nodes g c = c.in_ok-judge.ensures.least_nodes
 
 pub returns-clause-listed : goal.returns-clause-listed
 returns-clause-listed g c =
-    counts_listed c.in_ok-session.session c.in_ok-judge.field-0 _ _ _ _ c.in_ok-session.ensures.read
+    counts_least (λ params. least_columns (block_len params)) c.in_ok-session.session c.in_ok-judge.field-0 _ _ _ _ c.in_ok-session.ensures.read
     c.in_ok-judge.ensures.listed
 
 pub judge-requires : goal.judge-requires
 judge-requires g c = record { all = c.in_ok-session.ensures.all }
+
+pub returns-clause-several : goal.returns-clause-several
+returns-clause-several g c =
+    counts_least (λ params. least_coefficients params.t) c.in_ok-session.session c.in_ok-judge.field-0 _ _ _ _ c.in_ok-session.ensures.read
+    c.in_ok-judge.ensures.several
+
+pub returns-in_err-session-clause-several : goal.returns-in_err-session-clause-several
+returns-in_err-session-clause-several g c = IfOk-from_err c.from_residual.result _ c.from_residual.ensures.0
+
+pub returns-in_err-judge-clause-several : goal.returns-in_err-judge-clause-several
+returns-in_err-judge-clause-several g c = IfOk-from_err c.from_residual-in_err-judge.result _ c.from_residual-in_err-judge.ensures.0

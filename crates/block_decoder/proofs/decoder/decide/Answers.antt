@@ -119,3 +119,12 @@ returns-in_err-verdict-clause-listed g c = IfOk-from_err c.from_residual-in_err-
 
 pub returns-in_err-verdict-clause-few : goal.returns-in_err-verdict-clause-few
 returns-in_err-verdict-clause-few g c = IfOk-from_err c.from_residual-in_err-verdict.result _ c.from_residual-in_err-verdict.ensures.0
+
+pub returns-clause-several : goal.returns-clause-several
+returns-clause-several g c = c.in_ok-verdict.ensures.several
+
+pub returns-in_err-answers-clause-several : goal.returns-in_err-answers-clause-several
+returns-in_err-answers-clause-several g c = IfOk-from_err c.from_residual.result _ c.from_residual.ensures.0
+
+pub returns-in_err-verdict-clause-several : goal.returns-in_err-verdict-clause-several
+returns-in_err-verdict-clause-several g c = IfOk-from_err c.from_residual-in_err-verdict.result _ c.from_residual-in_err-verdict.ensures.0

@@ -59,5 +59,5 @@ returns g c =
     listed_with c.args.wanted d c.listed.result (counters c.args.cols.now c.args.nodes.now) (counters c.find_agreements.new.cols c.find_agreements.new.nodes)
     c.in_ok-report.report c.requires.columns c.requires.agreement.1
     (subst (λ (k : ℕ). (d.agreement ≤ k) × (k * d.degree < d.agreement * d.agreement) × (cost k d.degree d.agreement ≤ MOST_COST)) c.len-k.ensures c.in_default.ensures.listed)
-    found.report c.listed.ensures found.tried found.found found.cols found.nodes found.least
+    found.report c.listed.ensures found.tried found.found found.several found.cols found.nodes found.least
     (subst (λ (k : ℕ). ¬ IsUnlisted k d.degree d.agreement) c.len-k.ensures (not_unlisted c.len-k.result d.degree d.agreement c.in_default.ensures.listed))

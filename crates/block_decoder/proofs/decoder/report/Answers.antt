@@ -116,3 +116,9 @@ returns-in_err-answers-clause-found g c = IfOk-from_err c.from_residual.result _
 
 pub returns-in_err-answers-clause-few : goal.returns-in_err-answers-clause-few
 returns-in_err-answers-clause-few g c = IfOk-from_err c.from_residual.result _ c.from_residual.ensures.0
+
+pub returns-clause-several : goal.returns-clause-several
+returns-clause-several g c = c.find_agreements.ensures.several
+
+pub returns-in_err-answers-clause-several : goal.returns-in_err-answers-clause-several
+returns-in_err-answers-clause-several g c = IfOk-from_err c.from_residual.result _ c.from_residual.ensures.0

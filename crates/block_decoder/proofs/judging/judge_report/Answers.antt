@@ -32,3 +32,6 @@ returns-clause-few_agree g c = c.judge_with.ensures.few_agree
 
 pub judge_with-requires : goal.judge_with-requires
 judge_with-requires g c = c.requires
+
+pub returns-clause-several : goal.returns-clause-several
+returns-clause-several g c = c.judge_with.ensures.several

@@ -68,3 +68,9 @@ returns-clause-listed g c = c.in_ok-session.ensures.counted.listed
 
 pub returns-clause-xor : goal.returns-clause-xor
 returns-clause-xor g c = c.in_ok-session.ensures.counted.xor
+
+pub returns-clause-several : goal.returns-clause-several
+returns-clause-several g c = c.in_ok-session.ensures.counted.several
+
+pub returns-in_err-session-clause-several : goal.returns-in_err-session-clause-several
+returns-in_err-session-clause-several g c = λ one. IfOk-from_err c.from_residual.result _ c.from_residual.ensures.0

@@ -27,3 +27,6 @@ returns-clause-listed g c = c.fetch_with.ensures.counted.listed
 
 pub returns-clause-xor : goal.returns-clause-xor
 returns-clause-xor g c = c.fetch_with.ensures.counted.xor
+
+pub returns-clause-several : goal.returns-clause-several
+returns-clause-several g c = c.fetch_with.ensures.counted.several

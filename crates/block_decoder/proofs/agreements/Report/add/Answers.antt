@@ -1,5 +1,6 @@
 use Rattle.std.proofs.lemmas.Result.{IfOk-from_err, MatchResult-from_err}
-use Rattle.std.proofs.Common.{refl}
+use Rattle.std.proofs.Common.{refl, length}
+use Rattle.std.proofs.Math.Nat.{le-add_right}
 use Rattle.block_decoder.proofs.agreements.Report.add.Goals as goal
 
 pub returns-clause-ok : goal.returns-clause-ok
@@ -19,3 +20,9 @@ returns-clause-ascending c = c.insert.ensures.ascending
 
 pub returns-clause-err : goal.returns-clause-err
 returns-clause-err c = c.insert.ensures.err
+
+pub returns-clause-one : goal.returns-clause-one
+returns-clause-one c = c.insert.ensures.one
+
+pub returns-in_err-new-clause-one : goal.returns-in_err-new-clause-one
+returns-in_err-new-clause-one c = le-add_right (length c.args.self.now) 1

@@ -1,4 +1,6 @@
-use Rattle.std.proofs.Common.{Contains, sym, subst, inl, inr, ℕ, ◌≤◌, ◌∙◌, List}
+use Rattle.std.proofs.Common.{Contains, sym, ap, subst, inl, inr, ℕ, ◌≤◌, ◌∙◌, List, length, arith}
+use Rattle.std.proofs.Math.Nat.{le-add_right}
+use Rattle.std.proofs.lemmas.List.Edits.{length-insert}
 use Rattle.std.specs.Result.{is_ok}
 use Rattle.block_decoder.proofs.Ascending.{Contains-insert}
 use Rattle.block_decoder.proofs.Reported.{same_agreements, Contains-at, rise, put_in}
@@ -52,3 +54,21 @@ returns-in_err-insert-in-Err-clause-err c = MatchResult-from_err c.from_residual
 
 pub returns-in-Ok-clause-ascending : goal.returns-in-Ok-clause-ascending
 returns-in-Ok-clause-ascending c = subst (IsStrictlySortedBy agreement_cmp) c.self.view_is c.self.invariant
+
+pub returns-in-Ok-clause-one : goal.returns-in-Ok-clause-one
+returns-in-Ok-clause-one c = le-add_right (length c.args.self.now) 1
+
+pub returns-in_ok-insert-in-Err-clause-one : goal.returns-in_ok-insert-in-Err-clause-one
+returns-in_ok-insert-in-Err-clause-one c =
+    let agreements = c.self.inside.agreements.items in
+    let is = rw c.deref.ensures.value at c.in-Err.ensures in
+    let one = length-insert agreements c.in-Err.place c.args.agreement is.range in
+    let new = ap length c.in_ok-insert-in-Err.ensures.items in
+    let old = ap length c.self.view_is in
+    omega (arith, one, new, old)
+
+pub returns-in_err-insert-in-Err-clause-one : goal.returns-in_err-insert-in-Err-clause-one
+returns-in_err-insert-in-Err-clause-one c =
+    let new = ap length c.in_err-insert-in-Err.ensures.items in
+    let old = ap length c.self.view_is in
+    omega (arith, new, old)

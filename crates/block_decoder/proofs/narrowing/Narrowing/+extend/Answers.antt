@@ -1,15 +1,16 @@
-use Rattle.std.proofs.Common.{◌≡◌, ◌≢◌, ◌+◌, ◌-◌, ◌<◌, ◌≤◌, ℕ, List, [], length, get_or, map, take, Vec, Global, refl, sym, ap, subst, ◌∙◌, arith, le_of_lt}
+use Rattle.std.proofs.Common.{◌≡◌, ◌≢◌, ◌+◌, ◌-◌, ◌<◌, ◌≤◌, ℕ, List, [], length, get_or, map, take, Vec, Global, inl, refl, sym, ap, subst, ◌∙◌, arith, le_of_lt}
+use Rattle.std.proofs.Math.Nat.{le-add_right}
 use Rattle.std.proofs.lemmas.List.{length-map, take_all}
 use Rattle.std.proofs.lemmas.Result.{IfOk-from_err, on_ok_weaker}
 use Rattle.block_decoder.specs.Decoding.{counters}
 use Rattle.block_decoder.specs.Gains.{Gains}
-use Rattle.block_decoder.specs.Narrowing.{nexts_of, progress, HaveExtended, HaveParted, IsExtended, TurnsGained}
+use Rattle.block_decoder.specs.Narrowing.{nexts_of, progress, GrewBy, HaveExtended, HaveParted, IsExtended, TurnsGained}
 use Rattle.block_decoder.specs.Report.{Agreement, indices_of}
 use Rattle.block_decoder.specs.declared.candidate.Candidate.{Candidate}
 use Rattle.block_decoder.specs.declared.candidate.Parting.{Parting}
 use Rattle.block_decoder.proofs.Candidates.{HaveDecoded, item_is}
 use Rattle.block_decoder.proofs.Costs.{part-listed, part-nodes}
-use Rattle.block_decoder.proofs.Turns.{decoded-fits, decoded-candidate, parted, counted-nothing, counted-end, counted-tried, extended-end, counted-none, gained-none, counted-below, counted-more, gained-more, same-more, extended-below, kept-part, kept-different, kept-wide, kept-beyond, next-some, next-fewer, next-candidate}
+use Rattle.block_decoder.proofs.Turns.{decoded-fits, decoded-candidate, parted, counted-nothing, counted-end, counted-tried, extended-end, counted-none, gained-none, counted-below, counted-more, gained-more, same-more, extended-below, grew-more, grew-one, kept-part, kept-different, kept-wide, kept-beyond, next-some, next-fewer, next-candidate}
 use Rattle.block_decoder.proofs.narrowing.Narrowing.+extend.Goals as goal
 
 -- ---- what is said by facts that stand there, so that nothing is searched for
@@ -292,6 +293,28 @@ extend-returns-clause-extended g t c =
     c.extend_by_each.ensures.counted.counted.cols below.block below.gained)
     c.extend_by_each.ensures.extended
 
+pub extend-returns-in_err-decoded-clause-several : goal.extend-returns-in_err-decoded-clause-several
+extend-returns-in_err-decoded-clause-several g t c = IfOk-from_err c.from_residual.result _ c.from_residual.ensures.0
+
+pub extend-returns-then-next-self-clause-several : goal.extend-returns-then-next-self-clause-several
+extend-returns-then-next-self-clause-several g t c =
+    on_ok_weaker {Q = GrewBy c.args.self.now.decoding 1 c.args.report.now c.add.new.self c.args.nodes.now c.args.nodes.now} c.add.result
+    (λ gains. inl c.add.ensures.one) c.add.ensures.ok
+
+pub extend-returns-in_err-polynomials-clause-several : goal.extend-returns-in_err-polynomials-clause-several
+extend-returns-in_err-polynomials-clause-several g t c = IfOk-from_err c.from_residual-in_err-polynomials.result _ c.from_residual-in_err-polynomials.ensures.0
+
+pub extend-returns-clause-several : goal.extend-returns-clause-several
+extend-returns-clause-several g t c =
+    let d = c.args.self.now.decoding in
+    let n = length c.in_ok-polynomials.polynomials.items in
+    let new = c.extend_by_each.new in
+    on_ok_weaker {Q = GrewBy d 1 c.args.report.now new.report c.args.nodes.now new.nodes} c.extend_by_each.result
+    (λ (below : GrewBy d n c.args.report.now new.report c.list.new.nodes new.nodes).
+    grew-one d n c.args.report.now new.report c.args.nodes.now c.list.new.nodes new.nodes below c.in_ok-polynomials.ensures.several
+    c.in_ok-polynomials.ensures.rises.1 c.extend_by_each.ensures.counted.counted.nodes)
+    c.extend_by_each.ensures.several
+
 -- ---- extend_by_each
 
 pub extend_by_each-loop-polynomial-init : goal.extend_by_each-loop-polynomial-init
@@ -304,6 +327,7 @@ extend_by_each-loop-polynomial-init g t c =
       ascending = c.requires.ascending;
       counted = counted-none d parting c.args.block.now (counters c.args.cols.now c.args.nodes.now);
       gained = gained-none d parting (progress c.args.block.now c.args.report.now c.args.cols.now);
+      grew = inl (le-add_right (length c.args.report.now) 0);
     }
 
 pub extend_by_each-follow-requires : goal.extend_by_each-follow-requires
@@ -450,6 +474,8 @@ extend_by_each-loop-polynomial-preserved g t c =
           before.invariant.kept c.in_ok-fewer.ensures.block _ before.block new.block c.args.report.now before.report new.report
           c.args.cols.now before.cols new.cols before.invariant.counted.cols extended.counted.cols
           before.invariant.gained extended.extended c.in_ok-fewer.ensures.answers refl;
+      grew = grew-more d i c.args.report.now before.report new.report c.args.nodes.now before.nodes new.nodes before.invariant.grew
+          extended.several before.invariant.counted.nodes extended.counted.nodes;
     }
 
 pub extend_by_each-returns-clause-size : goal.extend_by_each-returns-clause-size
@@ -475,6 +501,19 @@ extend_by_each-returns-clause-extended g t c =
       gained = subst (λ (nexts : List (List ℕ)). TurnsGained nexts d parting (progress c.args.block.now c.args.report.now c.args.cols.now)
           (progress c.loop-polynomial.block c.loop-polynomial.report c.loop-polynomial.cols)) whole c.loop-polynomial.invariant.gained;
     }
+
+pub extend_by_each-returns-in_err-fewer-clause-several : goal.extend_by_each-returns-in_err-fewer-clause-several
+extend_by_each-returns-in_err-fewer-clause-several g t c = IfOk-from_err c.from_residual.result _ c.from_residual.ensures.0
+
+pub extend_by_each-returns-in_err-extend-clause-several : goal.extend_by_each-returns-in_err-extend-clause-several
+extend_by_each-returns-in_err-extend-clause-several g t c = IfOk-from_err c.from_residual-in_err-extend.result _ c.from_residual-in_err-extend.ensures.0
+
+pub extend_by_each-returns-clause-several : goal.extend_by_each-returns-clause-several
+extend_by_each-returns-clause-several g t c =
+    let end = c.loop-polynomial in
+    let size = ap length c.deref-polynomial-items.ensures.value in
+    let whole : end.polynomial-index ≡ length c.args.parting.now.polynomials.items = omega (arith, size, c.loop-polynomial-test.false) in
+    subst (λ (n : ℕ). GrewBy c.args.self.now.decoding n c.args.report.now end.report c.args.nodes.now end.nodes) whole end.invariant.grew
 
 pub extend_by_each-bounds-polynomial-items-polynomial-index : goal.extend_by_each-bounds-polynomial-items-polynomial-index
 extend_by_each-bounds-polynomial-items-polynomial-index g t c = c.loop-polynomial-test.true

@@ -1,8 +1,9 @@
 use Rattle.std.proofs.Common.{inl, inr, ◌∙◌, List, [], subst, ℕ, ◌≡◌, ◌+◌, ◌-◌, ◌<◌, ◌≤◌, length, ◌⊎◌, arith, ap, sym, le_refl}
 use Rattle.block_decoder.specs.Decoding.{counters}
 use Rattle.block_decoder.specs.Gains.{Gains}
-use Rattle.block_decoder.specs.Narrowing.{agreement_on, ContinuesFrom}
+use Rattle.block_decoder.specs.Narrowing.{agreement_on, ContinuesFrom, GrewBy}
 use Rattle.block_decoder.specs.Report.{Agreement, agreement_cmp}
+use Rattle.block_decoder.specs.declared.decoding.Decoding.{Decoding}
 use Rattle.block_decoder.proofs.Candidates.{first-candidate}
 use Rattle.block_decoder.proofs.Reported.{report-gains}
 use Rattle.block_decoder.proofs.Visits.{counts-few}
@@ -20,6 +21,12 @@ found_all : (width old new : ℕ) (report before : List Agreement) → before �
     → 0 < length report → old + width ≤ new
 found_all width old new report before none (inl same) some = let e = ap length (same ∙ none) in absurd (omega (arith, e, some))
 found_all width old new report before none (inr all) some = omega (arith, all)
+
+-- where there are several, more than one was new, and so a list proper was made
+several_new : (d : Decoding) (before report : List Agreement) (a b : ℕ) → before ≡ [] → GrewBy d 1 before report a b
+    → 1 < length report → a + (d.degree + 1) ≤ b
+several_new d before report a b none (inl one) some = let e = ap length none in absurd (omega (arith, e, one, some))
+several_new d before report a b none (inr many) some = many
 
 pub extend-requires-clause-candidate : goal.extend-requires-clause-candidate
 extend-requires-clause-candidate g c = first-candidate c.args.self.now.decoding c.deref_mut.result.now c.args.self.now.enough
@@ -120,3 +127,14 @@ pub returns-clause-found : goal.returns-clause-found
 returns-clause-found g c =
     λ some. found_all c.args.self.now.decoding.width c.args.cols.now c.extend.new.cols c.extend.new.report c.new-report.result c.new-report.ensures
     c.in_ok-extend.ensures.extended.found some
+
+pub returns-clause-several : goal.returns-clause-several
+returns-clause-several g c =
+    several_new c.args.self.now.decoding c.new-report.result c.extend.new.report c.args.nodes.now c.extend.new.nodes c.new-report.ensures
+    c.in_ok-extend.ensures.several
+
+pub returns-in_err-block-clause-several : goal.returns-in_err-block-clause-several
+returns-in_err-block-clause-several g c = IfOk-from_err c.from_residual.result _ c.from_residual.ensures.0
+
+pub returns-in_err-extend-clause-several : goal.returns-in_err-extend-clause-several
+returns-in_err-extend-clause-several g c = IfOk-from_err c.from_residual-in_err-extend.result _ c.from_residual-in_err-extend.ensures.0

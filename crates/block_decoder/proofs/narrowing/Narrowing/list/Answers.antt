@@ -88,3 +88,9 @@ returns-in_err-points-clause-rises g c = (le_refl c.args.cols.now, le_refl c.arg
 
 pub returns-in_err-points-clause-far : goal.returns-in_err-points-clause-far
 returns-in_err-points-clause-far g c = inl refl
+
+pub returns-clause-several : goal.returns-clause-several
+returns-clause-several g c = c.list_points.ensures.several
+
+pub returns-in_err-points-clause-several : goal.returns-in_err-points-clause-several
+returns-in_err-points-clause-several g c = IfOk-from_err c.from_residual.result _ c.from_residual.ensures.0
