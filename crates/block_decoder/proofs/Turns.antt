@@ -8,7 +8,7 @@ use Rattle.column_runs.specs.OnOne.{LieOnOne}
 use Rattle.block_decoder.specs.Agreed.{holds_first, Filled, HasColumns}
 use Rattle.block_decoder.specs.Decoding.{Counters}
 use Rattle.block_decoder.specs.Gains.{Gains}
-use Rattle.block_decoder.specs.Narrowing.{agreement_on, list_nodes, holds_at, nexts_of, points_of, AreFarIn, CountsBy, GrewBy, IsCandidate, IsCandidateOf, IsCounted, IsExtended, IsPart, ContinuesFrom, ContinuesBy, HaveParted, ListsIn, progress, Progress, TurnsCounted, TurnsGained}
+use Rattle.block_decoder.specs.Narrowing.{agreement_on, list_nodes, holds_at, nexts_of, points_of, AreFarIn, CountsBy, Grew, IsCandidate, IsCandidateOf, IsCounted, IsExtended, IsPart, ContinuesFrom, ContinuesBy, HaveParted, ListsIn, progress, Progress, TurnsCounted, TurnsGained}
 use Rattle.block_decoder.specs.Report.{Agreement, indices_of}
 use Rattle.block_decoder.specs.declared.candidate.Candidate.{Candidate}
 use Rattle.block_decoder.specs.declared.candidate.Parting.{Parting}
@@ -70,15 +70,15 @@ gained-none d parting a = record {
 -- ---- how many agreements are new
 
 -- one polynomial more brings one more, or a list proper was made
-pub grew-more : (d : Decoding) (i : ℕ) (old before new : List Agreement) (a b e : ℕ) → GrewBy d i old before a b
-    → GrewBy d 1 before new b e → a ≤ b → b ≤ e → GrewBy d (i + 1) old new a e
+pub grew-more : (d : Decoding) (i : ℕ) (old before new : List Agreement) (a b e : ℕ) → Grew d i old before a b
+    → Grew d 1 before new b e → a ≤ b → b ≤ e → Grew d (i + 1) old new a e
 grew-more d i old before new a b e (inl few) (inl one) rose rises = inl (omega (arith, few, one))
 grew-more d i old before new a b e (inl few) (inr many) rose rises = inr (omega (arith, many, rose))
 grew-more d i old before new a b e (inr many) one rose rises = inr (omega (arith, many, rises))
 
 -- where there is one polynomial at most, one is new at most; and where there are several, a list proper was made
-pub grew-one : (d : Decoding) (n : ℕ) (old new : List Agreement) (a b e : ℕ) → GrewBy d n old new b e
-    → (1 < n → a + (d.degree + 1) ≤ b) → a ≤ b → b ≤ e → GrewBy d 1 old new a e
+pub grew-one : (d : Decoding) (n : ℕ) (old new : List Agreement) (a b e : ℕ) → Grew d n old new b e
+    → (1 < n → a + (d.degree + 1) ≤ b) → a ≤ b → b ≤ e → Grew d 1 old new a e
 grew-one d n old new a b e (inr many) several rose rises = inr (omega (arith, many, rose))
 grew-one d zero old new a b e (inl few) several rose rises = inl (omega (arith, few))
 grew-one d (suc zero) old new a b e (inl few) several rose rises = inl few

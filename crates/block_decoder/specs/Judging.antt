@@ -60,10 +60,6 @@ session_blocks session = bound_of (length (answers session)) session.params.t se
 abbrev pub session_least : Transcript → Verdict → ℕ
 session_least session = least_columns (block_len session.params)
 
--- and how many coefficients are fixed at least
-abbrev pub session_coefficients : Transcript → Verdict → ℕ
-session_coefficients session = least_coefficients session.params.t
-
 -- none of its columns is decoded
 abbrev pub IsUnlistedSession : Transcript → Type 0
 IsUnlistedSession session = IsUnlisted (length (answers session)) session.params.t session.params.h
@@ -84,6 +80,11 @@ IsShamirSession session = session.params.scheme ≡ SHAMIR
 abbrev pub IsXorSession : Transcript → Type 0
 IsXorSession session = session.params.scheme ≡ XOR
 
+-- in that scheme no fewer coefficients are fixed than a listing of several blocks takes
+abbrev pub FixesListed : Transcript → ℕ → ℕ → Verdict → Type 0
+FixesListed session before after verdict =
+    IsShamirSession session → before + least_coefficients session.params.t verdict ≤ after
+
 -- the verdict on a session, and the report beside it where that is wanted
 pub record JudgesWith (wanted : Bool) (session : Transcript) {E : Type 0} (result : Result Judgement E)
     (before after : Counters) : Type 0 where
@@ -95,8 +96,7 @@ pub record JudgesWith (wanted : Bool) (session : Transcript) {E : Type 0} (resul
   pub least : before.cols ≤ after.cols
   pub least_nodes : before.nodes ≤ after.nodes
   pub listed : IsShamirSession session → IfOk result (λ found. before.cols + session_least session found.0 ≤ after.cols)
-  pub several : IsShamirSession session
-      → IfOk result (λ found. before.nodes + session_coefficients session found.0 ≤ after.nodes)
+  pub several : IfOk result (λ found. FixesListed session before.nodes after.nodes found.0)
   pub unlisted : IsUnlistedSession session → (after.cols ≡ before.cols) × (after.nodes ≡ before.nodes)
   pub few : IsShamirSession session → IfOk result (λ found. ListsFew session found.0)
   pub few_agree : IsShamirSession session → IfOk result (λ found. ReportsFew session found.1)

@@ -159,9 +159,13 @@ pub record IsExtended (decoding : Decoding) (candidate : Candidate) (before afte
   pub some : candidate.column < decoding.width → before.cols < after.cols
   pub found : (after.report ≡ before.report) ⊎ (before.cols + (decoding.width - candidate.column) ≤ after.cols)
 
--- so many agreements more at most; or else a list proper was made, in which the coefficients of a polynomial were fixed
-abbrev pub GrewBy : Decoding → ℕ → List Agreement → List Agreement → ℕ → ℕ → Type 0
-GrewBy decoding most old new before after =
+-- where there are several, a list proper was made, and the coefficients of one polynomial at least were fixed in it
+abbrev pub Fixes : Decoding → ℕ → ℕ → ℕ → Type 0
+Fixes decoding count before after = 1 < count → before + (decoding.degree + 1) ≤ after
+
+-- so many agreements more at most, or those coefficients were fixed
+abbrev pub Grew : Decoding → ℕ → List Agreement → List Agreement → ℕ → ℕ → Type 0
+Grew decoding most old new before after =
     (length new ≤ length old + most) ⊎ (before + (decoding.degree + 1) ≤ after)
 
 -- ---- what comes of the first polynomials of a column

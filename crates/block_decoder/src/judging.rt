@@ -5,7 +5,7 @@ ghost use Rattle.wire_frames.specs.Answer.{answers, block_len};
 ghost use Rattle.block_decoder.specs.Agreed.{HasColumns};
 ghost use Rattle.block_decoder.specs.Decoding.{counters};
 ghost use Rattle.block_decoder.specs.Reported.{IsReportOn};
-ghost use Rattle.block_decoder.specs.Judging.{session_coefficients, session_columns, session_least, session_nodes, IsShamirSession, IsUnlistedSession, IsXorSession, JudgesWith, ListsFew, ReportsFew};
+ghost use Rattle.block_decoder.specs.Judging.{session_columns, session_least, session_nodes, FixesListed, IsShamirSession, IsUnlistedSession, IsXorSession, JudgesWith, ListsFew, ReportsFew};
 ghost use Rattle.block_decoder.specs.Verdict.{IsVerdict};
 
 use crate::agreements::Report;
@@ -49,8 +49,7 @@ pub fn judge<I: Interpolate, C: Ledger, N: Ledger>(
     ensures least_nodes { nodes.old ≤ nodes.new }
     ensures listed { IsShamirSession session.now
         → IfOk result (λ verdict. cols.old + session_least session.now verdict ≤ cols.new) }
-    ensures several { IsShamirSession session.now
-        → IfOk result (λ verdict. nodes.old + session_coefficients session.now verdict ≤ nodes.new) }
+    ensures several { IfOk result (FixesListed session.now nodes.old nodes.new) }
     ensures unlisted { IsUnlistedSession session.now → (cols.new ≡ cols.old) × (nodes.new ≡ nodes.old) }
     ensures few { IsShamirSession session.now → IfOk result (ListsFew session.now) }
     ensures xor { IsXorSession session.now → (cols.new ≡ cols.old) × (nodes.new ≡ nodes.old) }
@@ -82,8 +81,7 @@ pub fn judge_report<I: Interpolate, C: Ledger, N: Ledger>(
     ensures least_nodes { nodes.old ≤ nodes.new }
     ensures listed { IsShamirSession session.now
         → IfOk result (λ found. cols.old + session_least session.now found.0 ≤ cols.new) }
-    ensures several { IsShamirSession session.now
-        → IfOk result (λ found. nodes.old + session_coefficients session.now found.0 ≤ nodes.new) }
+    ensures several { IfOk result (λ found. FixesListed session.now nodes.old nodes.new found.0) }
     ensures unlisted { IsUnlistedSession session.now → (cols.new ≡ cols.old) × (nodes.new ≡ nodes.old) }
     ensures few { IsShamirSession session.now → IfOk result (λ found. ListsFew session.now found.0) }
     ensures few_agree { IsShamirSession session.now

@@ -7,7 +7,7 @@ ghost use Rattle.column_runs.specs.Rows.{lists_of};
 ghost use Rattle.quantity_limits.specs.declared.TheConstants.{MOST_SERVERS};
 ghost use Rattle.block_decoder.specs.Agreed.{HasColumns};
 ghost use Rattle.block_decoder.specs.Decoding.{counters, most_columns_of, most_nodes_of, IsReportOf};
-ghost use Rattle.block_decoder.specs.Narrowing.{holds_at, points_of as points_in, nodes_at, progress, AreFarIn, CanBeListed, GrewBy, HaveCounted, HaveExtended, HaveParted, IsCandidateOf, IsCheap, IsCounted, IsExtended, IsRunOf, IsStrong, ListsIn};
+ghost use Rattle.block_decoder.specs.Narrowing.{holds_at, points_of as points_in, nodes_at, progress, AreFarIn, CanBeListed, Fixes, Grew, HaveCounted, HaveExtended, HaveParted, IsCandidateOf, IsCheap, IsCounted, IsExtended, IsRunOf, IsStrong, ListsIn};
 ghost use Rattle.block_decoder.specs.Report.{agreement_cmp};
 
 use crate::agreements::Report;
@@ -46,7 +46,7 @@ impl<'a, I: Interpolate> Narrowing<'a, I> {
         ensures least { (cols.old ≤ cols.new) × (nodes.old ≤ nodes.new) }
         ensures tried { OnOk result (cols.old < cols.new) }
         ensures found { IfOk result (λ r. 0 < length r → cols.old + self.now.decoding.width ≤ cols.new) }
-        ensures several { IfOk result (λ r. 1 < length r → nodes.old + (self.now.decoding.degree + 1) ≤ nodes.new) }
+        ensures several { IfOk result (λ r. Fixes self.now.decoding (length r) nodes.old nodes.new) }
     {
         let mut block = vec![in self.alloc; 0; self.decoding.width]?;
         let mut report = Report::new(self.alloc);
@@ -84,7 +84,7 @@ impl<'a, I: Interpolate> Narrowing<'a, I> {
             (counters cols.old nodes.old) (counters cols.new nodes.new) }
         ensures extended { OnOk result (IsExtended self.now.decoding candidate.now
             (progress block.old report.old cols.old) (progress block.new report.new cols.new)) }
-        ensures several { OnOk result (GrewBy self.now.decoding 1 report.old report.new nodes.old nodes.new) }
+        ensures several { OnOk result (Grew self.now.decoding 1 report.old report.new nodes.old nodes.new) }
     {
         let kept = candidate.kept;
         let decoded = decode(
@@ -128,7 +128,7 @@ impl<'a, I: Interpolate> Narrowing<'a, I> {
             (counters cols.old nodes.old) (counters cols.new nodes.new) }
         ensures extended { OnOk result (HaveExtended self.now.decoding parting.now
             (progress block.old report.old cols.old) (progress block.new report.new cols.new)) }
-        ensures several { OnOk result (GrewBy self.now.decoding (length parting.now.polynomials.items)
+        ensures several { OnOk result (Grew self.now.decoding (length parting.now.polynomials.items)
             report.old report.new nodes.old nodes.new) }
     {
         let kept = parting.candidate.kept;
@@ -160,8 +160,7 @@ impl<'a, I: Interpolate> Narrowing<'a, I> {
         ensures some { OnOk result (cols.old < cols.new) }
         ensures nodes { nodes.new ≤ nodes.old + nodes_at self.now.decoding (length kept.now) }
         ensures rises { (cols.old ≤ cols.new) × (nodes.old ≤ nodes.new) }
-        ensures several { IfOk result (λ list. 1 < length list.items
-            → nodes.old + (self.now.decoding.degree + 1) ≤ nodes.new) }
+        ensures several { IfOk result (λ l. Fixes self.now.decoding (length l.items) nodes.old nodes.new) }
         ensures far { (nodes.new ≡ nodes.old) ⊎ AreFarIn self.now.decoding (points_in kept.now column) }
     {
         let points = kept.points(self.alloc, column)?;
@@ -189,8 +188,7 @@ impl<'a, I: Interpolate> Narrowing<'a, I> {
         ensures some { OnOk result (cols.old < cols.new) }
         ensures nodes { nodes.new ≤ nodes.old + nodes_at self.now.decoding (length points.now) }
         ensures rises { (cols.old ≤ cols.new) × (nodes.old ≤ nodes.new) }
-        ensures several { IfOk result (λ list. 1 < length list.items
-            → nodes.old + (self.now.decoding.degree + 1) ≤ nodes.new) }
+        ensures several { IfOk result (λ l. Fixes self.now.decoding (length l.items) nodes.old nodes.new) }
         ensures far { (nodes.new ≡ nodes.old) ⊎ AreFarIn self.now.decoding points.now }
     {
         let t = self.decoding.degree;

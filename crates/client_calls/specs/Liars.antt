@@ -61,7 +61,7 @@ RefusesLiars q Coins who = ⊥
 RefusesLiars q (Room wanted) who = ⊥
 
 -- the verdict is that on the session of the question, and by its report it is said who lied
-abbrev pub JudgesLiars : Question → Result Verdict Refusal → List ℕ → List ℕ → Type 0
-JudgesLiars q (Ok verdict) old new =
+abbrev pub JudgesBy : Question → Result Verdict Refusal → List ℕ → List ℕ → Type 0
+JudgesBy q (Ok verdict) old new =
     JudgesAnswers q (Ok verdict) × (length old ≡ q.numbers.servers) × LiarsTold (session_in q) verdict old new
-JudgesLiars q (Err refusal) old new = RefusesLiars q refusal old × (new ≡ old)
+JudgesBy q (Err refusal) old new = RefusesLiars q refusal old × (new ≡ old)

@@ -8,7 +8,7 @@ ghost use Rattle.block_decoder.specs.Usable.{payload_of};
 ghost use Rattle.block_decoder.specs.Verdict.{IsVerdict};
 ghost use Rattle.client_calls.specs.Answers.{given};
 ghost use Rattle.client_calls.specs.Judging.{question};
-ghost use Rattle.client_calls.specs.Liars.{IsStanding, JudgesLiars, LiarsTold, TellsLiars, TellsStandings};
+ghost use Rattle.client_calls.specs.Liars.{IsStanding, JudgesBy, LiarsTold, TellsLiars, TellsStandings};
 
 use crate::answers::Answers;
 use crate::asking::asking_for;
@@ -159,7 +159,7 @@ pub fn judge_liars(
     answers: &Answers,
     who: &mut [u8],
 ) -> Result<Verdict, Refusal>
-    ensures { JudgesLiars (question numbers.now count number (given answers.now)) result who.old who.new }
+    ensures { JudgesBy (question numbers.now count number (given answers.now)) result who.old who.new }
 {
     let asking = asking_for(numbers, count)?;
     if !answers.are_of(asking.plan.n) || who.len() != usize::from(asking.plan.n) {

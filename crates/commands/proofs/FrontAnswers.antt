@@ -16,7 +16,7 @@ use Rattle.shard_front.specs.declared.relayed.Relayed.TheVariants.{Served, Refus
 use Rattle.shard_front.specs.Spread.{Spread, shards}
 use Rattle.shard_front.specs.Fronted.{Fronts, TouchesFirst}
 use Rattle.shard_front.specs.Relay.{Counts, FrontsTold, GivesRelay, Visit, visit_of}
-use Rattle.commands.specs.FrontAnswers.{FrontsGuests, Fronting, IsFronted, of_link, visit_at}
+use Rattle.commands.specs.FrontAnswers.{FrontsAll, Fronting, IsFronted, of_link, visit_at}
 
 -- what is told of the link with a number, of the links now
 of_link_now : (w : World) (n : ℕ) → n < 256 → of_link (links_now w) n ≡ link_now (w.at (link n))
@@ -194,25 +194,25 @@ module _ (spread : Spread) where
           (subst (λ (x : List LinkThen). IsFronted spread (record { guest = g; out = a; before = c; after = e }) k x) mn is)))))
 
   -- before the first guest nobody was met
-  pub fronts_none : (w : World) → FrontsGuests spread 0 w w
+  pub fronts_none : (w : World) → FrontsAll spread 0 w w
   fronts_none w = record { told = λ gs others earlier before found a b c d e. fronting_none gs others earlier before found w a b c d e }
 
   -- what is done to Door meets nobody
-  pub fronts_still : (j : ℕ) (w v u : World) → FrontsGuests spread j w v → Touches DOOR v u → FrontsGuests spread j w u
+  pub fronts_still : (j : ℕ) (w v u : World) → FrontsAll spread j w v → Touches DOOR v u → FrontsAll spread j w u
   fronts_still j w v u s touch = record {
     told = λ gs others earlier before found a b c d e. fronting_still gs others earlier found j v u (s.told gs others earlier before found a b c d e) touch;
   }
 
   -- one more guest is met
-  pub fronts_more : (addresses : List (List ℕ)) (met : Relayed) (j : ℕ) (w v m u : World) → shards spread ≤ MOST_SHARDS → FrontsGuests spread j w v → Meets v m → TouchesFirst (shards spread) m u
-      → Fronts spread addresses met m u → FrontsTold spread met m u → FrontsGuests spread (j + 1) w u
+  pub fronts_more : (addresses : List (List ℕ)) (met : Relayed) (j : ℕ) (w v m u : World) → shards spread ≤ MOST_SHARDS → FrontsAll spread j w v → Meets v m → TouchesFirst (shards spread) m u
+      → Fronts spread addresses met m u → FrontsTold spread met m u → FrontsAll spread (j + 1) w u
   fronts_more addresses met j w v m u few s meets touch fronts told = record {
     told = λ gs others earlier before found a b c d e.
         fronting_more gs others earlier found addresses met j v m u few (s.told gs others earlier before found a b c d e) meets touch fronts told;
   }
 
   -- a world with the same guests, and the same of the one that is in
-  pub fronts_from : (n : ℕ) (w u x : World) → u.crowd ≡ w.crowd → u.at GUEST ≡ w.at GUEST → FrontsGuests spread n u x → FrontsGuests spread n w x
+  pub fronts_from : (n : ℕ) (w u x : World) → u.crowd ≡ w.crowd → u.at GUEST ≡ w.at GUEST → FrontsAll spread n u x → FrontsAll spread n w x
   fronts_from n w u x crowd guest s = record {
     told = λ gs others earlier before found a b c d e.
         s.told gs others earlier before found

@@ -18,7 +18,7 @@ use Rattle.shard_front.proofs.Counting.{guest_once, link_once}
 use Rattle.commands.specs.Told.{NoneRose}
 use Rattle.commands.specs.ServeSteps.{ready, Listens, TouchesDoor}
 use Rattle.commands.specs.FrontOrder.{FrontOrder}
-use Rattle.commands.specs.FrontAnswers.{FrontsGuests}
+use Rattle.commands.specs.FrontAnswers.{FrontsAll}
 use Rattle.commands.specs.FrontSteps.{FrontRunsDry, FrontsInTurn, FrontsNext, TouchesRelaying}
 use Rattle.commands.specs.FrontOutcome.{FrontEnds, FrontPromise, FrontedAll, FrontedSome, TouchesFront, own_ports}
 use Rattle.commands.proofs.FrontAnswers.{fronts_from, fronts_more, fronts_still}
@@ -94,8 +94,8 @@ pub fronted_touch : (spread now : Spread) (addresses : List (List ℕ)) (met : R
 fronted_touch spread now addresses met m u same fronts = fronts_touch spread addresses met m u (subst (λ (d : Spread). Fronts d addresses met m u) same fronts)
 
 -- one guest more, by a front that is as it was
-pub fronted_guests : (spread now : Spread) (addresses : List (List ℕ)) (met : Relayed) (n : ℕ) (w v m u : World) → shards spread ≤ MOST_SHARDS → now ≡ spread → FrontsGuests spread n w v → Meets v m
-    → Fronts now addresses met m u → FrontsTold now met m u → FrontsGuests spread (n + 1) w u
+pub fronted_guests : (spread now : Spread) (addresses : List (List ℕ)) (met : Relayed) (n : ℕ) (w v m u : World) → shards spread ≤ MOST_SHARDS → now ≡ spread → FrontsAll spread n w v → Meets v m
+    → Fronts now addresses met m u → FrontsTold now met m u → FrontsAll spread (n + 1) w u
 fronted_guests spread now addresses met n w v m u few same s meets fronts told =
     let fronts_so = subst (λ (d : Spread). Fronts d addresses met m u) same fronts in
     fronts_more spread addresses met n w v m u few s meets (fronted_touch spread now addresses met m u same fronts) fronts_so (subst (λ (d : Spread). FrontsTold d met m u) same told)
@@ -196,7 +196,7 @@ relaying_door n w v m u same meets t = t.others 5 (omega arith) (omega arith) (�
 
 -- no further guest comes in
 pub front_dry : (spread : Spread) (addresses : List (List ℕ)) (n served : ℕ) (w v u : World) → served < n
-    → v.at DOOR ≡ w.at DOOR → FrontsGuests spread served w v → FrontsInTurn spread addresses served w v → Fails DOOR v u
+    → v.at DOOR ≡ w.at DOOR → FrontsAll spread served w v → FrontsInTurn spread addresses served w v → Fails DOOR v u
     → Touches DOOR v u → FrontRunsDry spread addresses n w u
 front_dry spread addresses n served w v u fewer same guests turns fails touch = record {
   served = served;
@@ -244,11 +244,11 @@ module _ (o : FrontOrder) (front : Spread) (w u x : World) (is : front ≡ o.spr
   output_is = g.others 1 (omega arith) (omega arith) (omega arith) (λ from below. omega (arith, from)) ∙ l.written
 
   -- the guests are those from the start on
-  before_them : (n : ℕ) → FrontsGuests front n u x → FrontsGuests o.spread n w x
-  before_them n guests = fronts_from o.spread n w u x t.crowd (front_guest_stays w u t) (subst (λ (d : Spread). FrontsGuests d n u x) is guests)
+  before_them : (n : ℕ) → FrontsAll front n u x → FrontsAll o.spread n w x
+  before_them n guests = fronts_from o.spread n w u x t.crowd (front_guest_stays w u t) (subst (λ (d : Spread). FrontsAll d n u x) is guests)
 
   -- all guests were met
-  pub fronted_all : FrontsInTurn front o.addresses o.conns u x → FrontsGuests front o.conns u x → x.at DOOR ≡ u.at DOOR → FrontedAll o w x
+  pub fronted_all : FrontsInTurn front o.addresses o.conns u x → FrontsAll front o.conns u x → x.at DOOR ≡ u.at DOOR → FrontedAll o w x
   fronted_all turns guests same = record {
     door = same ∙ l.door;
     written = output_is;

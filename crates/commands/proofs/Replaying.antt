@@ -15,7 +15,7 @@ use Rattle.replay.specs.declared.ReplayFault.{ReplayFault}
 use Rattle.replay.specs.declared.ReplayFault.TheVariants.{ReadFault as Unreadable, BadSession, Memory as Unfinished}
 use Rattle.commands.specs.Faults.{of_replay}
 use Rattle.commands.specs.Table.{status_of}
-use Rattle.commands.specs.Said.{ToldAs, whole_text}
+use Rattle.commands.specs.Said.{Tells, whole_text}
 use Rattle.commands.specs.ReplayOutcome.{Concluded, ReplayEnds, Reported}
 use Rattle.commands.specs.declared.status.Status.{Status}
 use Rattle.commands.specs.declared.status.Status.TheVariants.{ReadFault}
@@ -34,7 +34,7 @@ pub replay_told : (name : List ℕ) (wanted : Bool) (session : Transcript) (verd
     (report : Option (List Agreement)) (status : Status) (w v u z : World)
     → v.at INPUT ≡ named name (w.at INPUT) → Touches INPUT w v
     → ReadsWhole (Concluded wanted session verdict report) (v.at INPUT) (u.at INPUT) → Touches INPUT v u
-    → ToldAs (whole_text session verdict report) verdict status u z → Touches OUTPUT u z
+    → Tells (whole_text session verdict report) verdict status u z → Touches OUTPUT u z
     → ReplayEnds name wanted status w z
 replay_told name wanted session verdict report status w v u z is_open touch read touched told last = elim told [
   | inl whole ↦
@@ -67,7 +67,7 @@ replay_told name wanted session verdict report status w v u z is_open touch read
 
 -- with no report
 pub plain_told : (name : List ℕ) (verdict : Verdict) (status : Status) (w v u z : World) → v.at INPUT ≡ named name (w.at INPUT) → Touches INPUT w v
-    → ReadsWhole (Judged verdict) (v.at INPUT) (u.at INPUT) → Touches INPUT v u → ToldAs (text verdict) verdict status u z → Touches OUTPUT u z → ReplayEnds name false status w z
+    → ReadsWhole (Judged verdict) (v.at INPUT) (u.at INPUT) → Touches INPUT v u → Tells (text verdict) verdict status u z → Touches OUTPUT u z → ReplayEnds name false status w z
 plain_told name verdict status w v u z is_open touch read touched told last =
     replay_told name false read.is.session verdict None status w v u z is_open touch record {
       read = read.read;
@@ -80,7 +80,7 @@ plain_told name verdict status w v u z is_open touch read touched told last =
 pub whole_told : (name : List ℕ) (session : Transcript) (verdict : Verdict) (report : Option (List Agreement)) (status : Status) (w v u z : World)
     → v.at INPUT ≡ named name (w.at INPUT) → Touches INPUT w v
     → ReadsWhole (JudgedWhole (session, verdict, report)) (v.at INPUT) (u.at INPUT) → Touches INPUT v u
-    → ToldAs (whole_text session verdict report) verdict status u z → Touches OUTPUT u z
+    → Tells (whole_text session verdict report) verdict status u z → Touches OUTPUT u z
     → ReplayEnds name true status w z
 whole_told name session verdict report status w v u z is_open touch read touched told last =
     replay_told name true session verdict report status w v u z is_open touch record {

@@ -21,7 +21,7 @@ use Rattle.fetch_client.specs.Fetched.{Concludes}
 use Rattle.commands.specs.HeldRow.{FindsHeldRow}
 use Rattle.commands.specs.Table.{status_of}
 use Rattle.port_trait.specs.declared.port.Failed.{Failed}
-use Rattle.commands.specs.Said.{IsBeside, ToldAs, whole_text}
+use Rattle.commands.specs.Said.{IsBeside, Tells, whole_text}
 use Rattle.commands.specs.Told.{NoneRose}
 use Rattle.commands.specs.FetchOrder.{FetchOrder}
 use Rattle.commands.specs.declared.status.Status.{Status}
@@ -144,7 +144,7 @@ TouchesFiles old new = TouchesOnly (One OUTPUT ∷ One RECORD ∷ []) old new
 -- short, and nothing was written after it
 abbrev pub Reports : Option (List ℕ) → Transcript × Verdict × Option (List Agreement) → Status → World → World → Type 0
 Reports keep found status old new =
-    (Recorded keep found.0 old new × ToldAs (whole_text found.0 found.1 found.2) found.1 status old new)
+    (Recorded keep found.0 old new × Tells (whole_text found.0 found.1 found.2) found.1 status old new)
     ⊎ (Unrecorded keep found.0 old new × (status ≡ WriteFault) × (new.at OUTPUT ≡ old.at OUTPUT))
 
 -- every server was asked, with some coins, in this session; this is its verdict, and this the report beside it, where one is

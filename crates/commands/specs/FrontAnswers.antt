@@ -55,7 +55,7 @@ pub record Fronting (spread : Spread) (gs others : List (List ℕ)) (earlier : L
       (get_or thens i []) (get_or (thens ++ links_now w ∷ []) (i + 1) [])
 
 -- j guests were met, where the guests are told
-pub record FrontsGuests (spread : Spread) (j : ℕ) (old new : World) : Type 0 where
+pub record FrontsAll (spread : Spread) (j : ℕ) (old new : World) : Type 0 where
   pub told : (gs others : List (List ℕ)) (earlier before : List ℕ) (found : List (List LinkThen))
       → old.crowd.guests ≡ Some gs → answered old ≡ Some others → old.crowd.since ≡ Some earlier
       → (old.at GUEST).accepted ≡ Some before → old.crowd.links ≡ Some found

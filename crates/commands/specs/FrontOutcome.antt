@@ -8,7 +8,7 @@ use Rattle.shard_front.specs.Spread.{shards}
 use Rattle.commands.specs.Told.{DidRiseOnce, NoneRose}
 use Rattle.commands.specs.ServeSteps.{ready, IsMute, IsShut, TouchesDoor}
 use Rattle.commands.specs.FrontOrder.{FrontOrder}
-use Rattle.commands.specs.FrontAnswers.{FrontsGuests}
+use Rattle.commands.specs.FrontAnswers.{FrontsAll}
 use Rattle.commands.specs.FrontSteps.{FrontsInTurn}
 use Rattle.commands.specs.declared.status.Status.{Status}
 use Rattle.commands.specs.declared.status.Status.TheVariants.{One, WriteFault, DoorFault, Memory}
@@ -22,7 +22,7 @@ pub record FrontedAll (o : FrontOrder) (old new : World) : Type 0 where
   pub listening : World
   pub nobody : TouchesDoor old listening
   pub turns : FrontsInTurn o.spread o.addresses o.conns listening new
-  pub guests : FrontsGuests o.spread o.conns old new
+  pub guests : FrontsAll o.spread o.conns old new
 
 -- the same, but when some guests were met no further one came in
 pub record FrontedSome (o : FrontOrder) (old new : World) : Type 0 where
@@ -37,7 +37,7 @@ pub record FrontedSome (o : FrontOrder) (old new : World) : Type 0 where
   pub turns : FrontsInTurn o.spread o.addresses served listening last
   pub none : Fails DOOR last new
   pub others : Touches DOOR last new
-  pub guests : FrontsGuests o.spread served old new
+  pub guests : FrontsAll o.spread served old new
 
 -- what `front` did, by its status: where Door can't be opened, or that can't be written, nobody came in and no link was touched
 abbrev pub FrontEnds : FrontOrder → Status → World → World → Type 0

@@ -10,7 +10,7 @@ use Rattle.shard_front.specs.Spread.{Spread, shards}
 use Rattle.shard_front.specs.Fronted.{Fronts, TouchesFirst}
 use Rattle.shard_front.specs.Relay.{FrontsTold}
 use Rattle.commands.specs.Told.{DidRiseOnce}
-use Rattle.commands.specs.FrontAnswers.{FrontsGuests}
+use Rattle.commands.specs.FrontAnswers.{FrontsAll}
 
 -- the next guest came in, and was met by asking the shards: each link that was asked was given the part of the query for its
 -- shard, or a prefix of it where its count rose; and the guest its frame, by what it and the links held as it came in and by
@@ -37,7 +37,7 @@ pub record FrontsInTurn (spread : Spread) (addresses : List (List ℕ)) (n : ℕ
 pub record FrontRunsDry (spread : Spread) (addresses : List (List ℕ)) (n : ℕ) (old new : World) : Type 0 where
   pub served : ℕ
   pub fewer : served < n
-  pub guests : FrontsGuests spread served old new
+  pub guests : FrontsAll spread served old new
   pub last : World
   pub turns : FrontsInTurn spread addresses served old last
   pub none : Fails DOOR last new

@@ -28,8 +28,8 @@ abbrev pub IsReportOf : Transcript → Option (List Agreement) → Type 0
 IsReportOf session report = (agreements : List Agreement) → report ≡ Some agreements → IsSessionReport session agreements
 
 -- these words are written whole, and the status is the verdict's; or a call on Output failed
-abbrev pub ToldAs : List ℕ → Verdict → Status → World → World → Type 0
-ToldAs words verdict status old new = ((status ≡ status_of verdict) × (new.at OUTPUT ≡ gave words (old.at OUTPUT)))
+abbrev pub Tells : List ℕ → Verdict → Status → World → World → Type 0
+Tells words verdict status old new = ((status ≡ status_of verdict) × (new.at OUTPUT ≡ gave words (old.at OUTPUT)))
     ⊎ ((status ≡ WriteFault) × FailsWithin OUTPUT words old new)
 
 -- the text of the verdict is written whole, and that of the report behind it; and the status is the verdict's own

@@ -80,8 +80,8 @@ ServeEnds o Memory old new = HasBegun o.database o.width old new × Touches DATA
 ServeEnds o status old new = ⊥
 
 -- all guests were served at a desk, wherever its database was loaded
-abbrev pub ServesFromDesk : ServeOrder → Service → World → World → Type 0
-ServesFromDesk o service old new = (start : World) → HasOpenDesk o service start old → ServedAll o start new
+abbrev pub ServesAt : ServeOrder → Service → World → World → Type 0
+ServesAt o service old new = (start : World) → HasOpenDesk o service start old → ServedAll o start new
 
 -- what `serve` did, by its status, wherever the database of its desk was loaded
 abbrev pub EndsFromDesk : ServeOrder → Service → Status → World → World → Type 0

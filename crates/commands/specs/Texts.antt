@@ -7,5 +7,5 @@ abbrev pub texts : List (String Global) → List (List ℕ)
 texts words = map string_bytes words
 
 -- the same of several lists of words
-abbrev pub lists_of_texts : List (Vec (String Global) Global) → List (List (List ℕ))
-lists_of_texts lists = map (λ words. texts words.items) lists
+abbrev pub texts_of : List (Vec (String Global) Global) → List (List (List ℕ))
+texts_of lists = map (λ words. texts words.items) lists

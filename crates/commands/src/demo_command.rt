@@ -4,7 +4,7 @@ ghost use Rattle.std.specs.Prelude.{◌≡◌, ◌+◌, ◌<◌, length, map, st
 ghost use Rattle.commands.specs.declared.orders.TheConstants.{TCP_PORTS};
 ghost use Rattle.commands.specs.DemoOrder.{address_from, addresses_from, addresses_of_children, words_of_children, words_to_serve};
 ghost use Rattle.commands.specs.DemoOutcome.{DemoOutcome, StartsAll, StartsSome};
-ghost use Rattle.commands.specs.Texts.{lists_of_texts, texts};
+ghost use Rattle.commands.specs.Texts.{texts_of, texts};
 
 use crate::fetch_command::fetch_block;
 use crate::orders::{DemoOrder, FetchOrder};
@@ -78,7 +78,7 @@ fn words_of_children(
     width: u32,
     addresses: &[String],
 ) -> Result<Vec<Vec<String>>, AllocError>
-    ensures { IfOk result (λ lists. lists_of_texts lists.items
+    ensures { IfOk result (λ lists. texts_of lists.items
         ≡ map (words_to_serve database.now width) (texts addresses.now)) }
 {
     let mut lists = Vec::new(alloc);
@@ -95,8 +95,8 @@ fn words_of_children(
 /// `Failed` if a child could not be started. Those before it were, and no further one is.
 fn start_children<P: Ports>(ports: &mut P, lists: &[Vec<String>]) -> Result<(), Failed>
     requires { length lists.now < 256 }
-    ensures ok { OnOk result (StartsAll (lists_of_texts lists.now) (P.world ports.old) (P.world ports.new)) }
-    ensures failed { OnErr result (StartsSome (lists_of_texts lists.now) (P.world ports.old) (P.world ports.new)) }
+    ensures ok { OnOk result (StartsAll (texts_of lists.now) (P.world ports.old) (P.world ports.new)) }
+    ensures failed { OnErr result (StartsSome (texts_of lists.now) (P.world ports.old) (P.world ports.new)) }
 {
     let mut i = 0u8;
     'children: for words in lists {

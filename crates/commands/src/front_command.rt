@@ -3,7 +3,7 @@
 ghost use Rattle.std.specs.Prelude.{◌≡◌, IfErr, OnOk, OnErr, length, map, string_bytes};
 ghost use Rattle.port_trait.specs.Number.{DOOR, GUEST};
 ghost use Rattle.shard_front.specs.Spread.{shards};
-ghost use Rattle.commands.specs.FrontAnswers.{FrontsGuests};
+ghost use Rattle.commands.specs.FrontAnswers.{FrontsAll};
 ghost use Rattle.commands.specs.FrontSteps.{FrontRunsDry, FrontsInTurn, TouchesRelaying};
 ghost use Rattle.commands.specs.FrontOutcome.{FrontEnds, FrontedAll, TouchesFront};
 
@@ -29,7 +29,7 @@ fn relay_guests<P: Ports>(
     requires { length addresses.now ≡ shards front.old }
     ensures turns { OnOk result (FrontsInTurn front.old (map string_bytes addresses.now) conns
         (P.world ports.old) (P.world ports.new)) }
-    ensures guests { OnOk result (FrontsGuests front.old conns (P.world ports.old) (P.world ports.new)) }
+    ensures guests { OnOk result (FrontsAll front.old conns (P.world ports.old) (P.world ports.new)) }
     ensures door { OnOk result ((P.world ports.new).at DOOR ≡ (P.world ports.old).at DOOR) }
     ensures failed { OnErr result (FrontRunsDry front.old (map string_bytes addresses.now) conns
         (P.world ports.old) (P.world ports.new)) }

@@ -7,7 +7,7 @@ ghost use Rattle.port_trait.specs.Written.{Written};
 ghost use Rattle.block_decoder.specs.Reported.{IsSessionReport};
 ghost use Rattle.block_decoder.specs.Text.{report_text, text};
 ghost use Rattle.commands.specs.Table.{status_of};
-ghost use Rattle.commands.specs.Said.{IsReportOf, ToldAs, whole_text};
+ghost use Rattle.commands.specs.Said.{IsReportOf, Tells, whole_text};
 
 use crate::status::Status;
 use block_decoder::{Report, Verdict, write_report, write_verdict};
@@ -36,7 +36,7 @@ pub(crate) fn status_by(verdict: &Verdict) -> Status
 
 /// Writes the text of the verdict to Output.
 pub(crate) fn report<P: Ports>(ports: &mut P, verdict: &Verdict) -> Status
-    ensures told { ToldAs (text verdict.now) verdict.now result (P.world ports.old) (P.world ports.new) }
+    ensures told { Tells (text verdict.now) verdict.now result (P.world ports.old) (P.world ports.new) }
     ensures others { Touches OUTPUT (P.world ports.old) (P.world ports.new) }
 {
     match write_verdict(ports, verdict) {
@@ -87,7 +87,7 @@ pub(crate) fn report_whole<P: Ports>(
     report: &Option<Report>,
 ) -> Status
     requires { IsReportOf session.now report.now }
-    ensures told { ToldAs (whole_text session.now verdict.now report.now) verdict.now result
+    ensures told { Tells (whole_text session.now verdict.now report.now) verdict.now result
         (P.world ports.old) (P.world ports.new) }
     ensures others { Touches OUTPUT (P.world ports.old) (P.world ports.new) }
 {

@@ -5,7 +5,7 @@ ghost use Rattle.port_trait.specs.Number.{DATABASE, DOOR, GUEST};
 ghost use Rattle.port_trait.specs.Moves.{Touches};
 ghost use Rattle.commands.specs.ServeSteps.{OpensDesk, Listens, TouchesDoor, TouchesAtDesk};
 ghost use Rattle.commands.specs.ServeSteps.{AttendsInTurn, ServesGuests, RepliesUnlessCut, RunsDry, TouchesGuests};
-ghost use Rattle.commands.specs.ServeOutcome.{EndsFromDesk, ServeEnds, ServedAll, ServesFromDesk, TouchesServer};
+ghost use Rattle.commands.specs.ServeOutcome.{EndsFromDesk, ServeEnds, ServedAll, ServesAt, TouchesServer};
 
 use crate::orders::ServeOrder;
 use crate::status::Status;
@@ -87,7 +87,7 @@ fn serve_at_desk<R: Threads + Sync, P: Ports>(
     order: &ServeOrder,
     ports: &mut P,
 ) -> Result<(), Status>
-    ensures served { OnOk result (ServesFromDesk order.now desk.old (P.world ports.old) (P.world ports.new)) }
+    ensures served { OnOk result (ServesAt order.now desk.old (P.world ports.old) (P.world ports.new)) }
     ensures ends { IfErr result (λ status.
         EndsFromDesk order.now desk.old status (P.world ports.old) (P.world ports.new)) }
     ensures others { TouchesAtDesk (P.world ports.old) (P.world ports.new) }

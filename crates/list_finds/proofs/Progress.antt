@@ -26,7 +26,7 @@ use Rattle.list_finds.specs.Found.{Asked, AskedInVain, Come, FindShort, FindUnfi
 use Rattle.list_finds.specs.Held.{Held}
 use Rattle.list_finds.specs.Known.{row_in}
 use Rattle.list_finds.specs.Queries.{AreOutcomes, AskEach, AskedInTurn, IsQuery, Outcome, Query, coins_of}
-use Rattle.list_finds.specs.Told.{TellsKeys}
+use Rattle.list_finds.specs.Told.{Tells}
 use Rattle.list_finds.specs.Wanted.{Wanted, coins_wanted, keys_each, keys_of, queries_for, rows_of}
 use Rattle.list_finds.specs.declared.answers.Answer.{Answer}
 use Rattle.list_finds.specs.declared.finds.Unlisted.{Unlisted}
@@ -105,7 +105,7 @@ module _ (w : Wanted) (count : ℕ) (held : Held) (unlisted : Option Unlisted) (
 
   -- one query more
   pub queries_more : (session : Transcript) (verdict : Verdict) (next : Held) (kept : Option Unlisted)
-      → Concludes asks_for session verdict mid new → TellsKeys w.list w.plan.r w.plan.s (only_block verdict) keys held next
+      → Concludes asks_for session verdict mid new → Tells w.list w.plan.r w.plan.s (only_block verdict) keys held next
       → kept ≡ option_or unlisted (unlisted_of session verdict) → InQueries w (count + 1) next kept first old new
   queries_more session verdict next kept asks tells keeps =
       let q = query_of w count asks.coins session in

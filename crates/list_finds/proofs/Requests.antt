@@ -7,7 +7,7 @@ use Rattle.query_rounds.specs.Plan.{AreBlocks, IsPlan}
 use Rattle.query_rounds.specs.Request.{Request, request}
 use Rattle.list_finds.specs.Held.{Held}
 use Rattle.list_finds.specs.Known.{row_in}
-use Rattle.list_finds.specs.Told.{TellsKeys}
+use Rattle.list_finds.specs.Told.{Tells}
 use Rattle.list_finds.specs.Wanted.{Wanted, keys_each, keys_of, queries_for, rows_of}
 use Rattle.list_finds.specs.declared.known_list.KnownList.{KnownList}
 use Rattle.list_finds.proofs.Pieces.{begins_within, length-piece}
@@ -67,11 +67,11 @@ keys_are w count given own cut same = cut ∙ ap (λ (n : ℕ). take n (drop (co
 
 -- so is what is told of them
 pub tells_as : (v w : Wanted) (count : ℕ) (block : Option (List ℕ)) (own : List (List ℕ)) (old new : Held) → v ≡ w
-    → own ≡ keys_of v count → TellsKeys v.list v.plan.r v.plan.s block own old new
-    → TellsKeys w.list w.plan.r w.plan.s block (keys_of w count) old new
+    → own ≡ keys_of v count → Tells v.list v.plan.r v.plan.s block own old new
+    → Tells w.list w.plan.r w.plan.s block (keys_of w count) old new
 tells_as v w count block own old new same is tells =
-    subst (λ (u : Wanted). TellsKeys u.list u.plan.r u.plan.s block (keys_of u count) old new) same
-    (subst (λ (ks : List (List ℕ)). TellsKeys v.list v.plan.r v.plan.s block ks old new) is tells)
+    subst (λ (u : Wanted). Tells u.list u.plan.r u.plan.s block (keys_of u count) old new) same
+    (subst (λ (ks : List (List ℕ)). Tells v.list v.plan.r v.plan.s block ks old new) is tells)
 
 -- rows of the table are rows of it by the same numbers
 pub low_as : (v w : Wanted) (count : ℕ) (rows : List ℕ) → v ≡ w → rows ≡ rows_of v (keys_of v count)

@@ -11,7 +11,7 @@ use Rattle.key_table.specs.Looked.{pair}
 use Rattle.list_finds.specs.Answers.{AnswersBy, AnswersInRow, AreAnswers, ValueFits, row_at}
 use Rattle.list_finds.specs.Held.{Held}
 use Rattle.list_finds.specs.Known.{digest_in}
-use Rattle.list_finds.specs.Told.{TellsKeys, TellsNone}
+use Rattle.list_finds.specs.Told.{Tells, TellsNone}
 use Rattle.list_finds.specs.declared.answers.Answer.{Answer}
 use Rattle.list_finds.specs.declared.answers.Answer.TheVariants.{Unknown, Broken, Absent, Present}
 use Rattle.list_finds.specs.declared.known_list.KnownList.{KnownList}
@@ -58,7 +58,7 @@ module _ (list : KnownList) (rows width : ℕ) (block : Option (List ℕ)) where
   }
 
   -- no answer is told yet
-  pub none_told : (held : Held) → TellsKeys list rows width block [] held held
+  pub none_told : (held : Held) → Tells list rows width block [] held held
   none_told held = record {
     told = [];
     are = record { count = refl; each = λ place l. absurd (omega arith) };
@@ -69,17 +69,17 @@ module _ (list : KnownList) (rows width : ℕ) (block : Option (List ℕ)) where
 
   -- one more is told
   pub told_more : (keys : List (List ℕ)) (n : ℕ) (old mid new : Held) (answer : Answer (List ℕ)) → n < length keys
-      → TellsKeys list rows width block (take n keys) old mid → 0 < mid.room
+      → Tells list rows width block (take n keys) old mid → 0 < mid.room
       → AnswersBy list rows (row_at width block n) (slice_index_or keys n []) answer
       → new ≡ record mid { answers = mid.answers ++ answer ∷ []; room = mid.room - 1 }
-      → TellsKeys list rows width block (take (n + 1) keys) old new
+      → Tells list rows width block (take (n + 1) keys) old new
   told_more keys n old mid new answer l tells some last is =
       let key = slice_index_or keys n [] in
       let size : length (take n keys) ≡ n = length-take-le n keys (omega (arith, l)) in
       let more : take (n + 1) keys ≡ take n keys ++ key ∷ [] = take_more keys n [] l in
       let are = answers_more (take n keys) tells.told key answer tells.are
       (subst (λ (k : ℕ). AnswersBy list rows (row_at width block k) key answer) (sym size) last) in
-      subst (λ (ks : List (List ℕ)). TellsKeys list rows width block ks old new) (sym more) (record {
+      subst (λ (ks : List (List ℕ)). Tells list rows width block ks old new) (sym more) (record {
         told = tells.told ++ answer ∷ [];
         are = are;
         answers = ap (λ (h : Held). h.answers) is ∙ ap (λ (said : List (Answer (List ℕ))). said ++ answer ∷ []) tells.answers
@@ -91,7 +91,7 @@ module _ (list : KnownList) (rows width : ℕ) (block : Option (List ℕ)) where
 
 -- where the verdict lists no block or several nothing is known of the keys
 pub tells_unlisted : (list : KnownList) (rows width : ℕ) (keys : List (List ℕ)) (old new : Held)
-    → TellsNone (length keys) old new → TellsKeys list rows width None keys old new
+    → TellsNone (length keys) old new → Tells list rows width None keys old new
 tells_unlisted list rows width keys old new tells = record {
   told = replicate (length keys) Unknown;
   are = record {

@@ -8,7 +8,7 @@ use Rattle.list_finds.specs.declared.known_list.KnownList.{KnownList}
 
 -- the answers to these keys stand behind those before, by the one block that the verdict on their query lists, if it
 -- does
-pub record TellsKeys (list : KnownList) (rows width : ℕ) (block : Option (List ℕ)) (keys : List (List ℕ))
+pub record Tells (list : KnownList) (rows width : ℕ) (block : Option (List ℕ)) (keys : List (List ℕ))
     (old new : Held) : Type 0 where
   pub told : List (Answer (List ℕ))
   pub are : AreAnswers list rows width block keys told

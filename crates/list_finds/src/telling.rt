@@ -5,7 +5,7 @@ ghost use Rattle.std.specs.Option.{option_copied};
 ghost use Rattle.quantity_limits.specs.declared.TheConstants.{MOST_WIDTH};
 ghost use Rattle.key_fetches.specs.Listed.{only_block};
 ghost use Rattle.list_finds.specs.Known.{IsKnown};
-ghost use Rattle.list_finds.specs.Told.{TellsKeys, TellsNone};
+ghost use Rattle.list_finds.specs.Told.{Tells, TellsNone};
 ghost use Rattle.list_finds.specs.Wanted.{held_keys};
 
 use crate::answers::{Answer, Answers};
@@ -39,7 +39,7 @@ fn tell_rows(
     requires block { length block.now ≡ length keys.now * width }
     requires room { length keys.now ≤ answers.old.room }
     requires most { answers.old.most ≡ list.now.most }
-    ensures { TellsKeys list.now rows width (Some block.now) (held_keys keys.now)
+    ensures { Tells list.now rows width (Some block.now) (held_keys keys.now)
         answers.old answers.new }
 {
     let each = width as usize;
@@ -73,7 +73,7 @@ pub(crate) fn tell(
     requires block { IfSome (only_block verdict.now) (λ block. length block ≡ length keys.now * width) }
     requires room { length keys.now ≤ answers.old.room }
     requires most { answers.old.most ≡ list.now.most }
-    ensures { TellsKeys list.now rows width (only_block verdict.now) (held_keys keys.now)
+    ensures { Tells list.now rows width (only_block verdict.now) (held_keys keys.now)
         answers.old answers.new }
 {
     match only_block(verdict) {

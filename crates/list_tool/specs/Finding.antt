@@ -45,16 +45,16 @@ pub record FailsToAsk (order : Find) (table : ListTable) (servers : Serving) (fa
   pub asks : Asks (wanted_for table servers keys) order.coins.now (Err fault) read new
 
 -- what looking up keys answers, once the table and the servers are known. For want of memory no server is asked
-abbrev pub AnswersKeys : Find → ListTable → Serving → Result Looked FindFault → World → World → Type 0
-AnswersKeys order table servers (Ok looked) old new = Tells order table servers looked (Ok tt) old new
-AnswersKeys order table servers (Err (Keys fault)) old new =
+abbrev pub AnswersTo : Find → ListTable → Serving → Result Looked FindFault → World → World → Type 0
+AnswersTo order table servers (Ok looked) old new = Tells order table servers looked (Ok tt) old new
+AnswersTo order table servers (Err (Keys fault)) old new =
     ReadsKeysFile order.keys.now (form_for table.list.most) (Err fault) old new × Touches INPUT old new
-AnswersKeys order table servers (Err (Fetch fault)) old new = FailsToAsk order table servers (Fetch fault) old new
-AnswersKeys order table servers (Err WriteFault) old new =
+AnswersTo order table servers (Err (Fetch fault)) old new = FailsToAsk order table servers (Fetch fault) old new
+AnswersTo order table servers (Err WriteFault) old new =
     (looked : Looked) × (failed : Failed) × Tells order table servers looked (Err failed) old new
-AnswersKeys order table servers (Err Memory) old new = Touches INPUT old new
-AnswersKeys order table servers (Err (Catalog fault)) old new = ⊥
-AnswersKeys order table servers (Err (Servers fault)) old new = ⊥
+AnswersTo order table servers (Err Memory) old new = Touches INPUT old new
+AnswersTo order table servers (Err (Catalog fault)) old new = ⊥
+AnswersTo order table servers (Err (Servers fault)) old new = ⊥
 
 -- Database was opened by its name, and its file has this catalog
 pub record HasCatalog (order : Find) (facts : Facts) (old new : World) : Type 0 where
@@ -72,7 +72,7 @@ pub record LooksUp (order : Find) (result : Result Looked FindFault) (old new : 
   pub read : World
   pub has_catalog : HasCatalog order facts old read
   pub named : servers_by order facts ≡ Ok servers
-  pub answers : AnswersKeys order (table_for facts) servers result read new
+  pub answers : AnswersTo order (table_for facts) servers result read new
 
 -- no port but those of the catalog and the keys is touched
 abbrev pub TouchesFiles : World → World → Type 0

@@ -3,7 +3,7 @@
 ghost use Rattle.std.specs.Prelude.{◌≡◌, length, map};
 ghost use Rattle.list_finds.specs.Wanted.{held_keys};
 ghost use Rattle.list_tool.specs.Asking.{IsListTable};
-ghost use Rattle.list_tool.specs.Finding.{AnswersKeys, FindsInList};
+ghost use Rattle.list_tool.specs.Finding.{AnswersTo, FindsInList};
 ghost use Rattle.list_tool.specs.Looked.{NamesRow};
 
 use crate::asking::ask;
@@ -41,7 +41,7 @@ fn answer_keys<P: Ports>(
     servers: &Servers,
 ) -> Result<Looked, FindFault>
     requires { IsListTable table.now }
-    ensures { AnswersKeys order.now table.now servers.now result (P.world ports.old) (P.world ports.new) }
+    ensures { AnswersTo order.now table.now servers.now result (P.world ports.old) (P.world ports.new) }
 {
     let most = table.list.most;
     let keys = match read_keys(alloc, ports, order.keys, form_for(most)) {

@@ -103,8 +103,8 @@ abbrev pub CountsListed : Option (List ℕ) → ℕ → ℕ → Verdict → Type
 CountsListed = CountsLeast (λ params. least_columns (block_len params))
 
 -- and no fewer coefficients than a listing of several blocks
-abbrev pub CountsSeveral : Option (List ℕ) → ℕ → ℕ → Verdict → Type 0
-CountsSeveral = CountsLeast (λ params. least_coefficients params.t)
+abbrev pub FixesIn : Option (List ℕ) → ℕ → ℕ → Verdict → Type 0
+FixesIn = CountsLeast (λ params. least_coefficients params.t)
 
 -- where nothing is judged no step is counted
 abbrev pub CountsNone : {T : Type 0} → Result T ReplayFault → ℕ → ℕ → Type 0

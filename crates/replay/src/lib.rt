@@ -12,7 +12,7 @@ ghost use Rattle.std.specs.Prelude.{◌≡◌, ◌≤◌, length, vec_len, IfOk}
 ghost use Rattle.port_trait.specs.Number.{INPUT};
 ghost use Rattle.port_trait.specs.Moves.{Touches};
 ghost use Rattle.block_decoder.specs.Numbers.{most_columns, most_nodes};
-ghost use Rattle.replay.specs.Replayed.{ReadTo, Judged, JudgedWhole, Spells, ReplayCounts, CountsListed, CountsNone, CountsSeveral};
+ghost use Rattle.replay.specs.Replayed.{ReadTo, Judged, JudgedWhole, Spells, ReplayCounts, FixesIn, CountsListed, CountsNone};
 
 use block_decoder::{Report, Verdict, judge, judge_report};
 use interpolation::Interpolate;
@@ -144,7 +144,7 @@ pub fn replay<I: Interpolate, C: Ledger, N: Ledger, P: Ports>(
     ensures least { cols.old ≤ cols.new }
     ensures least_nodes { nodes.old ≤ nodes.new }
     ensures listed { IfOk result (CountsListed ((P.world ports.old).at INPUT).holds cols.old cols.new) }
-    ensures several { IfOk result (CountsSeveral ((P.world ports.old).at INPUT).holds nodes.old nodes.new) }
+    ensures several { IfOk result (FixesIn ((P.world ports.old).at INPUT).holds nodes.old nodes.new) }
 {
     let session = read_session(alloc, ports)?;
     Ok(judge(alloc, way, &session, cols, nodes)?)
@@ -172,7 +172,7 @@ pub fn replay_report<I: Interpolate, C: Ledger, N: Ledger, P: Ports>(
     ensures least { cols.old ≤ cols.new }
     ensures least_nodes { nodes.old ≤ nodes.new }
     ensures listed { IfOk result (λ found. CountsListed ((P.world ports.old).at INPUT).holds cols.old cols.new found.1) }
-    ensures several { IfOk result (λ found. CountsSeveral ((P.world ports.old).at INPUT).holds nodes.old nodes.new found.1) }
+    ensures several { IfOk result (λ found. FixesIn ((P.world ports.old).at INPUT).holds nodes.old nodes.new found.1) }
 {
     let session = read_session(alloc, ports)?;
     let (verdict, report) = judge_report(alloc, way, &session, cols, nodes)?;

@@ -31,8 +31,8 @@ GivesShare sharing index old new =
     new.at (share_file index) ≡ gave (share_of sharing index) (old.at (share_file index))
 
 -- it took a proper prefix of it, and then a call failed
-abbrev pub CutsShare : Sharing → ℕ → World → World → Type 0
-CutsShare sharing index old new = FailsWithin (share_file index) (share_of sharing index) old new
+abbrev pub CutsOff : Sharing → ℕ → World → World → Type 0
+CutsOff sharing index old new = FailsWithin (share_file index) (share_of sharing index) old new
 
 -- it was opened by this name, and took its whole share
 abbrev pub WritesShare : Sharing → ℕ → List ℕ → World → World → Type 0

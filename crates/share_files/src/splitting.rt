@@ -6,7 +6,7 @@ ghost use Rattle.port_trait.specs.Number.{share_file};
 ghost use Rattle.port_trait.specs.Moves.{Touches};
 ghost use Rattle.quantity_limits.specs.declared.TheConstants.{MOST_SERVERS};
 ghost use Rattle.share_files.specs.SplitPlan.{share_names};
-ghost use Rattle.share_files.specs.Sharing.{CutsShare, GivesShare, LeavesShare, WritesShare};
+ghost use Rattle.share_files.specs.Sharing.{CutsOff, GivesShare, LeavesShare, WritesShare};
 ghost use Rattle.share_files.specs.Splits.{Splits, TouchesFiles, TouchesShares, WritesShares};
 
 use crate::coins::take_coins;
@@ -38,7 +38,7 @@ fn give_share<P: Ports>(
     requires index { index ≢ 0 }
     requires room { 0 < length room.old }
     ensures ok { OnOk result (GivesShare sharing.now index (P.world ports.old) (P.world ports.new)) }
-    ensures failed { OnErr result (CutsShare sharing.now index (P.world ports.old) (P.world ports.new)) }
+    ensures failed { OnErr result (CutsOff sharing.now index (P.world ports.old) (P.world ports.new)) }
     ensures others { Touches (share_file index) (P.world ports.old) (P.world ports.new) }
 {
     let bytes = sharing.bytes;

@@ -62,4 +62,4 @@ pub returns-clause-several : goal.returns-clause-several
 returns-clause-several g c = c.in_ok-verdict.ensures.several
 
 pub returns-in_err-verdict-clause-several : goal.returns-in_err-verdict-clause-several
-returns-in_err-verdict-clause-several g c = λ _. IfOk-from_err c.from_residual.result _ c.from_residual.ensures.0
+returns-in_err-verdict-clause-several g c = IfOk-from_err c.from_residual.result _ c.from_residual.ensures.0

@@ -1,6 +1,6 @@
 use Rattle.std.proofs.Common.{◌≡◌, ◌∙◌, ℕ, map, string_bytes, refl, subst, arith}
 use Rattle.shard_front.specs.Spread.{IsSpread, shards}
-use Rattle.commands.specs.FrontAnswers.{FrontsGuests}
+use Rattle.commands.specs.FrontAnswers.{FrontsAll}
 use Rattle.commands.specs.FrontSteps.{FrontsInTurn, FrontsNext}
 use Rattle.commands.proofs.FrontAnswers.{fronts_none}
 use Rattle.commands.proofs.Fronting.{front_dry, front_dry_touch, fronted_guests, fronted_more, fronted_none, fronted_touch, fronted_unnamed, fronts_next, relaying_door, relaying_touch}
@@ -53,7 +53,7 @@ returns-clause-turns g c =
 pub returns-clause-guests : goal.returns-clause-guests
 returns-clause-guests g c =
     let all : c.guests.counter ≡ c.args.conns = omega arith in
-    subst (λ (n : ℕ). FrontsGuests c.args.front.now n (g.P.Ports.world c.args.ports.now) (g.P.Ports.world c.guests.ports)) all c.guests.invariant.guests
+    subst (λ (n : ℕ). FrontsAll c.args.front.now n (g.P.Ports.world c.args.ports.now) (g.P.Ports.world c.guests.ports)) all c.guests.invariant.guests
 
 pub returns-clause-door : goal.returns-clause-door
 returns-clause-door g c = c.guests.invariant.door

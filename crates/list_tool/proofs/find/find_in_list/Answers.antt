@@ -2,7 +2,7 @@ use Rattle.std.proofs.Common.{◌∙◌, ℕ, List, sym, ap, ap₂, subst}
 use Rattle.std.specs.Prelude.{Option}
 use Rattle.list_catalog.specs.Facts.{Facts}
 use Rattle.list_catalog.specs.Serving.{Serving, with_options}
-use Rattle.list_tool.specs.Finding.{AnswersKeys}
+use Rattle.list_tool.specs.Finding.{AnswersTo}
 use Rattle.list_tool.specs.declared.table.ListTable.{ListTable}
 use Rattle.list_tool.proofs.LookedUp.{looked_up}
 use Rattle.list_tool.proofs.find.find_in_list.Goals as goal
@@ -22,6 +22,6 @@ returns-in-Ok-with_options g c =
       read = v;
       has_catalog = record { loads = c.in-Ok.ensures.loads; others = c.in-Ok.ensures.others };
       named = named;
-      answers = subst (λ (t : ListTable). AnswersKeys c.args.order.now t c.in-Ok-with_options.servers c.answer_keys.result v u) c.table_of-table.ensures.is
+      answers = subst (λ (t : ListTable). AnswersTo c.args.order.now t c.in-Ok-with_options.servers c.answer_keys.result v u) c.table_of-table.ensures.is
           c.answer_keys.ensures;
     }

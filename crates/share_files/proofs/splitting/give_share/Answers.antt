@@ -6,7 +6,7 @@ use Rattle.port_trait.specs.Number.{share_file}
 use Rattle.port_trait.proofs.Cells.{at_err, touches_more}
 use Rattle.share_bytes.specs.Share.{share}
 use Rattle.share_bytes.proofs.Shares.{length-share, length-slice}
-use Rattle.share_files.specs.Sharing.{CutsShare, GivesShare, Sharing}
+use Rattle.share_files.specs.Sharing.{CutsOff, GivesShare, Sharing}
 use Rattle.share_files.proofs.Pieces.{piece_given, piece_cut, no_piece_given, all_pieces_given}
 use Rattle.share_files.proofs.splitting.give_share.Goals as goal
 
@@ -87,7 +87,7 @@ returns-in_err-write_all-clause-failed g c =
     let made = c.share_into.ensures
     ∙ ap₂ (λ (e t : ℕ). share (slice_range bytes at (at + n)) (slice_range coins (at * e) ((at + n) * e)) t a) c.from-each.ensures c.from.ensures in
     at_err c.from_residual.result
-    (subst (λ (s : Sharing). CutsShare s a old new) c.sharing.view_is
+    (subst (λ (s : Sharing). CutsOff s a old new) c.sharing.view_is
     (piece_cut bytes coins c.share_into.new.out c.sharing.inside.tau a (share_file a) at n old mid new fits made
     c.pieces.invariant.so_far c.in_err-write_all.ensures.failed))
 

@@ -4,7 +4,7 @@ use Rattle.std.proofs.lemmas.List.{length-map, take_all}
 use Rattle.std.proofs.lemmas.Result.{IfOk-from_err, on_ok_weaker}
 use Rattle.block_decoder.specs.Decoding.{counters}
 use Rattle.block_decoder.specs.Gains.{Gains}
-use Rattle.block_decoder.specs.Narrowing.{nexts_of, progress, GrewBy, HaveExtended, HaveParted, IsExtended, TurnsGained}
+use Rattle.block_decoder.specs.Narrowing.{nexts_of, progress, Grew, HaveExtended, HaveParted, IsExtended, TurnsGained}
 use Rattle.block_decoder.specs.Report.{Agreement, indices_of}
 use Rattle.block_decoder.specs.declared.candidate.Candidate.{Candidate}
 use Rattle.block_decoder.specs.declared.candidate.Parting.{Parting}
@@ -298,7 +298,7 @@ extend-returns-in_err-decoded-clause-several g t c = IfOk-from_err c.from_residu
 
 pub extend-returns-then-next-self-clause-several : goal.extend-returns-then-next-self-clause-several
 extend-returns-then-next-self-clause-several g t c =
-    on_ok_weaker {Q = GrewBy c.args.self.now.decoding 1 c.args.report.now c.add.new.self c.args.nodes.now c.args.nodes.now} c.add.result
+    on_ok_weaker {Q = Grew c.args.self.now.decoding 1 c.args.report.now c.add.new.self c.args.nodes.now c.args.nodes.now} c.add.result
     (λ gains. inl c.add.ensures.one) c.add.ensures.ok
 
 pub extend-returns-in_err-polynomials-clause-several : goal.extend-returns-in_err-polynomials-clause-several
@@ -309,8 +309,8 @@ extend-returns-clause-several g t c =
     let d = c.args.self.now.decoding in
     let n = length c.in_ok-polynomials.polynomials.items in
     let new = c.extend_by_each.new in
-    on_ok_weaker {Q = GrewBy d 1 c.args.report.now new.report c.args.nodes.now new.nodes} c.extend_by_each.result
-    (λ (below : GrewBy d n c.args.report.now new.report c.list.new.nodes new.nodes).
+    on_ok_weaker {Q = Grew d 1 c.args.report.now new.report c.args.nodes.now new.nodes} c.extend_by_each.result
+    (λ (below : Grew d n c.args.report.now new.report c.list.new.nodes new.nodes).
     grew-one d n c.args.report.now new.report c.args.nodes.now c.list.new.nodes new.nodes below c.in_ok-polynomials.ensures.several
     c.in_ok-polynomials.ensures.rises.1 c.extend_by_each.ensures.counted.counted.nodes)
     c.extend_by_each.ensures.several
@@ -513,7 +513,7 @@ extend_by_each-returns-clause-several g t c =
     let end = c.loop-polynomial in
     let size = ap length c.deref-polynomial-items.ensures.value in
     let whole : end.polynomial-index ≡ length c.args.parting.now.polynomials.items = omega (arith, size, c.loop-polynomial-test.false) in
-    subst (λ (n : ℕ). GrewBy c.args.self.now.decoding n c.args.report.now end.report c.args.nodes.now end.nodes) whole end.invariant.grew
+    subst (λ (n : ℕ). Grew c.args.self.now.decoding n c.args.report.now end.report c.args.nodes.now end.nodes) whole end.invariant.grew
 
 pub extend_by_each-bounds-polynomial-items-polynomial-index : goal.extend_by_each-bounds-polynomial-items-polynomial-index
 extend_by_each-bounds-polynomial-items-polynomial-index g t c = c.loop-polynomial-test.true

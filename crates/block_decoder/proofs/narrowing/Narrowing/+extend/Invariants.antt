@@ -1,7 +1,7 @@
 use Rattle.std.proofs.Common.{◌≡◌, ◌+◌, ◌*◌, length, take}
 use Rattle.std.specs.List.Sorted.{IsStrictlySortedBy}
 use Rattle.block_decoder.specs.Decoding.{counters}
-use Rattle.block_decoder.specs.Narrowing.{nexts_of, progress, GrewBy, TurnsCounted, TurnsGained}
+use Rattle.block_decoder.specs.Narrowing.{nexts_of, progress, Grew, TurnsCounted, TurnsGained}
 use Rattle.block_decoder.specs.Report.{agreement_cmp}
 use Rattle.block_decoder.proofs.narrowing.Narrowing.+extend.Given as goal
 
@@ -22,5 +22,5 @@ invariant-extend_by_each-loop-polynomial g l = record {
       (counters l.initial.cols l.initial.nodes) (counters l.cols l.nodes);
   gained : TurnsGained (take l.polynomial-index (nexts_of l.parting)) l.self.decoding l.parting
       (progress l.initial.block l.initial.report l.initial.cols) (progress l.block l.report l.cols);
-  grew : GrewBy l.self.decoding l.polynomial-index l.initial.report l.report l.initial.nodes l.nodes;
+  grew : Grew l.self.decoding l.polynomial-index l.initial.report l.report l.initial.nodes l.nodes;
 }

@@ -1,7 +1,7 @@
 use Rattle.std.proofs.Common.{inl, inr, ◌∙◌, List, [], subst, ℕ, ◌≡◌, ◌+◌, ◌-◌, ◌<◌, ◌≤◌, length, ◌⊎◌, arith, ap, sym, le_refl}
 use Rattle.block_decoder.specs.Decoding.{counters}
 use Rattle.block_decoder.specs.Gains.{Gains}
-use Rattle.block_decoder.specs.Narrowing.{agreement_on, ContinuesFrom, GrewBy}
+use Rattle.block_decoder.specs.Narrowing.{agreement_on, ContinuesFrom, Grew}
 use Rattle.block_decoder.specs.Report.{Agreement, agreement_cmp}
 use Rattle.block_decoder.specs.declared.decoding.Decoding.{Decoding}
 use Rattle.block_decoder.proofs.Candidates.{first-candidate}
@@ -23,7 +23,7 @@ found_all width old new report before none (inl same) some = let e = ap length (
 found_all width old new report before none (inr all) some = omega (arith, all)
 
 -- where there are several, more than one was new, and so a list proper was made
-several_new : (d : Decoding) (before report : List Agreement) (a b : ℕ) → before ≡ [] → GrewBy d 1 before report a b
+several_new : (d : Decoding) (before report : List Agreement) (a b : ℕ) → before ≡ [] → Grew d 1 before report a b
     → 1 < length report → a + (d.degree + 1) ≤ b
 several_new d before report a b none (inl one) some = let e = ap length none in absurd (omega (arith, e, one, some))
 several_new d before report a b none (inr many) some = many
