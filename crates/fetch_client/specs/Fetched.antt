@@ -87,7 +87,7 @@ CountsListed verdict_of p blocks result before now = p.scheme ≡ SHAMIR
 -- and at least as many coefficients are fixed
 abbrev pub CountsSeveral : {T : Type 0} → (T → Verdict) → FetchPlan → Result T FetchFault → ℕ → ℕ → Type 0
 CountsSeveral verdict_of p result before now = p.scheme ≡ SHAMIR
-    → IfOk result (λ found. before + least_coefficients p.t (verdict_of found) ≤ now)
+    → IfOk result (λ found. before + least_coefficients (p.t + p.tau) (verdict_of found) ≤ now)
 
 -- how many steps a fetch takes
 pub record CountsSteps (p : FetchPlan) (blocks : List ℕ) (result : Result (Transcript × Verdict × Option (List Agreement)) FetchFault)
