@@ -12,16 +12,10 @@ if [ $# -eq 0 ]; then set -- 4096x256 65536x1024 16384x65536 1048576x64; fi
 work=$(mktemp -d)
 trap 'rm -rf "$work"' EXIT
 
-# Ours, as the gate builds it and for a processor with AVX2. Where BENCH names a program that is built, it alone is taken.
-if [ -z "${BENCH:-}" ]; then
-  (cd "$top/crates/bench" && rt run --cpu=x86-64-v3 >/dev/null 2>&1)
-  cp "$top/crates/bench/out/bench" "$work/ours-avx2"
-else
-  echo "BENCH is set: the build for AVX2 is left out"
-fi
 # shellcheck source=bench/program.sh
 source "$top/bench/program.sh"
 cp "$bench" "$work/ours"
+if [ -n "$bench_avx2" ]; then cp "$bench_avx2" "$work/ours-avx2"; fi
 
 flags=()
 # peer PACKAGE HEADER FLAG..: these flags, if the header is there.

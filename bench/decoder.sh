@@ -1,6 +1,6 @@
 #!/usr/bin/env bash
-# Times the list of one column by Koetter's iteration, beside the C++ program column.cc of a folder, where that and a compiler
-# are there.
+# Times the list of one column by Koetter's iteration, as the gate builds it and for AVX2, each beside the C++ program column.cc of
+# a folder, built for the same lanes, where that and a compiler are there.
 # usage: bench/decoder.sh [ROUNDS [FOLDER]]
 set -eu
 top=$(cd "$(dirname "$0")/.." && pwd)
@@ -16,7 +16,9 @@ if [ ! -e "$peers/column.cc" ]; then
 elif ! command -v g++ >/dev/null; then
   echo "g++ isn't installed: the C++ program is skipped, and there is no ratio"
 else
-  g++ -O3 -std=c++17 -msse4.2 -w "$peers/column.cc" -o "$built/column" -lpthread
+  for lanes in $(each_build); do
+    g++ -O3 -std=c++17 "-m$lanes" -w "$peers/column.cc" -o "$built/column-$lanes" -lpthread
+  done
   have=yes
 fi
 
@@ -39,25 +41,40 @@ points() {
 # least FIRST SECOND: the lesser number of the two; FIRST may be empty.
 least() { awk -v a="$1" -v b="$2" 'BEGIN { print (a == "" || b + 0 < a + 0) ? b : a }'; }
 
-# The two take turns, and the best time of each counts, so that a busy machine spoils neither alone. The last number says how
-# many times ROUNDS the list is made in a turn.
+# The best times so far of each build, and of the C++ program for the same lanes.
+declare -A agree few theirs
+
+# turn LANES: one turn of that build and its peer at the present shape.
+turn() {
+  local program count time
+  program=$(built_for "$1")
+  count=$((rounds * often))
+  if [ $have = yes ]; then
+    "$built/column-$1" bench 0.1 "$k,$t,$h" >"$built/lines"
+    time=$(awk -F'|' '$2 ~ /^ *few/ { split($4, a, " "); split($5, b, " "); print a[1] + b[1] }' "$built/lines")
+    theirs[$1]=$(least "${theirs[$1]-}" "$time")
+  fi
+  # shellcheck disable=SC2046
+  read -r time agree_count < <("$program" column "$t" "$h" "$count" $(points agree "$k"))
+  agree[$1]=$(least "${agree[$1]-}" "$time")
+  # shellcheck disable=SC2046
+  read -r time few_count < <("$program" column "$t" "$h" "$count" $(points few "$k"))
+  few[$1]=$(least "${few[$1]-}" "$time")
+}
+
+# milliseconds NANOSECONDS
+milliseconds() { awk -v ns="$1" 'BEGIN { print ns / 1e6 }'; }
+
+# All take turns, and the best time of each counts, so that a busy machine spoils none alone. The last number says how many times
+# ROUNDS the list is made in a turn.
 for shape in "8 1 3 40" "8 3 5 10" "20 3 8 2" "32 5 13 1" "32 28 30 1" "32 15 23 40" "20 3 12 200" "47 1 7 1" "255 1 17 1"; do
   read -r k t h often <<<"$shape"
-  agree=
-  few=
-  theirs=
+  agree=() few=() theirs=()
   for _ in 1 2 3; do
-    if [ $have = yes ]; then
-      "$built/column" bench 0.1 "$k,$t,$h" >"$built/lines"
-      theirs=$(least "$theirs" "$(awk -F'|' '$2 ~ /^ *few/ { split($4, a, " "); split($5, b, " "); print a[1] + b[1] }' "$built/lines")")
-    fi
-    # shellcheck disable=SC2046
-    read -r time agree_count < <("$bench" column "$t" "$h" "$((rounds * often))" $(points agree "$k"))
-    agree=$(least "$agree" "$time")
-    # shellcheck disable=SC2046
-    read -r time few_count < <("$bench" column "$t" "$h" "$((rounds * often))" $(points few "$k"))
-    few=$(least "$few" "$time")
+    for lanes in $(each_build); do turn "$lanes"; done
   done
-  told "column $k,$t,$h agree, $agree_count listed" "$(awk -v ns="$agree" 'BEGIN { print ns / 1e6 }')" ""
-  told "column $k,$t,$h few, $few_count listed" "$(awk -v ns="$few" 'BEGIN { print ns / 1e6 }')" "$theirs"
+  for lanes in $(each_build); do
+    told "column $k,$t,$h agree, $lanes, $agree_count listed" "$(milliseconds "${agree[$lanes]}")" ""
+    told "column $k,$t,$h few, $lanes, $few_count listed" "$(milliseconds "${few[$lanes]}")" "${theirs[$lanes]-}"
+  done
 done

@@ -1,8 +1,10 @@
 // Peers of the server's product over GF(256), and of its answer in the XOR scheme: for each number of workers a line for
 // each peer, with its name, how many rows it reads and their width, the number of workers, the best time of so many calls in
-// nanoseconds, and the checksum of the result if its field is ours. bench/beside_peers.sh builds it, with HAVE_ISAL and
+// nanoseconds, and the checksum of the result if its field is ours. Of the products of several queries with one worker a line
+// has the number of queries in place of that of workers. bench/beside_peers.sh and bench/batch.sh build it, with HAVE_ISAL and
 // HAVE_GF_COMPLETE where those libraries are installed.
 // usage: product_peers product|answer ROWS WIDTH CALLS WORKERS..
+//        product_peers several ROWS WIDTH CALLS QUERIES..
 #include <algorithm>
 #include <chrono>
 #include <cinttypes>
@@ -11,6 +13,7 @@
 #include <cstdlib>
 #include <cstring>
 #include <thread>
+#include <utility>
 #include <vector>
 #ifdef HAVE_ISAL
 #include <isa-l/erasure_code.h>
@@ -60,6 +63,53 @@ static void by_isal(const Case &c, size_t from, size_t to, Byte *sums) {
   for (size_t j = from; j < to; j++) {
     gf_vect_mul_init(c.query[j], table);
     gf_vect_mad(c.width, 1, 0, table, const_cast<Byte *>(c.matrix + j * c.width), sums);
+  }
+}
+#endif
+
+// ---- ISA-L's several outputs at once, in its own field: the sums of so many queries, each of which has a byte for each row
+
+#ifdef HAVE_ISAL
+// What ISA-L makes of each factor.
+static Byte factor_tables[256][32];
+
+static void make_factor_tables() {
+  for (unsigned factor = 0; factor < 256; factor++) gf_vect_mul_init(factor, factor_tables[factor]);
+}
+
+// Row by row: each is read once, and added to all sums, up to six at once.
+static void several_by_rows(const Case &c, size_t queries, Byte *sums) {
+  std::vector<Byte> tables(32 * queries);
+  std::vector<Byte *> outputs(queries);
+  for (size_t v = 0; v < queries; v++) outputs[v] = sums + v * c.width;
+  for (size_t j = 0; j < c.rows; j++) {
+    for (size_t v = 0; v < queries; v++) memcpy(&tables[32 * v], factor_tables[c.query[v * c.rows + j]], 32);
+    ec_encode_data_update(c.width, 1, queries, 0, tables.data(), const_cast<Byte *>(c.matrix + j * c.width), outputs.data());
+  }
+}
+
+// 32 rows at once, in columns that a near cache holds for all queries: up to six outputs stay in registers over the 32, and are then
+// added to the sums.
+static void several_by_groups(const Case &c, size_t queries, Byte *sums) {
+  constexpr size_t GROUP = 32, COLUMNS = 4096;
+  std::vector<Byte> tables(32 * GROUP * queries), parts(COLUMNS * queries);
+  std::vector<Byte *> sources(GROUP), outputs(queries);
+  for (size_t v = 0; v < queries; v++) outputs[v] = &parts[v * COLUMNS];
+  for (size_t at = 0; at < c.width; at += COLUMNS) {
+    size_t columns = std::min(COLUMNS, c.width - at);
+    for (size_t j = 0; j < c.rows; j += GROUP) {
+      size_t group = std::min(GROUP, c.rows - j);
+      for (size_t g = 0; g < group; g++) sources[g] = const_cast<Byte *>(c.matrix + (j + g) * c.width + at);
+      for (size_t v = 0; v < queries; v++) {
+        for (size_t g = 0; g < group; g++) memcpy(&tables[32 * (v * group + g)], factor_tables[c.query[v * c.rows + j + g]], 32);
+      }
+      ec_encode_data(columns, group, queries, tables.data(), sources.data(), outputs.data());
+      for (size_t v = 0; v < queries; v++) {
+        const Byte *part = outputs[v];
+        Byte *__restrict own = sums + v * c.width + at;
+        for (size_t i = 0; i < columns; i++) own[i] ^= part[i];
+      }
+    }
   }
 }
 #endif
@@ -190,10 +240,36 @@ static void measure_answer(const Case &c, size_t workers, long calls) {
   measure(c, "rows", by_rows, workers, calls, true);
 }
 
+// The peers of the products of so many queries, on one thread. Where both are there, they must agree.
+static void measure_several(const Case &c, size_t queries, long calls) {
+#ifdef HAVE_ISAL
+  using Several = void (*)(const Case &, size_t, Byte *);
+  const std::pair<const char *, Several> ways[] = {{"isal-rows", several_by_rows}, {"isal-groups", several_by_groups}};
+  std::vector<Byte> sums(queries * c.width), first;
+  for (auto [name, way] : ways) {
+    int64_t best = INT64_MAX;
+    for (long call = 0; call < calls; call++) {
+      auto start = std::chrono::steady_clock::now();
+      std::fill(sums.begin(), sums.end(), 0);
+      way(c, queries, sums.data());
+      auto time = std::chrono::steady_clock::now() - start;
+      best = std::min<int64_t>(best, std::chrono::duration_cast<std::chrono::nanoseconds>(time).count());
+    }
+    if (first.empty()) first = sums;
+    if (first != sums) {
+      fprintf(stderr, "ISA-L's two ways differ\n");
+      exit(1);
+    }
+    printf("%s %zu %zu %zu %" PRId64 " -\n", name, c.rows, c.width, queries, best);
+  }
+#endif
+  if (queries == 1) measure(c, "reading", by_reading, 1, calls, false);
+}
+
 int main(int argc, char **argv) {
-  bool answer = argc > 1 && !strcmp(argv[1], "answer");
-  if (argc < 6 || (!answer && strcmp(argv[1], "product"))) {
-    fprintf(stderr, "usage: product_peers product|answer ROWS WIDTH CALLS WORKERS..\n");
+  bool answer = argc > 1 && !strcmp(argv[1], "answer"), several = argc > 1 && !strcmp(argv[1], "several");
+  if (argc < 6 || (!answer && !several && strcmp(argv[1], "product"))) {
+    fprintf(stderr, "usage: product_peers product|answer ROWS WIDTH CALLS WORKERS..\n       product_peers several ROWS WIDTH CALLS QUERIES..\n");
     return 2;
   }
   size_t rows = strtoul(argv[2], nullptr, 10), width = strtoul(argv[3], nullptr, 10);
@@ -201,7 +277,12 @@ int main(int argc, char **argv) {
   for (unsigned a = 0; a < 256; a++) {
     for (unsigned b = 0; b < 256; b++) products[a][b] = product(a, b);
   }
-  size_t query_size = answer ? (rows + 7) / 8 : rows;
+  size_t most = 1;
+  for (int i = 5; several && i < argc; i++) most = std::max<size_t>(most, strtoul(argv[i], nullptr, 10));
+  size_t query_size = answer ? (rows + 7) / 8 : rows * most;
+#ifdef HAVE_ISAL
+  make_factor_tables();
+#endif
   Byte *matrix = lanes_of(rows * width), *query = lanes_of(query_size);
   uint64_t state = 88172645463325252;
   fill(state, matrix, rows * width);
@@ -215,7 +296,9 @@ int main(int argc, char **argv) {
 #endif
   for (int i = 5; i < argc; i++) {
     size_t workers = strtoul(argv[i], nullptr, 10);
-    if (answer) {
+    if (several) {
+      measure_several(c, workers, calls);
+    } else if (answer) {
       measure_answer(c, workers, calls);
     } else {
       measure_product(c, workers, calls);
