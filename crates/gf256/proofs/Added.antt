@@ -48,30 +48,30 @@ added-place acc old g from n x m l e done =
       after = λ k h. get_or-set_other acc n k y 0 (λ same. omega arith) ∙ done.after k (omega arith);
     }
 
--- 16 places at once, of which some may be done, and some may stand before the first that is added
+-- m places at once, of which some may be done, and some may stand before the first that is added
 -- to
-pub added-lanes : (acc old lanes : List ℕ) (g h : ℕ → ℕ) (from start n : ℕ)
-    → start + 16 ≤ length acc → AreLanes lanes h start → from ≤ start + 16 → start ≤ n → n ≤ start + 16
+pub added-lanes : {m : ℕ} (acc old lanes : List ℕ) (g h : ℕ → ℕ) (from start n : ℕ)
+    → start + m ≤ length acc → AreLanes m lanes h start → from ≤ start + m → start ≤ n → n ≤ start + m
     → ((k : ℕ) → start ≤ k → k < from → h k ≡ get_or old k 0)
-    → ((k : ℕ) → start ≤ k → from ≤ k → k < start + 16 → h k ≡ get_or old k 0 ⊕ g k)
-    → IsAdded acc old g from n → IsAdded (put_chunk start acc lanes) old g from (start + 16)
-added-lanes acc old lanes g h from start n room are first low_end high_end kept more done =
-    let at : (k : ℕ) → start ≤ k → k < start + 16 → get_or (put_chunk start acc lanes) k 0 ≡ h k =
-    λ k l m.
+    → ((k : ℕ) → start ≤ k → from ≤ k → k < start + m → h k ≡ get_or old k 0 ⊕ g k)
+    → IsAdded acc old g from n → IsAdded (put_chunk start acc lanes) old g from (start + m)
+added-lanes {m} acc old lanes g h from start n room are first low_end high_end kept more done =
+    let at : (k : ℕ) → start ≤ k → k < start + m → get_or (put_chunk start acc lanes) k 0 ≡ h k =
+    λ k l i.
     let place : start + (k - start) ≡ k = omega arith in
     subst (λ p. get_or (put_chunk start acc lanes) p 0 ≡ h p) place
-    (get_or-put_chunk_at start acc lanes (k - start) 0 (omega (arith, l, m, are.size)) (omega (arith, l, m, room))
-    ∙ are.each (k - start) (omega (arith, l, m))) in
+    (get_or-put_chunk_at start acc lanes (k - start) 0 (omega (arith, l, i, are.size)) (omega (arith, l, i, room, are.size))
+    ∙ are.each (k - start) (omega (arith, l, i))) in
     record {
       before = λ k l.
           elim (cases_lt k start) [
             | inl low ↦ get_or-put_chunk_below start acc lanes k 0 low ∙ done.before k l
             | inr high ↦ at k high (omega (arith, l, first)) ∙ kept k high l
           ];
-      added = λ k l m.
+      added = λ k l i.
           elim (cases_lt k start) [
             | inl low ↦ get_or-put_chunk_below start acc lanes k 0 low ∙ done.added k l (omega (arith, low, low_end))
-            | inr high ↦ at k high m ∙ more k high l m
+            | inr high ↦ at k high i ∙ more k high l i
           ];
       after = λ k l. get_or-put_chunk_above start acc lanes k 0 (omega (arith, l, are.size)) ∙ done.after k (omega (arith, l, high_end));
     }

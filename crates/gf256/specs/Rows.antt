@@ -12,7 +12,7 @@ pub record IsAdded (new old : List ℕ) (g : ℕ → ℕ) (from to : ℕ) : Type
   pub added : (k : ℕ) → from ≤ k → k < to → slice_index new k ≡ slice_index old k ⊕ g k
   pub after : (k : ℕ) → to ≤ k → slice_index new k ≡ slice_index old k
 
--- 16 lanes have what g has in the places from `at` on
-pub record AreLanes (lanes : List ℕ) (g : ℕ → ℕ) (at : ℕ) : Type 0 where
-  pub size : length lanes ≡ 16
-  pub each : (k : ℕ) → k < 16 → slice_index lanes k ≡ g (at + k)
+-- n lanes have what g has in the places from `at` on
+pub record AreLanes (n : ℕ) (lanes : List ℕ) (g : ℕ → ℕ) (at : ℕ) : Type 0 where
+  pub size : length lanes ≡ n
+  pub each : (k : ℕ) → k < n → slice_index lanes k ≡ g (at + k)

@@ -1,8 +1,8 @@
-//! Rows of bytes: cleared, added to each other, and times one factor, 16 bytes at once.
+//! Rows of bytes: cleared, added to each other, and times one factor, 32 or 16 bytes at once.
 //!
 //! A byte is the sum of its low four bits and its high four. So its product with the factor is the
 //! sum of one of 16 products and one of 16 others, which two vectors keep, and a swizzle takes from
-//! such a vector for 16 bytes at once (Plank, Greenan and Miller 2013). The two vectors are
+//! such a vector for many bytes at once (Plank, Greenan and Miller 2013). The two vectors are
 //! themselves sums, by the halves of the factor, of rows of three small tables, so that they cost
 //! little where a row is short.
 
@@ -14,10 +14,11 @@ ghost use Rattle.gf256.specs.Products.{high_of, low_of};
 ghost use Rattle.gf256.specs.Rows.{multiple, IsAdded};
 
 use crate::mul;
+use crate::vectors::{LANES, LookUp, Vectors};
 use std::marker::Model;
 use std::simd::prelude::*;
 
-/// The products with one factor, 16 at once. Contracts see the factor.
+/// The products with one factor, many at once. Contracts see the factor.
 #[derive(Drop)]
 pub struct Products {
     low: u8x16,
@@ -65,13 +66,15 @@ impl Products {
         self.low[1]
     }
 
-    /// The product of each of 16 bytes with the factor.
+    /// The product of each of the bytes with the factor.
     #[inline(always)]
-    pub fn times(&self, bytes: u8x16) -> u8x16
-        ensures { result ≡ map (λ x. self.now ⊗ x) bytes }
+    pub fn times<const N: usize>(&self, bytes: Simd<u8, N>) -> Simd<u8, N>
+    where
+        Vectors: LookUp<N>,
+        ensures { result ≡ map (λ x. self.now ⊗ x) bytes.entry }
     {
-        let low = self.low.swizzle_dyn_within::<16>(bytes & u8x16::splat(15));
-        let high = self.high.swizzle_dyn_within::<16>(bytes >> u8x16::splat(4));
+        let low = Vectors::look_up(self.low, bytes & Simd::splat(15));
+        let high = Vectors::look_up(self.high, bytes >> Simd::splat(4));
         low ^ high
     }
 }
@@ -185,54 +188,63 @@ pub fn add_row(acc: &mut [u8], row: &[u8])
 /// Adds `factor` times `row` to `acc`, which is as long: `acc[i]` becomes
 /// `acc[i] + factor * row[i]`, for each place i. Adding `83` times `57 57` to `00 01` makes it
 /// `c1 c0`.
+///
+/// Where the last places are fewer than 16, the last 16 are added at once: some of them are done
+/// before, so their sums are taken from what stood there at first.
 pub fn add_scaled_row(acc: &mut [u8], row: &[u8], factor: u8)
     requires { length row.now ≡ length acc.old }
     ensures { (k : ℕ) →
         slice_index acc.new k ≡ slice_index acc.old k ⊕ factor ⊗ slice_index row.now k }
 {
-    let products = Products::of(factor);
-    let mut at = 0;
-    'lanes: while acc.len() - at >= 16 {
-        let sum = u8x16::from_slice(&acc[at..]) ^ products.times(u8x16::from_slice(&row[at..]));
-        sum.copy_to_slice(&mut acc[at..]);
-        at += 16;
-    }
-    add_rest(acc, row, &products, at);
-}
-
-/// Adds the products of the bytes of `row` from place `at` on, which are fewer than 16, to those of
-/// `acc`: all at once, in the last 16 places.
-fn add_rest(acc: &mut [u8], row: &[u8], products: &Products, at: usize)
-    requires same { length row.now ≡ length acc.old }
-    requires within { at ≤ length acc.old }
-    requires few { length acc.old < at + 16 }
-    ensures { IsAdded acc.new acc.old (multiple row.now products.now) at (length acc.old) }
-{
-    if at == acc.len() {
-        return;
-    }
     if acc.len() < 16 {
-        for i in at..acc.len() {
-            acc[i] ^= mul(products.factor(), row[i]);
-        }
-        return;
+        return add_scaled_bytes(acc, row, factor);
     }
+    let products = Products::of(factor);
     let last = acc.len() - 16;
-    let rest = without_first(products.times(u8x16::from_slice(&row[last..])), at - last);
-    let sum = u8x16::from_slice(&acc[last..]) ^ rest;
-    sum.copy_to_slice(&mut acc[last..]);
+    let end = u8x16::from_slice(&acc[last..]);
+    let wide = add_in_lanes::<LANES>(acc, row, &products, 0);
+    let at = add_in_lanes::<16>(acc, row, &products, wide);
+    if at < acc.len() {
+        let sum = end ^ products.times(u8x16::from_slice(&row[last..]));
+        sum.copy_to_slice(&mut acc[last..]);
+    }
 }
 
-/// The bytes with 0 in place of the first `n`.
-#[inline(always)]
-fn without_first(bytes: u8x16, n: usize) -> u8x16
-    requires { n ≤ 16 }
-    ensures length { length result ≡ 16 }
-    ensures zero { (k : ℕ) → k < n → slice_index result k ≡ 0 }
-    ensures kept { (k : ℕ) → n ≤ k → slice_index result k ≡ slice_index bytes k }
+/// The same for short rows.
+fn add_scaled_bytes(acc: &mut [u8], row: &[u8], factor: u8)
+    requires { length row.now ≡ length acc.old }
+    ensures { (k : ℕ) →
+        slice_index acc.new k ≡ slice_index acc.old k ⊕ factor ⊗ slice_index row.now k }
 {
-    let lanes = u8x16::from_array([0, 1, 2, 3, 4, 5, 6, 7, 8, 9, 10, 11, 12, 13, 14, 15]);
-    lanes
-        .simd_ge(u8x16::splat(n as u8))
-        .select(bytes, u8x16::splat(0))
+    for i in 0..acc.len() {
+        acc[i] ^= mul(factor, row[i]);
+    }
+}
+
+/// Adds the products of the bytes of `row` from place `from` on to those of `acc`, N at once, until
+/// fewer than N are left. Gives the place of the first that is left.
+#[inline(always)]
+fn add_in_lanes<const N: usize>(
+    acc: &mut [u8],
+    row: &[u8],
+    products: &Products,
+    from: usize,
+) -> usize
+where
+    Vectors: LookUp<N>,
+    requires same { length row.now ≡ length acc.old }
+    requires some { 1 ≤ N }
+    requires within { from ≤ length acc.old }
+    ensures order { from ≤ result }
+    ensures within { result ≤ length acc.old }
+    ensures few { length acc.old < result + N }
+    ensures added { IsAdded acc.new acc.old (multiple row.now products.now) from result }
+{
+    let mut at = from;
+    'lanes: while acc.len() - at >= N {
+        let sum = Simd::from_slice(&acc[at..]) ^ products.times(Simd::from_slice(&row[at..]));
+        sum.copy_to_slice(&mut acc[at..]);
+        at += N;
+    }
+    at
 }

@@ -1,32 +1,37 @@
-use Rattle.std.proofs.Common.{◌≡◌, ◌+◌, ◌≤◌, length, map, bit_xor, ap, subst, ◌∙◌, arith}
-use Rattle.std.specs.Simd.Lanes.{zip2, chunk}
-use Rattle.std.proofs.lemmas.Simd.{length-put_chunk}
+use Rattle.std.proofs.Common.{◌≡◌, ◌+◌, ◌-◌, ◌≤◌, List, ℕ, length, map, refl, ap, subst, ◌∙◌, arith}
+use Rattle.std.specs.Simd.Lanes.{chunk}
 use Rattle.gf256.specs.Field.{◌⊗◌}
 use Rattle.gf256.specs.Rows.{multiple, IsAdded}
 use Rattle.gf256.proofs.Added.{added-on, added-all}
-use Rattle.gf256.proofs.RowSums.{added-next, multiple-past}
+use Rattle.gf256.proofs.RowSums.{multiple-put, multiple-past}
 use Rattle.gf256.proofs.rows.add_scaled_row.Goals as goal
 
-pub lanes-preserved : goal.lanes-preserved
-lanes-preserved c =
-    let acc = c.lanes.acc in
-    let at = c.lanes.at in
-    let row = c.args.row.now in
-    let room : at + 16 ≤ length acc = omega arith in
-    record {
-      within = omega (arith, length-put_chunk at acc (zip2 bit_xor (chunk at 16 acc) c.times.result));
-      added =
-          added-next acc c.args.acc.now row c.times.result c.args.factor at room (omega arith)
-          (c.times.ensures ∙ ap (λ f. map (λ x. f ⊗ x) (chunk at 16 row)) c.of-products.ensures) c.lanes.invariant.added;
-    }
+-- both runs of lanes together, by the factor of the products
+both : (old mid new row : List ℕ) (p f wide at : ℕ) → p ≡ f → wide ≤ at
+    → IsAdded mid old (multiple row p) 0 wide → IsAdded new mid (multiple row p) wide at → IsAdded new old (multiple row f) 0 at
+both old mid new row p f wide at e le a b =
+    subst (λ f. IsAdded new old (multiple row f) 0 at) e (added-on new mid old (multiple row p) 0 wide at (omega arith) le a b)
 
-pub returns : goal.returns
-returns c =
-    let new = c.add_rest.new.acc in
+pub returns-then-at-acc : goal.returns-then-at-acc
+returns-then-at-acc c = λ k.
     let old = c.args.acc.now in
-    let g = multiple c.args.row.now c.args.factor in
-    let size : length c.lanes.acc ≡ length old = omega arith in
-    added-all new old g (length old) (λ k l. multiple-past c.args.row.now c.args.factor k (omega (arith, l, c.requires)))
-    (added-on new c.lanes.acc old g 0 c.lanes.at (length old) (omega arith) (omega arith) c.lanes.invariant.added
-    (subst (λ n. IsAdded new c.lanes.acc g c.lanes.at n) size
-    (subst (λ f. IsAdded new c.lanes.acc (multiple c.args.row.now f) c.lanes.at (length c.lanes.acc)) c.of-products.ensures c.add_rest.ensures)))
+    let row = c.args.row.now in
+    let factor = c.args.factor in
+    let last = length old - 16 in
+    let end : last + 16 ≡ length old = omega arith in
+    added-all _ old (multiple row factor) (last + 16) (λ j l. multiple-past row factor j (omega (arith, c.requires)))
+    (multiple-put 16 c.add_in_lanes-at.new.acc old old row c.times.result factor 0 last c.add_in_lanes-at.result
+    (omega arith) (omega arith) (omega arith) (omega arith) (omega (arith, c.add_in_lanes-at.ensures.few)) (omega (arith, c.add_in_lanes-at.ensures.within)) (λ j l. refl)
+    (c.times.ensures ∙ ap (λ f. map (λ x. f ⊗ x) (chunk last 16 row)) c.of-products.ensures)
+    (both old c.add_in_lanes-wide.new.acc _ row _ factor c.add_in_lanes-wide.result c.add_in_lanes-at.result c.of-products.ensures
+    c.add_in_lanes-at.ensures.order c.add_in_lanes-wide.ensures.added c.add_in_lanes-at.ensures.added)) k
+
+pub returns-else-at-acc : goal.returns-else-at-acc
+returns-else-at-acc c = λ k.
+    let old = c.args.acc.now in
+    let row = c.args.row.now in
+    let factor = c.args.factor in
+    let end : c.add_in_lanes-at.result ≡ length old = omega (arith, c.add_in_lanes-at.ensures.within) in
+    added-all _ old (multiple row factor) c.add_in_lanes-at.result (λ j l. multiple-past row factor j (omega (arith, c.requires)))
+    (both old c.add_in_lanes-wide.new.acc _ row _ factor c.add_in_lanes-wide.result c.add_in_lanes-at.result c.of-products.ensures
+    c.add_in_lanes-at.ensures.order c.add_in_lanes-wide.ensures.added c.add_in_lanes-at.ensures.added) k

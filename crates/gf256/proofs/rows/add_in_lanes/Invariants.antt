@@ -1,12 +1,13 @@
 use Rattle.std.proofs.Common.{◌-◌, ◌≤◌, length}
 use Rattle.gf256.specs.Rows.{multiple, IsAdded}
-use Rattle.gf256.proofs.rows.add_scaled_row.Given as goal
+use Rattle.gf256.proofs.rows.add_in_lanes.Given as goal
 
 abbrev pub invariant-lanes : goal.invariant-lanes
-invariant-lanes l = record {
+invariant-lanes g l = record {
+  order : l.from ≤ l.at;
   within : l.at ≤ length l.acc;
-  added : IsAdded l.acc l.initial.acc (multiple l.row l.factor) 0 l.at;
+  added : IsAdded l.acc l.initial.acc (multiple l.row l.products) l.from l.at;
 }
 
 abbrev pub decreases-lanes : goal.decreases-lanes
-decreases-lanes l = length l.initial.acc - l.at
+decreases-lanes g l = length l.initial.acc - l.at

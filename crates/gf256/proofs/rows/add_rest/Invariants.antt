@@ -1,5 +1,0 @@
-use Rattle.gf256.specs.Rows.{multiple, IsAdded}
-use Rattle.gf256.proofs.rows.add_rest.Given as goal
-
-abbrev pub invariant-loop-i : goal.invariant-loop-i
-invariant-loop-i l = IsAdded l.acc l.initial.acc (multiple l.row l.products) l.at l.i
