@@ -1,11 +1,10 @@
 -- Six rows that are added to a list at once, each times its factor.
-use Rattle.std.proofs.Common.{◌≡◌, ℕ, ◌+◌, ◌≤◌, List, length, get_or, bit_xor, ap, ap₂, ◌∙◌, arith}
-use Rattle.std.specs.Simd.Lanes.{zip2, chunk, put_chunk}
+use Rattle.std.proofs.Common.{◌≡◌, ℕ, ◌≤◌, List, length, bit_xor, ap₂, ◌∙◌, arith}
+use Rattle.std.specs.Simd.Lanes.{zip2}
 use Rattle.gf256.specs.Field.{◌⊕◌}
-use Rattle.gf256.specs.Rows.{multiple, IsAdded, AreLanes}
+use Rattle.gf256.specs.Rows.{multiple, AreLanes}
 use Rattle.gf256.proofs.Xor.{add_zero}
-use Rattle.gf256.proofs.Added.{added-lanes}
-use Rattle.gf256.proofs.LaneSums.{lanes-of, lanes-sum}
+use Rattle.gf256.proofs.LaneSums.{lanes-sum}
 use Rattle.gf256.proofs.RowSums.{multiple-past}
 use Rattle.server_product.specs.SixRows.{scaled_at, six_at}
 use Rattle.server_product.specs.declared.six_rows.SixRows.{SixRows}
@@ -23,26 +22,14 @@ six-past six n ea eb ec ed ee ef k l =
     (past six.d.row.now six.d.factor ed)) (past six.e.row.now six.e.factor ee)) (past six.f.row.now six.f.factor ef)
     ∙ (let none : 0 ⊕ 0 ⊕ 0 ⊕ 0 ⊕ 0 ⊕ 0 ≡ 0 = simp add_zero in none)
 
--- the sums of 16 products with each row
-pub six-lanes : (six : SixRows) (pa pb pc pd pe pf : List ℕ) (at : ℕ)
-    → AreLanes pa (scaled_at six.a) at → AreLanes pb (scaled_at six.b) at → AreLanes pc (scaled_at six.c) at
-    → AreLanes pd (scaled_at six.d) at → AreLanes pe (scaled_at six.e) at → AreLanes pf (scaled_at six.f) at
-    → AreLanes (zip2 bit_xor (zip2 bit_xor (zip2 bit_xor (zip2 bit_xor (zip2 bit_xor pa pb) pc) pd) pe) pf) (six_at six) at
+-- the sums of n products with each row
+pub six-lanes : {n : ℕ} (six : SixRows) (pa pb pc pd pe pf : List ℕ) (at : ℕ)
+    → AreLanes n pa (scaled_at six.a) at → AreLanes n pb (scaled_at six.b) at → AreLanes n pc (scaled_at six.c) at
+    → AreLanes n pd (scaled_at six.d) at → AreLanes n pe (scaled_at six.e) at → AreLanes n pf (scaled_at six.f) at
+    → AreLanes n (zip2 bit_xor (zip2 bit_xor (zip2 bit_xor (zip2 bit_xor (zip2 bit_xor pa pb) pc) pd) pe) pf) (six_at six) at
 unfolding six_at
 six-lanes six pa pb pc pd pe pf at a b c d e f =
     lanes-sum _ pf _ _ at (lanes-sum _ pe _ _ at (lanes-sum _ pd _ _ at (lanes-sum _ pc _ _ at (lanes-sum pa pb _ _ at a b) c) d) e) f
-
--- 16 places with lanes, stored where they stand; `base` is what was read
-pub lanes-put : (acc old base lanes : List ℕ) (g : ℕ → ℕ) (start n : ℕ)
-    → start + 16 ≤ length acc → length base ≡ length acc → start ≤ n → n ≤ start + 16
-    → ((k : ℕ) → start ≤ k → get_or base k 0 ≡ get_or old k 0) → AreLanes lanes g start → IsAdded acc old g 0 n
-    → IsAdded (put_chunk start acc (zip2 bit_xor (chunk start 16 base) lanes)) old g 0 (start + 16)
-lanes-put acc old base lanes g start n room same from to read are done =
-    let within : start + 16 ≤ length base = omega arith in
-    added-lanes acc old _ g _ 0 start n room (lanes-sum _ lanes _ _ start (lanes-of base start within) are) (omega arith) from to
-    (λ k l m. absurd (omega (arith, m)))
-    (λ k l m i. ap (λ x. x ⊕ g k) (read k l))
-    done
 
 -- one place of six rows
 pub six-place : (six : SixRows) (k xa xb xc xd xe xf : ℕ)

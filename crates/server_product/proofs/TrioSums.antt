@@ -7,8 +7,8 @@ use Rattle.gf256.specs.Field.{◌⊕◌, ◌⊗◌}
 use Rattle.gf256.specs.Rows.{IsAdded}
 use Rattle.gf256.proofs.Xor.{add_zero}
 use Rattle.gf256.proofs.FieldLaws.{mul_zero}
-use Rattle.gf256.proofs.Added.{added-none, added-lanes}
-use Rattle.gf256.proofs.LaneSums.{lanes-of, lanes-sum, lanes-times}
+use Rattle.gf256.proofs.Added.{added-none}
+use Rattle.gf256.proofs.LaneSums.{lanes-of, lanes-sum, lanes-times, lanes-put}
 use Rattle.server_product.specs.Trios.{trio_at}
 use Rattle.server_product.specs.declared.trios.Trio.{Trio}
 
@@ -24,23 +24,20 @@ trio-past trio n ea eb ec k l =
       nothing : (f : ℕ) → f ⊗ (0 ⊕ 0 ⊕ 0) ≡ 0
       nothing f = simp (add_zero, mul_zero)
 
--- 16 places with their products with a trio, stored where they stand
-pub trio-put : (acc : List ℕ) (trio : Trio) (products : List ℕ) (at : ℕ) → at + 16 ≤ length acc
+-- n places with their products with a trio, stored where they stand
+pub trio-put : (n : ℕ) (acc : List ℕ) (trio : Trio) (products : List ℕ) (at : ℕ) → at + n ≤ length acc
     → length trio.a.now ≡ length acc → length trio.b.now ≡ length acc → length trio.c.now ≡ length acc
-    → products ≡ map (λ x. trio.factor ⊗ x) (zip2 bit_xor (zip2 bit_xor (chunk at 16 trio.a.now) (chunk at 16 trio.b.now)) (chunk at 16 trio.c.now))
-    → IsAdded (put_chunk at acc (zip2 bit_xor (chunk at 16 acc) products)) acc (trio_at trio) at (at + 16)
+    → products ≡ map (λ x. trio.factor ⊗ x) (zip2 bit_xor (zip2 bit_xor (chunk at n trio.a.now) (chunk at n trio.b.now)) (chunk at n trio.c.now))
+    → IsAdded (put_chunk at acc (zip2 bit_xor (chunk at n acc) products)) acc (trio_at trio) at (at + n)
 unfolding trio_at
-trio-put acc trio products at room ea eb ec e =
+trio-put n acc trio products at room ea eb ec e =
     let a = trio.a.now in
     let b = trio.b.now in
     let c = trio.c.now in
-    let two = lanes-sum (chunk at 16 a) (chunk at 16 b) _ _ at (lanes-of a at (omega arith)) (lanes-of b at (omega arith)) in
-    let three = lanes-sum _ (chunk at 16 c) _ _ at two (lanes-of c at (omega arith)) in
-    let times = lanes-times _ products _ trio.factor at e three in
-    added-lanes acc acc (zip2 bit_xor (chunk at 16 acc) products) (trio_at trio) _ at at at room
-    (lanes-sum (chunk at 16 acc) products _ _ at (lanes-of acc at room) times) (omega arith) (omega arith) (omega arith)
-    (λ k l m. absurd (omega (arith, l, m)))
-    (λ k l m i. refl)
+    let two = lanes-sum (chunk at n a) (chunk at n b) _ _ at (lanes-of n a at (omega arith)) (lanes-of n b at (omega arith)) in
+    let three = lanes-sum _ (chunk at n c) _ _ at two (lanes-of n c at (omega arith)) in
+    lanes-put n acc acc acc products (trio_at trio) at at at (omega arith) room refl (omega arith) (omega arith) (λ k l. refl)
+    (lanes-times _ products _ trio.factor at e three)
     (added-none acc (trio_at trio) at)
 
 -- one place of a trio

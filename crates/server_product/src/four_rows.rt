@@ -1,5 +1,5 @@
-//! Four rows at once for several queries: the bytes of a row are cut into their halves once for all
-//! queries, and the sums are read and written once for the four.
+//! Four rows at once for several queries: the bytes of a row are read once for all queries, and the
+//! sums are read and written once for the four.
 
 ghost use Rattle.std.specs.Prelude.{◌≡◌, ◌+◌, ◌*◌, ◌<◌, ◌≤◌, length};
 ghost use Rattle.std.specs.Int.{div_ceil};
@@ -8,38 +8,42 @@ ghost use Rattle.row_workers.specs.RowSums.{AddsBelow};
 ghost use Rattle.row_workers.specs.Blocks.{IsAddedInBlock};
 ghost use Rattle.server_product.specs.Blocks.{four_at};
 
-use crate::tables::{Halves, Tables};
-use row_workers::FourRows;
+use crate::tables::Tables;
+use gf256::vectors::{LookUp, Vectors};
 use row_workers::blocks::start_of;
+use row_workers::{FourRows, lanes_of};
 use std::simd::prelude::*;
 
-/// Adds four rows, each times a factor, to the sums in blocks of so many queries: `factors` has four
-/// for each query.
-pub fn add_four_rows(
+/// Adds four rows, each times a factor, to the sums in blocks of N columns of so many queries:
+/// `factors` has four for each query.
+pub fn add_four_rows<const N: usize>(
     sums: &mut [u8],
     rows: FourRows,
     factors: &[u8; 64],
     count: usize,
     tables: &Tables,
 )
-    requires wide { 16 ≤ length rows.a.now }
+where
+    Vectors: LookUp<N>,
+    requires lanes { (1 ≤ N) × (N ≤ 32) }
+    requires wide { N ≤ length rows.a.now }
     requires b { length rows.b.now ≡ length rows.a.now }
     requires c { length rows.c.now ≡ length rows.a.now }
     requires d { length rows.d.now ≡ length rows.a.now }
     requires some { 1 ≤ count }
     requires few { count ≤ 16 }
-    requires room { length sums.old ≡ 16 * (div_ceil (length rows.a.now) 16 * count) }
+    requires room { length sums.old ≡ N * (div_ceil (length rows.a.now) N * count) }
     requires memory { length rows.a.now ≤ MOST_WIDTH }
-    ensures { AddsBelow (four_at rows.entry factors.now count) (length sums.old) sums.old sums.new }
+    ensures { AddsBelow (four_at N rows.entry factors.now count) (length sums.old) sums.old sums.new }
 {
-    for i in 0..rows.a.len().div_ceil(16) {
-        add_block(sums, rows, factors, count, i, tables);
+    for i in 0..rows.a.len().div_ceil(N) {
+        add_block::<N>(sums, rows, factors, count, i, tables);
     }
 }
 
-/// Adds 16 columns of the rows to the sums of all queries.
+/// Adds N columns of the rows to the sums of all queries.
 #[inline(always)]
-fn add_block(
+fn add_block<const N: usize>(
     sums: &mut [u8],
     rows: FourRows,
     factors: &[u8; 64],
@@ -47,29 +51,32 @@ fn add_block(
     i: usize,
     tables: &Tables,
 )
-    requires wide { 16 ≤ length rows.a.now }
+where
+    Vectors: LookUp<N>,
+    requires lanes { (1 ≤ N) × (N ≤ 32) }
+    requires wide { N ≤ length rows.a.now }
     requires b { length rows.b.now ≡ length rows.a.now }
     requires c { length rows.c.now ≡ length rows.a.now }
     requires d { length rows.d.now ≡ length rows.a.now }
     requires some { 1 ≤ count }
     requires few { count ≤ 16 }
-    requires memory { i < 4096 }
-    requires room { 16 * (i * count + count) ≤ length sums.old }
-    ensures { IsAddedInBlock (four_at rows.entry factors.now count) count i sums.old sums.new }
+    requires memory { N * i < MOST_WIDTH }
+    requires room { N * (i * count + count) ≤ length sums.old }
+    ensures { IsAddedInBlock N (four_at N rows.entry factors.now count) count i sums.old sums.new }
 {
     let FourRows { a, b, c, d } = rows;
-    let start = start_of(a.len(), i);
-    let in_a = Halves::at(a, start);
-    let in_b = Halves::at(b, start);
-    let in_c = Halves::at(c, start);
-    let in_d = Halves::at(d, start);
+    let start = start_of::<N>(a.len(), i);
+    let in_a = lanes_of::<N>(a, start);
+    let in_b = lanes_of::<N>(b, start);
+    let in_c = lanes_of::<N>(c, start);
+    let in_d = lanes_of::<N>(d, start);
     for v in 0..count {
-        let at = 16 * (i * count + v);
-        let sum = u8x16::from_slice(&sums[at..])
-            ^ tables.times(factors[4 * v], &in_a)
-            ^ tables.times(factors[4 * v + 1], &in_b)
-            ^ tables.times(factors[4 * v + 2], &in_c)
-            ^ tables.times(factors[4 * v + 3], &in_d);
+        let at = N * (i * count + v);
+        let sum = lanes_of::<N>(sums, at)
+            ^ tables.times(factors[4 * v], in_a)
+            ^ tables.times(factors[4 * v + 1], in_b)
+            ^ tables.times(factors[4 * v + 2], in_c)
+            ^ tables.times(factors[4 * v + 3], in_d);
         sum.copy_to_slice(&mut sums[at..]);
     }
 }

@@ -3,7 +3,8 @@
 
 ghost use Rattle.std.specs.Prelude.{◌≡◌, ◌+◌, ◌*◌, ◌<◌, ◌≤◌, length};
 ghost use Rattle.std.specs.Int.{div_ceil};
-ghost use Rattle.row_workers.specs.RowSums.{AreSums};
+ghost use Rattle.row_workers.specs.RowSums.{AreSums, AddsSums};
+ghost use Rattle.row_workers.specs.Group.{block_gives, query_gives, AddsFour};
 ghost use Rattle.server_product.specs.Queries.{entry_of};
 ghost use Rattle.server_product.specs.Blocks.{AreFactors};
 ghost use Rattle.quantity_limits.specs.declared.TheConstants.{MOST_ROWS};
@@ -13,6 +14,8 @@ use crate::four_rows::add_four_rows;
 use crate::sixths::add_in_sixths;
 use crate::tables::Tables;
 use block_matrix::Matrix;
+use gf256::vectors::{LANES, LookUp, Vectors};
+use row_workers::blocks::takes_wide_blocks;
 use row_workers::{Group, GroupSums, four_apart};
 
 /// The most blocks of 16 sums of a group: 64 KB, which the second cache holds.
@@ -41,15 +44,32 @@ pub fn sum_group(matrix: &Matrix, queries: &[u8], count: usize, from: u32, to: u
         queries,
         count,
     };
-    row_workers::sum_group(&tables, group, from, to, sums);
+    if takes_wide_blocks(matrix.width()) {
+        row_workers::sum_group::<Tables, LANES>(&tables, group, from, to, sums);
+    } else {
+        row_workers::sum_group::<Tables, 16>(&tables, group, from, to, sums);
+    }
 }
 
-impl GroupSums for Tables {
+impl<const N: usize> GroupSums<N> for Tables
+where
+    Vectors: LookUp<N>,
+{
     ghost query_size = { λ rows. rows };
 
     ghost gives = { entry_of };
 
-    fn add_four(&self, group: Group, j: u32, apart: u32, _room: &mut [u8], blocks: &mut [u8]) {
+    fn add_four(&self, group: Group, j: u32, apart: u32, _room: &mut [u8], blocks: &mut [u8])
+        requires lanes { (1 ≤ N) × (N ≤ 32) }
+        requires some { 1 ≤ group.count }
+        requires few { group.count ≤ 16 }
+        requires wide { N ≤ group.matrix.now.width }
+        requires within { j + 3 * apart < length group.matrix.now.rows }
+        requires queries { length group.queries.now ≡ group.count * length group.matrix.now.rows }
+        requires room { length _room.old ≡ 2048 }
+        requires blocks { length blocks.old ≡ N * (div_ceil group.matrix.now.width N * group.count) }
+        ensures { AddsFour (block_gives N entry_of group.entry) j apart blocks.old blocks.new }
+    {
         let Group {
             matrix,
             queries,
@@ -60,10 +80,19 @@ impl GroupSums for Tables {
         let _width = matrix.width();
         let factors = factors_of(queries, rows, count, j as usize, apart as usize);
         let four = four_apart(matrix, j, apart);
-        add_four_rows(blocks, four, &factors, count, self);
+        add_four_rows::<N>(blocks, four, &factors, count, self);
     }
 
-    fn add_few(&self, group: Group, v: usize, from: u32, to: u32, sums: &mut [u8]) {
+    fn add_few(&self, group: Group, v: usize, from: u32, to: u32, sums: &mut [u8])
+        requires few { group.count ≤ 16 }
+        requires query { v < group.count }
+        requires order { from ≤ to }
+        requires within { to ≤ length group.matrix.now.rows }
+        requires queries { length group.queries.now ≡ group.count * length group.matrix.now.rows }
+        requires room { length sums.old ≡ group.matrix.now.width }
+        ensures { AddsSums (query_gives entry_of group.entry v) group.entry.matrix.now.width
+            from to sums.old sums.new }
+    {
         let rows = group.matrix.rows() as usize;
         let query = &group.queries[v * rows..(v + 1) * rows];
         add_in_sixths(group.matrix, query, from, to, sums);

@@ -1,14 +1,15 @@
 //! Six rows at once, each times a factor of its own, so that the sums are read and written once for
 //! the six.
 
-ghost use Rattle.std.specs.Prelude.{◌≡◌, ◌+◌, ◌≤◌, length};
-ghost use Rattle.gf256.specs.Rows.{AreLanes};
+ghost use Rattle.std.specs.Prelude.{◌≡◌, ◌+◌, ◌<◌, ◌≤◌, length};
+ghost use Rattle.gf256.specs.Rows.{AreLanes, IsAdded};
 ghost use Rattle.row_workers.specs.RowSums.{Adds};
 ghost use Rattle.server_product.specs.SixRows.{scaled_at, six_at, AreProductsOf};
 
 use crate::rows::Scaled;
 use gf256::mul;
 use gf256::rows::Products;
+use gf256::vectors::{LANES, LookUp, Vectors};
 use row_workers::lanes_of;
 use std::simd::prelude::*;
 
@@ -49,27 +50,31 @@ fn products_of(six: SixRows) -> SixProducts
     }
 }
 
-/// The products of 16 bytes of the row from place `at` on.
+/// The products of N bytes of the row from place `at` on.
 #[inline(always)]
-fn products_at(scaled: Scaled, products: &Products, at: usize) -> u8x16
+fn products_at<const N: usize>(scaled: Scaled, products: &Products, at: usize) -> Simd<u8, N>
+where
+    Vectors: LookUp<N>,
     requires factor { products.now ≡ scaled.factor }
-    requires within { at + 16 ≤ length scaled.row.now }
-    ensures { AreLanes result (scaled_at scaled.entry) at }
+    requires within { at + N ≤ length scaled.row.now }
+    ensures { AreLanes N result (scaled_at scaled.entry) at }
 {
     products.times(lanes_of(scaled.row, at))
 }
 
-/// The sums of the products of 16 bytes of each row from place `at` on.
+/// The sums of the products of N bytes of each row from place `at` on.
 #[inline(always)]
-fn six_lanes(six: SixRows, products: &SixProducts, at: usize) -> u8x16
+fn six_lanes<const N: usize>(six: SixRows, products: &SixProducts, at: usize) -> Simd<u8, N>
+where
+    Vectors: LookUp<N>,
     requires products { AreProductsOf products.now six }
-    requires a { at + 16 ≤ length six.a.row.now }
-    requires b { at + 16 ≤ length six.b.row.now }
-    requires c { at + 16 ≤ length six.c.row.now }
-    requires d { at + 16 ≤ length six.d.row.now }
-    requires e { at + 16 ≤ length six.e.row.now }
-    requires f { at + 16 ≤ length six.f.row.now }
-    ensures { AreLanes result (six_at six.entry) at }
+    requires a { at + N ≤ length six.a.row.now }
+    requires b { at + N ≤ length six.b.row.now }
+    requires c { at + N ≤ length six.c.row.now }
+    requires d { at + N ≤ length six.d.row.now }
+    requires e { at + N ≤ length six.e.row.now }
+    requires f { at + N ≤ length six.f.row.now }
+    ensures { AreLanes N result (six_at six.entry) at }
 {
     products_at(six.a, &products.a, at)
         ^ products_at(six.b, &products.b, at)
@@ -77,6 +82,40 @@ fn six_lanes(six: SixRows, products: &SixProducts, at: usize) -> u8x16
         ^ products_at(six.d, &products.d, at)
         ^ products_at(six.e, &products.e, at)
         ^ products_at(six.f, &products.f, at)
+}
+
+/// Adds the six rows, each times its factor, to `acc` from place `from` on, N bytes at once, until
+/// fewer than N are left. Gives the place of the first that is left.
+#[inline(always)]
+fn add_in_lanes<const N: usize>(
+    acc: &mut [u8],
+    six: SixRows,
+    products: &SixProducts,
+    from: usize,
+) -> usize
+where
+    Vectors: LookUp<N>,
+    requires products { AreProductsOf products.now six }
+    requires a { length six.a.row.now ≡ length acc.old }
+    requires b { length six.b.row.now ≡ length acc.old }
+    requires c { length six.c.row.now ≡ length acc.old }
+    requires d { length six.d.row.now ≡ length acc.old }
+    requires e { length six.e.row.now ≡ length acc.old }
+    requires f { length six.f.row.now ≡ length acc.old }
+    requires some { 1 ≤ N }
+    requires within { from ≤ length acc.old }
+    ensures order { from ≤ result }
+    ensures within { result ≤ length acc.old }
+    ensures few { length acc.old < result + N }
+    ensures added { IsAdded acc.new acc.old (six_at six.entry) from result }
+{
+    let mut at = from;
+    'lanes: while acc.len() - at >= N {
+        let sum = lanes_of::<N>(acc, at) ^ six_lanes(six, products, at);
+        sum.copy_to_slice(&mut acc[at..]);
+        at += N;
+    }
+    at
 }
 
 /// Adds the six rows, each times its factor, to `acc`: each is as long. Where the last places are
@@ -97,12 +136,8 @@ pub fn add_six_rows(acc: &mut [u8], six: SixRows)
     let products = products_of(six);
     let last = acc.len() - 16;
     let end = u8x16::from_slice(&acc[last..]);
-    let mut at = 0;
-    'lanes: while at <= last {
-        let sum = u8x16::from_slice(&acc[at..]) ^ six_lanes(six, &products, at);
-        sum.copy_to_slice(&mut acc[at..]);
-        at += 16;
-    }
+    let wide = add_in_lanes::<LANES>(acc, six, &products, 0);
+    let at = add_in_lanes::<16>(acc, six, &products, wide);
     if at < acc.len() {
         let sum = end ^ six_lanes(six, &products, last);
         sum.copy_to_slice(&mut acc[last..]);

@@ -1,50 +1,13 @@
-//! The products of all factors, 16 at once, for bytes that are cut into their halves once and
-//! multiplied by many factors.
+//! The products of all factors, many at once, for bytes that are multiplied by many factors.
 
-ghost use Rattle.std.specs.Prelude.{◌≡◌, ℕ, ◌+◌, ◌≤◌, length, map};
-ghost use Rattle.std.specs.Simd.Lanes.{chunk};
+ghost use Rattle.std.specs.Prelude.{◌≡◌, ◌+◌, map};
 ghost use Rattle.gf256.specs.Field.{◌⊗◌};
-ghost use Rattle.server_product.specs.Tables.{HasProducts, AreHalves};
+ghost use Rattle.server_product.specs.Tables.{HasProducts};
 
 use gf256::rows::Products;
+use gf256::vectors::{LookUp, Vectors};
 use row_workers::lanes_of;
-use std::marker::Model;
 use std::simd::prelude::*;
-
-/// 16 bytes, and the low and the high four bits of each. Contracts see the bytes.
-#[derive(Drop)]
-pub struct Halves {
-    bytes: u8x16,
-    low: u8x16,
-    high: u8x16,
-}
-
-impl Model for Halves {
-    ghost use Rattle.std.specs.Prelude.{ℕ, List};
-    ghost use Rattle.server_product.specs.Tables.{AreHalves};
-
-    ghost Value = { List ℕ };
-
-    ghost view = { λ h. h.bytes };
-
-    ghost invariant = { λ h. AreHalves h.bytes h.low h.high };
-}
-
-impl Halves {
-    /// Those of 16 bytes of the row, from place `at` on.
-    #[inline(always)]
-    pub fn at(row: &[u8], at: usize) -> Halves
-        requires { at + 16 ≤ length row.now }
-        ensures { result ≡ chunk at 16 row.now }
-    {
-        let bytes = u8x16::from_slice(&row[at..]);
-        Halves {
-            bytes,
-            low: bytes & u8x16::splat(15),
-            high: bytes >> u8x16::splat(4),
-        }
-    }
-}
 
 /// Puts the products of `factor` where they belong in a table of 8192 bytes.
 fn put_products(table: &mut [u8], factor: u8)
@@ -76,14 +39,16 @@ impl Tables {
         Tables { bytes }
     }
 
-    /// The product of each of 16 bytes with the factor.
+    /// The product of each of the bytes with the factor.
     #[inline(always)]
-    pub fn times(&self, factor: u8, halves: &Halves) -> u8x16
-        ensures { result ≡ map (λ x. factor ⊗ x) halves.now }
+    pub fn times<const N: usize>(&self, factor: u8, bytes: Simd<u8, N>) -> Simd<u8, N>
+    where
+        Vectors: LookUp<N>,
+        ensures { result ≡ map (λ x. factor ⊗ x) bytes.entry }
     {
         let at = 32 * usize::from(factor);
-        let low = lanes_of(&self.bytes, at).swizzle_dyn_within::<16>(halves.low);
-        let high = lanes_of(&self.bytes, at + 16).swizzle_dyn_within::<16>(halves.high);
+        let low = Vectors::look_up(lanes_of(&self.bytes, at), bytes & Simd::splat(15));
+        let high = Vectors::look_up(lanes_of(&self.bytes, at + 16), bytes >> Simd::splat(4));
         low ^ high
     }
 }

@@ -8,6 +8,7 @@ ghost use Rattle.server_product.specs.Trios.{trio_at, AddsTrios};
 
 use gf256::mul;
 use gf256::rows::Products;
+use gf256::vectors::{LANES, LookUp, Vectors};
 use row_workers::lanes_of;
 use std::simd::prelude::*;
 
@@ -23,19 +24,52 @@ pub struct Trio<'a> {
     pub factor: u8,
 }
 
-/// Adds the products of 16 places of the rows, from place `at` on, to those of `acc`.
+/// Adds the products of N places of the rows, from place `at` on, to those of `acc`.
 #[inline(always)]
-fn add_lanes(acc: &mut [u8], trio: Trio, products: &Products, at: usize)
+fn add_lanes<const N: usize>(acc: &mut [u8], trio: Trio, products: &Products, at: usize)
+where
+    Vectors: LookUp<N>,
     requires a { length trio.a.now ≡ length acc.old }
     requires b { length trio.b.now ≡ length acc.old }
     requires c { length trio.c.now ≡ length acc.old }
     requires factor { products.now ≡ trio.factor }
-    requires within { at + 16 ≤ length acc.old }
-    ensures { IsAdded acc.new acc.old (trio_at trio.entry) at (at + 16) }
+    requires within { at + N ≤ length acc.old }
+    ensures { IsAdded acc.new acc.old (trio_at trio.entry) at (at + N) }
 {
-    let rows = lanes_of(trio.a, at) ^ lanes_of(trio.b, at) ^ lanes_of(trio.c, at);
-    let sum = u8x16::from_slice(&acc[at..]) ^ products.times(rows);
+    let rows = lanes_of::<N>(trio.a, at) ^ lanes_of(trio.b, at) ^ lanes_of(trio.c, at);
+    let sum = lanes_of::<N>(acc, at) ^ products.times(rows);
     sum.copy_to_slice(&mut acc[at..]);
+}
+
+/// Adds the products of the places from `from` on to those of `acc`, N at once, until fewer than N
+/// are left before `to`. Gives the first that is left.
+#[inline(always)]
+fn add_in_lanes<const N: usize>(
+    acc: &mut [u8],
+    trio: Trio,
+    products: &Products,
+    from: usize,
+    to: usize,
+) -> usize
+where
+    Vectors: LookUp<N>,
+    requires a { length trio.a.now ≡ length acc.old }
+    requires b { length trio.b.now ≡ length acc.old }
+    requires c { length trio.c.now ≡ length acc.old }
+    requires factor { products.now ≡ trio.factor }
+    requires some { 1 ≤ N }
+    requires order { from ≤ to }
+    requires within { to ≤ length acc.old }
+    ensures order { from ≤ result }
+    ensures within { result ≤ to }
+    ensures added { IsAdded acc.new acc.old (trio_at trio.entry) from result }
+{
+    let mut at = from;
+    'lanes: while to - at >= N {
+        add_lanes::<N>(acc, trio, products, at);
+        at += N;
+    }
+    at
 }
 
 /// Adds the products of the places from `from` up to `to` to those of `acc`.
@@ -48,11 +82,8 @@ fn add_places(acc: &mut [u8], trio: Trio, products: &Products, from: usize, to: 
     requires within { to ≤ length acc.old }
     ensures { IsAdded acc.new acc.old (trio_at trio.entry) from to }
 {
-    let mut at = from;
-    'lanes: while to - at >= 16 {
-        add_lanes(acc, trio, products, at);
-        at += 16;
-    }
+    let wide = add_in_lanes::<LANES>(acc, trio, products, from, to);
+    let at = add_in_lanes::<16>(acc, trio, products, wide, to);
     for i in at..to {
         acc[i] ^= mul(trio.factor, trio.a[i] ^ trio.b[i] ^ trio.c[i]);
     }
@@ -76,10 +107,10 @@ pub fn add_two_trios(acc: &mut [u8], first: Trio, second: Trio)
     let lag = LAG.min(len);
     add_places(acc, first, &by_first, 0, lag);
     let mut at = lag;
-    'lanes: while len - at >= 16 {
-        add_lanes(acc, first, &by_first, at);
-        add_lanes(acc, second, &by_second, at - lag);
-        at += 16;
+    'lanes: while len - at >= LANES {
+        add_lanes::<LANES>(acc, first, &by_first, at);
+        add_lanes::<LANES>(acc, second, &by_second, at - lag);
+        at += LANES;
     }
     add_places(acc, first, &by_first, at, len);
     add_places(acc, second, &by_second, at - lag, len);

@@ -1,4 +1,5 @@
-use Rattle.std.proofs.Common.{◌≡◌, ◌≤◌, ◌+◌, ◌*◌, length, subst, arith, mul-le-mul}
+use Rattle.std.proofs.Common.{◌≡◌, ◌≤◌, ◌+◌, ◌*◌, length, bit_xor, sym, subst, arith, mul-le-mul_left}
+use Rattle.std.specs.Simd.Lanes.{zip2, put_chunk}
 use Rattle.gf256.specs.Rows.{IsAdded}
 use Rattle.gf256.proofs.Added.{added-none}
 use Rattle.server_product.specs.Blocks.{four_at}
@@ -6,104 +7,38 @@ use Rattle.server_product.proofs.BlockSums.{block-put}
 use Rattle.server_product.proofs.four_rows.add_block.Goals as goal
 
 pub loop-v-init : goal.loop-v-init
-loop-v-init c =
-    let g = four_at c.args.rows c.args.factors.now c.args.count in
-    let none : 16 * (c.args.i * c.args.count) ≡ 16 * (c.args.i * c.args.count + 0) = omega arith in
-    subst (IsAdded c.args.sums.now c.args.sums.now g (16 * (c.args.i * c.args.count))) none (added-none c.args.sums.now g (16 * (c.args.i * c.args.count)))
+loop-v-init g c =
+    let n = g.row.N in
+    let f = four_at n c.args.rows c.args.factors.now c.args.count in
+    let none : n * (c.args.i * c.args.count) ≡ n * (c.args.i * c.args.count + 0) = grind arith in
+    subst (IsAdded c.args.sums.now c.args.sums.now f (n * (c.args.i * c.args.count))) none (added-none c.args.sums.now f (n * (c.args.i * c.args.count)))
 
 pub loop-v-preserved : goal.loop-v-preserved
-loop-v-preserved c =
-    let g = four_at c.args.rows c.args.factors.now c.args.count in
+loop-v-preserved g c =
+    let n = g.row.N in
+    let f = four_at n c.args.rows c.args.factors.now c.args.count in
+    let old = c.args.sums.now in
     let b = c.args.i * c.args.count in
     let v = c.loop-v.v in
-    let next : 16 * (b + v) + 16 ≡ 16 * (b + (v + 1)) = omega arith in
-    let room : 16 * (b + v) + 16 ≤ length c.loop-v.sums = omega arith in
-    subst (IsAdded _ c.args.sums.now g (16 * b)) next
-    (block-put c.loop-v.sums c.args.sums.now c.args.rows c.args.factors.now
-    c.at-in_a.result c.at-in_b.result c.at-in_c.result c.at-in_d.result
-    c.times.result c.times-in-loop-v.result c.times-in-loop-v-2.result c.times-in-loop-v-3.result c.args.count c.args.i v (16 * b) c.start_of-start.result
-    c.requires.wide c.requires.b c.requires.c c.requires.d (omega arith) room (omega arith) c.start_of-start.ensures
-    c.at-in_a.ensures c.at-in_b.ensures c.at-in_c.ensures c.at-in_d.ensures
-    c.times.ensures c.times-in-loop-v.ensures c.times-in-loop-v-2.ensures c.times-in-loop-v-3.ensures c.loop-v.invariant)
-
-pub start_of-start-requires-clause-wide : goal.start_of-start-requires-clause-wide
-start_of-start-requires-clause-wide c = omega arith
-
-pub start_of-start-requires-clause-memory : goal.start_of-start-requires-clause-memory
-start_of-start-requires-clause-memory c = omega arith
-
-pub at-in_a-requires : goal.at-in_a-requires
-at-in_a-requires c = omega arith
-
-pub at-in_b-requires : goal.at-in_b-requires
-at-in_b-requires c = omega arith
-
-pub at-in_c-requires : goal.at-in_c-requires
-at-in_c-requires c = omega arith
-
-pub at-in_d-requires : goal.at-in_d-requires
-at-in_d-requires c = omega arith
-
-pub overflow_mul-at : goal.overflow_mul-at
-overflow_mul-at c =
-    let most : c.args.i ≤ 4096 = omega arith in
-    omega (arith, mul-le-mul most c.requires.few)
-
-pub overflow_add-at : goal.overflow_add-at
-overflow_add-at c =
-    let most : c.args.i ≤ 4096 = omega arith in
-    omega (arith, mul-le-mul most c.requires.few)
-
-pub overflow_mul-at-in-loop-v : goal.overflow_mul-at-in-loop-v
-overflow_mul-at-in-loop-v c =
-    let most : c.args.i ≤ 4096 = omega arith in
-    omega (arith, mul-le-mul most c.requires.few)
-
-pub load-sums : goal.load-sums
-load-sums c = omega arith
-
-pub overflow_mul-v : goal.overflow_mul-v
-overflow_mul-v c = omega arith
-
-pub bounds-factors-v : goal.bounds-factors-v
-bounds-factors-v c = omega arith
-
-pub overflow_mul-v-in-loop-v : goal.overflow_mul-v-in-loop-v
-overflow_mul-v-in-loop-v c = omega arith
-
-pub overflow_add-v : goal.overflow_add-v
-overflow_add-v c = omega arith
-
-pub bounds-factors-v-in-loop-v : goal.bounds-factors-v-in-loop-v
-bounds-factors-v-in-loop-v c = omega arith
-
-pub overflow_mul-v-in-loop-v-2 : goal.overflow_mul-v-in-loop-v-2
-overflow_mul-v-in-loop-v-2 c = omega arith
-
-pub overflow_add-v-in-loop-v : goal.overflow_add-v-in-loop-v
-overflow_add-v-in-loop-v c = omega arith
-
-pub bounds-factors-v-in-loop-v-2 : goal.bounds-factors-v-in-loop-v-2
-bounds-factors-v-in-loop-v-2 c = omega arith
-
-pub overflow_mul-v-in-loop-v-3 : goal.overflow_mul-v-in-loop-v-3
-overflow_mul-v-in-loop-v-3 c = omega arith
-
-pub overflow_add-v-in-loop-v-2 : goal.overflow_add-v-in-loop-v-2
-overflow_add-v-in-loop-v-2 c = omega arith
-
-pub bounds-factors-v-in-loop-v-3 : goal.bounds-factors-v-in-loop-v-3
-bounds-factors-v-in-loop-v-3 c = omega arith
-
-pub store-sums : goal.store-sums
-store-sums c = omega arith
-
-pub loop-v-smaller : goal.loop-v-smaller
-loop-v-smaller c = omega arith
+    let at = n * (b + v) in
+    let next : at + n ≡ n * (b + (v + 1)) = grind arith in
+    let later : b + (v + 1) ≤ b + c.args.count = omega arith in
+    let room : at + n ≤ length c.loop-v.sums = omega (arith, next, mul-le-mul_left n later, c.requires.room) in
+    let done : n * b ≤ at = mul-le-mul_left n (let more : b ≤ b + v = omega arith in more) in
+    subst (λ base. IsAdded (put_chunk at c.loop-v.sums (zip2 bit_xor (zip2 bit_xor (zip2 bit_xor (zip2 bit_xor base c.times.result) c.times-in-loop-v.result) c.times-in-loop-v-2.result) c.times-in-loop-v-3.result)) old f (n * b) (n * (b + (v + 1))))
+    (sym c.lanes_of.ensures)
+    (subst (IsAdded _ old f (n * b)) next
+    (block-put n c.loop-v.sums old c.args.rows c.args.factors.now
+    c.lanes_of-in_a.result c.lanes_of-in_b.result c.lanes_of-in_c.result c.lanes_of-in_d.result
+    c.times.result c.times-in-loop-v.result c.times-in-loop-v-2.result c.times-in-loop-v-3.result c.args.count c.args.i v (n * b) c.start_of-start.result
+    c.requires.lanes.0 c.requires.wide c.requires.b c.requires.c c.requires.d (omega arith) room done c.start_of-start.ensures
+    c.lanes_of-in_a.ensures c.lanes_of-in_b.ensures c.lanes_of-in_c.ensures c.lanes_of-in_d.ensures
+    c.times.ensures c.times-in-loop-v.ensures c.times-in-loop-v-2.ensures c.times-in-loop-v-3.ensures c.loop-v.invariant))
 
 pub returns : goal.returns
-returns c =
-    let g = four_at c.args.rows c.args.factors.now c.args.count in
+returns g c =
+    let n = g.row.N in
+    let f = four_at n c.args.rows c.args.factors.now c.args.count in
     let b = c.args.i * c.args.count in
     let end : c.loop-v.v ≡ c.args.count = omega arith in
-    subst (λ v. IsAdded c.loop-v.sums c.args.sums.now g (16 * b) (16 * (b + v))) end c.loop-v.invariant
+    subst (λ v. IsAdded c.loop-v.sums c.args.sums.now f (n * b) (n * (b + v))) end c.loop-v.invariant

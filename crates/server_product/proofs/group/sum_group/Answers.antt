@@ -1,29 +1,23 @@
-use Rattle.std.proofs.Common.{arith}
+use Rattle.std.proofs.Common.{◌≡◌, ℕ, ◌≤◌, ◌*◌, ◌+◌, arith, mul-le-mul_left}
+use Rattle.std.specs.Int.{div_ceil}
+use Rattle.std.proofs.lemmas.Grind.{div_ceil_times}
 use Rattle.server_product.proofs.group.sum_group.Goals as goal
 
-pub sum_group-requires-clause-some : goal.sum_group-requires-clause-some
-sum_group-requires-clause-some c = c.requires.some
-
-pub sum_group-requires-clause-few : goal.sum_group-requires-clause-few
-sum_group-requires-clause-few c = c.requires.few
-
-pub sum_group-requires-clause-wide : goal.sum_group-requires-clause-wide
-sum_group-requires-clause-wide c = c.requires.wide
+-- what fits in blocks of 16 fits in blocks of 32
+wide_fits : (width count : ℕ) → count ≤ 16 → count * div_ceil width 16 ≤ 4096 → 32 * (div_ceil width 32 * count) ≤ 66048
+wide_fits width count few fits =
+    let wide = div_ceil width 32 in
+    let narrow = div_ceil width 16 in
+    let twice : 2 * wide ≤ narrow + 1 = omega (arith, (div_ceil_times width 32 (omega arith)).1, (div_ceil_times width 16 (omega arith)).0) in
+    let same : 32 * (wide * count) ≡ 16 * (count * (2 * wide)) = grind arith in
+    let more : count * (narrow + 1) ≡ count * narrow + count = grind arith in
+    omega (arith, same, more, mul-le-mul_left count twice, fits, few)
 
 pub sum_group-requires-clause-fits : goal.sum_group-requires-clause-fits
-sum_group-requires-clause-fits c = omega (arith, c.requires.fits)
+sum_group-requires-clause-fits c = wide_fits c.args.matrix.now.width c.args.count c.requires.few c.requires.fits
 
-pub sum_group-requires-clause-order : goal.sum_group-requires-clause-order
-sum_group-requires-clause-order c = c.requires.order
+pub returns-then-takes_wide_blocks : goal.returns-then-takes_wide_blocks
+returns-then-takes_wide_blocks c = c.sum_group.ensures
 
-pub sum_group-requires-clause-within : goal.sum_group-requires-clause-within
-sum_group-requires-clause-within c = c.requires.within
-
-pub sum_group-requires-clause-queries : goal.sum_group-requires-clause-queries
-sum_group-requires-clause-queries c = c.requires.queries
-
-pub sum_group-requires-clause-room : goal.sum_group-requires-clause-room
-sum_group-requires-clause-room c = c.requires.room
-
-pub returns : goal.returns
-returns c = c.sum_group.ensures
+pub returns-else-takes_wide_blocks : goal.returns-else-takes_wide_blocks
+returns-else-takes_wide_blocks c = c.sum_group-else-takes_wide_blocks.ensures

@@ -1,4 +1,5 @@
 use Rattle.std.proofs.Common.{◌≡◌, ◌+◌, ◌-◌, length, subst, arith}
+use Rattle.gf256.specs.declared.vectors.TheConstants.{LANES}
 use Rattle.server_product.specs.Trios.{trio_at}
 use Rattle.server_product.proofs.TrioSums.{trio-past, IsLagged, lagged-start, lagged-first, lagged-second, lagged-all}
 use Rattle.server_product.proofs.trios.add_two_trios.Goals as goal
@@ -21,14 +22,14 @@ lanes-preserved c =
     let h = trio_at c.args.second in
     let at = c.lanes.at in
     let lag = c.min-lag.result in
-    let next : at - lag + 16 ≡ at + 16 - lag = omega (arith, c.lanes.invariant.begun) in
-    let ahead = lagged-first c.add_lanes.new.acc c.lanes.acc c.args.acc.now g h at (at - lag) (at + 16) (omega arith) (omega arith) c.add_lanes.ensures c.lanes.invariant.lagged in
+    let next : at - lag + LANES ≡ at + LANES - lag = omega (arith, c.lanes.invariant.begun) in
+    let ahead = lagged-first c.add_lanes.new.acc c.lanes.acc c.args.acc.now g h at (at - lag) (at + LANES) (omega arith) (omega arith) c.add_lanes.ensures c.lanes.invariant.lagged in
     record {
       begun = omega (arith, c.lanes.invariant.begun);
       within = omega (arith, c.lanes.invariant.within);
       lagged =
-          subst (IsLagged c.add_lanes-in-lanes.new.acc c.args.acc.now g h (at + 16)) next
-          (lagged-second c.add_lanes-in-lanes.new.acc c.add_lanes.new.acc c.args.acc.now g h (at + 16) (at - lag) (at - lag + 16) (omega arith) (omega arith) c.add_lanes-in-lanes.ensures ahead);
+          subst (IsLagged c.add_lanes-in-lanes.new.acc c.args.acc.now g h (at + LANES)) next
+          (lagged-second c.add_lanes-in-lanes.new.acc c.add_lanes.new.acc c.args.acc.now g h (at + LANES) (at - lag) (at - lag + LANES) (omega arith) (omega arith) c.add_lanes-in-lanes.ensures ahead);
     }
 
 pub returns : goal.returns

@@ -8,7 +8,7 @@ use Rattle.server_product.proofs.QuerySums.{term-is}
 use Rattle.server_product.proofs.group.TablesGroupSums.add_few.Goals as goal
 
 pub returns : goal.returns
-returns c = λ k l.
+returns g c = λ k l.
     let matrix = c.args.group.matrix.now in
     let queries = c.args.group.queries.now in
     let v = c.args.v in
@@ -19,34 +19,34 @@ returns c = λ k l.
     (λ j a b. term-is queries matrix.rows matrix.width v r k j c.rows-rows.ensures.is l (omega (arith, b, c.requires.within))))
 
 pub overflow_cast-rows : goal.overflow_cast-rows
-overflow_cast-rows c = omega arith
+overflow_cast-rows g c = omega arith
 
 pub overflow_add-query : goal.overflow_add-query
-overflow_add-query c = omega arith
+overflow_add-query g c = omega arith
 
 pub slice_bounds-query-count : goal.slice_bounds-query-count
-slice_bounds-query-count c = omega arith
+slice_bounds-query-count g c = omega arith
 
 pub slice_bounds-query-start : goal.slice_bounds-query-start
-slice_bounds-query-start c = omega arith
+slice_bounds-query-start g c = omega arith
 
 pub add_in_sixths-requires-clause-order : goal.add_in_sixths-requires-clause-order
-add_in_sixths-requires-clause-order c = c.requires.order
+add_in_sixths-requires-clause-order g c = c.requires.order
 
 pub add_in_sixths-requires-clause-within : goal.add_in_sixths-requires-clause-within
-add_in_sixths-requires-clause-within c = c.requires.within
+add_in_sixths-requires-clause-within g c = c.requires.within
 
 pub add_in_sixths-requires-clause-query : goal.add_in_sixths-requires-clause-query
-add_in_sixths-requires-clause-query c = omega arith
+add_in_sixths-requires-clause-query g c = omega arith
 
 pub add_in_sixths-requires-clause-room : goal.add_in_sixths-requires-clause-room
-add_in_sixths-requires-clause-room c = c.requires.room
+add_in_sixths-requires-clause-room g c = c.requires.room
 
 pub overflow_mul-query : goal.overflow_mul-query
-overflow_mul-query c = omega (arith, part_fits c.args.v c.args.group.count c.rows-rows.result _ _ (omega arith) c.rows-rows.ensures.is c.requires.queries)
+overflow_mul-query g c = omega (arith, part_fits c.args.v c.args.group.count c.rows-rows.result _ _ (omega arith) c.rows-rows.ensures.is c.requires.queries)
 
 pub overflow_mul-query-2 : goal.overflow_mul-query-2
-overflow_mul-query-2 c = omega (arith, part_fits (c.args.v + 1) c.args.group.count c.rows-rows.result _ _ (omega arith) c.rows-rows.ensures.is c.requires.queries)
+overflow_mul-query-2 g c = omega (arith, part_fits (c.args.v + 1) c.args.group.count c.rows-rows.result _ _ (omega arith) c.rows-rows.ensures.is c.requires.queries)
 
 pub slice_bounds-query-end : goal.slice_bounds-query-end
-slice_bounds-query-end c = omega (arith, part_fits (c.args.v + 1) c.args.group.count c.rows-rows.result _ _ (omega arith) c.rows-rows.ensures.is c.requires.queries)
+slice_bounds-query-end g c = omega (arith, part_fits (c.args.v + 1) c.args.group.count c.rows-rows.result _ _ (omega arith) c.rows-rows.ensures.is c.requires.queries)
