@@ -1,8 +1,9 @@
 -- The sums of several queries in blocks.
-use Rattle.std.proofs.Common.{◌≡◌, ℕ, ◌+◌, ◌-◌, ◌*◌, ◌/◌, ◌%◌, ◌≤◌, ◌<◌, List, length, get_or, slice_index, refl, sym, ap, ap₂, ◌∙◌, arith}
+use Rattle.std.proofs.Common.{◌≡◌, ℕ, ◌+◌, ◌-◌, ◌*◌, ◌/◌, ◌%◌, ◌≤◌, ◌<◌, List, length, get_or, slice_index, refl, sym, ap, ap₂, ◌∙◌, arith, mul_comm, mul-add, mul-le-mul_left, lt_of_lt_of_le}
 use Rattle.std.specs.Simd.Lanes.{chunk}
 use Rattle.std.specs.Int.{div_ceil}
 use Rattle.std.proofs.lemmas.Nat.{div-mul-add, mod-mul-add, mul-add-lt, div-add-mod', div_below, mod_below}
+use Rattle.std.proofs.lemmas.Grind.{div_ceil_times}
 use Rattle.std.proofs.lemmas.Simd.{length-chunk, get_or-chunk}
 use Rattle.gf256.specs.Field.{◌⊕◌}
 use Rattle.gf256.specs.Rows.{AreLanes}
@@ -13,28 +14,33 @@ use Rattle.row_workers.specs.Blocks.{block_start, column_at, query_at, place_of,
 use Rattle.row_workers.proofs.RunSums.{none_yet, one_more, part_follows}
 
 -- the place of lane k of block i for query v
-module _ (n i v k p : ℕ) (few : v < n) (small : k < 16) (is : p ≡ 16 * (i * n + v) + k) where
+module _ (lanes n i v k p : ℕ) (few : v < n) (small : k < lanes) (is : p ≡ lanes * (i * n + v) + k) where
   -- its block, counted over all queries
-  block_is : p / 16 ≡ i * n + v
-  block_is = omega arith
+  block_is : p / lanes ≡ i * n + v
+  block_is = ap (λ q. q / lanes) (is ∙ ap (λ q. q + k) (mul_comm lanes (i * n + v))) ∙ div-mul-add (i * n + v) lanes k small
 
   -- its lane
-  pub lane-is : p % 16 ≡ k
-  lane-is = omega arith
+  pub lane-is : p % lanes ≡ k
+  lane-is = ap (λ q. q % lanes) (is ∙ ap (λ q. q + k) (mul_comm lanes (i * n + v))) ∙ mod-mul-add (i * n + v) lanes k small
 
   -- its query
-  pub query-is : query_at n p ≡ v
+  pub query-is : query_at lanes n p ≡ v
   query-is = ap (λ b. b % n) block_is ∙ mod-mul-add i n v few
 
   -- its column
-  pub column-is : (width : ℕ) → column_at width n p ≡ block_start width i + k
-  column-is width = ap₂ (λ b l. block_start width (b / n) + l) block_is lane-is ∙ ap (λ b. block_start width b + k) (div-mul-add i n v few)
+  pub column-is : (width : ℕ) → column_at lanes width n p ≡ block_start lanes width i + k
+  column-is width =
+      ap₂ (λ b l. block_start lanes width (b / n) + l) block_is lane-is
+      ∙ ap (λ b. block_start lanes width b + k) (div-mul-add i n v few)
 
--- 16 bytes of a row at places that begin elsewhere
-pub lanes-from : (row : List ℕ) (start at : ℕ) → start + 16 ≤ length row → AreLanes (chunk start 16 row) (λ p. get_or row (start + (p - at)) 0) at
-lanes-from row start at room = record {
-  size = length-chunk start 16 row room;
-  each = λ k l. let back : k ≡ at + k - at = omega arith in get_or-chunk start 16 row k 0 l ∙ ap (λ j. get_or row (start + j) 0) back;
+-- the bytes of a row in places that begin elsewhere
+pub lanes-from : (lanes : ℕ) (row : List ℕ) (start at : ℕ) → start + lanes ≤ length row
+    → AreLanes lanes (chunk start lanes row) (λ p. get_or row (start + (p - at)) 0) at
+lanes-from lanes row start at room = record {
+  size = length-chunk start lanes row room;
+  each = λ k l.
+      let back : k ≡ at + k - at = omega arith in
+      get_or-chunk start lanes row k 0 l ∙ ap (λ j. get_or row (start + j) 0) back;
 }
 
 -- five terms, one by one or as one more
@@ -88,57 +94,71 @@ four-more f new mid old from quarter i before more =
     more ∙ ap₂ ◌⊕◌ before turned ∙ add_assoc old (quarters f from quarter i) _ ∙ ap (◌⊕◌ old) (sym (quarters-next f from quarter i))
 
 -- the column of a place is one of the row's
-pub column-within : (width n p : ℕ) → 16 ≤ width → column_at width n p < width
-column-within width n p wide = omega arith
+pub column-within : (lanes width n p : ℕ) → 1 ≤ lanes → lanes ≤ width → column_at lanes width n p < width
+column-within lanes width n p some wide =
+    let lane = mod_below p lanes (omega arith) in
+    omega (arith, lane)
+
+-- so many whole blocks and one more cover a row
+pub blocks-cover : (lanes width : ℕ) → 1 ≤ lanes → width ≤ div_ceil width lanes * lanes
+blocks-cover lanes width some = (div_ceil_times width lanes some).0
 
 -- where the sum of query v in column c stands
-module _ (width n v c : ℕ) (few : v < n) (wide : 16 ≤ width) (within : c < width) where
+module _ (lanes width n v c : ℕ) (some : 1 ≤ lanes) (few : v < n) (wide : lanes ≤ width) (within : c < width) where
   -- its lane
   abbrev lane : ℕ
-  lane = c - block_start width (c / 16)
+  lane = c - block_start lanes width (c / lanes)
 
-  -- which is one of 16
-  lane_lt : lane < 16
-  lane_lt = omega arith
+  -- which is one of the block's
+  lane_lt : lane < lanes
+  lane_lt =
+      let place = div-add-mod' c lanes in
+      let rest = mod_below c lanes some in
+      omega (arith, place, rest)
 
   -- the column that this lane stands for
-  lane_in : block_start width (c / 16) + lane ≡ c
-  lane_in = omega arith
+  lane_in : block_start lanes width (c / lanes) + lane ≡ c
+  lane_in = let place = div-add-mod' c lanes in omega (arith, place)
 
   -- it is a place of this query
-  pub place-query : query_at n (place_of width n v c) ≡ v
-  place-query = query-is n (c / 16) v lane (place_of width n v c) few lane_lt refl
+  pub place-query : query_at lanes n (place_of lanes width n v c) ≡ v
+  place-query = query-is lanes n (c / lanes) v lane (place_of lanes width n v c) few lane_lt refl
 
   -- and of this column
-  pub place-column : column_at width n (place_of width n v c) ≡ c
-  place-column = column-is n (c / 16) v lane (place_of width n v c) few lane_lt refl width ∙ lane_in
+  pub place-column : column_at lanes width n (place_of lanes width n v c) ≡ c
+  place-column =
+      column-is lanes n (c / lanes) v lane (place_of lanes width n v c) few lane_lt refl width ∙ lane_in
 
   -- and within the blocks
-  pub place-within : place_of width n v c < 16 * (div_ceil width 16 * n)
+  pub place-within : place_of lanes width n v c < lanes * (div_ceil width lanes * n)
   place-within =
-      let block : c / 16 < div_ceil width 16 = omega arith in
-      let h = mul-add-lt (c / 16) n v (div_ceil width 16) block few in
+      let block : c / lanes < div_ceil width lanes = div_below c lanes (div_ceil width lanes) some (lt_of_lt_of_le within (blocks-cover lanes width some)) in
+      let h : c / lanes * n + v + 1 ≤ div_ceil width lanes * n = omega (arith, mul-add-lt (c / lanes) n v (div_ceil width lanes) block few) in
+      let most = mul-le-mul_left lanes h in
       let l = lane_lt in
-      omega (arith, h, l)
+      let next : lanes * (c / lanes * n + v + 1) ≡ lanes * (c / lanes * n + v) + lanes * 1 = mul-add lanes (c / lanes * n + v) 1 in
+      omega (arith, most, next, l)
 
 -- the sums of a group, from those in blocks and the rows that are left over
-pub group-sums : (f : ℕ → ℕ → ℕ) (zeros blocks laid sums : List ℕ) (width n from mid to : ℕ)
-    → 16 ≤ width → from ≤ mid → mid ≤ to → ((p : ℕ) → slice_index zeros p ≡ 0)
-    → ((p : ℕ) → p < 16 * (div_ceil width 16 * n) → slice_index blocks p ≡ slice_index zeros p ⊕ run_sum (f (laid_at width n p)) from mid)
-    → ((v c : ℕ) → v < n → c < width → slice_index laid (v * width + c) ≡ slice_index blocks (place_of width n v c))
+pub group-sums : (lanes : ℕ) (f : ℕ → ℕ → ℕ) (zeros blocks laid sums : List ℕ) (width n from mid to : ℕ)
+    → 1 ≤ lanes → lanes ≤ width → from ≤ mid → mid ≤ to → ((p : ℕ) → slice_index zeros p ≡ 0)
+    → ((p : ℕ) → p < lanes * (div_ceil width lanes * n)
+    → slice_index blocks p ≡ slice_index zeros p ⊕ run_sum (f (laid_at lanes width n p)) from mid)
+    → ((v c : ℕ) → v < n → c < width → slice_index laid (v * width + c) ≡ slice_index blocks (place_of lanes width n v c))
     → ((p : ℕ) → p < n * width → slice_index sums p ≡ slice_index laid p ⊕ run_sum (f p) mid to)
     → (p : ℕ) → p < n * width → slice_index sums p ≡ run_sum (f p) from to
-group-sums f zeros blocks laid sums width n from mid to wide le lt none in_blocks laid_is more p l =
+group-sums lanes f zeros blocks laid sums width n from mid to least wide le lt none in_blocks laid_is more p l =
     let v = p / width in
     let c = p % width in
     let some : 0 < width = omega arith in
     let within : c < width = mod_below p width some in
     let few : v < n = div_below p width n some l in
     let place = div-add-mod' p width in
-    let at = place_of width n v c in
-    let back : laid_at width n at ≡ p = ap₂ (λ u k. u * width + k) (place-query width n v c few wide within) (place-column width n v c few wide within) ∙ place in
+    let at = place_of lanes width n v c in
+    let back : laid_at lanes width n at ≡ p =
+    ap₂ (λ u k. u * width + k) (place-query lanes width n v c least few wide within) (place-column lanes width n v c least few wide within) ∙ place in
     let first : slice_index laid p ≡ run_sum (f p) from mid =
-    ap (slice_index laid) (sym place) ∙ laid_is v c few within ∙ in_blocks at (place-within width n v c few wide within)
-    ∙ ap (λ x. x ⊕ run_sum (f (laid_at width n at)) from mid) (none at) ∙ zero_add _
+    ap (slice_index laid) (sym place) ∙ laid_is v c few within ∙ in_blocks at (place-within lanes width n v c least few wide within)
+    ∙ ap (λ x. x ⊕ run_sum (f (laid_at lanes width n at)) from mid) (none at) ∙ zero_add _
     ∙ ap (λ q. run_sum (f q) from mid) back in
     more p l ∙ ap (λ x. x ⊕ run_sum (f p) mid to) first ∙ run-join (f p) from mid to le lt

@@ -13,19 +13,20 @@ group_gives gives group = gives group.queries.now group.matrix.now
 abbrev pub group_places : Group → ℕ
 group_places group = group.count * group.matrix.now.width
 
--- what row j gives to place p of the sums in blocks
-abbrev pub block_gives : (List ℕ → Database → ℕ → ℕ → ℕ) → Group → ℕ → ℕ → ℕ
-block_gives gives group p = group_gives gives group (laid_at group.matrix.now.width group.count p)
+-- what row j gives to place p of the sums in blocks of so many lanes
+abbrev pub block_gives : ℕ → (List ℕ → Database → ℕ → ℕ → ℕ) → Group → ℕ → ℕ → ℕ
+block_gives lanes gives group p =
+    group_gives gives group (laid_at lanes group.matrix.now.width group.count p)
 
--- sums in blocks get row j and the three that follow each so many rows after the one before
-abbrev pub AddsFour : (List ℕ → Database → ℕ → ℕ → ℕ) → Group → ℕ → ℕ → List ℕ → List ℕ → Type 0
-AddsFour gives group j apart old new =
-    AddsBelow (λ p. four_of (block_gives gives group p) j apart) (length old) old new
+-- sums, of which f p j is what row j gives to place p, get row j and the three that follow each so
+-- many rows after the one before
+abbrev pub AddsFour : (ℕ → ℕ → ℕ) → ℕ → ℕ → List ℕ → List ℕ → Type 0
+AddsFour f j apart old new = AddsBelow (λ p. four_of (f p) j apart) (length old) old new
 
--- sums in blocks get the rows of four quarters, of so many rows each, from row `from` on
-abbrev pub AddsQuarters : (List ℕ → Database → ℕ → ℕ → ℕ) → Group → ℕ → ℕ → List ℕ → List ℕ → Type 0
-AddsQuarters gives group from quarter old new =
-    AddsSums (block_gives gives group) (length old) from (from + 4 * quarter) old new
+-- they get the rows of four quarters, of so many rows each, from row `from` on
+abbrev pub AddsQuarters : (ℕ → ℕ → ℕ) → ℕ → ℕ → List ℕ → List ℕ → Type 0
+AddsQuarters f from quarter old new =
+    AddsSums f (length old) from (from + 4 * quarter) old new
 
 -- what row j gives to place c of the sums of query v
 abbrev pub query_gives : (List ℕ → Database → ℕ → ℕ → ℕ) → Group → ℕ → ℕ → ℕ → ℕ

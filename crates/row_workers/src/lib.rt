@@ -4,9 +4,9 @@
 //! Promised: [`sum_in_parts`] makes the sums over all rows, whatever a row gives to them
 //! ([`RowSums`]): each worker has its share of the rows ([`rows_of`]) and its own part of the room
 //! ([`run_on_parts`]), and the parts are added. [`sum_group`] makes the sums of several queries in one
-//! pass over the rows ([`GroupSums`]), in blocks of 16 columns that [`blocks`] lays out query by
-//! query. [`four_apart`] has four rows to be added at once, [`share_of`] how far apart such rows
-//! stand, and [`lanes_of`] 16 bytes of a row. No call takes memory, and none can fail.
+//! pass over the rows ([`GroupSums`]), in blocks of 16 or 32 columns that [`blocks`] lays out query
+//! by query. [`four_apart`] has four rows to be added at once, [`share_of`] how far apart such rows
+//! stand, and [`lanes_of`] some bytes of a row. No call takes memory, and none can fail.
 //!
 //! Not promised: that a worker passes its [`Gate`], that the workers run at the same time, or
 //! anything of time.
@@ -23,7 +23,7 @@ mod whole;
 
 pub use four_rows::{FourRows, four_apart};
 pub use gate::{Gate, OpenGate};
-pub use group::{Group, GroupSums, MOST_LANES, sum_group};
+pub use group::{Group, GroupSums, MOST_SUMS, sum_group};
 pub use lanes::lanes_of;
 pub use parts::{Task, rows_of, run_on_parts};
 pub use streams::share_of;

@@ -3,4 +3,4 @@ use Rattle.row_workers.specs.Blocks.{place_of}
 use Rattle.row_workers.proofs.blocks.lay_out.Given as goal
 
 abbrev pub invariant-loop-v : goal.invariant-loop-v
-invariant-loop-v l = (v c : ℕ) → v < l.v → c < l.width → slice_index l.sums (v * l.width + c) ≡ slice_index l.blocks (place_of l.width l.count v c)
+invariant-loop-v g l = (v c : ℕ) → v < l.v → c < l.width → slice_index l.sums (v * l.width + c) ≡ slice_index l.blocks (place_of g.row.N l.width l.count v c)

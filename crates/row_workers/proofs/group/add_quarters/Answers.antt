@@ -8,18 +8,18 @@ use Rattle.row_workers.proofs.group.add_quarters.Goals as goal
 
 pub loop-i-init : goal.loop-i-init
 loop-i-init g c = λ p l.
-    let f = block_gives g.S.GroupSums.gives c.args.group p in
+    let f = block_gives g.row.N g.S.GroupSums.gives c.args.group p in
     let sum = slice_index c.args.sums.now p in
     sym (ap (◌⊕◌ sum) (quarters-none f c.args.from c.args.quarter) ∙ add_zero sum)
 
 pub loop-i-preserved : goal.loop-i-preserved
 loop-i-preserved g c = λ p l.
-    four-more (block_gives g.S.GroupSums.gives c.args.group p) _ _ (slice_index c.args.sums.now p) c.args.from c.args.quarter c.loop-i.i
+    four-more (block_gives g.row.N g.S.GroupSums.gives c.args.group p) _ _ (slice_index c.args.sums.now p) c.args.from c.args.quarter c.loop-i.i
     (c.loop-i.invariant p l) (c.add_four.ensures p (omega (arith, l, c.loop-i.auto.sums)))
 
 pub returns : goal.returns
 returns g c = λ p l.
-    let f = block_gives g.S.GroupSums.gives c.args.group p in
+    let f = block_gives g.row.N g.S.GroupSums.gives c.args.group p in
     let from = c.args.from in
     let quarter = c.args.quarter in
     let end : c.loop-i.i ≡ quarter = omega arith in
@@ -28,6 +28,9 @@ returns g c = λ p l.
 
 pub overflow_add-from : goal.overflow_add-from
 overflow_add-from g c = omega arith
+
+pub add_four-requires-clause-lanes : goal.add_four-requires-clause-lanes
+add_four-requires-clause-lanes g c = c.requires.lanes
 
 pub add_four-requires-clause-some : goal.add_four-requires-clause-some
 add_four-requires-clause-some g c = c.requires.some

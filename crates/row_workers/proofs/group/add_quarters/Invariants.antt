@@ -7,4 +7,4 @@ use Rattle.row_workers.proofs.group.add_quarters.Given as goal
 abbrev pub invariant-loop-i : goal.invariant-loop-i
 invariant-loop-i g l = (p : ℕ) → p < length l.fn.sums
     → slice_index l.sums p
-    ≡ slice_index l.fn.sums p ⊕ quarters (block_gives g.S.GroupSums.gives l.group p) l.from l.quarter l.i
+    ≡ slice_index l.fn.sums p ⊕ quarters (block_gives g.row.N g.S.GroupSums.gives l.group p) l.from l.quarter l.i

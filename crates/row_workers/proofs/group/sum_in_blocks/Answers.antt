@@ -9,11 +9,11 @@ returns g c =
     let group = c.args.group in
     let width = group.matrix.now.width in
     let n = group.count in
-    group-sums (group_gives g.S.GroupSums.gives group)
+    group-sums g.row.N (group_gives g.S.GroupSums.gives group)
     c.args.blocks.now c.add_quarters.new.sums c.lay_out.new.sums c.add_rest.new.sums width n c.args.from
-    (c.args.from + 4 * c.share_of-quarter.result) c.args.to c.requires.wide (omega arith) (omega arith) c.requires.zeros
+    (c.args.from + 4 * c.share_of-quarter.result) c.args.to c.requires.lanes.0 c.requires.wide (omega arith) (omega arith) c.requires.zeros
     (λ p l. c.add_quarters.ensures p (omega (arith, c.requires.blocks, l)))
-    (subst (λ w. (v k : ℕ) → v < n → k < w → slice_index c.lay_out.new.sums (v * w + k) ≡ slice_index c.add_quarters.new.sums (place_of w n v k)) c.width-2.ensures.is c.lay_out.ensures)
+    (subst (λ w. (v k : ℕ) → v < n → k < w → slice_index c.lay_out.new.sums (v * w + k) ≡ slice_index c.add_quarters.new.sums (place_of g.row.N w n v k)) c.width-2.ensures.is c.lay_out.ensures)
     c.add_rest.ensures
 
 pub overflow_sub-to : goal.overflow_sub-to
@@ -21,6 +21,9 @@ overflow_sub-to g c = omega arith
 
 pub share_of-quarter-requires : goal.share_of-quarter-requires
 share_of-quarter-requires g c = omega arith
+
+pub add_quarters-requires-clause-lanes : goal.add_quarters-requires-clause-lanes
+add_quarters-requires-clause-lanes g c = c.requires.lanes
 
 pub add_quarters-requires-clause-some : goal.add_quarters-requires-clause-some
 add_quarters-requires-clause-some g c = c.requires.some
