@@ -1,5 +1,5 @@
 -- The sums of several queries in blocks.
-use Rattle.std.proofs.Common.{◌≡◌, ℕ, ◌+◌, ◌-◌, ◌*◌, ◌/◌, ◌%◌, ◌≤◌, ◌<◌, List, length, get_or, slice_index, refl, sym, ap, ap₂, ◌∙◌, arith, mul_comm, mul-add, mul-le-mul_left, lt_of_lt_of_le}
+use Rattle.std.proofs.Common.{◌≡◌, ℕ, ◌+◌, ◌-◌, ◌*◌, ◌/◌, ◌%◌, ◌≤◌, ◌<◌, List, length, get_or, slice_index, refl, sym, ap, ap₂, ◌∙◌, arith, mul_comm, mul-add, mul-le-mul, mul-le-mul_left, mul-le-mul_right, lt_of_lt_of_le}
 use Rattle.std.specs.Simd.Lanes.{chunk}
 use Rattle.std.specs.Int.{div_ceil}
 use Rattle.std.proofs.lemmas.Nat.{div-mul-add, mod-mul-add, mul-add-lt, div-add-mod', div_below, mod_below}
@@ -102,6 +102,29 @@ column-within lanes width n p some wide =
 -- so many whole blocks and one more cover a row
 pub blocks-cover : (lanes width : ℕ) → 1 ≤ lanes → width ≤ div_ceil width lanes * lanes
 blocks-cover lanes width some = (div_ceil_times width lanes some).0
+
+-- and each of them begins within it
+pub block-begins : (lanes width i : ℕ) → 1 ≤ lanes → i < div_ceil width lanes → lanes * i < width
+block-begins lanes width i some l =
+    let next : i + 1 ≤ div_ceil width lanes = omega arith in
+    omega (arith, mul-le-mul_right lanes next, (div_ceil_times width lanes some).1)
+
+-- they are few for few queries, where the row is short
+pub blocks-few : (lanes i n : ℕ) → 1 ≤ lanes → lanes * i < 65536 → n ≤ 16 → i * n ≤ 1048576
+blocks-few lanes i n some short few =
+    let most : i ≤ 65536 = omega (arith, mul-le-mul_right i some) in
+    omega (arith, mul-le-mul most few)
+
+-- the lanes of one query more in a block
+pub lanes-next : (lanes b v : ℕ) → lanes * (b + v) + lanes ≡ lanes * (b + (v + 1))
+lanes-next lanes b v = grind arith
+
+-- and they are among those of all queries
+pub lanes-fit : (lanes b v n : ℕ) → v < n → lanes * (b + v) + lanes ≤ lanes * (b + n)
+lanes-fit lanes b v n l =
+    let next = lanes-next lanes b v in
+    let most : b + (v + 1) ≤ b + n = omega arith in
+    omega (arith, mul-le-mul_left lanes most, next)
 
 -- where the sum of query v in column c stands
 module _ (lanes width n v c : ℕ) (some : 1 ≤ lanes) (few : v < n) (wide : lanes ≤ width) (within : c < width) where

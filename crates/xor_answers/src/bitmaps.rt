@@ -8,7 +8,7 @@ ghost use Rattle.chor_xor.specs.Bitmap.{size_of};
 ghost use Rattle.chor_xor.specs.Chosen.{given};
 ghost use Rattle.row_workers.specs.RowSums.{AreSums};
 ghost use Rattle.xor_answers.specs.Asked.{asked_of};
-ghost use Rattle.row_workers.specs.declared.group.TheConstants.{MOST_LANES};
+ghost use Rattle.row_workers.specs.declared.group.TheConstants.{MOST_SUMS};
 
 use crate::gather::sum_in_eights;
 use crate::group::Masks;
@@ -16,7 +16,8 @@ use crate::sets::{MOST_NARROW, sum_set};
 use block_matrix::Matrix;
 use chor_xor::add_chosen_rows;
 use gf256::rows::clear;
-use row_workers::{Group, MOST_LANES, sum_group};
+use row_workers::blocks::takes_wide_blocks;
+use row_workers::{Group, MOST_SUMS, sum_group};
 
 /// From how many bytes on the rows of a pattern go eight at once.
 const LEAST_WIDE: u32 = 1024;
@@ -33,15 +34,10 @@ pub fn sum_bitmaps(matrix: &Matrix, bitmaps: &[u8], count: u8, from: u32, to: u3
 {
     if goes_in_sets(count, matrix.width(), to - from) {
         sum_in_sets(matrix, bitmaps, count as usize, from, to, sums);
-    } else if is_group(count, matrix.width()) {
-        let group = Group {
-            matrix,
-            queries: bitmaps,
-            count: count as usize,
-        };
-        sum_group(&Masks, group, from, to, sums);
+    } else if takes_wide_blocks(matrix.width()) {
+        sum_in_blocks::<32>(matrix, bitmaps, count as usize, from, to, sums);
     } else {
-        sum_each(matrix, bitmaps, count, from, to, sums);
+        sum_in_blocks::<16>(matrix, bitmaps, count as usize, from, to, sums);
     }
 }
 
@@ -88,19 +84,49 @@ fn sum_of_set(matrix: &Matrix, bitmaps: &[u8], count: usize, from: u32, to: u32,
     }
 }
 
-/// Whether so many bitmaps go in a group where rows have so many bytes.
-fn is_group(count: u8, width: u32) -> bool
-    requires some { 1 ≤ width }
+/// The same, by one pass over the rows for all bitmaps, in blocks of N columns, where they go in a
+/// group.
+fn sum_in_blocks<const N: usize>(
+    matrix: &Matrix,
+    bitmaps: &[u8],
+    count: usize,
+    from: u32,
+    to: u32,
+    sums: &mut [u8],
+)
+    requires lanes { (1 ≤ N) × (N ≤ 32) }
+    requires few { count ≤ MOST_BLOCKS }
+    requires order { from ≤ to }
+    requires within { to ≤ length matrix.now.rows }
+    requires bitmaps { length bitmaps.now ≡ count * size_of (length matrix.now.rows) }
+    requires room { length sums.old ≡ count * matrix.now.width }
+    ensures { AreSums (asked_of bitmaps.now matrix.now) (count * matrix.now.width) from to sums.new }
+{
+    if !is_group::<N>(count, matrix.width() as usize) {
+        return sum_each(matrix, bitmaps, count, from, to, sums);
+    }
+    let group = Group {
+        matrix,
+        queries: bitmaps,
+        count,
+    };
+    sum_group::<Masks, N>(&Masks, group, from, to, sums);
+}
+
+/// Whether so many bitmaps go in a group, in blocks of N columns, where rows have so many bytes.
+fn is_group<const N: usize>(count: usize, width: usize) -> bool
+    requires lanes { (1 ≤ N) × (N ≤ 32) }
+    requires few_bitmaps { count ≤ MOST_BLOCKS }
     requires few { width ≤ MOST_WIDTH }
     ensures some { result ≡ true → 1 ≤ count }
-    ensures wide { result ≡ true → 16 ≤ width }
-    ensures fits { result ≡ true → count * div_ceil width 16 ≤ MOST_LANES }
+    ensures wide { result ≡ true → N ≤ width }
+    ensures fits { result ≡ true → N * (div_ceil width N * count) ≤ MOST_SUMS }
 {
-    count > 1 && width >= 16 && u32::from(count) * width.div_ceil(16) <= MOST_LANES
+    count > 1 && width >= N && N * (width.div_ceil(N) * count) <= MOST_SUMS
 }
 
 /// The same, by one pass over the rows for each bitmap.
-fn sum_each(matrix: &Matrix, bitmaps: &[u8], count: u8, from: u32, to: u32, sums: &mut [u8])
+fn sum_each(matrix: &Matrix, bitmaps: &[u8], count: usize, from: u32, to: u32, sums: &mut [u8])
     requires few { count ≤ MOST_BLOCKS }
     requires order { from ≤ to }
     requires within { to ≤ length matrix.now.rows }
@@ -110,7 +136,7 @@ fn sum_each(matrix: &Matrix, bitmaps: &[u8], count: u8, from: u32, to: u32, sums
 {
     let size = matrix.rows().div_ceil(8) as usize;
     let width = matrix.width() as usize;
-    for v in 0..count as usize {
+    for v in 0..count {
         let bitmap = &bitmaps[v * size..(v + 1) * size];
         sum_one(
             matrix,

@@ -16,7 +16,7 @@ use std::simd::prelude::*;
 #[derive(Drop)]
 pub struct Masks;
 
-impl GroupSums for Masks {
+impl<const N: usize> GroupSums<N> for Masks {
     ghost query_size = { size_of };
 
     ghost gives = { asked_of };
@@ -32,7 +32,7 @@ impl GroupSums for Masks {
         let _width = matrix.width();
         set_masks(room, bitmaps, size, count, j, apart);
         let four = four_apart(matrix, j, apart);
-        add_four_rows(blocks, four, room, count);
+        add_four_rows::<N>(blocks, four, room, count);
     }
 
     fn add_few(&self, group: Group, v: usize, from: u32, to: u32, sums: &mut [u8]) {
@@ -43,9 +43,9 @@ impl GroupSums for Masks {
 }
 
 /// Sets the masks of so many bitmaps for row `j` and for the three that follow each so many rows
-/// after the one before: 16 bytes with all bits where the bitmap asks for the row, and else none.
+/// after the one before: 32 bytes with all bits where the bitmap asks for the row, and else none.
 fn set_masks(masks: &mut [u8], bitmaps: &[u8], size: usize, count: usize, j: u32, apart: u32)
-    requires room { length masks.old ≡ 1024 }
+    requires room { length masks.old ≡ 2048 }
     requires few { count ≤ 16 }
     requires within { j + 3 * apart < 8 * size }
     requires memory { size ≤ MOST_ROWS }
@@ -54,19 +54,19 @@ fn set_masks(masks: &mut [u8], bitmaps: &[u8], size: usize, count: usize, j: u32
 {
     for v in 0..count {
         let bitmap = &bitmaps[v * size..(v + 1) * size];
-        mask_of(bitmap, j).copy_to_slice(&mut masks[64 * v..]);
-        mask_of(bitmap, j + apart).copy_to_slice(&mut masks[64 * v + 16..]);
-        mask_of(bitmap, j + 2 * apart).copy_to_slice(&mut masks[64 * v + 32..]);
-        mask_of(bitmap, j + 3 * apart).copy_to_slice(&mut masks[64 * v + 48..]);
+        mask_of(bitmap, j).copy_to_slice(&mut masks[128 * v..]);
+        mask_of(bitmap, j + apart).copy_to_slice(&mut masks[128 * v + 32..]);
+        mask_of(bitmap, j + 2 * apart).copy_to_slice(&mut masks[128 * v + 64..]);
+        mask_of(bitmap, j + 3 * apart).copy_to_slice(&mut masks[128 * v + 96..]);
     }
 }
 
 /// All bits where the bitmap asks for row `j`, and else none.
 #[inline(always)]
-fn mask_of(bitmap: &[u8], j: u32) -> u8x16
+fn mask_of(bitmap: &[u8], j: u32) -> u8x32
     requires { j < 8 * length bitmap.now }
-    ensures size { length result ≡ 16 }
-    ensures each { (k : ℕ) → k < 16 → slice_index result k ≡ 255 * bit_of bitmap.now j }
+    ensures size { length result ≡ 32 }
+    ensures each { (k : ℕ) → k < 32 → slice_index result k ≡ 255 * bit_of bitmap.now j }
 {
-    u8x16::splat(if is_set(bitmap, j) { 255 } else { 0 })
+    u8x32::splat(if is_set(bitmap, j) { 255 } else { 0 })
 }

@@ -4,5 +4,5 @@ use Rattle.xor_answers.specs.Masked.{masked_at}
 use Rattle.xor_answers.proofs.four_rows.add_block.Given as goal
 
 abbrev pub invariant-loop-v : goal.invariant-loop-v
-invariant-loop-v l =
-    IsAdded l.sums l.initial.sums (masked_at l.rows l.masks l.count) (16 * (l.i * l.count)) (16 * (l.i * l.count + l.v))
+invariant-loop-v g l =
+    IsAdded l.sums l.initial.sums (masked_at g.row.N l.rows l.masks l.count) (g.row.N * (l.i * l.count)) (g.row.N * (l.i * l.count + l.v))

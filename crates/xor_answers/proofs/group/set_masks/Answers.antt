@@ -20,7 +20,7 @@ pub returns : goal.returns
 returns c =
     let end : c.loop-v.v ≡ c.args.count = omega arith in
     masks-set c.loop-v.masks c.args.bitmaps.now c.args.size c.args.count c.args.j c.args.apart
-    (subst (λ n. (p : ℕ) → p < 64 * n → slice_index c.loop-v.masks p ≡ mask_at c.args.bitmaps.now c.args.size c.args.j c.args.apart p) end c.loop-v.invariant)
+    (subst (λ n. (p : ℕ) → p < 128 * n → slice_index c.loop-v.masks p ≡ mask_at c.args.bitmaps.now c.args.size c.args.j c.args.apart p) end c.loop-v.invariant)
 
 pub loop-v-init : goal.loop-v-init
 loop-v-init c = λ p l. absurd (omega arith)

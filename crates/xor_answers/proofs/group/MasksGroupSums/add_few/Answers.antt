@@ -9,7 +9,7 @@ use Rattle.xor_answers.proofs.MaskSums.{given-is}
 use Rattle.xor_answers.proofs.group.MasksGroupSums.add_few.Goals as goal
 
 pub returns : goal.returns
-returns c = λ k l.
+returns g c = λ k l.
     let matrix = c.args.group.matrix.now in
     let bitmaps = c.args.group.queries.now in
     let v = c.args.v in
@@ -20,40 +20,40 @@ returns c = λ k l.
     (λ j a b. given-is bitmaps matrix.rows matrix.width v s k j (c.div_ceil-size.ensures ∙ ap size_of c.rows.ensures.is) l))
 
 pub div_ceil-size-requires : goal.div_ceil-size-requires
-div_ceil-size-requires c = omega arith
+div_ceil-size-requires g c = omega arith
 
 pub overflow_cast-size : goal.overflow_cast-size
-overflow_cast-size c = omega arith
+overflow_cast-size g c = omega arith
 
 pub overflow_add-bitmap : goal.overflow_add-bitmap
-overflow_add-bitmap c = omega arith
+overflow_add-bitmap g c = omega arith
 
 pub slice_bounds-bitmap-count : goal.slice_bounds-bitmap-count
-slice_bounds-bitmap-count c = omega arith
+slice_bounds-bitmap-count g c = omega arith
 
 pub slice_bounds-bitmap-start : goal.slice_bounds-bitmap-start
-slice_bounds-bitmap-start c = omega arith
+slice_bounds-bitmap-start g c = omega arith
 
 pub add_chosen_rows-requires-clause-order : goal.add_chosen_rows-requires-clause-order
-add_chosen_rows-requires-clause-order c = c.requires.order
+add_chosen_rows-requires-clause-order g c = c.requires.order
 
 pub add_chosen_rows-requires-clause-within : goal.add_chosen_rows-requires-clause-within
-add_chosen_rows-requires-clause-within c = c.requires.within
+add_chosen_rows-requires-clause-within g c = c.requires.within
 
 pub add_chosen_rows-requires-clause-bitmap : goal.add_chosen_rows-requires-clause-bitmap
-add_chosen_rows-requires-clause-bitmap c = omega arith
+add_chosen_rows-requires-clause-bitmap g c = omega arith
 
 pub add_chosen_rows-requires-clause-room : goal.add_chosen_rows-requires-clause-room
-add_chosen_rows-requires-clause-room c = c.requires.room
+add_chosen_rows-requires-clause-room g c = c.requires.room
 
 pub overflow_mul-bitmap : goal.overflow_mul-bitmap
-overflow_mul-bitmap c =
+overflow_mul-bitmap g c =
     omega (arith, part_fits c.args.v c.args.group.count c.div_ceil-size.result _ _ (omega arith) (c.div_ceil-size.ensures ∙ ap size_of c.rows.ensures.is) c.requires.queries)
 
 pub overflow_mul-bitmap-2 : goal.overflow_mul-bitmap-2
-overflow_mul-bitmap-2 c =
+overflow_mul-bitmap-2 g c =
     omega (arith, part_fits (c.args.v + 1) c.args.group.count c.div_ceil-size.result _ _ (omega arith) (c.div_ceil-size.ensures ∙ ap size_of c.rows.ensures.is) c.requires.queries)
 
 pub slice_bounds-bitmap-end : goal.slice_bounds-bitmap-end
-slice_bounds-bitmap-end c =
+slice_bounds-bitmap-end g c =
     omega (arith, part_fits (c.args.v + 1) c.args.group.count c.div_ceil-size.result _ _ (omega arith) (c.div_ceil-size.ensures ∙ ap size_of c.rows.ensures.is) c.requires.queries)
