@@ -2,18 +2,10 @@
 //! same columns for the second, and so on, and then the next N columns. So the bytes of N columns of
 //! a row serve all queries at once.
 
-ghost use Rattle.std.specs.Prelude.{◌≡◌, ◌*◌, ◌<◌, ◌≤◌, true, length};
+ghost use Rattle.std.specs.Prelude.{◌≡◌, ◌*◌, ◌<◌, ◌≤◌, length};
 ghost use Rattle.std.specs.Int.{div_ceil};
 ghost use Rattle.quantity_limits.specs.declared.TheConstants.{MOST_WIDTH};
 ghost use Rattle.row_workers.specs.Blocks.{block_start, AreLaidOut, AreOfQuery};
-
-/// Whether rows of so many bytes are taken in blocks of 32 columns, not of 16: where they have as
-/// many, and the last block repeats few columns of the one before, or the rows have many blocks.
-pub fn takes_wide_blocks(width: u32) -> bool
-    ensures { result ≡ true → 32 ≤ width }
-{
-    width >= 32 && (width % 32 == 0 || width % 32 > 16 || width >= 1024)
-}
 
 /// The first of the N columns of block `i`: the last block ends where the row ends.
 #[inline(always)]

@@ -1,8 +1,10 @@
 //! Some bytes of a row at once.
 
-ghost use Rattle.std.specs.Prelude.{◌≡◌, ◌+◌, ◌≤◌, length};
+ghost use Rattle.std.specs.Prelude.{◌≡◌, ◌+◌, ◌≤◌, length, true};
 ghost use Rattle.std.specs.Simd.Lanes.{chunk};
+ghost use Rattle.gf256.specs.declared.vectors.TheConstants.{LANES};
 
+use gf256::vectors::LANES;
 use std::simd::prelude::*;
 
 /// The N bytes of the row from place `at` on.
@@ -12,4 +14,12 @@ pub fn lanes_of<const N: usize>(row: &[u8], at: usize) -> Simd<u8, N>
     ensures { result ≡ chunk at N row.now }
 {
     Simd::from_slice(&row[at..])
+}
+
+/// Whether rows of so many bytes are taken 32 bytes at once: where they have as many, and the last 32
+/// repeat few of those before. Other rows are taken 16 at once.
+pub fn takes_wide_lanes(width: usize) -> bool
+    ensures { result ≡ true → LANES ≤ width }
+{
+    width >= LANES && (width % LANES == 0 || width % LANES > 16 || width >= 1024)
 }

@@ -24,7 +24,7 @@ mod whole;
 pub use four_rows::{FourRows, four_apart};
 pub use gate::{Gate, OpenGate};
 pub use group::{Group, GroupSums, MOST_SUMS, sum_group};
-pub use lanes::lanes_of;
+pub use lanes::{lanes_of, takes_wide_lanes};
 pub use parts::{Task, rows_of, run_on_parts};
 pub use streams::share_of;
 pub use whole::{RowSums, sum_in_parts};

@@ -16,12 +16,6 @@ use Rattle.server_product.specs.Queries.{entry}
 use Rattle.server_product.specs.Blocks.{four_at, AreFactors}
 use Rattle.row_workers.proofs.BlockSums.{query-is, column-is, column-within, lanes-from, plus_four}
 
--- a block begins within the row
-pub block-begins : (lanes width i : ℕ) → 1 ≤ lanes → i < div_ceil width lanes → lanes * i < width
-block-begins lanes width i some l =
-    let next : i + 1 ≤ div_ceil width lanes = omega arith in
-    omega (arith, mul-le-mul_right lanes next, add-mul i 1 lanes, mul_comm lanes i, (div_ceil_times width lanes some).1)
-
 -- the products of four rows with the factors of one query, added to one block
 pub block-put : (lanes : ℕ) (acc old : List ℕ) (rows : FourRows) (factors xa xb xc xd pa pb pc pd : List ℕ) (n i v from start : ℕ)
     → 1 ≤ lanes → lanes ≤ length rows.a.now → length rows.b.now ≡ length rows.a.now → length rows.c.now ≡ length rows.a.now → length rows.d.now ≡ length rows.a.now

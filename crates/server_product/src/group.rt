@@ -15,8 +15,7 @@ use crate::sixths::add_in_sixths;
 use crate::tables::Tables;
 use block_matrix::Matrix;
 use gf256::vectors::{LANES, LookUp, Vectors};
-use row_workers::blocks::takes_wide_blocks;
-use row_workers::{Group, GroupSums, four_apart};
+use row_workers::{Group, GroupSums, four_apart, takes_wide_lanes};
 
 /// The most blocks of 16 sums of a group: 64 KB, which the second cache holds.
 pub const MOST_LANES: u32 = 4096;
@@ -44,7 +43,7 @@ pub fn sum_group(matrix: &Matrix, queries: &[u8], count: usize, from: u32, to: u
         queries,
         count,
     };
-    if takes_wide_blocks(matrix.width()) {
+    if takes_wide_lanes(matrix.width() as usize) {
         row_workers::sum_group::<Tables, LANES>(&tables, group, from, to, sums);
     } else {
         row_workers::sum_group::<Tables, 16>(&tables, group, from, to, sums);

@@ -84,15 +84,9 @@ where
         ^ products_at(six.f, &products.f, at)
 }
 
-/// Adds the six rows, each times its factor, to `acc` from place `from` on, N bytes at once, until
-/// fewer than N are left. Gives the place of the first that is left.
+/// Adds the products of N places of the rows, from place `at` on, to those of `acc`.
 #[inline(always)]
-fn add_in_lanes<const N: usize>(
-    acc: &mut [u8],
-    six: SixRows,
-    products: &SixProducts,
-    from: usize,
-) -> usize
+fn add_lanes<const N: usize>(acc: &mut [u8], six: SixRows, products: &SixProducts, at: usize)
 where
     Vectors: LookUp<N>,
     requires products { AreProductsOf products.now six }
@@ -102,20 +96,38 @@ where
     requires d { length six.d.row.now ≡ length acc.old }
     requires e { length six.e.row.now ≡ length acc.old }
     requires f { length six.f.row.now ≡ length acc.old }
-    requires some { 1 ≤ N }
-    requires within { from ≤ length acc.old }
-    ensures order { from ≤ result }
-    ensures within { result ≤ length acc.old }
-    ensures few { length acc.old < result + N }
-    ensures added { IsAdded acc.new acc.old (six_at six.entry) from result }
+    requires within { at + N ≤ length acc.old }
+    ensures { IsAdded acc.new acc.old (six_at six.entry) at (at + N) }
 {
-    let mut at = from;
-    'lanes: while acc.len() - at >= N {
-        let sum = lanes_of::<N>(acc, at) ^ six_lanes(six, products, at);
-        sum.copy_to_slice(&mut acc[at..]);
-        at += N;
+    let sum = lanes_of::<N>(acc, at) ^ six_lanes(six, products, at);
+    sum.copy_to_slice(&mut acc[at..]);
+}
+
+/// Adds the products of the places of the rows to those of `acc`, 32 at once and then 16, until fewer
+/// than 16 are left. Gives the first that is left.
+#[inline(always)]
+fn add_in_lanes(acc: &mut [u8], six: SixRows, products: &SixProducts) -> usize
+    requires products { AreProductsOf products.now six }
+    requires a { length six.a.row.now ≡ length acc.old }
+    requires b { length six.b.row.now ≡ length acc.old }
+    requires c { length six.c.row.now ≡ length acc.old }
+    requires d { length six.d.row.now ≡ length acc.old }
+    requires e { length six.e.row.now ≡ length acc.old }
+    requires f { length six.f.row.now ≡ length acc.old }
+    ensures within { result ≤ length acc.old }
+    ensures few { length acc.old < result + 16 }
+    ensures added { IsAdded acc.new acc.old (six_at six.entry) 0 result }
+{
+    let mut at = 0;
+    'lanes: while acc.len() - at >= LANES {
+        add_lanes::<LANES>(acc, six, products, at);
+        at += LANES;
     }
-    at
+    if acc.len() - at < 16 {
+        return at;
+    }
+    add_lanes::<16>(acc, six, products, at);
+    at + 16
 }
 
 /// Adds the six rows, each times its factor, to `acc`: each is as long. Where the last places are
@@ -135,9 +147,8 @@ pub fn add_six_rows(acc: &mut [u8], six: SixRows)
     }
     let products = products_of(six);
     let last = acc.len() - 16;
-    let end = u8x16::from_slice(&acc[last..]);
-    let wide = add_in_lanes::<LANES>(acc, six, &products, 0);
-    let at = add_in_lanes::<16>(acc, six, &products, wide);
+    let end = lanes_of::<16>(acc, last);
+    let at = add_in_lanes(acc, six, &products);
     if at < acc.len() {
         let sum = end ^ six_lanes(six, &products, last);
         sum.copy_to_slice(&mut acc[last..]);

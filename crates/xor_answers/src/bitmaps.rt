@@ -16,8 +16,7 @@ use crate::sets::{MOST_NARROW, sum_set};
 use block_matrix::Matrix;
 use chor_xor::add_chosen_rows;
 use gf256::rows::clear;
-use row_workers::blocks::takes_wide_blocks;
-use row_workers::{Group, MOST_SUMS, sum_group};
+use row_workers::{Group, MOST_SUMS, sum_group, takes_wide_lanes};
 
 /// From how many bytes on the rows of a pattern go eight at once.
 const LEAST_WIDE: u32 = 1024;
@@ -34,7 +33,7 @@ pub fn sum_bitmaps(matrix: &Matrix, bitmaps: &[u8], count: u8, from: u32, to: u3
 {
     if goes_in_sets(count, matrix.width(), to - from) {
         sum_in_sets(matrix, bitmaps, count as usize, from, to, sums);
-    } else if takes_wide_blocks(matrix.width()) {
+    } else if takes_wide_lanes(matrix.width() as usize) {
         sum_in_blocks::<32>(matrix, bitmaps, count as usize, from, to, sums);
     } else {
         sum_in_blocks::<16>(matrix, bitmaps, count as usize, from, to, sums);

@@ -3,7 +3,7 @@ use Rattle.std.specs.Int.{div_ceil}
 use Rattle.gf256.specs.Rows.{IsAdded}
 use Rattle.gf256.proofs.Added.{added-none, added-on}
 use Rattle.server_product.specs.Blocks.{four_at}
-use Rattle.server_product.proofs.BlockSums.{block-begins}
+use Rattle.row_workers.proofs.BlockSums.{block-begins}
 use Rattle.gf256.proofs.FlatRows.{row_within}
 use Rattle.server_product.proofs.four_rows.add_four_rows.Goals as goal
 

@@ -16,8 +16,8 @@ wide_fits width count few fits =
 pub sum_group-requires-clause-fits : goal.sum_group-requires-clause-fits
 sum_group-requires-clause-fits c = wide_fits c.args.matrix.now.width c.args.count c.requires.few c.requires.fits
 
-pub returns-then-takes_wide_blocks : goal.returns-then-takes_wide_blocks
-returns-then-takes_wide_blocks c = c.sum_group.ensures
+pub returns-then-takes_wide_lanes : goal.returns-then-takes_wide_lanes
+returns-then-takes_wide_lanes c = c.sum_group.ensures
 
-pub returns-else-takes_wide_blocks : goal.returns-else-takes_wide_blocks
-returns-else-takes_wide_blocks c = c.sum_group-else-takes_wide_blocks.ensures
+pub returns-else-takes_wide_lanes : goal.returns-else-takes_wide_lanes
+returns-else-takes_wide_lanes c = c.sum_group-else-takes_wide_lanes.ensures

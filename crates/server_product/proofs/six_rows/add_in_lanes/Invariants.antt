@@ -4,11 +4,10 @@ use Rattle.gf256.specs.Rows.{IsAdded}
 use Rattle.server_product.proofs.six_rows.add_in_lanes.Given as goal
 
 abbrev pub invariant-lanes : goal.invariant-lanes
-invariant-lanes g l = record {
-  order : l.from ≤ l.at;
+invariant-lanes l = record {
   within : l.at ≤ length l.acc;
-  summed : IsAdded l.acc l.initial.acc (six_at l.six) l.from l.at;
+  summed : IsAdded l.acc l.initial.acc (six_at l.six) 0 l.at;
 }
 
 abbrev pub decreases-lanes : goal.decreases-lanes
-decreases-lanes g l = length l.initial.acc - l.at
+decreases-lanes l = length l.initial.acc - l.at
