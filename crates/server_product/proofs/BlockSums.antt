@@ -1,8 +1,5 @@
 -- What four rows give to the sums of several queries in blocks.
 use Rattle.std.proofs.Common.{◌≡◌, ℕ, ◌+◌, ◌-◌, ◌*◌, ◌/◌, ◌%◌, ◌≤◌, ◌<◌, List, [], length, get_or, map, bit_xor, slice_index, slice_index_or, sym, ap, ap₂, ◌∙◌, arith}
-use Rattle.std.specs.Int.{div_ceil}
-use Rattle.std.proofs.Math.Nat.{mul-le-mul_right, add-mul, mul_comm}
-use Rattle.std.proofs.lemmas.Grind.{div_ceil_times}
 use Rattle.std.specs.Simd.Lanes.{zip2, chunk, put_chunk}
 use Rattle.std.proofs.lemmas.Nat.{div-mul-add, mod-mul-add, mod_below}
 use Rattle.gf256.specs.Field.{◌⊕◌, ◌⊗◌}

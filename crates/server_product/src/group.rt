@@ -3,8 +3,7 @@
 
 ghost use Rattle.std.specs.Prelude.{◌≡◌, ◌+◌, ◌*◌, ◌<◌, ◌≤◌, length};
 ghost use Rattle.std.specs.Int.{div_ceil};
-ghost use Rattle.row_workers.specs.RowSums.{AreSums, AddsSums};
-ghost use Rattle.row_workers.specs.Group.{block_gives, query_gives, AddsFour};
+ghost use Rattle.row_workers.specs.RowSums.{AreSums};
 ghost use Rattle.server_product.specs.Queries.{entry_of};
 ghost use Rattle.server_product.specs.Blocks.{AreFactors};
 ghost use Rattle.quantity_limits.specs.declared.TheConstants.{MOST_ROWS};
@@ -58,17 +57,7 @@ where
 
     ghost gives = { entry_of };
 
-    fn add_four(&self, group: Group, j: u32, apart: u32, _room: &mut [u8], blocks: &mut [u8])
-        requires lanes { (1 ≤ N) × (N ≤ 32) }
-        requires some { 1 ≤ group.count }
-        requires few { group.count ≤ 16 }
-        requires wide { N ≤ group.matrix.now.width }
-        requires within { j + 3 * apart < length group.matrix.now.rows }
-        requires queries { length group.queries.now ≡ group.count * length group.matrix.now.rows }
-        requires room { length _room.old ≡ 2048 }
-        requires blocks { length blocks.old ≡ N * (div_ceil group.matrix.now.width N * group.count) }
-        ensures { AddsFour (block_gives N entry_of group.entry) j apart blocks.old blocks.new }
-    {
+    fn add_four(&self, group: Group, j: u32, apart: u32, _room: &mut [u8], blocks: &mut [u8]) {
         let Group {
             matrix,
             queries,
@@ -82,16 +71,7 @@ where
         add_four_rows::<N>(blocks, four, &factors, count, self);
     }
 
-    fn add_few(&self, group: Group, v: usize, from: u32, to: u32, sums: &mut [u8])
-        requires few { group.count ≤ 16 }
-        requires query { v < group.count }
-        requires order { from ≤ to }
-        requires within { to ≤ length group.matrix.now.rows }
-        requires queries { length group.queries.now ≡ group.count * length group.matrix.now.rows }
-        requires room { length sums.old ≡ group.matrix.now.width }
-        ensures { AddsSums (query_gives entry_of group.entry v) group.entry.matrix.now.width
-            from to sums.old sums.new }
-    {
+    fn add_few(&self, group: Group, v: usize, from: u32, to: u32, sums: &mut [u8]) {
         let rows = group.matrix.rows() as usize;
         let query = &group.queries[v * rows..(v + 1) * rows];
         add_in_sixths(group.matrix, query, from, to, sums);
