@@ -86,6 +86,8 @@ fn bodies_agree_at_many_shapes(rt: HostRuntime) -> Result<(), Fail> {
         (3, 2),
         (17, 33),
         (33, 17),
+        (40, 48),
+        (13, 95),
         (255, 2),
         (255, 255),
         (1000, 1),
