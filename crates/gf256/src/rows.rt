@@ -202,8 +202,7 @@ pub fn add_scaled_row(acc: &mut [u8], row: &[u8], factor: u8)
     let products = Products::of(factor);
     let last = acc.len() - 16;
     let end = u8x16::from_slice(&acc[last..]);
-    let wide = add_in_lanes::<LANES>(acc, row, &products, 0);
-    let at = add_in_lanes::<16>(acc, row, &products, wide);
+    let at = add_in_lanes(acc, row, &products);
     if at < acc.len() {
         let sum = end ^ products.times(u8x16::from_slice(&row[last..]));
         sum.copy_to_slice(&mut acc[last..]);
@@ -221,30 +220,36 @@ fn add_scaled_bytes(acc: &mut [u8], row: &[u8], factor: u8)
     }
 }
 
-/// Adds the products of the bytes of `row` from place `from` on to those of `acc`, N at once, until
-/// fewer than N are left. Gives the place of the first that is left.
+/// Adds the products of the bytes of `row` to those of `acc`, 32 at once and then 16, until fewer than
+/// 16 are left. Gives the place of the first that is left.
 #[inline(always)]
-fn add_in_lanes<const N: usize>(
-    acc: &mut [u8],
-    row: &[u8],
-    products: &Products,
-    from: usize,
-) -> usize
+fn add_in_lanes(acc: &mut [u8], row: &[u8], products: &Products) -> usize
+    requires { length row.now ≡ length acc.old }
+    ensures within { result ≤ length acc.old }
+    ensures few { length acc.old < result + 16 }
+    ensures added { IsAdded acc.new acc.old (multiple row.now products.now) 0 result }
+{
+    let mut at = 0;
+    'lanes: while acc.len() - at >= LANES {
+        add_lanes::<LANES>(acc, row, products, at);
+        at += LANES;
+    }
+    if acc.len() - at < 16 {
+        return at;
+    }
+    add_lanes::<16>(acc, row, products, at);
+    at + 16
+}
+
+/// Adds the products of N bytes of `row`, from place `at` on, to those of `acc`.
+#[inline(always)]
+fn add_lanes<const N: usize>(acc: &mut [u8], row: &[u8], products: &Products, at: usize)
 where
     Vectors: LookUp<N>,
     requires same { length row.now ≡ length acc.old }
-    requires some { 1 ≤ N }
-    requires within { from ≤ length acc.old }
-    ensures order { from ≤ result }
-    ensures within { result ≤ length acc.old }
-    ensures few { length acc.old < result + N }
-    ensures added { IsAdded acc.new acc.old (multiple row.now products.now) from result }
+    requires within { at + N ≤ length acc.old }
+    ensures { IsAdded acc.new acc.old (multiple row.now products.now) at (at + N) }
 {
-    let mut at = from;
-    'lanes: while acc.len() - at >= N {
-        let sum = Simd::from_slice(&acc[at..]) ^ products.times(Simd::from_slice(&row[at..]));
-        sum.copy_to_slice(&mut acc[at..]);
-        at += N;
-    }
-    at
+    let sum = Simd::<u8, N>::from_slice(&acc[at..]) ^ products.times(Simd::from_slice(&row[at..]));
+    sum.copy_to_slice(&mut acc[at..]);
 }
