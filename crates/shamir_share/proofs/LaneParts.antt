@@ -23,18 +23,18 @@ use Rattle.gf256.proofs.FlatRows.{row_within}
 use Rattle.shamir_share.proofs.Rows.{masks_at, length-masks, length-row_coins}
 
 -- lanes that have the same
-pub lanes-same : (lanes : List ℕ) (f g : ℕ → ℕ) (at : ℕ) → ((k : ℕ) → k < 16 → f (at + k) ≡ g (at + k)) → AreLanes lanes f at → AreLanes lanes g at
+pub lanes-same : (lanes : List ℕ) (f g : ℕ → ℕ) (at : ℕ) → ((k : ℕ) → k < 16 → f (at + k) ≡ g (at + k)) → AreLanes 16 lanes f at → AreLanes 16 lanes g at
 lanes-same lanes f g at same h = record {
   size = h.size;
   each = λ k l. h.each k l ∙ same k l;
 }
 
 -- the same from place 0 on
-pub lanes-first : (lanes : List ℕ) (f g : ℕ → ℕ) → ((k : ℕ) → k < 16 → f k ≡ g k) → AreLanes lanes f 0 → AreLanes lanes g 0
+pub lanes-first : (lanes : List ℕ) (f g : ℕ → ℕ) → ((k : ℕ) → k < 16 → f k ≡ g k) → AreLanes 16 lanes f 0 → AreLanes 16 lanes g 0
 lanes-first lanes f g same h = lanes-same lanes f g 0 (λ k l. ap f (zero-add k) ∙ same k l ∙ sym (ap g (zero-add k))) h
 
 -- 16 places of any list
-pub picked : (xs : List ℕ) (f : ℕ → ℕ) → AreLanes (map (λ i. get_or xs (f i) 0) (range_with_len 0 16)) (λ i. get_or xs (f i) 0) 0
+pub picked : (xs : List ℕ) (f : ℕ → ℕ) → AreLanes 16 (map (λ i. get_or xs (f i) 0) (range_with_len 0 16)) (λ i. get_or xs (f i) 0) 0
 picked xs f = record {
   size = length-map-range_with_len (λ i. get_or xs (f i) 0) 0 16;
   each = λ k l. get_or-map-range_with_len (λ i. get_or xs (f i) 0) 0 16 k k 0 l (zero-add k) ∙ sym (ap (λ i. get_or xs (f i) 0) (zero-add k));
@@ -43,13 +43,13 @@ picked xs f = record {
 -- what a pair of lanes makes
 pub paired_is : (a b odd : List ℕ) (f : ℕ)
     → odd ≡ map (λ x. f ⊗ x) (map (λ i. get_or (a ++ b) (2 * i + 1) 0) (range_with_len 0 16))
-    → AreLanes (zip2 bit_xor (map (λ i. get_or (a ++ b) (2 * i) 0) (range_with_len 0 16)) odd) (paired a b f) 0
+    → AreLanes 16 (zip2 bit_xor (map (λ i. get_or (a ++ b) (2 * i) 0) (range_with_len 0 16)) odd) (paired a b f) 0
 paired_is a b odd f is =
     lanes-sum _ odd (λ i. get_or (a ++ b) (2 * i) 0) (λ i. f ⊗ get_or (a ++ b) (2 * i + 1) 0) 0 (picked (a ++ b) (λ i. 2 * i))
     (lanes-times _ odd (λ i. get_or (a ++ b) (2 * i + 1) 0) f 0 is (picked (a ++ b) (λ i. 2 * i + 1)))
 
 -- lane i of two vectors
-lane_of_two : (a b : List ℕ) (g : ℕ → ℕ) (at i : ℕ) → i < 32 → AreLanes a g at → AreLanes b g (at + 16) → get_or (a ++ b) i 0 ≡ g (at + i)
+lane_of_two : (a b : List ℕ) (g : ℕ → ℕ) (at i : ℕ) → i < 32 → AreLanes 16 a g at → AreLanes 16 b g (at + 16) → get_or (a ++ b) i 0 ≡ g (at + i)
 lane_of_two a b g at i l first second =
     elim (cases_lt i 16) [
       | inl below ↦ get_or_append_left a b 0 i (omega (arith, first.size, below)) ∙ first.each i below
@@ -72,7 +72,7 @@ part_twice g n a k =
 
 -- the values of twice as many lanes each
 pub parts_twice : (x y made : List ℕ) (g : ℕ → ℕ) (n a f at to : ℕ) → f ≡ power a n → to ≡ 2 * at
-    → AreLanes x (part g n a) to → AreLanes y (part g n a) (to + 16) → AreLanes made (paired x y f) 0 → AreLanes made (part g (n + n) a) at
+    → AreLanes 16 x (part g n a) to → AreLanes 16 y (part g n a) (to + 16) → AreLanes 16 made (paired x y f) 0 → AreLanes 16 made (part g (n + n) a) at
 parts_twice x y made g n a f at to factor place first second is = record {
   size = is.size;
   each = λ k l.
@@ -94,13 +94,13 @@ part_one g a k byte =
 -- what a join of lanes makes
 pub joined_is : (a b odd : List ℕ) (f : ℕ)
     → odd ≡ map (λ x. f ⊗ x) (map (λ i. get_or (a ++ b) (i / 8 * 16 + i % 8 + 8) 0) (range_with_len 0 16))
-    → AreLanes (zip2 bit_xor (map (λ i. get_or (a ++ b) (i / 8 * 16 + i % 8) 0) (range_with_len 0 16)) odd) (joined a b f) 0
+    → AreLanes 16 (zip2 bit_xor (map (λ i. get_or (a ++ b) (i / 8 * 16 + i % 8) 0) (range_with_len 0 16)) odd) (joined a b f) 0
 joined_is a b odd f is =
     lanes-sum _ odd (λ i. get_or (a ++ b) (i / 8 * 16 + i % 8) 0) (λ i. f ⊗ get_or (a ++ b) (i / 8 * 16 + i % 8 + 8) 0) 0 (picked (a ++ b) (λ i. i / 8 * 16 + i % 8))
     (lanes-times _ odd (λ i. get_or (a ++ b) (i / 8 * 16 + i % 8 + 8) 0) f 0 is (picked (a ++ b) (λ i. i / 8 * 16 + i % 8 + 8)))
 
 -- where even lanes stand before odd ones, eight of one kind of two vectors follow each other
-of_kind : (x y : List ℕ) (g : ℕ → ℕ) (to k d : ℕ) → k < 16 → d < 2 → AreLanes x (λ i. g (to + even_first i)) 0 → AreLanes y (λ i. g (to + 16 + even_first i)) 0
+of_kind : (x y : List ℕ) (g : ℕ → ℕ) (to k d : ℕ) → k < 16 → d < 2 → AreLanes 16 x (λ i. g (to + even_first i)) 0 → AreLanes 16 y (λ i. g (to + 16 + even_first i)) 0
     → get_or (x ++ y) (k / 8 * 16 + k % 8 + d * 8) 0 ≡ g (to + (2 * k + d))
 of_kind x y g to k d l few first second =
     let i = k / 8 * 16 + k % 8 + d * 8 in
@@ -118,7 +118,7 @@ of_kind x y g to k d l few first second =
 
 -- the values of pairs of lanes
 pub parts_of_lanes : (x y made : List ℕ) (g : ℕ → ℕ) (a f at to : ℕ) → ((k : ℕ) → g k < 256) → f ≡ a → to ≡ 2 * at
-    → AreLanes x (λ i. g (to + even_first i)) 0 → AreLanes y (λ i. g (to + 16 + even_first i)) 0 → AreLanes made (joined x y f) 0 → AreLanes made (part g 2 a) at
+    → AreLanes 16 x (λ i. g (to + even_first i)) 0 → AreLanes 16 y (λ i. g (to + 16 + even_first i)) 0 → AreLanes 16 made (joined x y f) 0 → AreLanes 16 made (part g 2 a) at
 unfolding power
 parts_of_lanes x y made g a f at to bytes factor place first second is = record {
   size = is.size;
@@ -170,7 +170,7 @@ nothing_left rows t from a k past = ap (λ p. val p a) (drop_all from (row_coins
 
 -- the values of narrow rows, which are read whole
 pub narrow_values : (rows lanes : List ℕ) (t width a : ℕ) → 16 * t ≤ length rows → t ≤ width → 0 < width
-    → AreLanes lanes (part (padded rows t 0 width) width a) 0 → AreLanes lanes (value_from rows t 0 a) 0
+    → AreLanes 16 lanes (part (padded rows t 0 width) width a) 0 → AreLanes 16 lanes (value_from rows t 0 a) 0
 narrow_values rows lanes t width a whole few some h =
     lanes-first lanes (part (padded rows t 0 width) width a) (value_from rows t 0 a) (λ k l.
     sym (add_zero _) ∙ ap (◌⊕◌ (part (padded rows t 0 width) width a k)) (sym (mul_zero (power a width)) ∙ ap (◌⊗◌ (power a width)) (sym (nothing_left rows t (0 + width) a k
@@ -179,11 +179,11 @@ narrow_values rows lanes t width a whole few some h =
 
 -- what one more part makes of the values
 pub values_more : (rows values products part_lanes made : List ℕ) (t from next a f : ℕ) → next ≡ from + 16 → f ≡ power a 16
-    → AreLanes values (value_from rows t next a) 0 → products ≡ map (λ b. f ⊗ b) values
-    → AreLanes part_lanes (part (padded rows t from 16) 16 a) 0 → made ≡ zip2 bit_xor products part_lanes
-    → AreLanes made (value_from rows t from a) 0
+    → AreLanes 16 values (value_from rows t next a) 0 → products ≡ map (λ b. f ⊗ b) values
+    → AreLanes 16 part_lanes (part (padded rows t from 16) 16 a) 0 → made ≡ zip2 bit_xor products part_lanes
+    → AreLanes 16 made (value_from rows t from a) 0
 values_more rows values products lanes made t from next a f e power_is before is part_is made_is =
-    subst (λ xs. AreLanes xs (value_from rows t from a) 0) (sym made_is)
+    subst (λ xs. AreLanes 16 xs (value_from rows t from a) 0) (sym made_is)
     (lanes-first (zip2 bit_xor products lanes) (λ k. f ⊗ value_from rows t next a k ⊕ part (padded rows t from 16) 16 a k) (value_from rows t from a) (λ k l.
     add_comm _ _
     ∙ ap₂ (λ x p. part (padded rows t from 16) 16 a k ⊕ x ⊗ value_from rows t p a k) power_is e
@@ -191,7 +191,7 @@ values_more rows values products lanes made t from next a f e power_is before is
     (lanes-sum products lanes (λ k. f ⊗ value_from rows t next a k) (part (padded rows t from 16) 16 a) 0 (lanes-times values products (value_from rows t next a) f 0 is before) part_is))
 
 -- the values of the rows, times the point, are their masks
-pub masks_from_values : (rows values made : List ℕ) (t a : ℕ) → made ≡ map (λ b. a ⊗ b) values → AreLanes values (value_from rows t 0 a) 0 → made ≡ masks rows t 16 a
+pub masks_from_values : (rows values made : List ℕ) (t a : ℕ) → made ≡ map (λ b. a ⊗ b) values → AreLanes 16 values (value_from rows t 0 a) 0 → made ≡ masks rows t 16 a
 masks_from_values rows values made t a is lanes =
     let h = lanes-times values made (value_from rows t 0 a) a 0 is lanes in
     ext_get_or 0 made (masks rows t 16 a) (h.size ∙ sym (length-masks rows t 16 a)) (λ k l.

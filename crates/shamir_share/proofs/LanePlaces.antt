@@ -40,7 +40,7 @@ holds_16 = refl
 
 -- the places of n coins
 row_of : (width n size : ℕ) → Holds width size → size ≡ width * 16 → 2 ≤ width → width ≤ 16 → 1 ≤ n → n ≤ width
-    → AreLanes (chunk ((width + n - 3) * 16) 16 PLACES) (sorted_place width n) 0
+    → AreLanes 16 (chunk ((width + n - 3) * 16) 16 PLACES) (sorted_place width n) 0
 row_of width n size holds is least most some few = record {
   size = length-chunk ((width + n - 3) * 16) 16 PLACES (omega (arith, few, most, least, some));
   each = λ k l.
@@ -54,7 +54,7 @@ row_of width n size holds is least most some few = record {
 }
 
 -- the same for each width
-pub places_are : (width n : ℕ) → IsWidth width → 1 ≤ n → n ≤ width → AreLanes (chunk ((width + n - 3) * 16) 16 PLACES) (sorted_place width n) 0
+pub places_are : (width n : ℕ) → IsWidth width → 1 ≤ n → n ≤ width → AreLanes 16 (chunk ((width + n - 3) * 16) 16 PLACES) (sorted_place width n) 0
 places_are width n (inl e) some few = row_of width n 32 (subst (λ w. Holds w 32) (sym e) holds_2) (omega (arith, e)) (omega (arith, e)) (omega (arith, e)) some few
 places_are width n (inr (inl e)) some few = row_of width n 64 (subst (λ w. Holds w 64) (sym e) holds_4) (omega (arith, e)) (omega (arith, e)) (omega (arith, e)) some few
 places_are width n (inr (inr (inl e))) some few = row_of width n 128 (subst (λ w. Holds w 128) (sym e) holds_8) (omega (arith, e)) (omega (arith, e)) (omega (arith, e)) some few
@@ -170,7 +170,7 @@ module _ (rows : List ℕ) (t from width apart : ℕ) (places : List ℕ) (is : 
               ∙ sym (get_or_past (row_coins rows t r) (from + e) 0 (omega (arith, h, long, s.below))) ∙ back
         ]
 
-    pub unit_is : AreLanes (swz_l w8 16 loaded 0 places) (λ i. padded rows t from width (16 * u + even_first i)) 0
+    pub unit_is : AreLanes 16 (swz_l w8 16 loaded 0 places) (λ i. padded rows t from width (16 * u + even_first i)) 0
     unit_is = record {
       size = length-swz_l w8 16 loaded 0 places ∙ is.sorted.size;
       each = λ i m. lane i m ∙ sym (ap (λ z. padded rows t from width (16 * u + even_first z)) (zero-add i));

@@ -35,7 +35,7 @@ pub record AreCells (rows : List ℕ) (t from width apart : ℕ) (places : List 
   pub shape : (width ≡ 16) ⊎ ((from ≡ 0) × (t ≤ width))
   pub inside : from < t
   pub steps : apart ≡ 16 / width * t
-  pub sorted : AreLanes places (sorted_place width (min (t - from) width)) 0
+  pub sorted : AreLanes 16 places (sorted_place width (min (t - from) width)) 0
   pub whole : 16 * t ≤ length rows
   pub room : (width - 1) * apart + from + 16 ≤ length rows
 

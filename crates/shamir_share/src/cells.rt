@@ -31,7 +31,7 @@ impl Cells {
     fn unit(&self, rows: &[u8], u: usize) -> u8x16
         requires cells { AreCellsOf rows.now self.now }
         requires within { u + 1 ≤ self.now.width }
-        ensures { AreLanes result (λ i. padded_by rows.now self.now (16 * u + even_first i)) 0 }
+        ensures { AreLanes 16 result (λ i. padded_by rows.now self.now (16 * u + even_first i)) 0 }
     {
         sixteen_at(rows, u * self.apart + self.from).swizzle_dyn_within::<16>(self.places)
     }
@@ -41,7 +41,7 @@ impl Cells {
     pub fn twos(&self, rows: &[u8], products: &ProductTable, u: usize) -> u8x16
         requires cells { AreCellsOf rows.now self.now }
         requires within { u + 2 ≤ self.now.width }
-        ensures { AreLanes result (part (padded_by rows.now self.now) 2 products.now) (8 * u) }
+        ensures { AreLanes 16 result (part (padded_by rows.now self.now) 2 products.now) (8 * u) }
     {
         join(products.first(), self.unit(rows, u), self.unit(rows, u + 1))
     }
@@ -51,7 +51,7 @@ impl Cells {
     pub fn fours(&self, rows: &[u8], products: &ProductTable, u: usize) -> u8x16
         requires cells { AreCellsOf rows.now self.now }
         requires within { u + 4 ≤ self.now.width }
-        ensures { AreLanes result (part (padded_by rows.now self.now) 4 products.now) (4 * u) }
+        ensures { AreLanes 16 result (part (padded_by rows.now self.now) 4 products.now) (4 * u) }
     {
         pair(
             products.second(),
@@ -65,7 +65,7 @@ impl Cells {
     pub fn eights(&self, rows: &[u8], products: &ProductTable, u: usize) -> u8x16
         requires cells { AreCellsOf rows.now self.now }
         requires within { u + 8 ≤ self.now.width }
-        ensures { AreLanes result (part (padded_by rows.now self.now) 8 products.now) (2 * u) }
+        ensures { AreLanes 16 result (part (padded_by rows.now self.now) 8 products.now) (2 * u) }
     {
         pair(
             products.fourth(),
@@ -79,7 +79,7 @@ impl Cells {
     pub fn sixteens(&self, rows: &[u8], products: &ProductTable) -> u8x16
         requires cells { AreCellsOf rows.now self.now }
         requires within { 16 ≤ self.now.width }
-        ensures { AreLanes result (part (padded_by rows.now self.now) 16 products.now) 0 }
+        ensures { AreLanes 16 result (part (padded_by rows.now self.now) 16 products.now) 0 }
     {
         pair(
             products.eighth(),
@@ -94,7 +94,7 @@ impl Cells {
 fn join(products: &Products, a: u8x16, b: u8x16) -> u8x16
     requires first { length a ≡ 16 }
     requires second { length b ≡ 16 }
-    ensures { AreLanes result (joined a b products.now) 0 }
+    ensures { AreLanes 16 result (joined a b products.now) 0 }
 {
     let first = a.shuffle(b, [0, 1, 2, 3, 4, 5, 6, 7, 16, 17, 18, 19, 20, 21, 22, 23]);
     let last = a.shuffle(
@@ -109,7 +109,7 @@ fn join(products: &Products, a: u8x16, b: u8x16) -> u8x16
 fn pair(products: &Products, a: u8x16, b: u8x16) -> u8x16
     requires first { length a ≡ 16 }
     requires second { length b ≡ 16 }
-    ensures { AreLanes result (paired a b products.now) 0 }
+    ensures { AreLanes 16 result (paired a b products.now) 0 }
 {
     let even = a.shuffle(
         b,

@@ -84,7 +84,7 @@ fn sixteen_values(products: &ProductTable, rows: &[u8], t: usize, width: usize) 
     requires wide { width < 16 → t ≤ width }
     requires whole { 16 * t ≤ length rows.now }
     requires room { (16 - 16 / width) * t + div_ceil t 16 * 16 ≤ length rows.now }
-    ensures { AreLanes result (value_from rows.now t 0 products.now) 0 }
+    ensures { AreLanes 16 result (value_from rows.now t 0 products.now) 0 }
 {
     if width == 16 {
         return values_in_parts(products, rows, t);
@@ -112,7 +112,7 @@ fn values_in_parts(products: &ProductTable, rows: &[u8], t: usize) -> u8x16
     requires some { 1 ≤ t }
     requires whole { 16 * t ≤ length rows.now }
     requires room { 15 * t + div_ceil t 16 * 16 ≤ length rows.now }
-    ensures { AreLanes result (value_from rows.now t 0 products.now) 0 }
+    ensures { AreLanes 16 result (value_from rows.now t 0 products.now) 0 }
 {
     let mut values = u8x16::splat(0);
     let mut part = t.div_ceil(16);

@@ -41,7 +41,7 @@ pub(crate) fn places_of(width: usize, coins: usize) -> u8x16
     requires width { IsWidth width }
     requires some { 1 ≤ coins }
     requires few { coins ≤ width }
-    ensures { AreLanes result (sorted_place width coins) 0 }
+    ensures { AreLanes 16 result (sorted_place width coins) 0 }
 {
     sixteen_at(&PLACES, (width + coins - 3) * 16)
 }

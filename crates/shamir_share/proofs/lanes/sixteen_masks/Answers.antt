@@ -13,7 +13,7 @@ returns-then-t-eq1 c =
     let one : c.args.t ≡ 1 = c.if-t-eq1.true in
     let room : 16 ≤ length rows = omega (arith, one, c.requires.rows) in
     masks_from_values rows _ c.times_lanes.result 1 a c.times_lanes.ensures
-    (lanes-first _ (λ k. get_or rows k 0) (value_from rows 1 0 a) (λ k l. sym (val_of_coin rows k a (omega (arith, l, room)) (c.type_inv.rows k).fits)) (lanes-of rows 0 room))
+    (lanes-first _ (λ k. get_or rows k 0) (value_from rows 1 0 a) (λ k l. sym (val_of_coin rows k a (omega (arith, l, room)) (c.type_inv.rows k).fits)) (lanes-of 16 rows 0 room))
     ∙ ap (λ t. masks rows t 16 a) (sym one)
 
 pub returns-then-rows-width : goal.returns-then-rows-width

@@ -14,7 +14,7 @@ returns-then-width-eq2 c =
     let width_is : c.args.width ≡ 2 = c.if-width-eq2.true in
     let few : t ≤ 2 = let h = c.requires.wide (omega (arith, width_is)) in omega (arith, h, width_is) in
     narrow_values rows c.twos.result t 2 a c.requires.whole few (omega arith)
-    (subst (λ (w : ℕ). AreLanes c.twos.result (part (padded rows t 0 w) 2 a) 0) width_is c.twos.ensures)
+    (subst (λ (w : ℕ). AreLanes 16 c.twos.result (part (padded rows t 0 w) 2 a) 0) width_is c.twos.ensures)
 
 pub returns-then-width-eq4 : goal.returns-then-width-eq4
 returns-then-width-eq4 c =
@@ -24,7 +24,7 @@ returns-then-width-eq4 c =
     let width_is : c.args.width ≡ 4 = c.if-width-eq4.true in
     let few : t ≤ 4 = let h = c.requires.wide (omega (arith, width_is)) in omega (arith, h, width_is) in
     narrow_values rows c.fours.result t 4 a c.requires.whole few (omega arith)
-    (subst (λ (w : ℕ). AreLanes c.fours.result (part (padded rows t 0 w) 4 a) 0) width_is c.fours.ensures)
+    (subst (λ (w : ℕ). AreLanes 16 c.fours.result (part (padded rows t 0 w) 4 a) 0) width_is c.fours.ensures)
 
 -- a width that isn't 16 is less
 narrow : (width : ℕ) → IsWidth width → width ≢ 16 → width < 16
@@ -51,7 +51,7 @@ room_of t width len fills a some room =
 
 -- narrow rows are cells
 narrow_cells : (rows : List ℕ) (t width : ℕ) (places : List ℕ) → IsWidth width → width ≢ 16 → 1 ≤ t → t ≤ width → 16 * t ≤ length rows → (16 - 16 / width) * t + div_ceil t 16 * 16 ≤ length rows
-    → AreLanes places (sorted_place width t) 0 → AreCells rows t 0 width (16 / width * t) places
+    → AreLanes 16 places (sorted_place width t) 0 → AreCells rows t 0 width (16 / width * t) places
 narrow_cells rows t width places fills a some few whole room lanes =
     let all : t ≡ min (t - 0) width = omega (arith, few) in
     record {
@@ -59,7 +59,7 @@ narrow_cells rows t width places fills a some few whole room lanes =
       shape = inr (refl, few);
       inside = some;
       steps = refl;
-      sorted = subst (λ (n : ℕ). AreLanes places (sorted_place width n) 0) all lanes;
+      sorted = subst (λ (n : ℕ). AreLanes 16 places (sorted_place width n) 0) all lanes;
       whole = whole;
       room = room_of t width (length rows) fills a some room;
     }
@@ -79,7 +79,7 @@ returns c =
     let width_is : c.args.width ≡ 8 = eight c.args.width c.requires.width c.if-width-eq2.false c.if-width-eq4.false c.if-width-eq16.false in
     let few : t ≤ 8 = let h = c.requires.wide (omega (arith, width_is)) in omega (arith, h, width_is) in
     narrow_values rows c.eights.result t 8 a c.requires.whole few (omega arith)
-    (subst (λ (w : ℕ). AreLanes c.eights.result (part (padded rows t 0 w) 8 a) 0) width_is c.eights.ensures)
+    (subst (λ (w : ℕ). AreLanes 16 c.eights.result (part (padded rows t 0 w) 8 a) 0) width_is c.eights.ensures)
 
 pub twos-requires-clause-cells : goal.twos-requires-clause-cells
 twos-requires-clause-cells c =

@@ -38,7 +38,7 @@ sixteens-requires-clause-cells c =
       shape = inl refl;
       inside = inside;
       steps = sym (one-mul t);
-      sorted = subst (λ (n : ℕ). AreLanes c.places_of.result (sorted_place 16 n) 0) c.min.ensures c.places_of.ensures;
+      sorted = subst (λ (n : ℕ). AreLanes 16 c.places_of.result (sorted_place 16 n) 0) c.min.ensures c.places_of.ensures;
       whole = c.requires.whole;
       room = omega (arith, few, c.parts-test.true, c.requires.room);
     }
@@ -55,4 +55,4 @@ parts-preserved c =
 pub returns : goal.returns
 returns c =
     let none : 16 * c.parts.part ≡ 0 = omega arith in
-    subst (λ (n : ℕ). AreLanes c.parts.values (value_from c.args.rows.now c.args.t n c.args.products.now) 0) none c.parts.invariant.values
+    subst (λ (n : ℕ). AreLanes 16 c.parts.values (value_from c.args.rows.now c.args.t n c.args.products.now) 0) none c.parts.invariant.values

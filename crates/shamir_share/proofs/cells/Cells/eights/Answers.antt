@@ -10,4 +10,4 @@ returns c =
     let u = c.args.u in
     let g = padded c.args.rows.now s.t s.from s.width in
     parts_twice _ _ c.pair.result g 4 c.args.products.now _ (2 * u) (4 * u) c.fourth.ensures (omega arith)
-    c.fours.ensures (subst (AreLanes c.fours-2.result (part g 4 c.args.products.now)) (omega arith) c.fours-2.ensures) c.pair.ensures
+    c.fours.ensures (subst (AreLanes 16 c.fours-2.result (part g 4 c.args.products.now)) (omega arith) c.fours-2.ensures) c.pair.ensures

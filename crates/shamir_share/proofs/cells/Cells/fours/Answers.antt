@@ -10,4 +10,4 @@ returns c =
     let u = c.args.u in
     let g = padded c.args.rows.now s.t s.from s.width in
     parts_twice _ _ c.pair.result g 2 c.args.products.now _ (4 * u) (8 * u) c.second.ensures (omega arith)
-    c.twos.ensures (subst (AreLanes c.twos-2.result (part g 2 c.args.products.now)) (omega arith) c.twos-2.ensures) c.pair.ensures
+    c.twos.ensures (subst (AreLanes 16 c.twos-2.result (part g 2 c.args.products.now)) (omega arith) c.twos-2.ensures) c.pair.ensures

@@ -9,4 +9,4 @@ returns c =
     let s = c.args.self.now in
     let g = padded c.args.rows.now s.t s.from s.width in
     parts_twice _ _ c.pair.result g 8 c.args.products.now _ 0 0 c.eighth.ensures (omega arith)
-    c.eights.ensures (subst (AreLanes c.eights-2.result (part g 8 c.args.products.now)) (omega arith) c.eights-2.ensures) c.pair.ensures
+    c.eights.ensures (subst (AreLanes 16 c.eights-2.result (part g 8 c.args.products.now)) (omega arith) c.eights-2.ensures) c.pair.ensures

@@ -13,4 +13,4 @@ returns c =
     let g = padded rows s.t s.from s.width in
     parts_of_lanes _ _ c.join.result g c.args.products.now _ (8 * u) (16 * u) (padded-lt rows s.t s.from s.width (λ i. (c.type_inv.rows i).fits))
     c.first.ensures (omega arith)
-    c.unit.ensures (subst (λ (p : ℕ). AreLanes c.unit-2.result (λ i. g (p + even_first i)) 0) (omega arith) c.unit-2.ensures) c.join.ensures
+    c.unit.ensures (subst (λ (p : ℕ). AreLanes 16 c.unit-2.result (λ i. g (p + even_first i)) 0) (omega arith) c.unit-2.ensures) c.join.ensures

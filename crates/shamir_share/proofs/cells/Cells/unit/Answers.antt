@@ -11,5 +11,5 @@ swizzle c = let s = c.args.self.now in places_ok c.args.rows.now s.t s.from s.wi
 pub returns : goal.returns
 returns c =
     let s = c.args.self.now in
-    subst (λ (xs : List ℕ). AreLanes (swz_l w8 16 xs 0 s.places) (λ i. padded c.args.rows.now s.t s.from s.width (16 * c.args.u + even_first i)) 0) (sym c.sixteen_at.ensures)
+    subst (λ (xs : List ℕ). AreLanes 16 (swz_l w8 16 xs 0 s.places) (λ i. padded c.args.rows.now s.t s.from s.width (16 * c.args.u + even_first i)) 0) (sym c.sixteen_at.ensures)
     (unit_is c.args.rows.now s.t s.from s.width s.apart s.places c.requires.cells c.args.u c.requires.within)
