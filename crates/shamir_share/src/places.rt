@@ -48,7 +48,7 @@ pub(crate) fn places_of(width: usize, coins: usize) -> u8x16
 
 /// The 16 bytes from place `at` on.
 #[inline(always)]
-pub(crate) fn sixteen_at(bytes: &[u8], at: usize) -> u8x16
+fn sixteen_at(bytes: &[u8], at: usize) -> u8x16
     requires { at + 16 ≤ length bytes.now }
     ensures { result ≡ chunk at 16 bytes.now }
 {

@@ -99,10 +99,12 @@ impl ProductTable {
         self.table[x as usize]
     }
 
-    /// The product of the factor and each of 16 bytes.
+    /// The product of the factor and each of the bytes.
     #[inline(always)]
-    pub(crate) fn times_lanes(&self, bytes: u8x16) -> u8x16
-        ensures { result ≡ map (λ b. self.now ⊗ b) bytes }
+    pub(crate) fn times_lanes<const N: usize>(&self, bytes: Simd<u8, N>) -> Simd<u8, N>
+    where
+        Vectors: LookUp<N>,
+        ensures { result ≡ map (λ b. self.now ⊗ b) bytes.entry }
     {
         self.lanes.times(bytes)
     }
@@ -134,7 +136,7 @@ impl ProductTable {
     {
         let mut at = done;
         'lanes: while into.len() - at >= N {
-            let products = self.lanes.times(Simd::<u8, N>::from_slice(&from[at..]));
+            let products = self.times_lanes(Simd::<u8, N>::from_slice(&from[at..]));
             products.copy_to_slice(&mut into[at..]);
             at += N;
         }

@@ -1,15 +1,14 @@
 //! The share of one server.
 
-ghost use Rattle.std.specs.Prelude.{◌≡◌, ◌≢◌, ◌*◌, ◌≤◌, length, take};
+ghost use Rattle.std.specs.Prelude.{◌≡◌, ◌≢◌, ◌*◌, ◌≤◌, length};
 ghost use Rattle.share_bytes.specs.Share.{share};
 
 use gf256::rows::add_row;
-use shamir_share::{ProductTable, masks_into, sixteen_masks};
-use std::simd::prelude::*;
+use shamir_share::{ProductTable, masks_into};
 
-/// How many positions that lanes don't take are worked off at once, so that their share is still at
-/// hand when the bytes are added.
-const PIECE: usize = 4096;
+/// How many positions are worked off before the bytes are added to their masks, so few that a near
+/// cache still holds these.
+const PIECE: usize = 16384;
 
 /// Writes the share of one server: at `i` the value at `index` of the polynomial of position `i`,
 /// with the constant `bytes[i]` and then the `tau` coins of the position, at `i * tau` and on.
@@ -32,7 +31,7 @@ pub fn share_into(bytes: &[u8], coins: &[u8], tau: u32, index: u8, out: &mut [u8
 {
     let products = ProductTable::of(index);
     let tau = tau as usize;
-    let mut at = lanes_into(&products, bytes, coins, tau, out);
+    let mut at = 0;
     'pieces: while at < out.len() {
         let end = at + PIECE.min(out.len() - at);
         share_piece(
@@ -44,29 +43,6 @@ pub fn share_into(bytes: &[u8], coins: &[u8], tau: u32, index: u8, out: &mut [u8
         );
         at = end;
     }
-}
-
-/// Writes the share of the first positions, sixteen of them at once. Gives how many are done.
-fn lanes_into(
-    products: &ProductTable,
-    bytes: &[u8],
-    coins: &[u8],
-    tau: usize,
-    out: &mut [u8],
-) -> usize
-    requires some { 1 ≤ tau }
-    requires coins { length coins.now ≡ length bytes.now * tau }
-    requires room { length out.old ≡ length bytes.now }
-    ensures within { result ≤ length bytes.now }
-    ensures done { take result out.new ≡ take result (share bytes.now coins.now tau products.now) }
-{
-    let mut at = 0;
-    'lanes: while out.len() - at >= 16 {
-        let masks = sixteen_masks(products, &coins[at * tau..], tau);
-        (masks ^ u8x16::from_slice(&bytes[at..])).copy_to_slice(&mut out[at..]);
-        at += 16;
-    }
-    at
 }
 
 /// The share of positions that are few.

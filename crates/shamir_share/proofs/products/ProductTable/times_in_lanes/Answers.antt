@@ -12,8 +12,8 @@ lanes-preserved g c =
     let n = g.row.N in
     let from = c.args.from.now in
     let f = ◌⊗◌ c.args.self.now in
-    let made = c.times-products.result in
-    let is : made ≡ map f (chunk at n from) = c.times-products.ensures ∙ ap (λ a. map (◌⊗◌ a) (chunk at n from)) c.self.view_is in
+    let made = c.times_lanes-products.result in
+    let is : made ≡ map f (chunk at n from) = c.times_lanes-products.ensures in
     let long : length made ≡ n = ap length is ∙ length-map (chunk at n from) f ∙ length-chunk at n from (omega arith) in
     record {
       within = omega (arith, length-put_chunk at c.lanes.into made);
