@@ -83,7 +83,7 @@ masks_next coins t m a enough =
     ap (λ l. masks coins t m a ++ l) (masks_one row t a long) ∙ masks_more coins t m 1 a
 
 -- the value of a row of one coin is the coin
-val_of_coin : (coins : List ℕ) (i a : ℕ) → i < length coins → get_or coins i 0 < 256 → val (row_coins coins 1 i) a ≡ get_or coins i 0
+pub val_of_coin : (coins : List ℕ) (i a : ℕ) → i < length coins → get_or coins i 0 < 256 → val (row_coins coins 1 i) a ≡ get_or coins i 0
 unfolding row_coins
 val_of_coin coins i a lt byte =
     let place : i * 1 ≡ i = omega arith in
@@ -103,6 +103,17 @@ masks_same xs ys t r a same =
     ext_get_or 0 (masks xs t r a) (masks ys t r a) (length-masks xs t r a ∙ sym (length-masks ys t r a)) (λ j l.
     let few : j < r = omega (arith, l, length-masks xs t r a) in
     masks_at xs t r a j few ∙ ap (λ p. a ⊗ val p a) (same j few) ∙ sym (masks_at ys t r a j few))
+
+-- more coins behind n rows change nothing
+pub masks_of_first : (coins : List ℕ) (t n a : ℕ) → masks (take (n * t) coins) t n a ≡ masks coins t n a
+unfolding row_coins
+masks_of_first coins t n a =
+    masks_same (take (n * t) coins) coins t n a (λ j l.
+    let fit = row_within j n t l in
+    let size : n * t ≡ j * t + (n * t - j * t) = omega (arith, fit) in
+    ap (λ k. take t (drop (j * t) (take k coins))) size
+    ∙ ap (take t) (drop-take (j * t) (n * t - j * t) coins)
+    ∙ take-take t (n * t - j * t) (drop (j * t) coins) (omega (arith, fit)))
 
 -- the masks of n rows at the front of what is left are those of the rows in a slice
 pub masks_of_rest : (coins : List ℕ) (t m n a : ℕ) → masks (take (length coins - m * t) (drop (m * t) coins)) t n a ≡ masks (slice_range coins (m * t) ((m + n) * t)) t n a

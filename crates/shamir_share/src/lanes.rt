@@ -7,6 +7,7 @@ ghost use Rattle.shamir_share.specs.Query.{masks};
 ghost use Rattle.shamir_share.specs.Lanes.{value_from, AreSixteens, IsWidth};
 
 use crate::cells::Cells;
+use crate::masks::rows_into;
 use crate::places::places_of;
 use crate::products::ProductTable;
 use crate::sixteens::Sixteens;
@@ -56,6 +57,35 @@ where
         row += N;
     }
     row
+}
+
+/// The values of the first 32 rows of `t` coins, as [`crate::masks_into`] writes them. There may be
+/// more coins behind them, which are read and change nothing.
+#[inline(always)]
+pub fn lane_masks(products: &ProductTable, rows: &[u8], t: usize) -> u8x32
+    requires some { 1 ≤ t }
+    requires rows { 32 * t ≤ length rows.now }
+    ensures { result ≡ masks rows.now t 32 products.now }
+{
+    if t == 1 {
+        return products.times_lanes(u8x32::from_slice(rows));
+    }
+    let width = width_of(t);
+    if !may_read::<32>(rows, t, width) {
+        return last_masks(products, &rows[..32 * t], t);
+    }
+    products.times_lanes(lane_values::<32>(products, rows, t, width))
+}
+
+/// The same row by row, where the last lanes would be read past the last coin.
+#[inline(never)]
+fn last_masks(products: &ProductTable, rows: &[u8], t: usize) -> u8x32
+    requires { length rows.now ≡ 32 * t }
+    ensures { result ≡ masks rows.now t 32 products.now }
+{
+    let mut values = [0; 32];
+    rows_into(products, rows, t, 0, &mut values);
+    u8x32::from_array(values)
 }
 
 /// How many lanes a row of `t` coins fills: where there are more than 16, they are read 16 at a time.

@@ -1,9 +1,11 @@
 -- Shares position by position, from masks, and in pieces.
-use Rattle.std.proofs.Common.{take, ◌≡◌, ℕ, ◌+◌, ◌-◌, ◌*◌, ◌<◌, ◌≤◌, List, [], ◌++◌, length, map, get_or, refl, sym, ap, ap₂, ◌∙◌, inl, inr, arith, length-append, length-drop, drop, ◌∷◌}
+use Rattle.std.proofs.Common.{bit_xor, take, ◌≡◌, ℕ, ◌+◌, ◌-◌, ◌*◌, ◌<◌, ◌≤◌, List, [], ◌++◌, length, map, get_or, refl, sym, ap, ap₂, ◌∙◌, inl, inr, arith, length-append, length-drop, drop, ◌∷◌}
 use Rattle.std.specs.List.{range_with_len, slice_range}
+use Rattle.std.specs.Simd.Lanes.{zip2, chunk}
+use Rattle.std.proofs.lemmas.Simd.{length-zip2, get_or-zip2}
 use Rattle.std.proofs.Math.Nat.{add-mul, mul-le-mul_right}
 use Rattle.std.proofs.lemmas.Bool.{cases_lt}
-use Rattle.std.proofs.lemmas.List.{length-take-le, ext_get_or, get_or-take, get_or-drop, get_or_append_left, get_or-append_right, length-take}
+use Rattle.std.proofs.lemmas.List.{get_or_past, length-take-le, ext_get_or, get_or-take, get_or-drop, get_or_append_left, get_or-append_right, length-take}
 use Rattle.std.proofs.lemmas.List.FromFn.{length-map-range_with_len, get_or-map-range_with_len}
 use Rattle.gf256.specs.Field.{◌⊕◌, ◌⊗◌}
 use Rattle.gf256.specs.Polynomial.{val}
@@ -11,7 +13,7 @@ use Rattle.gf256.proofs.Xor.{add_comm}
 use Rattle.gf256.proofs.FieldLaws.{mul_one}
 use Rattle.uni_poly.proofs.Values.{val_cons}
 use Rattle.shamir_share.specs.Query.{row_coins, masks}
-use Rattle.shamir_share.proofs.Rows.{masks_at, row_of_slice}
+use Rattle.shamir_share.proofs.Rows.{length-masks, masks_at, row_of_slice}
 use Rattle.share_bytes.specs.Share.{position_polynomial, share}
 
 -- the shares of the first n positions
@@ -108,3 +110,32 @@ first_shares_are bytes coins tau n a few =
     ext_get_or 0 (first_shares bytes coins tau n a) (take n whole) (length-shares bytes coins tau n a ∙ sym size) (λ i l.
     let below : i < n = omega (arith, l, length-shares bytes coins tau n a) in
     shares_at bytes coins tau n a i below ∙ sym (get_or-take n whole i 0 below ∙ share_at bytes coins tau a i (omega (arith, below, few))))
+
+-- n masks to which as many bytes are added are the share of these
+pub share_of_lanes : (n : ℕ) (bytes coins lanes : List ℕ) (tau a at : ℕ) → at + n ≤ length bytes → ((i : ℕ) → get_or bytes i 0 < 256)
+    → lanes ≡ masks (slice_range coins (at * tau) ((at + n) * tau)) tau n a
+    → (length (zip2 bit_xor lanes (chunk at n bytes)) ≡ n)
+    × (zip2 bit_xor lanes (chunk at n bytes) ≡ share (slice_range bytes at (at + n)) (slice_range coins (at * tau) ((at + n) * tau)) tau a)
+unfolding ◌⊕◌
+share_of_lanes n bytes coins lanes tau a at room small is =
+    let own = slice_range coins (at * tau) ((at + n) * tau) in
+    let piece = slice_range bytes at (at + n) in
+    let count : at + n - at ≡ n = omega arith in
+    let same : piece ≡ chunk at n bytes = ap (λ k. take k (drop at bytes)) count in
+    let size : length piece ≡ n = length-slice bytes at n room in
+    let long : length lanes ≡ n = ap length is ∙ length-masks own tau n a in
+    let equal = ap length same in
+    let made = zip2 bit_xor lanes (chunk at n bytes) in
+    let all : length made ≡ n = length-zip2 bit_xor lanes (chunk at n bytes) (omega (arith, long, size, equal)) ∙ long in (
+      all,
+      share_from_masks piece own made tau a (λ i. byte i) (all ∙ sym size) (λ i l.
+          get_or-zip2 bit_xor lanes (chunk at n bytes) i 0 0 0 (omega (arith, l, size, long)) (omega (arith, l, equal))
+          ∙ ap₂ (λ p q. bit_xor (get_or p i 0) (get_or q i 0)) (is ∙ ap (λ m. masks own tau m a) (sym size)) (sym same)),
+    )
+  where
+    byte : (i : ℕ) → get_or (slice_range bytes at (at + n)) i 0 < 256
+    byte i =
+        elim (cases_lt i (at + n - at)) [
+          | inl low ↦ let e = get_or-take (at + n - at) (drop at bytes) i 0 low ∙ get_or-drop at bytes i 0 in let b = small (at + i) in omega (arith, e, b)
+          | inr high ↦ let e = get_or_past (slice_range bytes at (at + n)) i 0 (omega (arith, high, length-slice bytes at n room)) in omega (arith, e)
+        ]

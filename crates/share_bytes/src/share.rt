@@ -1,14 +1,15 @@
 //! The share of one server.
 
-ghost use Rattle.std.specs.Prelude.{◌≡◌, ◌≢◌, ◌*◌, ◌≤◌, length};
+ghost use Rattle.std.specs.Prelude.{◌≡◌, ◌≢◌, ◌*◌, ◌≤◌, length, take};
 ghost use Rattle.share_bytes.specs.Share.{share};
 
 use gf256::rows::add_row;
-use shamir_share::{ProductTable, masks_into};
+use shamir_share::{ProductTable, lane_masks, masks_into};
+use std::simd::prelude::*;
 
-/// How many positions are worked off before the bytes are added to their masks, so few that a near
-/// cache still holds these.
-const PIECE: usize = 16384;
+/// How many positions that lanes don't take are worked off at once, so that their share is still at
+/// hand when the bytes are added.
+const PIECE: usize = 4096;
 
 /// Writes the share of one server: at `i` the value at `index` of the polynomial of position `i`,
 /// with the constant `bytes[i]` and then the `tau` coins of the position, at `i * tau` and on.
@@ -31,7 +32,7 @@ pub fn share_into(bytes: &[u8], coins: &[u8], tau: u32, index: u8, out: &mut [u8
 {
     let products = ProductTable::of(index);
     let tau = tau as usize;
-    let mut at = 0;
+    let mut at = lanes_into(&products, bytes, coins, tau, out);
     'pieces: while at < out.len() {
         let end = at + PIECE.min(out.len() - at);
         share_piece(
@@ -43,6 +44,29 @@ pub fn share_into(bytes: &[u8], coins: &[u8], tau: u32, index: u8, out: &mut [u8
         );
         at = end;
     }
+}
+
+/// Writes the share of the first positions, 32 of them at once. Gives how many are done.
+fn lanes_into(
+    products: &ProductTable,
+    bytes: &[u8],
+    coins: &[u8],
+    tau: usize,
+    out: &mut [u8],
+) -> usize
+    requires some { 1 ≤ tau }
+    requires coins { length coins.now ≡ length bytes.now * tau }
+    requires room { length out.old ≡ length bytes.now }
+    ensures within { result ≤ length bytes.now }
+    ensures done { take result out.new ≡ take result (share bytes.now coins.now tau products.now) }
+{
+    let mut at = 0;
+    'lanes: while out.len() - at >= 32 {
+        let masks = lane_masks(products, &coins[at * tau..], tau);
+        (masks ^ u8x32::from_slice(&bytes[at..])).copy_to_slice(&mut out[at..]);
+        at += 32;
+    }
+    at
 }
 
 /// The share of positions that are few.

@@ -1,16 +1,29 @@
-use Rattle.std.proofs.Common.{◌≡◌, ◌+◌, ◌-◌, ◌≤◌, ◌++◌, length, ap, ap₂, sym, ◌∙◌, arith, length-append, length-drop}
+use Rattle.std.proofs.Common.{take, ◌≡◌, ◌+◌, ◌-◌, ◌≤◌, ◌++◌, length, ap, ap₂, sym, ◌∙◌, arith, length-append, length-drop}
 use Rattle.std.proofs.Math.Nat.{mul-le-mul_right}
 use Rattle.std.proofs.lemmas.List.{take_all, length-take}
 use Rattle.std.proofs.lemmas.Slice.{take-put_mid}
 use Rattle.share_bytes.specs.Share.{share}
-use Rattle.share_bytes.proofs.Shares.{shares_none, shares_more, share_is, length-share, length-slice, length-slice_coins, first_shares}
+use Rattle.share_bytes.proofs.Shares.{first_shares_are, shares_more, share_is, length-share, length-slice, length-slice_coins, first_shares}
 use Rattle.share_bytes.proofs.share.share_into.Goals as goal
 
+pub lanes_into-at-requires-clause-coins : goal.lanes_into-at-requires-clause-coins
+lanes_into-at-requires-clause-coins c = c.requires.coins
+
+pub lanes_into-at-requires-clause-room : goal.lanes_into-at-requires-clause-room
+lanes_into-at-requires-clause-room c = c.requires.room
+
+pub lanes_into-at-requires-clause-some : goal.lanes_into-at-requires-clause-some
+lanes_into-at-requires-clause-some c = c.requires.some
+
 pub pieces-init : goal.pieces-init
-pieces-init c = record {
-  within = omega arith;
-  done = shares_none c.args.bytes.now c.args.coins.now c.args.tau c.args.index;
-}
+pieces-init c =
+    let n = c.lanes_into-at.result in
+    let coins = c.args.coins.now in
+    record {
+      within = omega (arith, c.lanes_into-at.ensures.within, c.lanes_into-at.auto.out, c.requires.room);
+      done = c.lanes_into-at.ensures.done ∙ ap (λ a. take n (share c.args.bytes.now coins c.args.tau a)) c.of-products.ensures
+          ∙ sym (first_shares_are c.args.bytes.now coins c.args.tau n c.args.index c.lanes_into-at.ensures.within);
+    }
 
 pub overflow_sub-out : goal.overflow_sub-out
 overflow_sub-out c = c.pieces.invariant.within
