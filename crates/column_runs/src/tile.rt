@@ -9,6 +9,7 @@ ghost use Rattle.column_runs.specs.Tile.{tile, with_differences, Agree, AreAsLon
 use crate::lagrange::Factors;
 use crate::rows::row_from;
 use gf256::rows::{add_row, add_scaled_row};
+use gf256::vectors::LANES;
 use std::simd::prelude::*;
 
 /// Takes the columns from `from` on in which each row past those that the factors go by has the byte that its factors give,
@@ -118,10 +119,8 @@ pub(crate) fn common_length(a: &[u8], b: &[u8]) -> usize
     ensures same { (k : ℕ) → k < result → slice_index a.now k ≡ slice_index b.now k }
     ensures differ { result < length a.now → slice_index a.now result ≢ slice_index b.now result }
 {
-    let mut at = 0;
-    'lanes: while a.len() - at >= 16 && same_lanes(&a[at..at + 16], &b[at..at + 16]) {
-        at += 16;
-    }
+    let wide = common_lanes::<LANES>(a, b, 0);
+    let at = common_lanes::<16>(a, b, wide);
     for k in at..a.len() {
         if a[k] != b[k] {
             return k;
@@ -130,12 +129,31 @@ pub(crate) fn common_length(a: &[u8], b: &[u8]) -> usize
     a.len()
 }
 
-/// Whether two rows of 16 bytes are the same.
+/// The same of rows that have the same bytes before place `from`, N of them at once: where the bytes differ, or fewer than N
+/// are left, it may stop up to N places early.
 #[inline(always)]
-fn same_lanes(a: &[u8], b: &[u8]) -> bool
-    requires a { length a.now ≡ 16 }
-    requires b { length b.now ≡ 16 }
+fn common_lanes<const N: usize>(a: &[u8], b: &[u8], from: usize) -> usize
+    requires length { length a.now ≡ length b.now }
+    requires some { 1 ≤ N }
+    requires within { from ≤ length a.now }
+    requires same { (k : ℕ) → k < from → slice_index a.now k ≡ slice_index b.now k }
+    ensures within { result ≤ length a.now }
+    ensures same { (k : ℕ) → k < result → slice_index a.now k ≡ slice_index b.now k }
+{
+    let mut at = from;
+    'lanes: while a.len() - at >= N && same_lanes::<N>(&a[at..at + N], &b[at..at + N]) {
+        at += N;
+    }
+    at
+}
+
+/// Whether two rows of N bytes are the same.
+#[inline(always)]
+fn same_lanes<const N: usize>(a: &[u8], b: &[u8]) -> bool
+    requires a { length a.now ≡ N }
+    requires b { length b.now ≡ N }
     ensures { result ≡ true → a.now ≡ b.now }
 {
-    (u8x16::from_slice(a) ^ u8x16::from_slice(b)).reduce_or() == 0
+    let differences = Simd::<u8, N>::from_slice(a) ^ Simd::from_slice(b);
+    differences.reduce_or() == 0
 }

@@ -112,7 +112,7 @@ unfolding cell
 cell-member n rows g j i some = ap (λ r. coef r i) (row-member n rows g j) ∙ coef-lane n g (row rows j) i some
 
 -- 16 places at once, after those before
-pub lanes_written : (xs lanes : List ℕ) (g : ℕ → ℕ) (at : ℕ) → at + 16 ≤ length xs → AreLanes lanes g at → ((k : ℕ) → k < at → get_or xs k 0 ≡ g k)
+pub lanes_written : (xs lanes : List ℕ) (g : ℕ → ℕ) (at : ℕ) → at + 16 ≤ length xs → AreLanes 16 lanes g at → ((k : ℕ) → k < at → get_or xs k 0 ≡ g k)
     → (k : ℕ) → k < at + 16 → get_or (put_chunk at xs lanes) k 0 ≡ g k
 lanes_written xs lanes g at room are done k l =
     elim (cases_lt k at) [

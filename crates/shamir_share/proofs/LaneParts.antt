@@ -1,8 +1,8 @@
 -- The values of rows in lanes, by halves.
-use Rattle.std.proofs.Common.{◌≡◌, ℕ, ◌+◌, ◌-◌, ◌*◌, ◌/◌, ◌%◌, ◌<◌, ◌≤◌, List, ◌++◌, length, map, get_or, drop, bit_xor, sym, ap, ap₂, ◌∙◌, inl, inr, arith, zero-add, length-drop, subst}
+use Rattle.std.proofs.Common.{◌≡◌, ℕ, ◌+◌, ◌-◌, ◌*◌, ◌/◌, ◌%◌, ◌<◌, ◌≤◌, List, ◌++◌, length, map, get_or, drop, bit_xor, sym, ap, ap₂, ◌∙◌, inl, inr, arith, zero-add, zero-mul, one-mul, length-drop, subst}
 use Rattle.std.specs.List.{range_with_len}
 use Rattle.std.specs.Simd.Lanes.{zip2}
-use Rattle.std.proofs.Math.Nat.{add-mul, mul_assoc, mul_comm}
+use Rattle.std.proofs.Math.Nat.{add-mul, mul_assoc, mul_comm, mul_left_comm as nat_left_comm}
 use Rattle.std.proofs.lemmas.Bool.{cases_lt}
 use Rattle.std.proofs.lemmas.List.{ext_get_or, get_or_append_left, get_or-append_right, get_or-drop, drop-drop, drop_all}
 use Rattle.std.proofs.lemmas.Nat.{div-mul-add, mod-mul-add}
@@ -18,42 +18,51 @@ use Rattle.gf256.proofs.Sums.{sum_to-same, sum_to-append, mul-sum_to}
 use Rattle.gf256.proofs.LaneSums.{lanes-sum, lanes-times}
 use Rattle.uni_poly.proofs.Values.{val_to, val_nil}
 use Rattle.shamir_share.specs.Query.{row_coins, masks}
-use Rattle.shamir_share.specs.Lanes.{even_first, padded, part, paired, joined, value_from}
+use Rattle.shamir_share.specs.Lanes.{AreSixteens, even_first, spread, spread_even_first, eights, pairs, padded, part, paired, joined, value_from}
 use Rattle.gf256.proofs.FlatRows.{row_within}
 use Rattle.shamir_share.proofs.Rows.{masks_at, length-masks, length-row_coins}
 
+-- n rows are so many sixteens, and as many rows more as before the last ones that are read
+pub by_sixteens : (n t w : ℕ) → AreSixteens n → w ≤ 16 → (n - w) * t ≡ (n / 16 - 1) * (16 * t) + (16 - w) * t
+by_sixteens n t w lanes few =
+    let h = n / 16 - 1 in
+    let all : n - w ≡ 16 * h + (16 - w) = omega (arith, lanes.0, lanes.1, few) in
+    ap (λ m. m * t) all ∙ add-mul (16 * h) (16 - w) t ∙ ap (λ m. m + (16 - w) * t) (mul_assoc 16 h t ∙ nat_left_comm 16 h t)
+
+-- lanes that have these
+pub lanes-are : (n : ℕ) (lanes : List ℕ) (f : ℕ → ℕ) → length lanes ≡ n → ((k : ℕ) → k < n → get_or lanes k 0 ≡ f k) → AreLanes n lanes f 0
+lanes-are n lanes f long same = record { size = long; each = λ k l. same k l ∙ ap f (sym (zero-add k)) }
+
+-- lane k
+lane-at : (n : ℕ) (lanes : List ℕ) (f : ℕ → ℕ) (k : ℕ) → k < n → AreLanes n lanes f 0 → get_or lanes k 0 ≡ f k
+lane-at n lanes f k l h = h.each k l ∙ ap f (zero-add k)
+
 -- lanes that have the same
-pub lanes-same : (lanes : List ℕ) (f g : ℕ → ℕ) (at : ℕ) → ((k : ℕ) → k < 16 → f (at + k) ≡ g (at + k)) → AreLanes lanes f at → AreLanes lanes g at
-lanes-same lanes f g at same h = record {
-  size = h.size;
-  each = λ k l. h.each k l ∙ same k l;
-}
+pub lanes-same : (n : ℕ) (lanes : List ℕ) (f g : ℕ → ℕ) → ((k : ℕ) → k < n → f k ≡ g k) → AreLanes n lanes f 0 → AreLanes n lanes g 0
+lanes-same n lanes f g same h = lanes-are n lanes g h.size (λ k l. lane-at n lanes f k l h ∙ same k l)
 
--- the same from place 0 on
-pub lanes-first : (lanes : List ℕ) (f g : ℕ → ℕ) → ((k : ℕ) → k < 16 → f k ≡ g k) → AreLanes lanes f 0 → AreLanes lanes g 0
-lanes-first lanes f g same h = lanes-same lanes f g 0 (λ k l. ap f (zero-add k) ∙ same k l ∙ sym (ap g (zero-add k))) h
+-- n places of any list
+pub picked : (n : ℕ) (xs : List ℕ) (f : ℕ → ℕ) → AreLanes n (map (λ i. get_or xs (f i) 0) (range_with_len 0 n)) (λ i. get_or xs (f i) 0) 0
+picked n xs f = lanes-are n _ (λ i. get_or xs (f i) 0) (length-map-range_with_len (λ i. get_or xs (f i) 0) 0 n)
+    (λ k l. get_or-map-range_with_len (λ i. get_or xs (f i) 0) 0 n k k 0 l (zero-add k))
 
--- 16 places of any list
-pub picked : (xs : List ℕ) (f : ℕ → ℕ) → AreLanes (map (λ i. get_or xs (f i) 0) (range_with_len 0 16)) (λ i. get_or xs (f i) 0) 0
-picked xs f = record {
-  size = length-map-range_with_len (λ i. get_or xs (f i) 0) 0 16;
-  each = λ k l. get_or-map-range_with_len (λ i. get_or xs (f i) 0) 0 16 k k 0 l (zero-add k) ∙ sym (ap (λ i. get_or xs (f i) 0) (zero-add k));
-}
-
--- what a pair of lanes makes
-pub paired_is : (a b odd : List ℕ) (f : ℕ)
-    → odd ≡ map (λ x. f ⊗ x) (map (λ i. get_or (a ++ b) (2 * i + 1) 0) (range_with_len 0 16))
-    → AreLanes (zip2 bit_xor (map (λ i. get_or (a ++ b) (2 * i) 0) (range_with_len 0 16)) odd) (paired a b f) 0
-paired_is a b odd f is =
-    lanes-sum _ odd (λ i. get_or (a ++ b) (2 * i) 0) (λ i. f ⊗ get_or (a ++ b) (2 * i + 1) 0) 0 (picked (a ++ b) (λ i. 2 * i))
-    (lanes-times _ odd (λ i. get_or (a ++ b) (2 * i + 1) 0) f 0 is (picked (a ++ b) (λ i. 2 * i + 1)))
-
--- lane i of two vectors
-lane_of_two : (a b : List ℕ) (g : ℕ → ℕ) (at i : ℕ) → i < 32 → AreLanes a g at → AreLanes b g (at + 16) → get_or (a ++ b) i 0 ≡ g (at + i)
-lane_of_two a b g at i l first second =
-    elim (cases_lt i 16) [
-      | inl below ↦ get_or_append_left a b 0 i (omega (arith, first.size, below)) ∙ first.each i below
-      | inr above ↦ get_or-append_right a b 16 i 0 first.size above ∙ second.each (i - 16) (omega (arith, l, above)) ∙ ap g (omega (arith, above))
+-- number j of a sixteen of one of two lists: of the first for the first eight lanes of each sixteen
+of_sixteen : (n : ℕ) (x y : List ℕ) (f h : ℕ → ℕ) (k j v : ℕ) → n % 16 ≡ 0 → k < n → j < 16 → AreLanes n x f 0 → AreLanes n y h 0
+    → (k % 16 < 8 → f (k / 16 * 16 + j) ≡ v) → (8 ≤ k % 16 → h (k / 16 * 16 + j) ≡ v)
+    → get_or (x ++ y) (k / 16 * 16 + k % 16 / 8 * n + j) 0 ≡ v
+of_sixteen n x y f h k j v whole l few first second low high =
+    let within : k / 16 * 16 + j < n = omega (arith, whole, l, few) in
+    elim (cases_lt (k % 16) 8) [
+      | inl m ↦
+          let none : k % 16 / 8 ≡ 0 = omega (arith, m) in
+          let place : k / 16 * 16 + k % 16 / 8 * n + j ≡ k / 16 * 16 + j = omega (arith, ap (λ z. z * n) none, zero-mul n) in
+          ap (λ i. get_or (x ++ y) i 0) place ∙ get_or_append_left x y 0 (k / 16 * 16 + j) (omega (arith, first.size, within))
+          ∙ lane-at n x f (k / 16 * 16 + j) within first ∙ low m
+      | inr m ↦
+          let one : k % 16 / 8 ≡ 1 = omega (arith, m) in
+          let place : k / 16 * 16 + k % 16 / 8 * n + j ≡ n + (k / 16 * 16 + j) = omega (arith, ap (λ z. z * n) one, one-mul n) in
+          ap (λ i. get_or (x ++ y) i 0) place ∙ get_or-append_right x y n (n + (k / 16 * 16 + j)) 0 first.size (omega arith)
+          ∙ ap (λ i. get_or y i 0) (omega arith) ∙ lane-at n y h (k / 16 * 16 + j) within second ∙ high m
     ]
 
 -- a part is the even half, and the odd half times a power
@@ -70,19 +79,33 @@ part_twice g n a k =
     ∙ ap₂ (λ p q. g p ⊗ q) (ap (λ p. p + e) odd ∙ omega arith) (sym (power-add a n e))))
     ∙ sym (sum_to-append (λ e. g ((n + n) * k + e) ⊗ power a e) n n)
 
+-- twice a gap
+twice_gap : (q gap wide : ℕ) → wide ≡ 2 * gap → q * wide ≡ 2 * (q * gap)
+twice_gap q gap wide e = omega (arith, ap (λ w. q * w) e, mul_comm q (2 * gap), mul_assoc 2 gap q, mul_comm gap q)
+
 -- the values of twice as many lanes each
-pub parts_twice : (x y made : List ℕ) (g : ℕ → ℕ) (n a f at to : ℕ) → f ≡ power a n → to ≡ 2 * at
-    → AreLanes x (part g n a) to → AreLanes y (part g n a) (to + 16) → AreLanes made (paired x y f) 0 → AreLanes made (part g (n + n) a) at
-parts_twice x y made g n a f at to factor place first second is = record {
-  size = is.size;
-  each = λ k l.
-      is.each k l ∙ ap (paired x y f) (zero-add k)
-      ∙ ap₂ (λ p q. p ⊕ f ⊗ q)
-      (lane_of_two x y (part g n a) to (2 * k) (omega (arith, l)) first second ∙ ap (part g n a) (omega (arith, place)))
-      (lane_of_two x y (part g n a) to (2 * k + 1) (omega (arith, l)) first second ∙ ap (part g n a) (omega (arith, place)))
-      ∙ ap (λ p. part g n a (2 * (at + k)) ⊕ p ⊗ part g n a (2 * (at + k) + 1)) factor
-      ∙ part_twice g n a (at + k);
-}
+pub parts_twice : (n : ℕ) (x y made : List ℕ) (g : ℕ → ℕ) (m a f at to gap wide : ℕ) → n % 16 ≡ 0 → f ≡ power a m → to ≡ 2 * at → wide ≡ 2 * gap
+    → AreLanes n x (λ k. part g m a (spread to wide k)) 0 → AreLanes n y (λ k. part g m a (spread (to + 16) wide k)) 0
+    → AreLanes n made (paired n x y f) 0 → AreLanes n made (λ k. part g (m + m) a (spread at gap k)) 0
+parts_twice n x y made g m a f at to gap wide whole factor place double first second is =
+    lanes-same n made (paired n x y f) (λ k. part g (m + m) a (spread at gap k)) (λ k l.
+    ap₂ (λ p q. p ⊕ f ⊗ q)
+    (ap (λ i. get_or (x ++ y) i 0) (let e : pairs n k ≡ k / 16 * 16 + k % 16 / 8 * n + (2 * (k % 8) + 0) = omega arith in e) ∙ here k l 0 (omega arith)
+    ∙ ap (part g m a) (let e : 2 * spread at gap k + 0 ≡ 2 * spread at gap k = omega arith in e))
+    (ap (λ i. get_or (x ++ y) i 0) (let e : pairs n k + 1 ≡ k / 16 * 16 + k % 16 / 8 * n + (2 * (k % 8) + 1) = omega arith in e) ∙ here k l 1 (omega arith))
+    ∙ ap (λ p. part g m a (2 * spread at gap k) ⊕ p ⊗ part g m a (2 * spread at gap k + 1)) factor
+    ∙ part_twice g m a (spread at gap k)) is
+  where
+    here : (k : ℕ) → k < n → (d : ℕ) → d < 2 → get_or (x ++ y) (k / 16 * 16 + k % 16 / 8 * n + (2 * (k % 8) + d)) 0 ≡ part g m a (2 * spread at gap k + d)
+    here k l d few =
+        let j = 2 * (k % 8) + d in
+        let small : j < 16 = omega (arith, few) in
+        let row : (k / 16 * 16 + j) / 16 ≡ k / 16 = omega (arith, small) in
+        let column : (k / 16 * 16 + j) % 16 ≡ j = omega (arith, small) in
+        let far = ap (λ q. q * wide) row ∙ twice_gap (k / 16) gap wide double in
+        of_sixteen n x y (λ k. part g m a (spread to wide k)) (λ k. part g m a (spread (to + 16) wide k)) k j (part g m a (2 * spread at gap k + d)) whole l small first second
+        (λ low. ap (part g m a) (let e : spread to wide (k / 16 * 16 + j) ≡ 2 * spread at gap k + d = omega (arith, far, column, place, low) in e))
+        (λ high. ap (part g m a) (let e : spread (to + 16) wide (k / 16 * 16 + j) ≡ 2 * spread at gap k + d = omega (arith, far, column, place, high) in e))
 
 -- a number is the value of itself
 part_one : (g : ℕ → ℕ) (a k : ℕ) → g k < 256 → g k ≡ part g 1 a k
@@ -91,49 +114,34 @@ part_one g a k byte =
     let place : k ≡ 1 * k + 0 = omega arith in
     ap g place ∙ sym (mul_one (g (1 * k + 0)) (subst (λ p. g p < 256) place byte)) ∙ sym (zero_add _)
 
--- what a join of lanes makes
-pub joined_is : (a b odd : List ℕ) (f : ℕ)
-    → odd ≡ map (λ x. f ⊗ x) (map (λ i. get_or (a ++ b) (i / 8 * 16 + i % 8 + 8) 0) (range_with_len 0 16))
-    → AreLanes (zip2 bit_xor (map (λ i. get_or (a ++ b) (i / 8 * 16 + i % 8) 0) (range_with_len 0 16)) odd) (joined a b f) 0
-joined_is a b odd f is =
-    lanes-sum _ odd (λ i. get_or (a ++ b) (i / 8 * 16 + i % 8) 0) (λ i. f ⊗ get_or (a ++ b) (i / 8 * 16 + i % 8 + 8) 0) 0 (picked (a ++ b) (λ i. i / 8 * 16 + i % 8))
-    (lanes-times _ odd (λ i. get_or (a ++ b) (i / 8 * 16 + i % 8 + 8) 0) f 0 is (picked (a ++ b) (λ i. i / 8 * 16 + i % 8 + 8)))
-
--- where even lanes stand before odd ones, eight of one kind of two vectors follow each other
-of_kind : (x y : List ℕ) (g : ℕ → ℕ) (to k d : ℕ) → k < 16 → d < 2 → AreLanes x (λ i. g (to + even_first i)) 0 → AreLanes y (λ i. g (to + 16 + even_first i)) 0
-    → get_or (x ++ y) (k / 8 * 16 + k % 8 + d * 8) 0 ≡ g (to + (2 * k + d))
-of_kind x y g to k d l few first second =
-    let i = k / 8 * 16 + k % 8 + d * 8 in
-    elim (cases_lt k 8) [
-      | inl below ↦
-          let small : i < 16 = omega (arith, below, few) in
-          let place : to + even_first (0 + i) ≡ to + (2 * k + d) = omega (arith, below, few) in
-          get_or_append_left x y 0 i (omega (arith, first.size, small)) ∙ first.each i small ∙ ap g place
-      | inr above ↦
-          let large : 16 ≤ i = omega (arith, above, few) in
-          let rest : i - 16 < 16 = omega (arith, l, few) in
-          let place : to + 16 + even_first (0 + (i - 16)) ≡ to + (2 * k + d) = omega (arith, above, l, few) in
-          get_or-append_right x y 16 i 0 first.size large ∙ second.each (i - 16) rest ∙ ap g place
-    ]
-
 -- the values of pairs of lanes
-pub parts_of_lanes : (x y made : List ℕ) (g : ℕ → ℕ) (a f at to : ℕ) → ((k : ℕ) → g k < 256) → f ≡ a → to ≡ 2 * at
-    → AreLanes x (λ i. g (to + even_first i)) 0 → AreLanes y (λ i. g (to + 16 + even_first i)) 0 → AreLanes made (joined x y f) 0 → AreLanes made (part g 2 a) at
+pub parts_of_lanes : (n : ℕ) (x y made : List ℕ) (g : ℕ → ℕ) (a f at to gap wide : ℕ) → n % 16 ≡ 0 → ((k : ℕ) → g k < 256) → f ≡ a → to ≡ 2 * at → wide ≡ 2 * gap
+    → AreLanes n x (λ k. g (spread_even_first to wide k)) 0 → AreLanes n y (λ k. g (spread_even_first (to + 16) wide k)) 0
+    → AreLanes n made (joined n x y f) 0 → AreLanes n made (λ k. part g 2 a (spread at gap k)) 0
 unfolding power
-parts_of_lanes x y made g a f at to bytes factor place first second is = record {
-  size = is.size;
-  each = λ k l.
-      let even : to + (2 * k + 0) ≡ 2 * (at + k) = omega (arith, place) in
-      let odd : to + (2 * k + 1) ≡ 2 * (at + k) + 1 = omega (arith, place) in
-      let z = g (2 * (at + k) + 1) in
-      is.each k l ∙ ap (joined x y f) (zero-add k)
-      ∙ ap₂ (λ p q. p ⊕ f ⊗ q)
-      (ap (λ i. get_or (x ++ y) i 0) (omega arith) ∙ of_kind x y g to k 0 l (omega arith) first second ∙ ap g even ∙ part_one g a (2 * (at + k)) (bytes _))
-      (of_kind x y g to k 1 l (omega arith) first second ∙ ap g odd)
-      ∙ ap (◌⊕◌ (part g 1 a (2 * (at + k))))
-      (ap₂ ◌⊗◌ factor (sym (one_mul z (bytes _))) ∙ sym (field_assoc a 1 z) ∙ ap (◌⊗◌ (a ⊗ 1)) (part_one g a (2 * (at + k) + 1) (bytes _)))
-      ∙ part_twice g 1 a (at + k);
-}
+parts_of_lanes n x y made g a f at to gap wide whole bytes factor place double first second is =
+    lanes-same n made (joined n x y f) (λ k. part g 2 a (spread at gap k)) (λ k l.
+    let s = spread at gap k in
+    let z = g (2 * s + 1) in
+    ap₂ (λ p q. p ⊕ f ⊗ q)
+    (ap (λ i. get_or (x ++ y) i 0) (let e : eights n k ≡ k / 16 * 16 + k % 16 / 8 * n + (k % 8 + 0 * 8) = omega arith in e) ∙ here k l 0 (omega arith)
+    ∙ ap g (let e : 2 * s + 0 ≡ 2 * s = omega arith in e) ∙ part_one g a (2 * s) (bytes _))
+    (ap (λ i. get_or (x ++ y) i 0) (let e : eights n k + 8 ≡ k / 16 * 16 + k % 16 / 8 * n + (k % 8 + 1 * 8) = omega arith in e) ∙ here k l 1 (omega arith))
+    ∙ ap (◌⊕◌ (part g 1 a (2 * s)))
+    (ap₂ ◌⊗◌ factor (sym (one_mul z (bytes _))) ∙ sym (field_assoc a 1 z) ∙ ap (◌⊗◌ (a ⊗ 1)) (part_one g a (2 * s + 1) (bytes _)))
+    ∙ part_twice g 1 a s) is
+  where
+    here : (k : ℕ) → k < n → (d : ℕ) → d < 2 → get_or (x ++ y) (k / 16 * 16 + k % 16 / 8 * n + (k % 8 + d * 8)) 0 ≡ g (2 * spread at gap k + d)
+    here k l d few =
+        let j = k % 8 + d * 8 in
+        let small : j < 16 = omega (arith, few) in
+        let row : (k / 16 * 16 + j) / 16 ≡ k / 16 = omega (arith, small) in
+        let column : (k / 16 * 16 + j) % 16 ≡ j = omega (arith, small) in
+        let sorted : even_first ((k / 16 * 16 + j) % 16) ≡ 2 * (k % 8) + d = ap even_first column ∙ omega (arith, few) in
+        let far = ap (λ q. q * wide) row ∙ twice_gap (k / 16) gap wide double in
+        of_sixteen n x y (λ k. g (spread_even_first to wide k)) (λ k. g (spread_even_first (to + 16) wide k)) k j (g (2 * spread at gap k + d)) whole l small first second
+        (λ low. ap g (let e : spread_even_first to wide (k / 16 * 16 + j) ≡ 2 * spread at gap k + d = omega (arith, far, sorted, place, low) in e))
+        (λ high. ap g (let e : spread_even_first (to + 16) wide (k / 16 * 16 + j) ≡ 2 * spread at gap k + d = omega (arith, far, sorted, place, high) in e))
 
 -- the value of a polynomial by its first coefficients, and the rest times a power
 value_split : (q : List ℕ) (n a : ℕ) → sum_to (λ e. get_or q e 0 ⊗ power a e) n ⊕ power a n ⊗ val (drop n q) a ≡ val q a
@@ -168,32 +176,39 @@ of_row rows t from width k e l =
 pub nothing_left : (rows : List ℕ) (t from a k : ℕ) → length (row_coins rows t k) ≤ from → value_from rows t from a k ≡ 0
 nothing_left rows t from a k past = ap (λ p. val p a) (drop_all from (row_coins rows t k) past) ∙ val_nil a
 
+-- where the sixteens follow each other, lane k is number k
+spread_all : (k : ℕ) → spread 0 16 k ≡ k
+spread_all k = omega arith
+
 -- the values of narrow rows, which are read whole
-pub narrow_values : (rows lanes : List ℕ) (t width a : ℕ) → 16 * t ≤ length rows → t ≤ width → 0 < width
-    → AreLanes lanes (part (padded rows t 0 width) width a) 0 → AreLanes lanes (value_from rows t 0 a) 0
-narrow_values rows lanes t width a whole few some h =
-    lanes-first lanes (part (padded rows t 0 width) width a) (value_from rows t 0 a) (λ k l.
-    sym (add_zero _) ∙ ap (◌⊕◌ (part (padded rows t 0 width) width a k)) (sym (mul_zero (power a width)) ∙ ap (◌⊗◌ (power a width)) (sym (nothing_left rows t (0 + width) a k
-    (let fit = row_within k 16 t l in omega (arith, few, length-row_coins rows t k (omega (arith, fit, whole)))))))
+pub narrow_values : (n : ℕ) (rows lanes : List ℕ) (t width a : ℕ) → n * t ≤ length rows → t ≤ width → 0 < width
+    → AreLanes n lanes (λ k. part (padded rows t 0 width) width a (spread 0 16 k)) 0 → AreLanes n lanes (value_from rows t 0 a) 0
+narrow_values n rows lanes t width a whole few some h =
+    lanes-same n lanes (λ k. part (padded rows t 0 width) width a (spread 0 16 k)) (value_from rows t 0 a) (λ k l.
+    ap (part (padded rows t 0 width) width a) (spread_all k)
+    ∙ sym (add_zero _) ∙ ap (◌⊕◌ (part (padded rows t 0 width) width a k)) (sym (mul_zero (power a width)) ∙ ap (◌⊗◌ (power a width)) (sym (nothing_left rows t (0 + width) a k
+    (let fit = row_within k n t l in omega (arith, few, length-row_coins rows t k (omega (arith, fit, whole)))))))
     ∙ part_of_row rows t 0 width a k (padded rows t 0 width) (λ e m. of_row rows t 0 width k e m)) h
 
 -- what one more part makes of the values
-pub values_more : (rows values products part_lanes made : List ℕ) (t from next a f : ℕ) → next ≡ from + 16 → f ≡ power a 16
-    → AreLanes values (value_from rows t next a) 0 → products ≡ map (λ b. f ⊗ b) values
-    → AreLanes part_lanes (part (padded rows t from 16) 16 a) 0 → made ≡ zip2 bit_xor products part_lanes
-    → AreLanes made (value_from rows t from a) 0
-values_more rows values products lanes made t from next a f e power_is before is part_is made_is =
-    subst (λ xs. AreLanes xs (value_from rows t from a) 0) (sym made_is)
-    (lanes-first (zip2 bit_xor products lanes) (λ k. f ⊗ value_from rows t next a k ⊕ part (padded rows t from 16) 16 a k) (value_from rows t from a) (λ k l.
+pub values_more : (n : ℕ) (rows values products part_lanes made : List ℕ) (t from next a f : ℕ) → next ≡ from + 16 → f ≡ power a 16
+    → AreLanes n values (value_from rows t next a) 0 → products ≡ map (λ b. f ⊗ b) values
+    → AreLanes n part_lanes (λ k. part (padded rows t from 16) 16 a (spread 0 16 k)) 0 → made ≡ zip2 bit_xor products part_lanes
+    → AreLanes n made (value_from rows t from a) 0
+values_more n rows values products lanes made t from next a f e power_is before is part_is made_is =
+    let g = part (padded rows t from 16) 16 a in
+    subst (λ xs. AreLanes n xs (value_from rows t from a) 0) (sym made_is)
+    (lanes-same n (zip2 bit_xor products lanes) (λ k. f ⊗ value_from rows t next a k ⊕ g (spread 0 16 k)) (value_from rows t from a) (λ k l.
     add_comm _ _
-    ∙ ap₂ (λ x p. part (padded rows t from 16) 16 a k ⊕ x ⊗ value_from rows t p a k) power_is e
+    ∙ ap₂ (λ x p. g (spread 0 16 k) ⊕ x ⊗ value_from rows t p a k) power_is e
+    ∙ ap (λ j. g j ⊕ power a 16 ⊗ value_from rows t (from + 16) a k) (spread_all k)
     ∙ part_of_row rows t from 16 a k (padded rows t from 16) (λ i m. of_row rows t from 16 k i m))
-    (lanes-sum products lanes (λ k. f ⊗ value_from rows t next a k) (part (padded rows t from 16) 16 a) 0 (lanes-times values products (value_from rows t next a) f 0 is before) part_is))
+    (lanes-sum products lanes (λ k. f ⊗ value_from rows t next a k) (λ k. g (spread 0 16 k)) 0 (lanes-times values products (value_from rows t next a) f 0 is before) part_is))
 
 -- the values of the rows, times the point, are their masks
-pub masks_from_values : (rows values made : List ℕ) (t a : ℕ) → made ≡ map (λ b. a ⊗ b) values → AreLanes values (value_from rows t 0 a) 0 → made ≡ masks rows t 16 a
-masks_from_values rows values made t a is lanes =
+pub masks_from_values : (n : ℕ) (rows values made : List ℕ) (t a : ℕ) → made ≡ map (λ b. a ⊗ b) values → AreLanes n values (value_from rows t 0 a) 0 → made ≡ masks rows t n a
+masks_from_values n rows values made t a is lanes =
     let h = lanes-times values made (value_from rows t 0 a) a 0 is lanes in
-    ext_get_or 0 made (masks rows t 16 a) (h.size ∙ sym (length-masks rows t 16 a)) (λ k l.
-    let small : k < 16 = omega (arith, h.size, l) in
-    h.each k small ∙ ap (λ j. a ⊗ value_from rows t 0 a j) (zero-add k) ∙ sym (masks_at rows t 16 a k small))
+    ext_get_or 0 made (masks rows t n a) (h.size ∙ sym (length-masks rows t n a)) (λ k l.
+    let small : k < n = omega (arith, h.size, l) in
+    h.each k small ∙ ap (λ j. a ⊗ value_from rows t 0 a j) (zero-add k) ∙ sym (masks_at rows t n a k small))

@@ -1,15 +1,15 @@
--- Where the coins of sixteen rows stand.
-use Rattle.std.proofs.Common.{◌≡◌, ◌⊎◌, ℕ, ◌+◌, ◌-◌, ◌*◌, ◌/◌, ◌%◌, ◌<◌, ◌≤◌, List, get_or, true, nat_eq, eqb-true, ◌||◌, min, refl, sym, ap, ap₂, ◌∙◌, inl, inr, arith, zero-add, zero-mul, take, drop, subst, w8}
-use Rattle.std.specs.Prelude.{ltb, leb, T, cond, if◌then◌else◌}
+-- Where the coins of rows stand.
+use Rattle.std.proofs.Common.{◌≡◌, ◌⊎◌, ℕ, ◌+◌, ◌-◌, ◌*◌, ◌/◌, ◌%◌, ◌<◌, ◌≤◌, List, get_or, true, nat_eq, eqb-true, min, refl, sym, ap, ap₂, ◌∙◌, inl, inr, arith, zero-add, zero-mul, take, drop, subst}
+use Rattle.std.specs.Prelude.{cond, if◌then◌else◌}
 use Rattle.std.specs.Simd.Lanes.{chunk}
-use Rattle.std.proofs.Math.Nat.{add-mul, mul_assoc, mul-le-mul_left, min-eq_left, min-le_right}
+use Rattle.std.proofs.Math.Nat.{add-mul, mul_assoc, mul_left_comm, mul-le-mul_left, min-eq_left, min-le_right}
 use Rattle.std.proofs.lemmas.Bool.{cases_lt, lt-ltb, le-ltb, lt-leb}
 use Rattle.std.proofs.lemmas.List.{get_or_past, get_or-take, get_or-drop, length-take}
-use Rattle.std.proofs.lemmas.Simd.{Each1-from_get_or, SwzOk, SwzOk-from_Each1, swz_l, length-swz_l, get_or-swz_l, length-chunk, get_or-chunk}
+use Rattle.std.proofs.lemmas.Simd.{length-chunk, get_or-chunk}
 use Rattle.gf256.specs.Rows.{AreLanes}
 use Rattle.gf256.proofs.Below.{all_below, all_below-at}
 use Rattle.shamir_share.specs.Query.{row_coins}
-use Rattle.shamir_share.specs.Lanes.{IsWidth, place, sorted_place, even_first, padded, AreCells}
+use Rattle.shamir_share.specs.Lanes.{IsWidth, place, sorted_place, even_first, spread_even_first, taken, padded, AreCells, MayTake}
 use Rattle.shamir_share.specs.declared.places.TheConstants.{PLACES}
 use Rattle.gf256.proofs.FlatRows.{row_within}
 use Rattle.shamir_share.proofs.Rows.{coin_at, length-row_coins}
@@ -40,7 +40,7 @@ holds_16 = refl
 
 -- the places of n coins
 row_of : (width n size : ℕ) → Holds width size → size ≡ width * 16 → 2 ≤ width → width ≤ 16 → 1 ≤ n → n ≤ width
-    → AreLanes (chunk ((width + n - 3) * 16) 16 PLACES) (sorted_place width n) 0
+    → AreLanes 16 (chunk ((width + n - 3) * 16) 16 PLACES) (sorted_place width n) 0
 row_of width n size holds is least most some few = record {
   size = length-chunk ((width + n - 3) * 16) 16 PLACES (omega (arith, few, most, least, some));
   each = λ k l.
@@ -54,33 +54,33 @@ row_of width n size holds is least most some few = record {
 }
 
 -- the same for each width
-pub places_are : (width n : ℕ) → IsWidth width → 1 ≤ n → n ≤ width → AreLanes (chunk ((width + n - 3) * 16) 16 PLACES) (sorted_place width n) 0
+pub places_are : (width n : ℕ) → IsWidth width → 1 ≤ n → n ≤ width → AreLanes 16 (chunk ((width + n - 3) * 16) 16 PLACES) (sorted_place width n) 0
 places_are width n (inl e) some few = row_of width n 32 (subst (λ w. Holds w 32) (sym e) holds_2) (omega (arith, e)) (omega (arith, e)) (omega (arith, e)) some few
 places_are width n (inr (inl e)) some few = row_of width n 64 (subst (λ w. Holds w 64) (sym e) holds_4) (omega (arith, e)) (omega (arith, e)) (omega (arith, e)) some few
 places_are width n (inr (inr (inl e))) some few = row_of width n 128 (subst (λ w. Holds w 128) (sym e) holds_8) (omega (arith, e)) (omega (arith, e)) (omega (arith, e)) some few
 places_are width n (inr (inr (inr e))) some few = row_of width n 256 (subst (λ w. Holds w 256) (sym e) holds_16) (omega (arith, e)) (omega (arith, e)) (omega (arith, e)) some few
 
--- where lane k of the sixteen with number u stands
-record Stands (width u k : ℕ) : Type 0 where
+-- where lane k of the sixteen with number u stands, of those of q sixteens of rows further on
+record Stands (width u k q : ℕ) : Type 0 where
   whole : k / width * width + k % width ≡ k
   below : k % width < width
-  row : (16 * u + k) / width ≡ u * (16 / width) + k / width
-  column : (16 * u + k) % width ≡ k % width
+  row : (q * (16 * width) + 16 * u + k) / width ≡ 16 * q + (u * (16 / width) + k / width)
+  column : (q * (16 * width) + 16 * u + k) % width ≡ k % width
   few : u * (16 / width) + k / width < 16
 
 -- so it stands, for each width
-stands : (width u k : ℕ) → IsWidth width → u + 1 ≤ width → k < 16 → Stands width u k
-stands width u k (inl e) lu l =
-    subst (λ w. Stands w u k) (sym e) (let m : u + 1 ≤ 2 = omega (arith, lu, e) in
+stands : (width u k q : ℕ) → IsWidth width → u + 1 ≤ width → k < 16 → Stands width u k q
+stands width u k q (inl e) lu l =
+    subst (λ w. Stands w u k q) (sym e) (let m : u + 1 ≤ 2 = omega (arith, lu, e) in
     record { whole = omega arith; below = omega arith; row = omega arith; column = omega arith; few = omega (arith, m, l) })
-stands width u k (inr (inl e)) lu l =
-    subst (λ w. Stands w u k) (sym e) (let m : u + 1 ≤ 4 = omega (arith, lu, e) in
+stands width u k q (inr (inl e)) lu l =
+    subst (λ w. Stands w u k q) (sym e) (let m : u + 1 ≤ 4 = omega (arith, lu, e) in
     record { whole = omega arith; below = omega arith; row = omega arith; column = omega arith; few = omega (arith, m, l) })
-stands width u k (inr (inr (inl e))) lu l =
-    subst (λ w. Stands w u k) (sym e) (let m : u + 1 ≤ 8 = omega (arith, lu, e) in
+stands width u k q (inr (inr (inl e))) lu l =
+    subst (λ w. Stands w u k q) (sym e) (let m : u + 1 ≤ 8 = omega (arith, lu, e) in
     record { whole = omega arith; below = omega arith; row = omega arith; column = omega arith; few = omega (arith, m, l) })
-stands width u k (inr (inr (inr e))) lu l =
-    subst (λ w. Stands w u k) (sym e) (let m : u + 1 ≤ 16 = omega (arith, lu, e) in
+stands width u k q (inr (inr (inr e))) lu l =
+    subst (λ w. Stands w u k q) (sym e) (let m : u + 1 ≤ 16 = omega (arith, lu, e) in
     record { whole = omega arith; below = omega arith; row = omega arith; column = omega arith; few = omega (arith, m, l) })
 
 -- a coin has a place among 16, and where there is none it is 128
@@ -95,16 +95,11 @@ place_of_none width n k h = ap (λ b. if b then k / width * n + k % width else 1
 place_below : (width n k : ℕ) → n ≤ width → k / width * width + k % width ≡ k → k < 16 → k / width * n + k % width < 16
 place_below width n k few whole l = let h = mul-le-mul_left (k / width) few in omega (arith, h, whole, l)
 
--- so a swizzle may take it
-may_take : (p : ℕ) → (p < 16) ⊎ (p ≡ 128) → T (leb 128 p || ltb p 16)
-may_take p (inl l) = subst (λ b. T (b || ltb p 16)) (sym (lt-leb 128 p (omega (arith, l)))) (subst T (sym (lt-ltb p 16 l)) tt)
-may_take p (inr e) = subst (λ q. T (leb 128 q || ltb q 16)) (sym e) tt
-
 -- each place is one of these
 place_may : (width n k : ℕ) → IsWidth width → n ≤ width → k < 16 → (place width n k < 16) ⊎ (place width n k ≡ 128)
 place_may width n k is few l =
     elim (cases_lt (k % width) n) [
-      | inl h ↦ inl (let e = place_of_coin width n k h in let b = place_below width n k few (stands width 0 k is (width_some width is) l).whole l in omega (arith, e, b))
+      | inl h ↦ inl (let e = place_of_coin width n k h in let b = place_below width n k few (stands width 0 k 0 is (width_some width is) l).whole l in omega (arith, e, b))
       | inr h ↦ inr (place_of_none width n k h)
     ]
   where
@@ -114,20 +109,19 @@ place_may width n k is few l =
     width_some width (inr (inr (inl e))) = omega (arith, e)
     width_some width (inr (inr (inr e))) = omega (arith, e)
 
-module _ (rows : List ℕ) (t from width apart : ℕ) (places : List ℕ) (is : AreCells rows t from width apart places) where
+module _ (n : ℕ) (rows : List ℕ) (t from width apart : ℕ) (places : List ℕ) (is : AreCells n rows t from width apart places) where
   abbrev coins : ℕ
   coins = min (t - from) width
 
   coins_few : coins ≤ width
   coins_few = min-le_right (t - from) width
 
-  pub places_ok : SwzOk w8 16 16 0 places
-  places_ok =
-      SwzOk-from_Each1 w8 16 1 16 0 places refl (omega (arith, is.sorted.size))
-      (Each1-from_get_or (λ j. T (leb 128 j || ltb j 16)) places 0 (λ k l.
-      let small : k < 16 = omega (arith, l, is.sorted.size) in
-      subst (λ p. T (leb 128 p || ltb p 16)) (sym (is.sorted.each k small ∙ ap (sorted_place width coins) (zero-add k)))
-      (may_take (sorted_place width coins k) (place_may width coins (even_first k) is.fills coins_few (omega (arith, small))))))
+  sorted_is : (i : ℕ) → i < 16 → get_or places i 0 ≡ place width coins (even_first i)
+  sorted_is i m = is.sorted.each i m ∙ ap (sorted_place width coins) (zero-add i)
+
+  pub may_take : MayTake places
+  may_take i m =
+      subst (λ p. (p < 16) ⊎ (p ≡ 128)) (sym (sorted_is i m)) (place_may width coins (even_first i) is.fills coins_few (omega (arith, m)))
 
   -- narrow rows are whole, and of wide ones the sixteen lanes are in one row
   same_rows : (k : ℕ) → k < 16 → k / width * coins ≡ k / width * t
@@ -138,43 +132,37 @@ module _ (rows : List ℕ) (t from width apart : ℕ) (places : List ℕ) (is : 
       ]
 
   module _ (u : ℕ) (lu : u + 1 ≤ width) where
-    abbrev loaded : List ℕ
-    loaded = chunk (u * apart + from) 16 rows
-
-    lane : (i : ℕ) → i < 16 → get_or (swz_l w8 16 loaded 0 places) i 0 ≡ padded rows t from width (16 * u + even_first i)
-    lane i m =
-        let k = even_first i in
-        let l : k < 16 = omega (arith, m) in
-        let s = stands width u k is.fills lu l in
-        let r = u * (16 / width) + k / width in
-        let e = k % width in
-        let fit = row_within r 16 t s.few in
-        let long = length-row_coins rows t r (omega (arith, fit, is.whole)) in
-        let back = ap₂ (λ z j. get_or (row_coins rows t z) (from + j) 0) (sym s.row) (sym s.column) in
-        let taken : ℕ → ℕ = λ p. cond (leb 128 p) 0 (get_or loaded (16 * ((0 + i) / 16) + p) 0) in
-        get_or-swz_l w8 16 loaded 0 places i (omega (arith, m, is.sorted.size))
-        ∙ ap taken (is.sorted.each i m ∙ ap (sorted_place width coins) (zero-add i))
+    pub unit_lane : (k : ℕ) → k < n
+        → taken rows (k / 16 * (16 * t) + (u * apart + from)) (get_or places (k % 16) 0) ≡ padded rows t from width (spread_even_first (16 * u) (16 * width) k)
+    unit_lane k l =
+        let q = k / 16 in
+        let i = k % 16 in
+        let m : i < 16 = omega arith in
+        let z = even_first i in
+        let lz : z < 16 = omega (arith, m) in
+        let s = stands width u z q is.fills lu lz in
+        let r = u * (16 / width) + z / width in
+        let e = z % width in
+        let base = q * (16 * t) + (u * apart + from) in
+        let below : 16 * q + r < n = omega (arith, l, is.lanes.1, s.few) in
+        let fit = row_within (16 * q + r) n t below in
+        let long = length-row_coins rows t (16 * q + r) (omega (arith, fit, is.whole)) in
+        let back = ap₂ (λ y j. get_or (row_coins rows t y) (from + j) 0) (sym s.row) (sym s.column) in
+        ap (taken rows base) (sorted_is i m)
         ∙ elim (cases_lt e coins) [
           | inl h ↦
-              let p = k / width * coins + e in
-              let small : p < 16 = place_below width coins k coins_few s.whole l in
-              let place_is : u * apart + from + p ≡ r * t + (from + e) =
-              omega (arith, ap (λ x. u * x) is.steps, mul_assoc u (16 / width) t, add-mul (u * (16 / width)) (k / width) t, same_rows k l) in
-              ap taken (place_of_coin width coins k h)
-              ∙ ap (λ b. cond b 0 (get_or loaded (16 * ((0 + i) / 16) + p) 0)) (lt-leb 128 p (omega (arith, small)))
-              ∙ ap (λ z. get_or loaded z 0) (omega (arith, m))
-              ∙ get_or-chunk (u * apart + from) 16 rows p 0 small ∙ ap (λ z. get_or rows z 0) place_is
-              ∙ sym (coin_at rows t r (from + e) (omega (arith, h))) ∙ back
+              let p = z / width * coins + e in
+              let small : p < 16 = place_below width coins z coins_few s.whole lz in
+              let place_is : base + p ≡ (16 * q + r) * t + (from + e) =
+              omega (arith, ap (λ x. u * x) is.steps, mul_assoc u (16 / width) t, add-mul (16 * q) r t, add-mul (u * (16 / width)) (z / width) t, mul_assoc 16 q t, mul_left_comm q 16 t, same_rows z lz) in
+              ap (taken rows base) (place_of_coin width coins z h)
+              ∙ ap (λ b. cond b 0 (get_or rows (base + p) 0)) (lt-leb 128 p (omega (arith, small)))
+              ∙ ap (λ y. get_or rows y 0) place_is
+              ∙ sym (coin_at rows t (16 * q + r) (from + e) (omega (arith, h))) ∙ back
           | inr h ↦
-              ap taken (place_of_none width coins k h)
-              ∙ sym (get_or_past (row_coins rows t r) (from + e) 0 (omega (arith, h, long, s.below))) ∙ back
+              ap (taken rows base) (place_of_none width coins z h)
+              ∙ sym (get_or_past (row_coins rows t (16 * q + r)) (from + e) 0 (omega (arith, h, long, s.below))) ∙ back
         ]
-
-    pub unit_is : AreLanes (swz_l w8 16 loaded 0 places) (λ i. padded rows t from width (16 * u + even_first i)) 0
-    unit_is = record {
-      size = length-swz_l w8 16 loaded 0 places ∙ is.sorted.size;
-      each = λ i m. lane i m ∙ sym (ap (λ z. padded rows t from width (16 * u + even_first z)) (zero-add i));
-    }
 
 -- each lane is a byte
 pub padded-lt : (rows : List ℕ) (t from width : ℕ) → ((i : ℕ) → get_or rows i 0 < 256) → (j : ℕ) → padded rows t from width j < 256

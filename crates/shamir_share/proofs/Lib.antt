@@ -1,5 +1,6 @@
 mod Horner
 mod LaneParts
 mod LanePlaces
+mod Swizzled
 pub mod Rows
 pub mod Queries

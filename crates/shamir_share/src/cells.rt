@@ -1,21 +1,23 @@
-//! Sixteen rows of coins, of which each fills 2, 4, 8 or 16 lanes, with zeros behind its coins, and
-//! their values by halves: each second number, and a factor times the one behind it, are the numbers
-//! of rows that are half as wide.
+//! Rows of coins, as many as lanes, of which each fills 2, 4, 8 or 16 lanes, with zeros behind its
+//! coins, and their values by halves: each second number, and a factor times the one behind it, are
+//! the numbers of rows that are half as wide. Each sixteen of the lanes is for sixteen of the rows.
 //!
 //! A polynomial's value is that of its even coefficients at the square of the point, and the point
-//! times that of its odd ones (Estrin 1960). So sixteen rows of 16 coins take 15 products of lanes.
+//! times that of its odd ones (Estrin 1960). So rows of 16 coins, as many as lanes, take 15 products
+//! of lanes.
 
 ghost use Rattle.std.specs.Prelude.{◌≡◌, ◌+◌, ◌*◌, ◌≤◌, length};
 ghost use Rattle.gf256.specs.Rows.{AreLanes};
-ghost use Rattle.shamir_share.specs.Lanes.{AreCellsOf, even_first, joined, padded_by, paired, part};
+ghost use Rattle.shamir_share.specs.Lanes.{joined, padded_by, paired, part, spread, spread_even_first, AreCellsOf};
 
-use crate::places::sixteen_at;
 use crate::products::ProductTable;
+use crate::sixteens::Sixteens;
 use gf256::rows::Products;
+use gf256::vectors::{LookUp, Vectors};
 use std::simd::prelude::*;
 
-/// How sixteen rows of `t` coins are read, from coin `from` of each on. Sixteen lanes are 16 bytes,
-/// which `places` sorts, and stand `apart` bytes after those before.
+/// How rows of `t` coins are read, from coin `from` of each on. Sixteen lanes are 16 bytes, which
+/// `places` sorts, and stand `apart` bytes after those before.
 #[derive(Drop)]
 pub(crate) struct Cells {
     pub t: usize,
@@ -26,32 +28,51 @@ pub(crate) struct Cells {
 }
 
 impl Cells {
-    /// 16 lanes, those with number `u`, the even ones of them before the odd ones.
+    /// Of each sixteen rows 16 lanes, those with number `u`, the even ones of them before the odd
+    /// ones.
     #[inline(always)]
-    fn unit(&self, rows: &[u8], u: usize) -> u8x16
-        requires cells { AreCellsOf rows.now self.now }
+    fn unit<const N: usize>(&self, rows: &[u8], u: usize) -> Simd<u8, N>
+    where
+        Vectors: Sixteens<N>,
+        requires cells { AreCellsOf N rows.now self.now }
         requires within { u + 1 ≤ self.now.width }
-        ensures { AreLanes result (λ i. padded_by rows.now self.now (16 * u + even_first i)) 0 }
+        ensures { AreLanes N result (λ k. padded_by rows.now self.now (spread_even_first (16 * u) (16 * self.now.width) k)) 0 }
     {
-        sixteen_at(rows, u * self.apart + self.from).swizzle_dyn_within::<16>(self.places)
+        Vectors::sorted_at(rows, u * self.apart + self.from, 16 * self.t, self.places)
     }
 
-    /// The values of pairs of lanes: 16 of them, from that of lane `16 * u` on.
+    /// The values of pairs of lanes: of each sixteen rows 16 of them, from that of lane `16 * u` on.
     #[inline(always)]
-    pub fn twos(&self, rows: &[u8], products: &ProductTable, u: usize) -> u8x16
-        requires cells { AreCellsOf rows.now self.now }
+    pub fn twos<const N: usize>(
+        &self,
+        rows: &[u8],
+        products: &ProductTable,
+        u: usize,
+    ) -> Simd<u8, N>
+    where
+        Vectors: LookUp<N>,
+        Vectors: Sixteens<N>,
+        requires cells { AreCellsOf N rows.now self.now }
         requires within { u + 2 ≤ self.now.width }
-        ensures { AreLanes result (part (padded_by rows.now self.now) 2 products.now) (8 * u) }
+        ensures { AreLanes N result (λ k. part (padded_by rows.now self.now) 2 products.now (spread (8 * u) (8 * self.now.width) k)) 0 }
     {
         join(products.first(), self.unit(rows, u), self.unit(rows, u + 1))
     }
 
-    /// The values of four lanes each, of which there are 16, from that of lane `16 * u` on.
+    /// The values of four lanes each: of each sixteen rows 16 of them, from that of lane `16 * u` on.
     #[inline(always)]
-    pub fn fours(&self, rows: &[u8], products: &ProductTable, u: usize) -> u8x16
-        requires cells { AreCellsOf rows.now self.now }
+    pub fn fours<const N: usize>(
+        &self,
+        rows: &[u8],
+        products: &ProductTable,
+        u: usize,
+    ) -> Simd<u8, N>
+    where
+        Vectors: LookUp<N>,
+        Vectors: Sixteens<N>,
+        requires cells { AreCellsOf N rows.now self.now }
         requires within { u + 4 ≤ self.now.width }
-        ensures { AreLanes result (part (padded_by rows.now self.now) 4 products.now) (4 * u) }
+        ensures { AreLanes N result (λ k. part (padded_by rows.now self.now) 4 products.now (spread (4 * u) (4 * self.now.width) k)) 0 }
     {
         pair(
             products.second(),
@@ -60,12 +81,20 @@ impl Cells {
         )
     }
 
-    /// The values of eight lanes each, of which there are 16, from that of lane `16 * u` on.
+    /// The values of eight lanes each: of each sixteen rows 16 of them, from that of lane `16 * u` on.
     #[inline(always)]
-    pub fn eights(&self, rows: &[u8], products: &ProductTable, u: usize) -> u8x16
-        requires cells { AreCellsOf rows.now self.now }
+    pub fn eights<const N: usize>(
+        &self,
+        rows: &[u8],
+        products: &ProductTable,
+        u: usize,
+    ) -> Simd<u8, N>
+    where
+        Vectors: LookUp<N>,
+        Vectors: Sixteens<N>,
+        requires cells { AreCellsOf N rows.now self.now }
         requires within { u + 8 ≤ self.now.width }
-        ensures { AreLanes result (part (padded_by rows.now self.now) 8 products.now) (2 * u) }
+        ensures { AreLanes N result (λ k. part (padded_by rows.now self.now) 8 products.now (spread (2 * u) (2 * self.now.width) k)) 0 }
     {
         pair(
             products.fourth(),
@@ -74,12 +103,15 @@ impl Cells {
         )
     }
 
-    /// The values of sixteen lanes each, of which there are 16.
+    /// The values of sixteen lanes each: of each sixteen rows 16 of them.
     #[inline(always)]
-    pub fn sixteens(&self, rows: &[u8], products: &ProductTable) -> u8x16
-        requires cells { AreCellsOf rows.now self.now }
+    pub fn sixteens<const N: usize>(&self, rows: &[u8], products: &ProductTable) -> Simd<u8, N>
+    where
+        Vectors: LookUp<N>,
+        Vectors: Sixteens<N>,
+        requires cells { AreCellsOf N rows.now self.now }
         requires within { 16 ≤ self.now.width }
-        ensures { AreLanes result (part (padded_by rows.now self.now) 16 products.now) 0 }
+        ensures { AreLanes N result (λ k. part (padded_by rows.now self.now) 16 products.now (spread 0 self.now.width k)) 0 }
     {
         pair(
             products.eighth(),
@@ -89,35 +121,26 @@ impl Cells {
     }
 }
 
-/// The first eight lanes of both, and the factor times the last eight of both.
+/// The first eight lanes of each sixteen of both, and the factor times the last eight.
 #[inline(always)]
-fn join(products: &Products, a: u8x16, b: u8x16) -> u8x16
-    requires first { length a ≡ 16 }
-    requires second { length b ≡ 16 }
-    ensures { AreLanes result (joined a b products.now) 0 }
+fn join<const N: usize>(products: &Products, a: Simd<u8, N>, b: Simd<u8, N>) -> Simd<u8, N>
+where
+    Vectors: LookUp<N>,
+    Vectors: Sixteens<N>,
+    ensures { AreLanes N result (joined N a.entry b.entry products.now) 0 }
 {
-    let first = a.shuffle(b, [0, 1, 2, 3, 4, 5, 6, 7, 16, 17, 18, 19, 20, 21, 22, 23]);
-    let last = a.shuffle(
-        b,
-        [8, 9, 10, 11, 12, 13, 14, 15, 24, 25, 26, 27, 28, 29, 30, 31],
-    );
-    first ^ products.times(last)
+    Vectors::first_eights(a, b) ^ products.times(Vectors::last_eights(a, b))
 }
 
 /// Each second lane of both, and the factor times the lane behind it.
 #[inline(always)]
-fn pair(products: &Products, a: u8x16, b: u8x16) -> u8x16
-    requires first { length a ≡ 16 }
-    requires second { length b ≡ 16 }
-    ensures { AreLanes result (paired a b products.now) 0 }
+fn pair<const N: usize>(products: &Products, a: Simd<u8, N>, b: Simd<u8, N>) -> Simd<u8, N>
+where
+    Vectors: LookUp<N>,
+    Vectors: Sixteens<N>,
+    ensures { AreLanes N result (paired N a.entry b.entry products.now) 0 }
 {
-    let even = a.shuffle(
-        b,
-        [0, 2, 4, 6, 8, 10, 12, 14, 16, 18, 20, 22, 24, 26, 28, 30],
-    );
-    let odd = a.shuffle(
-        b,
-        [1, 3, 5, 7, 9, 11, 13, 15, 17, 19, 21, 23, 25, 27, 29, 31],
-    );
+    let even = Vectors::evens(a, b);
+    let odd = Vectors::odds(a, b);
     even ^ products.times(odd)
 }

@@ -1,51 +1,91 @@
-//! The values of polynomials whose constant is 0, for sixteen rows at once.
+//! The values of polynomials whose constant is 0, for 32 or 16 rows at once.
 
-ghost use Rattle.std.specs.Prelude.{◌≡◌, ◌*◌, ◌+◌, ◌-◌, ◌/◌, ◌<◌, ◌≤◌, length, take};
+ghost use Rattle.std.specs.Prelude.{◌≡◌, ◌*◌, ◌+◌, ◌-◌, ◌/◌, ◌<◌, ◌≤◌, length, take, true};
 ghost use Rattle.std.specs.Int.{div_ceil};
 ghost use Rattle.gf256.specs.Rows.{AreLanes};
 ghost use Rattle.shamir_share.specs.Query.{masks};
-ghost use Rattle.shamir_share.specs.Lanes.{AreCells, IsWidth, value_from};
+ghost use Rattle.shamir_share.specs.Lanes.{value_from, AreSixteens, IsWidth};
 
 use crate::cells::Cells;
 use crate::masks::rows_into;
 use crate::places::places_of;
 use crate::products::ProductTable;
+use crate::sixteens::Sixteens;
+use gf256::vectors::{LANES, LookUp, Vectors};
 use std::simd::prelude::*;
 
-/// Writes the values of the first rows, sixteen of them at once. Gives how many rows are done: fewer
-/// than sixteen are left, or rows without coins.
+/// Writes the values of the first rows, many of them at once. Gives how many rows are done: those
+/// that are left are fewer than sixteen, or are the last sixteen, or have no coins.
 pub(crate) fn lanes_into(products: &ProductTable, coins: &[u8], t: usize, out: &mut [u8]) -> usize
     requires { length coins.now ≡ length out.old * t }
     ensures within { result ≤ length out.old }
     ensures done { take result out.new ≡ masks coins.now t result products.now }
 {
-    let mut row = 0;
     if t == 0 {
-        return row;
+        return 0;
     }
-    'lanes: while out.len() - row >= 16 {
-        sixteen_masks(products, &coins[row * t..], t).copy_to_slice(&mut out[row..]);
-        row += 16;
+    let wide = lanes_from::<LANES>(products, coins, t, 0, out);
+    lanes_from::<16>(products, coins, t, wide, out)
+}
+
+/// The same from row `from` on, N of them at once, where those before are done: until fewer than N
+/// are left, or their last lanes would be read past the last coin.
+#[inline(always)]
+fn lanes_from<const N: usize>(
+    products: &ProductTable,
+    coins: &[u8],
+    t: usize,
+    from: usize,
+    out: &mut [u8],
+) -> usize
+where
+    Vectors: LookUp<N>,
+    Vectors: Sixteens<N>,
+    requires lanes { AreSixteens N }
+    requires some { 1 ≤ t }
+    requires coins { length coins.now ≡ length out.old * t }
+    requires within { from ≤ length out.old }
+    requires done { take from out.old ≡ masks coins.now t from products.now }
+    ensures within { result ≤ length out.old }
+    ensures done { take result out.new ≡ masks coins.now t result products.now }
+{
+    let width = width_of(t);
+    let mut row = from;
+    'lanes: while out.len() - row >= N && may_read::<N>(&coins[row * t..], t, width) {
+        let values = lane_values::<N>(products, &coins[row * t..], t, width);
+        products.times_lanes(values).copy_to_slice(&mut out[row..]);
+        row += N;
     }
     row
 }
 
-/// The values of the first sixteen rows of `t` coins, as [`crate::masks_into`] writes them. There may
-/// be more coins behind them, which are read and change nothing.
+/// The values of the first 32 rows of `t` coins, as [`crate::masks_into`] writes them. There may be
+/// more coins behind them, which are read and change nothing.
 #[inline(always)]
-pub fn sixteen_masks(products: &ProductTable, rows: &[u8], t: usize) -> u8x16
+pub fn lane_masks(products: &ProductTable, rows: &[u8], t: usize) -> u8x32
     requires some { 1 ≤ t }
-    requires rows { 16 * t ≤ length rows.now }
-    ensures { result ≡ masks rows.now t 16 products.now }
+    requires rows { 32 * t ≤ length rows.now }
+    ensures { result ≡ masks rows.now t 32 products.now }
 {
     if t == 1 {
-        return products.times_lanes(u8x16::from_slice(rows));
+        return products.times_lanes(u8x32::from_slice(rows));
     }
     let width = width_of(t);
-    if rows.len() < (16 - 16 / width) * t + t.div_ceil(16) * 16 {
-        return last_masks(products, &rows[..16 * t], t);
+    if !may_read::<32>(rows, t, width) {
+        return last_masks(products, &rows[..32 * t], t);
     }
-    products.times_lanes(sixteen_values(products, rows, t, width))
+    products.times_lanes(lane_values::<32>(products, rows, t, width))
+}
+
+/// The same row by row, where the last lanes would be read past the last coin.
+#[inline(never)]
+fn last_masks(products: &ProductTable, rows: &[u8], t: usize) -> u8x32
+    requires { length rows.now ≡ 32 * t }
+    ensures { result ≡ masks rows.now t 32 products.now }
+{
+    let mut values = [0; 32];
+    rows_into(products, rows, t, 0, &mut values);
+    u8x32::from_array(values)
 }
 
 /// How many lanes a row of `t` coins fills: where there are more than 16, they are read 16 at a time.
@@ -65,26 +105,35 @@ fn width_of(t: usize) -> usize
     }
 }
 
-/// The same row by row, where the last lanes would be read past the last coin.
-#[inline(never)]
-fn last_masks(products: &ProductTable, rows: &[u8], t: usize) -> u8x16
-    requires { length rows.now ≡ 16 * t }
-    ensures { result ≡ masks rows.now t 16 products.now }
+/// Whether the coins of N rows, with those behind them, are enough for the last lanes.
+#[inline(always)]
+fn may_read<const N: usize>(rows: &[u8], t: usize, width: usize) -> bool
+    requires lanes { AreSixteens N }
+    requires width { IsWidth width }
+    requires whole { N * t ≤ length rows.now }
+    ensures { result ≡ true → (N - 16 / width) * t + div_ceil t 16 * 16 ≤ length rows.now }
 {
-    let mut values = [0; 16];
-    rows_into(products, rows, t, 0, &mut values);
-    u8x16::from_array(values)
+    rows.len() >= (N - 16 / width) * t + t.div_ceil(16) * 16
 }
 
-/// The values of sixteen rows, each of the polynomial whose coefficients are all of the row's coins.
+/// The values of N rows, each of the polynomial whose coefficients are all of the row's coins.
 #[inline(always)]
-fn sixteen_values(products: &ProductTable, rows: &[u8], t: usize, width: usize) -> u8x16
+fn lane_values<const N: usize>(
+    products: &ProductTable,
+    rows: &[u8],
+    t: usize,
+    width: usize,
+) -> Simd<u8, N>
+where
+    Vectors: LookUp<N>,
+    Vectors: Sixteens<N>,
+    requires lanes { AreSixteens N }
     requires width { IsWidth width }
     requires some { 1 ≤ t }
     requires wide { width < 16 → t ≤ width }
-    requires whole { 16 * t ≤ length rows.now }
-    requires room { (16 - 16 / width) * t + div_ceil t 16 * 16 ≤ length rows.now }
-    ensures { AreLanes result (value_from rows.now t 0 products.now) 0 }
+    requires whole { N * t ≤ length rows.now }
+    requires room { (N - 16 / width) * t + div_ceil t 16 * 16 ≤ length rows.now }
+    ensures { AreLanes N result (value_from rows.now t 0 products.now) 0 }
 {
     if width == 16 {
         return values_in_parts(products, rows, t);
@@ -108,13 +157,17 @@ fn sixteen_values(products: &ProductTable, rows: &[u8], t: usize, width: usize) 
 /// The same of rows that are read 16 coins at a time, from the last ones to the first, by Horner's
 /// rule.
 #[inline(always)]
-fn values_in_parts(products: &ProductTable, rows: &[u8], t: usize) -> u8x16
+fn values_in_parts<const N: usize>(products: &ProductTable, rows: &[u8], t: usize) -> Simd<u8, N>
+where
+    Vectors: LookUp<N>,
+    Vectors: Sixteens<N>,
+    requires lanes { AreSixteens N }
     requires some { 1 ≤ t }
-    requires whole { 16 * t ≤ length rows.now }
-    requires room { 15 * t + div_ceil t 16 * 16 ≤ length rows.now }
-    ensures { AreLanes result (value_from rows.now t 0 products.now) 0 }
+    requires whole { N * t ≤ length rows.now }
+    requires room { (N - 1) * t + div_ceil t 16 * 16 ≤ length rows.now }
+    ensures { AreLanes N result (value_from rows.now t 0 products.now) 0 }
 {
-    let mut values = u8x16::splat(0);
+    let mut values = Simd::<u8, N>::splat(0);
     let mut part = t.div_ceil(16);
     'parts: while part > 0 {
         part -= 1;

@@ -19,11 +19,12 @@ mod lanes;
 mod masks;
 mod places;
 mod products;
+mod sixteens;
 
 ghost use Rattle.std.specs.Prelude.{◌≡◌, ◌≢◌, ◌*◌, ◌<◌, ◌≤◌, length};
 ghost use Rattle.shamir_share.specs.Query.{query};
 
-pub use lanes::sixteen_masks;
+pub use lanes::lane_masks;
 pub use masks::masks_into;
 pub use products::ProductTable;
 

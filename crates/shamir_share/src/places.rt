@@ -41,14 +41,14 @@ pub(crate) fn places_of(width: usize, coins: usize) -> u8x16
     requires width { IsWidth width }
     requires some { 1 ≤ coins }
     requires few { coins ≤ width }
-    ensures { AreLanes result (sorted_place width coins) 0 }
+    ensures { AreLanes 16 result (sorted_place width coins) 0 }
 {
     sixteen_at(&PLACES, (width + coins - 3) * 16)
 }
 
 /// The 16 bytes from place `at` on.
 #[inline(always)]
-pub(crate) fn sixteen_at(bytes: &[u8], at: usize) -> u8x16
+fn sixteen_at(bytes: &[u8], at: usize) -> u8x16
     requires { at + 16 ≤ length bytes.now }
     ensures { result ≡ chunk at 16 bytes.now }
 {

@@ -1,13 +1,14 @@
 //! The products of one byte and every other, from tables.
-ghost use Rattle.std.specs.Prelude.{◌≡◌, length, map};
+ghost use Rattle.std.specs.Prelude.{◌≡◌, ◌≤◌, length, map, take};
 ghost use Rattle.gf256.specs.Field.{◌⊗◌, power};
 
 use gf256::rows;
+use gf256::vectors::{LANES, LookUp, Vectors};
 use std::marker::Model;
 use std::simd::prelude::*;
 
 /// The products of one byte, the factor, and every byte: looked up for one, and by
-/// [`rows::Products`] for 16 at once, also with some powers of the factor. Contracts see the factor.
+/// [`rows::Products`] for many at once, also with some powers of the factor. Contracts see the factor.
 #[derive(Drop)]
 pub struct ProductTable {
     // The product with each byte.
@@ -98,10 +99,12 @@ impl ProductTable {
         self.table[x as usize]
     }
 
-    /// The product of the factor and each of 16 bytes.
+    /// The product of the factor and each of the bytes.
     #[inline(always)]
-    pub(crate) fn times_lanes(&self, bytes: u8x16) -> u8x16
-        ensures { result ≡ map (λ b. self.now ⊗ b) bytes }
+    pub(crate) fn times_lanes<const N: usize>(&self, bytes: Simd<u8, N>) -> Simd<u8, N>
+    where
+        Vectors: LookUp<N>,
+        ensures { result ≡ map (λ b. self.now ⊗ b) bytes.entry }
     {
         self.lanes.times(bytes)
     }
@@ -111,15 +114,32 @@ impl ProductTable {
         requires { length from.now ≡ length into.old }
         ensures { into.new ≡ map (λ b. self.now ⊗ b) from.now }
     {
-        let mut at = 0;
-        'lanes: while into.len() - at >= 16 {
-            self.lanes
-                .times(u8x16::from_slice(&from[at..]))
-                .copy_to_slice(&mut into[at..]);
-            at += 16;
-        }
+        let wide = self.times_in_lanes::<LANES>(from, into, 0);
+        let at = self.times_in_lanes::<16>(from, into, wide);
         for i in at..into.len() {
             into[i] = self.times(from[i]);
         }
+    }
+
+    /// The same from place `done` on, N bytes at once, where those before are done: until fewer than
+    /// N are left. Gives the place of the first of these.
+    #[inline(always)]
+    fn times_in_lanes<const N: usize>(&self, from: &[u8], into: &mut [u8], done: usize) -> usize
+    where
+        Vectors: LookUp<N>,
+        requires same { length from.now ≡ length into.old }
+        requires some { 1 ≤ N }
+        requires within { done ≤ length into.old }
+        requires done { take done into.old ≡ map (λ b. self.now ⊗ b) (take done from.now) }
+        ensures within { result ≤ length into.old }
+        ensures done { take result into.new ≡ map (λ b. self.now ⊗ b) (take result from.now) }
+    {
+        let mut at = done;
+        'lanes: while into.len() - at >= N {
+            let products = self.times_lanes(Simd::<u8, N>::from_slice(&from[at..]));
+            products.copy_to_slice(&mut into[at..]);
+            at += N;
+        }
+        at
     }
 }

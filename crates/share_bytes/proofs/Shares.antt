@@ -111,31 +111,31 @@ first_shares_are bytes coins tau n a few =
     let below : i < n = omega (arith, l, length-shares bytes coins tau n a) in
     shares_at bytes coins tau n a i below ∙ sym (get_or-take n whole i 0 below ∙ share_at bytes coins tau a i (omega (arith, below, few))))
 
--- sixteen masks to which as many bytes are added are the share of these
-pub share_of_lanes : (bytes coins lanes : List ℕ) (tau a at : ℕ) → at + 16 ≤ length bytes → ((i : ℕ) → get_or bytes i 0 < 256)
-    → lanes ≡ masks (slice_range coins (at * tau) ((at + 16) * tau)) tau 16 a
-    → (length (zip2 bit_xor lanes (chunk at 16 bytes)) ≡ 16)
-    × (zip2 bit_xor lanes (chunk at 16 bytes) ≡ share (slice_range bytes at (at + 16)) (slice_range coins (at * tau) ((at + 16) * tau)) tau a)
+-- n masks to which as many bytes are added are the share of these
+pub share_of_lanes : (n : ℕ) (bytes coins lanes : List ℕ) (tau a at : ℕ) → at + n ≤ length bytes → ((i : ℕ) → get_or bytes i 0 < 256)
+    → lanes ≡ masks (slice_range coins (at * tau) ((at + n) * tau)) tau n a
+    → (length (zip2 bit_xor lanes (chunk at n bytes)) ≡ n)
+    × (zip2 bit_xor lanes (chunk at n bytes) ≡ share (slice_range bytes at (at + n)) (slice_range coins (at * tau) ((at + n) * tau)) tau a)
 unfolding ◌⊕◌
-share_of_lanes bytes coins lanes tau a at room small is =
-    let own = slice_range coins (at * tau) ((at + 16) * tau) in
-    let piece = slice_range bytes at (at + 16) in
-    let sixteen : at + 16 - at ≡ 16 = omega arith in
-    let same : piece ≡ chunk at 16 bytes = ap (λ k. take k (drop at bytes)) sixteen in
-    let size : length piece ≡ 16 = length-slice bytes at 16 room in
-    let long : length lanes ≡ 16 = ap length is ∙ length-masks own tau 16 a in
+share_of_lanes n bytes coins lanes tau a at room small is =
+    let own = slice_range coins (at * tau) ((at + n) * tau) in
+    let piece = slice_range bytes at (at + n) in
+    let count : at + n - at ≡ n = omega arith in
+    let same : piece ≡ chunk at n bytes = ap (λ k. take k (drop at bytes)) count in
+    let size : length piece ≡ n = length-slice bytes at n room in
+    let long : length lanes ≡ n = ap length is ∙ length-masks own tau n a in
     let equal = ap length same in
-    let made = zip2 bit_xor lanes (chunk at 16 bytes) in
-    let all : length made ≡ 16 = length-zip2 bit_xor lanes (chunk at 16 bytes) (omega (arith, long, size, equal)) ∙ long in (
+    let made = zip2 bit_xor lanes (chunk at n bytes) in
+    let all : length made ≡ n = length-zip2 bit_xor lanes (chunk at n bytes) (omega (arith, long, size, equal)) ∙ long in (
       all,
       share_from_masks piece own made tau a (λ i. byte i) (all ∙ sym size) (λ i l.
-          get_or-zip2 bit_xor lanes (chunk at 16 bytes) i 0 0 0 (omega (arith, l, size, long)) (omega (arith, l, equal))
-          ∙ ap₂ (λ p q. bit_xor (get_or p i 0) (get_or q i 0)) (is ∙ ap (λ n. masks own tau n a) (sym size)) (sym same)),
+          get_or-zip2 bit_xor lanes (chunk at n bytes) i 0 0 0 (omega (arith, l, size, long)) (omega (arith, l, equal))
+          ∙ ap₂ (λ p q. bit_xor (get_or p i 0) (get_or q i 0)) (is ∙ ap (λ m. masks own tau m a) (sym size)) (sym same)),
     )
   where
-    byte : (i : ℕ) → get_or (slice_range bytes at (at + 16)) i 0 < 256
+    byte : (i : ℕ) → get_or (slice_range bytes at (at + n)) i 0 < 256
     byte i =
-        elim (cases_lt i (at + 16 - at)) [
-          | inl low ↦ let e = get_or-take (at + 16 - at) (drop at bytes) i 0 low ∙ get_or-drop at bytes i 0 in let b = small (at + i) in omega (arith, e, b)
-          | inr high ↦ let e = get_or_past (slice_range bytes at (at + 16)) i 0 (omega (arith, high, length-slice bytes at 16 room)) in omega (arith, e)
+        elim (cases_lt i (at + n - at)) [
+          | inl low ↦ let e = get_or-take (at + n - at) (drop at bytes) i 0 low ∙ get_or-drop at bytes i 0 in let b = small (at + i) in omega (arith, e, b)
+          | inr high ↦ let e = get_or_past (slice_range bytes at (at + n)) i 0 (omega (arith, high, length-slice bytes at n room)) in omega (arith, e)
         ]

@@ -4,7 +4,7 @@ ghost use Rattle.std.specs.Prelude.{◌≡◌, ◌≢◌, ◌*◌, ◌≤◌, le
 ghost use Rattle.share_bytes.specs.Share.{share};
 
 use gf256::rows::add_row;
-use shamir_share::{ProductTable, masks_into, sixteen_masks};
+use shamir_share::{ProductTable, lane_masks, masks_into};
 use std::simd::prelude::*;
 
 /// How many positions that lanes don't take are worked off at once, so that their share is still at
@@ -46,7 +46,7 @@ pub fn share_into(bytes: &[u8], coins: &[u8], tau: u32, index: u8, out: &mut [u8
     }
 }
 
-/// Writes the share of the first positions, sixteen of them at once. Gives how many are done.
+/// Writes the share of the first positions, 32 of them at once. Gives how many are done.
 fn lanes_into(
     products: &ProductTable,
     bytes: &[u8],
@@ -61,10 +61,10 @@ fn lanes_into(
     ensures done { take result out.new ≡ take result (share bytes.now coins.now tau products.now) }
 {
     let mut at = 0;
-    'lanes: while out.len() - at >= 16 {
-        let masks = sixteen_masks(products, &coins[at * tau..], tau);
-        (masks ^ u8x16::from_slice(&bytes[at..])).copy_to_slice(&mut out[at..]);
-        at += 16;
+    'lanes: while out.len() - at >= 32 {
+        let masks = lane_masks(products, &coins[at * tau..], tau);
+        (masks ^ u8x32::from_slice(&bytes[at..])).copy_to_slice(&mut out[at..]);
+        at += 32;
     }
     at
 }

@@ -5,9 +5,10 @@ use Rattle.column_runs.proofs.SameLanes.{same_from_or}
 use Rattle.column_runs.proofs.tile.same_lanes.Goals as goal
 
 pub returns : goal.returns
-returns c = λ zero.
+returns g c = λ zero.
     let a = c.args.a.now in
     let b = c.args.b.now in
-    let la = take_all 16 a (omega (arith, c.requires.a)) in
-    let lb = take_all 16 b (omega (arith, c.requires.b)) in
-    sym la ∙ same_from_or (take 16 a) (take 16 b) (ap length la ∙ c.requires.a ∙ sym (ap length lb ∙ c.requires.b)) (eqb-true _ _ zero) ∙ lb
+    let n = g.row.N in
+    let la = take_all n a (omega (arith, c.requires.a)) in
+    let lb = take_all n b (omega (arith, c.requires.b)) in
+    sym la ∙ same_from_or (take n a) (take n b) (ap length la ∙ c.requires.a ∙ sym (ap length lb ∙ c.requires.b)) (eqb-true _ _ zero) ∙ lb

@@ -24,7 +24,7 @@ loop-v-preserved g c =
     record {
       size = length-put_chunk (v * 16) acc sum ∙ size;
       added = subst (IsAdded (put_chunk (v * 16) acc sum) c.args.cell.now (multiple factors f) 0) next
-          (added-next acc c.args.cell.now factors products f (v * 16) room (c.requires.same ∙ sym size) is c.loop-v.invariant.added);
+          (added-next 16 acc c.args.cell.now factors products f 0 (v * 16) (omega arith) room (c.requires.same ∙ sym size) is c.loop-v.invariant.added);
     }
 
 pub returns : goal.returns

@@ -17,9 +17,9 @@ lanes-preserved c =
     let room : at + 16 ≤ length sums = omega arith in
     let sum = zip2 bit_xor (chunk at 16 row) c.times.result in
     let size = length-put_chunk at sums sum in
-    let products = times-lanes multiplied c.times.result a at (omega (arith, room, c.requires.multiplied, c.lanes.invariant.size))
+    let products = times-lanes 16 multiplied c.times.result a at (omega (arith, room, c.requires.multiplied, c.lanes.invariant.size))
     (c.times.ensures ∙ ap (λ f. map (λ x. f ⊗ x) (chunk at 16 multiplied)) c.copied-held.ensures) in
-    let lanes = lanes-sum (chunk at 16 row) c.times.result _ _ at (lanes-of row at (omega (arith, room, c.requires.row, c.lanes.invariant.size))) products in
+    let lanes = lanes-sum (chunk at 16 row) c.times.result _ _ at (lanes-of 16 row at (omega (arith, room, c.requires.row, c.lanes.invariant.size))) products in
     record {
       size = size ∙ c.lanes.invariant.size;
       within = omega (arith, size, room);

@@ -1,5 +1,5 @@
-use Rattle.shamir_share.proofs.LaneParts.{joined_is}
+use Rattle.gf256.proofs.LaneSums.{lanes-sum, lanes-times}
 use Rattle.shamir_share.proofs.cells.join.Goals as goal
 
 pub returns : goal.returns
-returns c = joined_is c.args.a c.args.b c.times.result c.args.products.now c.times.ensures
+returns g c = lanes-sum _ _ _ _ 0 c.first_eights.ensures (lanes-times _ _ _ c.args.products.now 0 c.times.ensures c.last_eights.ensures)

@@ -5,10 +5,10 @@ use Rattle.shamir_share.specs.Lanes.{value_from}
 use Rattle.shamir_share.proofs.lanes.values_in_parts.Given as goal
 
 abbrev pub invariant-parts : goal.invariant-parts
-invariant-parts l = record {
+invariant-parts g l = record {
   few : l.part ≤ div_ceil l.t 16;
-  values : AreLanes l.values (value_from l.rows l.t (16 * l.part) l.products) 0;
+  values : AreLanes g.row.N l.values (value_from l.rows l.t (16 * l.part) l.products) 0;
 }
 
 abbrev pub decreases-parts : goal.decreases-parts
-decreases-parts l = l.part
+decreases-parts g l = l.part

@@ -12,14 +12,14 @@ pub lanes-preserved : goal.lanes-preserved
 lanes-preserved c =
     let at = c.lanes.at in
     let bytes = c.args.bytes.now in
-    let made = zip2 bit_xor c.sixteen_masks-masks.result (chunk at 16 bytes) in
-    let room : at + 16 ≤ length bytes = omega arith in
-    let is = share_of_lanes bytes c.args.coins.now c.sixteen_masks-masks.result c.args.tau c.args.products.now at room
-    (λ i. (c.type_inv.bytes i).fits) (c.sixteen_masks-masks.ensures ∙ masks_of_rest c.args.coins.now c.args.tau at 16 c.args.products.now) in
+    let made = zip2 bit_xor c.lane_masks-masks.result (chunk at 32 bytes) in
+    let room : at + 32 ≤ length bytes = omega arith in
+    let is = share_of_lanes 32 bytes c.args.coins.now c.lane_masks-masks.result c.args.tau c.args.products.now at room
+    (λ i. (c.type_inv.bytes i).fits) (c.lane_masks-masks.ensures ∙ masks_of_rest c.args.coins.now c.args.tau at 32 c.args.products.now) in
     record {
       within = omega (arith, length-put_chunk at c.lanes.out made);
-      done = take_more_put_chunk at c.lanes.out made (at + 16) (omega (arith, is.0)) (omega arith)
-          ∙ ap₂ ◌++◌ c.lanes.invariant.done is.1 ∙ shares_more bytes c.args.coins.now c.args.tau at 16 c.args.products.now room;
+      done = take_more_put_chunk at c.lanes.out made (at + 32) (omega (arith, is.0)) (omega arith)
+          ∙ ap₂ ◌++◌ c.lanes.invariant.done is.1 ∙ shares_more bytes c.args.coins.now c.args.tau at 32 c.args.products.now room;
     }
 
 pub returns-clause-done : goal.returns-clause-done

@@ -1,15 +1,6 @@
-use Rattle.std.proofs.Common.{◌≡◌, ◌-◌, ◌≤◌, length, map, take}
+use Rattle.std.proofs.Common.{◌≡◌, map, take}
 use Rattle.gf256.specs.Field.{◌⊗◌}
 use Rattle.shamir_share.proofs.products.ProductTable.times_each.Given as goal
-
-abbrev pub invariant-lanes : goal.invariant-lanes
-invariant-lanes l = record {
-  within : l.at ≤ length l.into;
-  done : take l.at l.into ≡ map (◌⊗◌ l.self) (take l.at l.from);
-}
-
-abbrev pub decreases-lanes : goal.decreases-lanes
-decreases-lanes l = length l.into - l.at
 
 abbrev pub invariant-loop-i : goal.invariant-loop-i
 invariant-loop-i l = take l.i l.into ≡ map (◌⊗◌ l.self) (take l.i l.from)
