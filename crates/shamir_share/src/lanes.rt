@@ -4,6 +4,7 @@ ghost use Rattle.std.specs.Prelude.{◌≡◌, ◌*◌, ◌+◌, ◌-◌, ◌/�
 ghost use Rattle.std.specs.Int.{div_ceil};
 ghost use Rattle.gf256.specs.Rows.{AreLanes};
 ghost use Rattle.shamir_share.specs.Query.{masks};
+ghost use Rattle.shamir_share.specs.declared.lanes.TheConstants.{MOST_IN_LANES};
 ghost use Rattle.shamir_share.specs.Lanes.{value_from, AreSixteens, IsWidth};
 
 use crate::cells::Cells;
@@ -14,6 +15,10 @@ use crate::sixteens::Sixteens;
 use gf256::vectors::{LANES, LookUp, Vectors};
 use std::simd::prelude::*;
 
+/// The most coins a row of which 32 rows are worked off at once. Where a row has more, what is
+/// worked off at once is more than the registers of some processors hold.
+pub const MOST_IN_LANES: usize = 8;
+
 /// Writes the values of the first rows, many of them at once. Gives how many rows are done: those
 /// that are left are fewer than sixteen, or are the last sixteen, or have no coins.
 pub(crate) fn lanes_into(products: &ProductTable, coins: &[u8], t: usize, out: &mut [u8]) -> usize
@@ -23,6 +28,9 @@ pub(crate) fn lanes_into(products: &ProductTable, coins: &[u8], t: usize, out: &
 {
     if t == 0 {
         return 0;
+    }
+    if t > MOST_IN_LANES {
+        return lanes_from::<16>(products, coins, t, 0, out);
     }
     let wide = lanes_from::<LANES>(products, coins, t, 0, out);
     lanes_from::<16>(products, coins, t, wide, out)
@@ -64,6 +72,7 @@ where
 #[inline(always)]
 pub fn lane_masks(products: &ProductTable, rows: &[u8], t: usize) -> u8x32
     requires some { 1 ≤ t }
+    requires few { t ≤ MOST_IN_LANES }
     requires rows { 32 * t ≤ length rows.now }
     ensures { result ≡ masks rows.now t 32 products.now }
 {
@@ -155,8 +164,8 @@ where
 }
 
 /// The same of rows that are read 16 coins at a time, from the last ones to the first, by Horner's
-/// rule.
-#[inline(always)]
+/// rule. It is called, since [`lane_values`] is inlined only while it stays small.
+#[inline(never)]
 fn values_in_parts<const N: usize>(products: &ProductTable, rows: &[u8], t: usize) -> Simd<u8, N>
 where
     Vectors: LookUp<N>,
