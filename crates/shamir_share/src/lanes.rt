@@ -67,8 +67,9 @@ where
     row
 }
 
-/// The values of the first 32 rows of `t` coins, as [`crate::masks_into`] writes them. There may be
-/// more coins behind them, which are read and change nothing.
+/// The values of the first 32 rows of `t` coins, as [`crate::masks_into`] writes them. A row has one
+/// coin or more, and at most [`MOST_IN_LANES`]. There may be more coins behind the rows, which are
+/// read and change nothing.
 #[inline(always)]
 pub fn lane_masks(products: &ProductTable, rows: &[u8], t: usize) -> u8x32
     requires some { 1 ≤ t }
@@ -164,8 +165,8 @@ where
 }
 
 /// The same of rows that are read 16 coins at a time, from the last ones to the first, by Horner's
-/// rule. It is called, since [`lane_values`] is inlined only while it stays small.
-#[inline(never)]
+/// rule.
+// It has no hint: with its body `lane_values` would be too large to be inlined always.
 fn values_in_parts<const N: usize>(products: &ProductTable, rows: &[u8], t: usize) -> Simd<u8, N>
 where
     Vectors: LookUp<N>,
