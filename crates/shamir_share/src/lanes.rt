@@ -4,6 +4,7 @@ ghost use Rattle.std.specs.Prelude.{◌≡◌, ◌*◌, ◌+◌, ◌-◌, ◌/�
 ghost use Rattle.std.specs.Int.{div_ceil};
 ghost use Rattle.gf256.specs.Rows.{AreLanes};
 ghost use Rattle.shamir_share.specs.Query.{masks};
+ghost use Rattle.shamir_share.specs.declared.lanes.TheConstants.{MOST_IN_LANES};
 ghost use Rattle.shamir_share.specs.Lanes.{value_from, AreSixteens, IsWidth};
 
 use crate::cells::Cells;
@@ -14,6 +15,10 @@ use crate::sixteens::Sixteens;
 use gf256::vectors::{LANES, LookUp, Vectors};
 use std::simd::prelude::*;
 
+/// The most coins a row of which 32 rows are worked off at once. Where a row has more, what is
+/// worked off at once is more than the registers of some processors hold.
+pub const MOST_IN_LANES: usize = 8;
+
 /// Writes the values of the first rows, many of them at once. Gives how many rows are done: those
 /// that are left are fewer than sixteen, or are the last sixteen, or have no coins.
 pub(crate) fn lanes_into(products: &ProductTable, coins: &[u8], t: usize, out: &mut [u8]) -> usize
@@ -23,6 +28,9 @@ pub(crate) fn lanes_into(products: &ProductTable, coins: &[u8], t: usize, out: &
 {
     if t == 0 {
         return 0;
+    }
+    if t > MOST_IN_LANES {
+        return lanes_from::<16>(products, coins, t, 0, out);
     }
     let wide = lanes_from::<LANES>(products, coins, t, 0, out);
     lanes_from::<16>(products, coins, t, wide, out)
@@ -59,11 +67,13 @@ where
     row
 }
 
-/// The values of the first 32 rows of `t` coins, as [`crate::masks_into`] writes them. There may be
-/// more coins behind them, which are read and change nothing.
+/// The values of the first 32 rows of `t` coins, as [`crate::masks_into`] writes them. A row has one
+/// coin or more, and at most [`MOST_IN_LANES`]. There may be more coins behind the rows, which are
+/// read and change nothing.
 #[inline(always)]
 pub fn lane_masks(products: &ProductTable, rows: &[u8], t: usize) -> u8x32
     requires some { 1 ≤ t }
+    requires few { t ≤ MOST_IN_LANES }
     requires rows { 32 * t ≤ length rows.now }
     ensures { result ≡ masks rows.now t 32 products.now }
 {
@@ -156,7 +166,7 @@ where
 
 /// The same of rows that are read 16 coins at a time, from the last ones to the first, by Horner's
 /// rule.
-#[inline(always)]
+// It has no hint: with its body `lane_values` would be too large to be inlined always.
 fn values_in_parts<const N: usize>(products: &ProductTable, rows: &[u8], t: usize) -> Simd<u8, N>
 where
     Vectors: LookUp<N>,

@@ -4,12 +4,12 @@ ghost use Rattle.std.specs.Prelude.{◌≡◌, ◌≢◌, ◌*◌, ◌≤◌, le
 ghost use Rattle.share_bytes.specs.Share.{share};
 
 use gf256::rows::add_row;
-use shamir_share::{ProductTable, lane_masks, masks_into};
+use shamir_share::{MOST_IN_LANES, ProductTable, lane_masks, masks_into};
 use std::simd::prelude::*;
 
 /// How many positions that lanes don't take are worked off at once, so that their share is still at
 /// hand when the bytes are added.
-const PIECE: usize = 4096;
+const PIECE: usize = 16384;
 
 /// Writes the share of one server: at `i` the value at `index` of the polynomial of position `i`,
 /// with the constant `bytes[i]` and then the `tau` coins of the position, at `i * tau` and on.
@@ -46,7 +46,8 @@ pub fn share_into(bytes: &[u8], coins: &[u8], tau: u32, index: u8, out: &mut [u8
     }
 }
 
-/// Writes the share of the first positions, 32 of them at once. Gives how many are done.
+/// Writes the share of the first positions, 32 of them at once, where none has too many coins for
+/// that. Gives how many are done.
 fn lanes_into(
     products: &ProductTable,
     bytes: &[u8],
@@ -61,6 +62,9 @@ fn lanes_into(
     ensures done { take result out.new ≡ take result (share bytes.now coins.now tau products.now) }
 {
     let mut at = 0;
+    if tau > MOST_IN_LANES {
+        return at;
+    }
     'lanes: while out.len() - at >= 32 {
         let masks = lane_masks(products, &coins[at * tau..], tau);
         (masks ^ u8x32::from_slice(&bytes[at..])).copy_to_slice(&mut out[at..]);

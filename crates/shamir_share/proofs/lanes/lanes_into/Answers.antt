@@ -6,3 +6,6 @@ returns-then-t-eq0-clause-done c = masks_none c.args.coins.now c.args.t c.args.p
 
 pub lanes_from-wide-requires-clause-done : goal.lanes_from-wide-requires-clause-done
 lanes_from-wide-requires-clause-done c = masks_none c.args.coins.now c.args.t c.args.products.now
+
+pub lanes_from-requires-clause-done : goal.lanes_from-requires-clause-done
+lanes_from-requires-clause-done c = masks_none c.args.coins.now c.args.t c.args.products.now
