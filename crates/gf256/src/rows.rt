@@ -176,13 +176,65 @@ pub fn clear(row: &mut [u8])
 
 /// Adds `row` to `acc`, which is as long: `acc[i]` becomes `acc[i] + row[i]`, for each place i.
 /// Adding `57 83` to `83 83` makes it `d4 00`.
+///
+/// Where the last places are fewer than 16, the last 16 are added at once: some of them are done
+/// before, so their sums are taken from what stood there at first.
 pub fn add_row(acc: &mut [u8], row: &[u8])
+    requires { length row.now ≡ length acc.old }
+    ensures { (k : ℕ) → slice_index acc.new k ≡ slice_index acc.old k ⊕ slice_index row.now k }
+{
+    if acc.len() < 16 {
+        return add_bytes(acc, row);
+    }
+    let last = acc.len() - 16;
+    let end = u8x16::from_slice(&acc[last..]);
+    let at = add_in_lanes(acc, row);
+    if at < acc.len() {
+        let sum = end ^ u8x16::from_slice(&row[last..]);
+        sum.copy_to_slice(&mut acc[last..]);
+    }
+}
+
+/// The same for short rows.
+fn add_bytes(acc: &mut [u8], row: &[u8])
     requires { length row.now ≡ length acc.old }
     ensures { (k : ℕ) → slice_index acc.new k ≡ slice_index acc.old k ⊕ slice_index row.now k }
 {
     for i in 0..acc.len() {
         acc[i] ^= row[i];
     }
+}
+
+/// Adds the bytes of `row` to those of `acc`, 32 at once and then 16, until fewer than 16 are left.
+/// Gives the place of the first that is left.
+#[inline(always)]
+fn add_in_lanes(acc: &mut [u8], row: &[u8]) -> usize
+    requires { length row.now ≡ length acc.old }
+    ensures within { result ≤ length acc.old }
+    ensures few { length acc.old < result + 16 }
+    ensures added { IsAdded acc.new acc.old (slice_index row.now) 0 result }
+{
+    let mut at = 0;
+    'lanes: while acc.len() - at >= LANES {
+        add_lanes::<LANES>(acc, row, at);
+        at += LANES;
+    }
+    if acc.len() - at < 16 {
+        return at;
+    }
+    add_lanes::<16>(acc, row, at);
+    at + 16
+}
+
+/// Adds N bytes of `row`, from place `at` on, to those of `acc`.
+#[inline(always)]
+fn add_lanes<const N: usize>(acc: &mut [u8], row: &[u8], at: usize)
+    requires same { length row.now ≡ length acc.old }
+    requires within { at + N ≤ length acc.old }
+    ensures { IsAdded acc.new acc.old (slice_index row.now) at (at + N) }
+{
+    let sum = Simd::<u8, N>::from_slice(&acc[at..]) ^ Simd::from_slice(&row[at..]);
+    sum.copy_to_slice(&mut acc[at..]);
 }
 
 /// Adds `factor` times `row` to `acc`, which is as long: `acc[i]` becomes
@@ -202,7 +254,7 @@ pub fn add_scaled_row(acc: &mut [u8], row: &[u8], factor: u8)
     let products = Products::of(factor);
     let last = acc.len() - 16;
     let end = u8x16::from_slice(&acc[last..]);
-    let at = add_in_lanes(acc, row, &products);
+    let at = add_scaled_in_lanes(acc, row, &products);
     if at < acc.len() {
         let sum = end ^ products.times(u8x16::from_slice(&row[last..]));
         sum.copy_to_slice(&mut acc[last..]);
@@ -223,7 +275,7 @@ fn add_scaled_bytes(acc: &mut [u8], row: &[u8], factor: u8)
 /// Adds the products of the bytes of `row` to those of `acc`, 32 at once and then 16, until fewer than
 /// 16 are left. Gives the place of the first that is left.
 #[inline(always)]
-fn add_in_lanes(acc: &mut [u8], row: &[u8], products: &Products) -> usize
+fn add_scaled_in_lanes(acc: &mut [u8], row: &[u8], products: &Products) -> usize
     requires { length row.now ≡ length acc.old }
     ensures within { result ≤ length acc.old }
     ensures few { length acc.old < result + 16 }
@@ -231,19 +283,19 @@ fn add_in_lanes(acc: &mut [u8], row: &[u8], products: &Products) -> usize
 {
     let mut at = 0;
     'lanes: while acc.len() - at >= LANES {
-        add_lanes::<LANES>(acc, row, products, at);
+        add_scaled_lanes::<LANES>(acc, row, products, at);
         at += LANES;
     }
     if acc.len() - at < 16 {
         return at;
     }
-    add_lanes::<16>(acc, row, products, at);
+    add_scaled_lanes::<16>(acc, row, products, at);
     at + 16
 }
 
 /// Adds the products of N bytes of `row`, from place `at` on, to those of `acc`.
 #[inline(always)]
-fn add_lanes<const N: usize>(acc: &mut [u8], row: &[u8], products: &Products, at: usize)
+fn add_scaled_lanes<const N: usize>(acc: &mut [u8], row: &[u8], products: &Products, at: usize)
 where
     Vectors: LookUp<N>,
     requires same { length row.now ≡ length acc.old }

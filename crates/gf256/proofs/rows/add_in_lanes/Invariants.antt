@@ -1,11 +1,11 @@
-use Rattle.std.proofs.Common.{◌-◌, ◌≤◌, length}
-use Rattle.gf256.specs.Rows.{multiple, IsAdded}
+use Rattle.std.proofs.Common.{◌-◌, ◌≤◌, length, slice_index}
+use Rattle.gf256.specs.Rows.{IsAdded}
 use Rattle.gf256.proofs.rows.add_in_lanes.Given as goal
 
 abbrev pub invariant-lanes : goal.invariant-lanes
 invariant-lanes l = record {
   within : l.at ≤ length l.acc;
-  added : IsAdded l.acc l.initial.acc (multiple l.row l.products) 0 l.at;
+  added : IsAdded l.acc l.initial.acc (slice_index l.row) 0 l.at;
 }
 
 abbrev pub decreases-lanes : goal.decreases-lanes

@@ -1,19 +1,26 @@
-use Rattle.std.proofs.Common.{◌≡◌, length, slice_index, refl, subst, arith}
+use Rattle.std.proofs.Common.{◌≡◌, ◌+◌, ◌-◌, length, slice_index, refl, arith}
+use Rattle.std.specs.Simd.Lanes.{chunk}
 use Rattle.std.proofs.lemmas.List.{get_or_past}
-use Rattle.gf256.specs.Rows.{IsAdded}
-use Rattle.gf256.proofs.Added.{added-none, added-place, added-all}
+use Rattle.gf256.proofs.Added.{added-all}
+use Rattle.gf256.proofs.LaneSums.{lanes-of, lanes-put}
 use Rattle.gf256.proofs.rows.add_row.Goals as goal
 
-pub loop-i-init : goal.loop-i-init
-loop-i-init c = added-none c.args.acc.now (slice_index c.args.row.now) 0
+pub returns-then-at-acc : goal.returns-then-at-acc
+returns-then-at-acc c = λ k.
+    let old = c.args.acc.now in
+    let row = c.args.row.now in
+    let last = length old - 16 in
+    let end : last + 16 ≡ length old = omega arith in
+    let front = c.add_in_lanes-at in
+    added-all _ old (slice_index row) (last + 16) (λ j l. get_or_past row j 0 (omega (arith, c.requires)))
+    (lanes-put 16 front.new.acc old old (chunk last 16 row) (slice_index row) 0 last front.result
+    (omega arith) (omega arith) (omega arith) (omega (arith, front.ensures.few)) (omega (arith, front.ensures.within)) (λ j l. refl)
+    (lanes-of 16 row last (omega (arith, c.requires))) front.ensures.added) k
 
-pub loop-i-preserved : goal.loop-i-preserved
-loop-i-preserved c =
-    added-place c.loop-i.acc c.args.acc.now (slice_index c.args.row.now) 0 c.loop-i.i _ (omega arith) (omega arith) refl c.loop-i.invariant
-
-pub returns : goal.returns
-returns c =
-    let end : c.loop-i.i ≡ length c.args.acc.now = omega arith in
-    added-all c.loop-i.acc c.args.acc.now (slice_index c.args.row.now) (length c.args.acc.now)
-    (λ k l. get_or_past c.args.row.now k 0 (omega (arith, c.requires)))
-    (subst (IsAdded c.loop-i.acc c.args.acc.now (slice_index c.args.row.now) 0) end c.loop-i.invariant)
+pub returns-else-at-acc : goal.returns-else-at-acc
+returns-else-at-acc c = λ k.
+    let old = c.args.acc.now in
+    let row = c.args.row.now in
+    let front = c.add_in_lanes-at in
+    let end : front.result ≡ length old = omega (arith, front.ensures.within) in
+    added-all front.new.acc old (slice_index row) front.result (λ j l. get_or_past row j 0 (omega (arith, c.requires))) front.ensures.added k
