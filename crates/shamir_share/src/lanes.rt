@@ -67,35 +67,37 @@ where
     row
 }
 
-/// The values of the first 32 rows of `t` coins, as [`crate::masks_into`] writes them. A row has one
-/// coin or more, and at most [`MOST_IN_LANES`]. There may be more coins behind the rows, which are
-/// read and change nothing.
+/// The values of the first N rows of `t` coins, as [`crate::masks_into`] writes them, for N of 16 or
+/// 32: a row has one coin or more. There may be more coins behind the rows, which are read and change
+/// nothing.
 #[inline(always)]
-pub fn lane_masks(products: &ProductTable, rows: &[u8], t: usize) -> u8x32
+pub fn lane_masks<const N: usize>(products: &ProductTable, rows: &[u8], t: usize) -> Simd<u8, N>
+where
+    Vectors: LookUp<N>,
+    Vectors: Sixteens<N>,
     requires some { 1 ≤ t }
-    requires few { t ≤ MOST_IN_LANES }
-    requires rows { 32 * t ≤ length rows.now }
-    ensures { result ≡ masks rows.now t 32 products.now }
+    requires rows { N * t ≤ length rows.now }
+    ensures { result ≡ masks rows.now t N products.now }
 {
     if t == 1 {
-        return products.times_lanes(u8x32::from_slice(rows));
+        return products.times_lanes(Simd::<u8, N>::from_slice(rows));
     }
     let width = width_of(t);
-    if !may_read::<32>(rows, t, width) {
-        return last_masks(products, &rows[..32 * t], t);
+    if !may_read::<N>(rows, t, width) {
+        return last_masks::<N>(products, &rows[..N * t], t);
     }
-    products.times_lanes(lane_values::<32>(products, rows, t, width))
+    products.times_lanes(lane_values::<N>(products, rows, t, width))
 }
 
 /// The same row by row, where the last lanes would be read past the last coin.
 #[inline(never)]
-fn last_masks(products: &ProductTable, rows: &[u8], t: usize) -> u8x32
-    requires { length rows.now ≡ 32 * t }
-    ensures { result ≡ masks rows.now t 32 products.now }
+fn last_masks<const N: usize>(products: &ProductTable, rows: &[u8], t: usize) -> Simd<u8, N>
+    requires { length rows.now ≡ N * t }
+    ensures { result ≡ masks rows.now t N products.now }
 {
-    let mut values = [0; 32];
+    let mut values = [0; N];
     rows_into(products, rows, t, 0, &mut values);
-    u8x32::from_array(values)
+    Simd::from_array(values)
 }
 
 /// How many lanes a row of `t` coins fills: where there are more than 16, they are read 16 at a time.

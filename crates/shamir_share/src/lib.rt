@@ -27,6 +27,7 @@ ghost use Rattle.shamir_share.specs.Query.{query};
 pub use lanes::{MOST_IN_LANES, lane_masks};
 pub use masks::masks_into;
 pub use products::ProductTable;
+pub use sixteens::Sixteens;
 
 /// Writes the query of one server: at `j` the value at `index` of the polynomial of row `j`, with
 /// the constant 1 where `j` is `block` and 0 elsewhere, and then the `t` coins of the row, at

@@ -1,14 +1,15 @@
 //! Vectors of one sixteen of bytes or two, each of which is read and moved about by itself.
 
 ghost use Rattle.std.specs.Prelude.{◌≡◌, ◌+◌, ◌-◌, ◌*◌, ◌/◌, ◌%◌, ◌≤◌, ◌++◌, length, slice_index};
+ghost use Rattle.std.proofs.Common.{rules};
 ghost use Rattle.gf256.specs.Rows.{AreLanes};
-ghost use Rattle.shamir_share.specs.Lanes.{eights, pairs, taken, MayTake};
+ghost use Rattle.shamir_share.specs.Lanes.{eights, pairs, taken, AreSixteens, MayTake};
 
 use gf256::vectors::Vectors;
 use std::simd::prelude::*;
 
 /// Vectors of N bytes, which are one sixteen or two.
-pub(crate) trait Sixteens<const N: usize> {
+pub trait Sixteens<const N: usize> {
     /// The bytes of the rows at the places, which are counted from `at` on for the first sixteen, and
     /// from `apart` bytes further on for the second. A byte is 0 where its place is 128.
     fn sorted_at(rows: &[u8], at: usize, apart: usize, places: u8x16) -> Simd<u8, N>
@@ -32,6 +33,9 @@ pub(crate) trait Sixteens<const N: usize> {
     /// The bytes behind these.
     fn odds(a: Simd<u8, N>, b: Simd<u8, N>) -> Simd<u8, N>
         ensures { AreLanes N result (λ k. slice_index (a.entry ++ b.entry) (pairs N k + 1)) 0 };
+
+    /// N is one sixteen or more.
+    ghost sixteens: { AreSixteens N };
 }
 
 impl Sixteens<16> for Vectors {
@@ -81,6 +85,8 @@ impl Sixteens<16> for Vectors {
             [1, 3, 5, 7, 9, 11, 13, 15, 17, 19, 21, 23, 25, 27, 29, 31],
         )
     }
+
+    ghost sixteens = { Prim.search rules };
 }
 
 impl Sixteens<32> for Vectors {
@@ -158,4 +164,6 @@ impl Sixteens<32> for Vectors {
             ],
         )
     }
+
+    ghost sixteens = { Prim.search rules };
 }

@@ -4,12 +4,13 @@ ghost use Rattle.std.specs.Prelude.{◌≡◌, ◌≢◌, ◌*◌, ◌≤◌, le
 ghost use Rattle.share_bytes.specs.Share.{share};
 
 use gf256::rows::add_row;
-use shamir_share::{MOST_IN_LANES, ProductTable, lane_masks, masks_into};
+use gf256::vectors::{LANES, LookUp, Vectors};
+use shamir_share::{MOST_IN_LANES, ProductTable, Sixteens, lane_masks, masks_into};
 use std::simd::prelude::*;
 
 /// How many positions that lanes don't take are worked off at once, so that their share is still at
 /// hand when the bytes are added.
-const PIECE: usize = 16384;
+const PIECE: usize = 4096;
 
 /// Writes the share of one server: at `i` the value at `index` of the polynomial of position `i`,
 /// with the constant `bytes[i]` and then the `tau` coins of the position, at `i * tau` and on.
@@ -46,8 +47,7 @@ pub fn share_into(bytes: &[u8], coins: &[u8], tau: u32, index: u8, out: &mut [u8
     }
 }
 
-/// Writes the share of the first positions, 32 of them at once, where none has too many coins for
-/// that. Gives how many are done.
+/// Writes the share of the first positions, many of them at once. Gives how many are done.
 fn lanes_into(
     products: &ProductTable,
     bytes: &[u8],
@@ -61,14 +61,40 @@ fn lanes_into(
     ensures within { result ≤ length bytes.now }
     ensures done { take result out.new ≡ take result (share bytes.now coins.now tau products.now) }
 {
-    let mut at = 0;
     if tau > MOST_IN_LANES {
-        return at;
+        return lanes_from::<16>(products, bytes, coins, tau, 0, out);
     }
-    'lanes: while out.len() - at >= 32 {
-        let masks = lane_masks(products, &coins[at * tau..], tau);
-        (masks ^ u8x32::from_slice(&bytes[at..])).copy_to_slice(&mut out[at..]);
-        at += 32;
+    let wide = lanes_from::<LANES>(products, bytes, coins, tau, 0, out);
+    lanes_from::<16>(products, bytes, coins, tau, wide, out)
+}
+
+/// The same from position `from` on, N of them at once, where those before are done: until fewer
+/// than N are left.
+#[inline(always)]
+fn lanes_from<const N: usize>(
+    products: &ProductTable,
+    bytes: &[u8],
+    coins: &[u8],
+    tau: usize,
+    from: usize,
+    out: &mut [u8],
+) -> usize
+where
+    Vectors: LookUp<N>,
+    Vectors: Sixteens<N>,
+    requires some { 1 ≤ tau }
+    requires coins { length coins.now ≡ length bytes.now * tau }
+    requires room { length out.old ≡ length bytes.now }
+    requires within { from ≤ length bytes.now }
+    requires done { take from out.old ≡ take from (share bytes.now coins.now tau products.now) }
+    ensures within { result ≤ length bytes.now }
+    ensures done { take result out.new ≡ take result (share bytes.now coins.now tau products.now) }
+{
+    let mut at = from;
+    'lanes: while out.len() - at >= N {
+        let masks = lane_masks::<N>(products, &coins[at * tau..], tau);
+        (masks ^ Simd::<u8, N>::from_slice(&bytes[at..])).copy_to_slice(&mut out[at..]);
+        at += N;
     }
     at
 }
