@@ -76,6 +76,20 @@ spread at gap k = k / 16 * gap + at + k % 16
 abbrev pub spread_even_first : ℕ → ℕ → ℕ → ℕ
 spread_even_first at gap k = k / 16 * gap + at + even_first (k % 16)
 
+-- lane k of what is taken, by sixteens, of which the first begins at `at`, and the next so many after
+-- it, at these places of each
+abbrev pub taken_lane : List ℕ → ℕ → ℕ → List ℕ → ℕ → ℕ
+taken_lane bytes at apart places k = taken bytes (k / 16 * apart + at) (slice_index places (k % 16))
+
+-- lane k of the lanes with number u of each sixteen rows, the even ones before the odd ones
+abbrev pub unit_lane : List ℕ → Cells → ℕ → ℕ → ℕ
+unit_lane rows cells u k = padded_by rows cells (spread_even_first (16 * u) (16 * cells.width) k)
+
+-- lane k of the values at a of n lanes each, of each sixteen rows from that of lane `16 * u` on
+abbrev pub value_lane : List ℕ → Cells → ℕ → ℕ → ℕ → ℕ → ℕ
+value_lane rows cells n a u k =
+    part (padded_by rows cells) n a (spread (16 / n * u) (16 / n * cells.width) k)
+
 -- where lane k comes from, in two lists of n, when the first eights of each sixteen of both are
 -- put behind each other
 abbrev pub eights : ℕ → ℕ → ℕ

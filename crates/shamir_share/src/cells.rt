@@ -8,7 +8,7 @@
 
 ghost use Rattle.std.specs.Prelude.{◌≡◌, ◌+◌, ◌*◌, ◌≤◌, length};
 ghost use Rattle.gf256.specs.Rows.{AreLanes};
-ghost use Rattle.shamir_share.specs.Lanes.{joined, padded_by, paired, part, spread, spread_even_first, AreCellsOf};
+ghost use Rattle.shamir_share.specs.Lanes.{joined, padded_by, paired, part, spread, unit_lane, value_lane, AreCellsOf};
 
 use crate::products::ProductTable;
 use crate::sixteens::Sixteens;
@@ -36,7 +36,7 @@ impl Cells {
         Vectors: Sixteens<N>,
         requires cells { AreCellsOf N rows.now self.now }
         requires within { u + 1 ≤ self.now.width }
-        ensures { AreLanes N result (λ k. padded_by rows.now self.now (spread_even_first (16 * u) (16 * self.now.width) k)) 0 }
+        ensures { AreLanes N result (unit_lane rows.now self.now u) 0 }
     {
         Vectors::sorted_at(rows, u * self.apart + self.from, 16 * self.t, self.places)
     }
@@ -54,7 +54,7 @@ impl Cells {
         Vectors: Sixteens<N>,
         requires cells { AreCellsOf N rows.now self.now }
         requires within { u + 2 ≤ self.now.width }
-        ensures { AreLanes N result (λ k. part (padded_by rows.now self.now) 2 products.now (spread (8 * u) (8 * self.now.width) k)) 0 }
+        ensures { AreLanes N result (value_lane rows.now self.now 2 products.now u) 0 }
     {
         join(products.first(), self.unit(rows, u), self.unit(rows, u + 1))
     }
@@ -72,7 +72,7 @@ impl Cells {
         Vectors: Sixteens<N>,
         requires cells { AreCellsOf N rows.now self.now }
         requires within { u + 4 ≤ self.now.width }
-        ensures { AreLanes N result (λ k. part (padded_by rows.now self.now) 4 products.now (spread (4 * u) (4 * self.now.width) k)) 0 }
+        ensures { AreLanes N result (value_lane rows.now self.now 4 products.now u) 0 }
     {
         pair(
             products.second(),
@@ -94,7 +94,7 @@ impl Cells {
         Vectors: Sixteens<N>,
         requires cells { AreCellsOf N rows.now self.now }
         requires within { u + 8 ≤ self.now.width }
-        ensures { AreLanes N result (λ k. part (padded_by rows.now self.now) 8 products.now (spread (2 * u) (2 * self.now.width) k)) 0 }
+        ensures { AreLanes N result (value_lane rows.now self.now 8 products.now u) 0 }
     {
         pair(
             products.fourth(),

@@ -3,7 +3,7 @@
 ghost use Rattle.std.specs.Prelude.{◌≡◌, ◌+◌, ◌-◌, ◌*◌, ◌/◌, ◌%◌, ◌≤◌, ◌++◌, length, slice_index};
 ghost use Rattle.std.proofs.Common.{rules};
 ghost use Rattle.gf256.specs.Rows.{AreLanes};
-ghost use Rattle.shamir_share.specs.Lanes.{eights, pairs, taken, AreSixteens, MayTake};
+ghost use Rattle.shamir_share.specs.Lanes.{eights, pairs, taken_lane, AreSixteens, MayTake};
 
 use gf256::vectors::Vectors;
 use std::simd::prelude::*;
@@ -16,7 +16,7 @@ pub trait Sixteens<const N: usize> {
         requires length { length places ≡ 16 }
         requires places { MayTake places }
         requires within { (N / 16 - 1) * apart + at + 16 ≤ length rows.now }
-        ensures { AreLanes N result (λ k. taken rows.now (k / 16 * apart + at) (slice_index places (k % 16))) 0 };
+        ensures { AreLanes N result (taken_lane rows.now at apart places) 0 };
 
     /// The first eight bytes of each sixteen of `a`, with those of `b` behind them.
     fn first_eights(a: Simd<u8, N>, b: Simd<u8, N>) -> Simd<u8, N>
@@ -44,7 +44,7 @@ impl Sixteens<16> for Vectors {
         requires length { length places ≡ 16 }
         requires places { MayTake places }
         requires within { (16 / 16 - 1) * apart + at + 16 ≤ length rows.now }
-        ensures { AreLanes 16 result (λ k. taken rows.now (k / 16 * apart + at) (slice_index places (k % 16))) 0 }
+        ensures { AreLanes 16 result (taken_lane rows.now at apart places) 0 }
     {
         u8x16::from_slice(&rows[at..]).swizzle_dyn_within::<16>(places)
     }
@@ -95,7 +95,7 @@ impl Sixteens<32> for Vectors {
         requires length { length places ≡ 16 }
         requires places { MayTake places }
         requires within { (32 / 16 - 1) * apart + at + 16 ≤ length rows.now }
-        ensures { AreLanes 32 result (λ k. taken rows.now (k / 16 * apart + at) (slice_index places (k % 16))) 0 }
+        ensures { AreLanes 32 result (taken_lane rows.now at apart places) 0 }
     {
         let first = u8x16::from_slice(&rows[at..]);
         let second = u8x16::from_slice(&rows[at + apart..]);
