@@ -89,6 +89,22 @@ where
     products.times_lanes(lane_values::<N>(products, rows, t, width))
 }
 
+/// What [`lane_masks`] gives, sooner where a row has more than [`MOST_IN_LANES`] coins.
+#[inline(always)]
+pub fn wide_masks<const N: usize>(products: &ProductTable, rows: &[u8], t: usize) -> Simd<u8, N>
+where
+    Vectors: LookUp<N>,
+    Vectors: Sixteens<N>,
+    requires some { 1 ≤ t }
+    requires rows { N * t ≤ length rows.now }
+    ensures { result ≡ masks rows.now t N products.now }
+{
+    if !may_read::<N>(rows, t, 16) {
+        return last_masks::<N>(products, &rows[..N * t], t);
+    }
+    products.times_lanes(wide_values::<N>(products, rows, t))
+}
+
 /// The same row by row, where the last lanes would be read past the last coin.
 #[inline(never)]
 fn last_masks<const N: usize>(products: &ProductTable, rows: &[u8], t: usize) -> Simd<u8, N>
@@ -166,10 +182,25 @@ where
     cells.eights(rows, products, 0)
 }
 
-/// The same of rows that are read 16 coins at a time, from the last ones to the first, by Horner's
-/// rule.
-// It has no hint: with its body `lane_values` would be too large to be inlined always.
+/// The same of rows that are read 16 coins at a time. It is a call, since `lane_values` would be too
+/// large to be inlined always.
+#[inline(never)]
 fn values_in_parts<const N: usize>(products: &ProductTable, rows: &[u8], t: usize) -> Simd<u8, N>
+where
+    Vectors: LookUp<N>,
+    Vectors: Sixteens<N>,
+    requires lanes { AreSixteens N }
+    requires some { 1 ≤ t }
+    requires whole { N * t ≤ length rows.now }
+    requires room { (N - 1) * t + div_ceil t 16 * 16 ≤ length rows.now }
+    ensures { AreLanes N result (value_from rows.now t 0 products.now) 0 }
+{
+    wide_values::<N>(products, rows, t)
+}
+
+/// The same, from the last coins to the first, by Horner's rule.
+#[inline(always)]
+fn wide_values<const N: usize>(products: &ProductTable, rows: &[u8], t: usize) -> Simd<u8, N>
 where
     Vectors: LookUp<N>,
     Vectors: Sixteens<N>,

@@ -24,7 +24,7 @@ mod sixteens;
 ghost use Rattle.std.specs.Prelude.{◌≡◌, ◌≢◌, ◌*◌, ◌<◌, ◌≤◌, length};
 ghost use Rattle.shamir_share.specs.Query.{query};
 
-pub use lanes::{MOST_IN_LANES, lane_masks};
+pub use lanes::{MOST_IN_LANES, lane_masks, wide_masks};
 pub use masks::masks_into;
 pub use products::ProductTable;
 pub use sixteens::Sixteens;

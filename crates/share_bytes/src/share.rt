@@ -5,7 +5,7 @@ ghost use Rattle.share_bytes.specs.Share.{share};
 
 use gf256::rows::add_row;
 use gf256::vectors::{LANES, LookUp, Vectors};
-use shamir_share::{MOST_IN_LANES, ProductTable, Sixteens, lane_masks, masks_into};
+use shamir_share::{MOST_IN_LANES, ProductTable, Sixteens, lane_masks, masks_into, wide_masks};
 use std::simd::prelude::*;
 
 /// How many positions that lanes don't take are worked off at once, so that their share is still at
@@ -70,7 +70,6 @@ fn lanes_into(
 
 /// The same from position `from` on, N of them at once, where those before are done: until fewer
 /// than N are left.
-#[inline(always)]
 fn lanes_from<const N: usize>(
     products: &ProductTable,
     bytes: &[u8],
@@ -92,7 +91,12 @@ where
 {
     let mut at = from;
     'lanes: while out.len() - at >= N {
-        let masks = lane_masks::<N>(products, &coins[at * tau..], tau);
+        let own = &coins[at * tau..];
+        let masks = if tau > MOST_IN_LANES {
+            wide_masks::<N>(products, own, tau)
+        } else {
+            lane_masks::<N>(products, own, tau)
+        };
         (masks ^ Simd::<u8, N>::from_slice(&bytes[at..])).copy_to_slice(&mut out[at..]);
         at += N;
     }

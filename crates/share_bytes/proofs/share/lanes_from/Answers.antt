@@ -4,6 +4,7 @@ use Rattle.std.proofs.lemmas.Simd.{take_more_put_chunk, length-put_chunk}
 use Rattle.shamir_share.proofs.Rows.{masks_of_rest}
 use Rattle.share_bytes.proofs.Shares.{shares_more, first_shares_are, share_of_lanes}
 use Rattle.share_bytes.proofs.share.lanes_from.Goals as goal
+use Rattle.share_bytes.proofs.share.lanes_from.Goals.{then-tau-gt-MOST_IN_LANES, else-tau-gt-MOST_IN_LANES}
 
 pub lanes-init : goal.lanes-init
 lanes-init g c =
@@ -17,10 +18,15 @@ lanes-preserved g c =
     let n = g.row.N in
     let at = c.lanes.at in
     let bytes = c.args.bytes.now in
-    let made = zip2 bit_xor c.lane_masks-masks.result (chunk at n bytes) in
+    let masks = c.if-tau-gt-MOST_IN_LANES.masks in
+    let made = zip2 bit_xor masks (chunk at n bytes) in
     let room : at + n ≤ length bytes = omega arith in
-    let is = share_of_lanes n bytes c.args.coins.now c.lane_masks-masks.result c.args.tau c.args.products.now at room
-    (λ i. (c.type_inv.bytes i).fits) (c.lane_masks-masks.ensures ∙ masks_of_rest c.args.coins.now c.args.tau at n c.args.products.now) in
+    let is = share_of_lanes n bytes c.args.coins.now masks c.args.tau c.args.products.now at room
+    (λ i. (c.type_inv.bytes i).fits) (elim c.if-tau-gt-MOST_IN_LANES.branch [
+      | then-tau-gt-MOST_IN_LANES w ↦ w.masks-is ∙ w.wide_masks-masks.ensures
+      | else-tau-gt-MOST_IN_LANES w ↦ w.masks-is ∙ w.lane_masks-masks.ensures
+    ]
+    ∙ masks_of_rest c.args.coins.now c.args.tau at n c.args.products.now) in
     record {
       within = omega (arith, length-put_chunk at c.lanes.out made);
       done = take_more_put_chunk at c.lanes.out made (at + n) (omega (arith, is.0)) (omega arith)

@@ -2,7 +2,7 @@ use Rattle.std.proofs.Common.{◌*◌, ◌≤◌}
 use Rattle.std.specs.Int.{div_ceil}
 use Rattle.gf256.specs.Rows.{AreLanes}
 use Rattle.shamir_share.specs.Lanes.{value_from}
-use Rattle.shamir_share.proofs.lanes.values_in_parts.Given as goal
+use Rattle.shamir_share.proofs.lanes.wide_values.Given as goal
 
 abbrev pub invariant-parts : goal.invariant-parts
 invariant-parts g l = record {

@@ -5,7 +5,7 @@ use Rattle.shamir_share.specs.Lanes.{sorted_place, value_from}
 use Rattle.gf256.proofs.FlatRows.{row_within}
 use Rattle.shamir_share.proofs.Rows.{length-row_coins}
 use Rattle.shamir_share.proofs.LaneParts.{lanes-are, by_sixteens, nothing_left, values_more}
-use Rattle.shamir_share.proofs.lanes.values_in_parts.Goals as goal
+use Rattle.shamir_share.proofs.lanes.wide_values.Goals as goal
 
 pub parts-init : goal.parts-init
 parts-init g c =
