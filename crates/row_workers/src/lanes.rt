@@ -16,8 +16,9 @@ pub fn lanes_of<const N: usize>(row: &[u8], at: usize) -> Simd<u8, N>
     Simd::from_slice(&row[at..])
 }
 
-/// Whether rows of so many bytes are taken 32 bytes at once: where they have as many, and the last 32
-/// repeat few of those before. Other rows are taken 16 at once.
+/// Whether the sums of several queries for rows of so many bytes lie in blocks of 32 columns: where a
+/// row has as many, and the last block repeats few columns of the one before. Else they lie in blocks
+/// of 16.
 pub fn takes_wide_lanes(width: usize) -> bool
     ensures { result ≡ true → LANES ≤ width }
 {

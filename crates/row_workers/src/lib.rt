@@ -8,8 +8,8 @@
 //! by query. [`four_apart`] has four rows to be added at once, [`share_of`] how far apart such rows
 //! stand, and [`lanes_of`] some bytes of a row. No call takes memory, and none can fail.
 //!
-//! Not promised: that a worker passes its [`Gate`], that the workers run at the same time, which rows
-//! of 32 bytes or more [`takes_wide_lanes`] takes 32 bytes at once, or anything of time.
+//! Not promised: that a worker passes its [`Gate`], that the workers run at the same time, for which
+//! rows of 32 bytes or more [`takes_wide_lanes`] chooses blocks of 32 columns, or anything of time.
 #![tactic(auto)]
 
 pub mod blocks;
