@@ -1,5 +1,5 @@
 -- Binomials modulo 2: by Pascal's rule, and by the bits of the two numbers.
-use Rattle.std.proofs.Common.{◌≡◌, ℕ, zero, suc, ◌+◌, ◌*◌, ◌/◌, ◌%◌, ◌<◌, ◌≤◌, min, cond, nat_eq, bit_and, refl, sym, ap, ap₂, ◌∙◌, arith, lit<, inl, inr, add-zero, div-add-mod', eq-eqb, ne_eqb}
+use Rattle.std.proofs.Common.{◌≡◌, ℕ, zero, suc, ◌+◌, ◌-◌, ◌*◌, ◌/◌, ◌%◌, ◌^◌, ◌<◌, ◌≤◌, min, cond, nat_eq, bit_and, refl, sym, ap, ap₂, subst, ◌∙◌, arith, lit<, inl, inr, add-zero, div-add-mod', eq-eqb, ne_eqb, pow-suc}
 use Rattle.std.proofs.Math.Arith.{bin_ind}
 use Rattle.std.proofs.lemmas.Bool.{cases_eq, cases_lt}
 use Rattle.std.proofs.lemmas.Nat.{mod_below}
@@ -141,3 +141,47 @@ binomial_parity-bits =
     let parts = binomial_parity-digits (n / 2) (k / 2) (n % 2) (k % 2) (bit_and (n / 2) (k / 2)) (mod_below n 2 (lit< tt)) (mod_below k 2 (lit< tt)) (ih (k / 2)) in
     ap₂ binomial_parity (sym (div-add-mod' n 2)) (sym (div-add-mod' k 2)) ∙ parts
     ∙ ap₂ (λ x y. cond (nat_eq x y) 1 0) (sym (and_step n k)) (div-add-mod' k 2))
+
+-- Pascal's rule with steps of e: over less than e a step changes nothing, and over e and more it gives the sum of two
+pub record HasPascalSteps (e : ℕ) : Type 0 where
+  pub below : (n k : ℕ) → k < e → binomial_parity (e + n) k ≡ binomial_parity n k
+  pub above : (n k : ℕ) → binomial_parity (e + n) (e + k) ≡ binomial_parity n k ⊕ binomial_parity n (e + k)
+
+-- single steps are Pascal's
+pascal_steps-one : HasPascalSteps 1
+pascal_steps-one = record {
+  below = λ n k l.
+      let none : k ≡ 0 = omega (arith, l) in
+      ap (binomial_parity (1 + n)) none ∙ binomial_parity-none (1 + n) ∙ sym (ap (binomial_parity n) none ∙ binomial_parity-none n);
+  above = λ n k.
+      let next : 1 + n ≡ suc n = omega arith in
+      let over : 1 + k ≡ suc k = omega arith in
+      ap₂ binomial_parity next over ∙ binomial_parity-next n k ∙ ap (λ j. binomial_parity n k ⊕ binomial_parity n j) (sym over);
+}
+
+-- two steps at once, where the middle cancels
+pascal_steps-twice : (e : ℕ) → HasPascalSteps e → HasPascalSteps (e + e)
+pascal_steps-twice e step =
+    let over : ℕ → ℕ → ℕ = binomial_parity in
+    let apart : (n : ℕ) → e + e + n ≡ e + (e + n) = λ n. omega arith in
+    record {
+      below = λ n k l. elim (cases_lt k e) [
+        | inl low ↦ ap (λ m. over m k) (apart n) ∙ step.below (e + n) k low ∙ step.below n k low
+        | inr high ↦
+            let j = k - e in
+            let place : e + j ≡ k = omega (arith, high) in
+            let cancel : over n j ⊕ (over n j ⊕ over n (e + j)) ≡ over n (e + j) = simp sums in
+            ap₂ over (apart n) (sym place) ∙ step.above (e + n) j ∙ ap₂ ◌⊕◌ (step.below n j (omega (arith, l, high))) (step.above n j)
+            ∙ cancel ∙ ap (over n) place
+      ];
+      above = λ n k.
+          let cancel : (over n k ⊕ over n (e + k)) ⊕ (over n (e + k) ⊕ over n (e + (e + k))) ≡ over n k ⊕ over n (e + (e + k)) = simp sums in
+          ap₂ over (apart n) (apart k) ∙ step.above (e + n) (e + k) ∙ ap₂ ◌⊕◌ (step.above n k) (step.above n (e + k))
+          ∙ cancel ∙ ap (λ j. over n k ⊕ over n j) (sym (apart k));
+    }
+
+-- so with steps of a power of two (Lucas 1878)
+pub pascal_steps-power : (s : ℕ) → HasPascalSteps (2 ^ s)
+pascal_steps-power zero = pascal_steps-one
+pascal_steps-power (suc s) =
+    subst HasPascalSteps (let twice : 2 ^ s + 2 ^ s ≡ 2 ^ suc s = omega (arith, pow-suc 2 s) in twice) (pascal_steps-twice (2 ^ s) (pascal_steps-power s))

@@ -7,6 +7,7 @@ pub mod Combinations
 pub mod Imposing
 pub mod Places
 pub mod Steps
+pub mod Expansions
 pub mod Windows
 pub mod FamilySteps
 pub mod Passing

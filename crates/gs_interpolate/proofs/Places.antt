@@ -8,10 +8,11 @@ use Rattle.std.specs.Simd.Lanes.{put_chunk}
 use Rattle.std.proofs.lemmas.Simd.{get_or-put_chunk_at, get_or-put_chunk_below}
 use borrow.Rule.Slice.PartMut.{put_mid}
 use Rattle.gf256.specs.Polynomial.{coef}
+use Rattle.gf256.specs.declared.vectors.TheConstants.{LANES}
 use Rattle.gf256.specs.Rows.{AreLanes}
 use Rattle.gf256.proofs.FlatRows.{row_within}
 use Rattle.bi_poly.specs.Rows.{row, cell}
-use Rattle.gs_interpolate.specs.Family.{lane, member}
+use Rattle.gs_interpolate.specs.Family.{lane, member, FillsVectors}
 
 -- what a written part holds
 pub part_here : (xs ys : List ℕ) (a n g : ℕ) → a + n ≤ length xs → length ys ≡ n → g < n → get_or (put_mid a n xs ys) (a + g) 0 ≡ get_or ys g 0
@@ -110,6 +111,14 @@ row-member n rows g j =
 pub cell-member : (n : ℕ) (rows : List (List ℕ)) (g j i : ℕ) → 1 ≤ n → cell (member n rows g) j i ≡ get_or (row rows j) (i * n + g) 0
 unfolding cell
 cell-member n rows g j i some = ap (λ r. coef r i) (row-member n rows g j) ∙ coef-lane n g (row rows j) i some
+
+-- bytes that fill so many vectors
+pub fills-enough : (n bytes : ℕ) → FillsVectors n bytes → n * LANES ≤ bytes
+fills-enough n bytes fills = elim fills.1 [ inl all ↦ omega (arith, all) | inr more ↦ omega (arith, more) ]
+
+-- and where there are more, these are 16
+pub fills-more : (n bytes : ℕ) → FillsVectors n bytes → n * LANES < bytes → bytes ≡ n * LANES + 16
+fills-more n bytes fills past = elim fills.1 [ inl all ↦ absurd (omega (arith, all, past)) | inr more ↦ more ]
 
 -- 16 places at once, after those before
 pub lanes_written : (xs lanes : List ℕ) (g : ℕ → ℕ) (at : ℕ) → at + 16 ≤ length xs → AreLanes 16 lanes g at → ((k : ℕ) → k < at → get_or xs k 0 ≡ g k)

@@ -1,10 +1,11 @@
 -- Polynomials side by side, n of them in a list of rows: place i * n + g of row j has the coefficient at x ^ i * y ^ j of the
 -- polynomial at place g.
-use Rattle.std.specs.Prelude.{◌≡◌, ◌≢◌, ℕ, zero, suc, ◌+◌, ◌-◌, ◌*◌, ◌%◌, ◌<◌, ◌≤◌, List, length, map, slice_index, Vec}
+use Rattle.std.specs.Prelude.{◌≡◌, ◌≢◌, ◌⊎◌, ℕ, zero, suc, ◌+◌, ◌-◌, ◌*◌, ◌%◌, ◌<◌, ◌≤◌, List, length, map, slice_index, Vec}
 use Rattle.std.specs.declared.alloc.Global.{Global}
 use Rattle.std.specs.List.{range_with_len}
 use Rattle.std.specs.Simd.Lanes.{chunk}
 use Rattle.gf256.specs.Field.{◌⊕◌, ◌⊗◌}
+use Rattle.gf256.specs.declared.vectors.TheConstants.{LANES}
 use Rattle.bi_poly.specs.Rows.{row}
 
 -- the bytes of the rows
@@ -37,9 +38,13 @@ abbrev pub AreMultiplesAdded : List ℕ → ℕ → List ℕ → List ℕ → Ty
 AreMultiplesAdded factors own now before =
     (g : ℕ) → slice_index now g ≡ with_multiple (slice_index before g) own (slice_index factors g)
 
--- these are bytes in vectors of 16, so many
+-- these are the first of the bytes, in so many vectors
 abbrev pub AreVectors : ℕ → List ℕ → List (List ℕ) → Type 0
-AreVectors n bytes vectors = (v : ℕ) → v < n → row vectors v ≡ chunk (v * 16) 16 bytes
+AreVectors n bytes vectors = (v : ℕ) → v < n → row vectors v ≡ chunk (v * LANES) LANES bytes
+
+-- so many bytes fill so many vectors, or those and 16 more
+abbrev pub FillsVectors : ℕ → ℕ → Type 0
+FillsVectors n bytes = (16 ≤ bytes) × ((bytes ≡ n * LANES) ⊎ (bytes ≡ n * LANES + 16))
 
 -- what the polynomial at place p is multiplied by, at each power of x, where its own multiple by its factor is added to it
 abbrev pub multiplier : List ℕ → ℕ → ℕ

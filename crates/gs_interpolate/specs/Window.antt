@@ -1,7 +1,5 @@
 -- The Hasse derivatives (Hasse 1936) of polynomials side by side at one point.
 use Rattle.std.specs.Prelude.{◌≡◌, ℕ, ◌+◌, ◌-◌, ◌*◌, ◌<◌, ◌≤◌, List, length, slice_index, take, drop}
-use Rattle.gf256.specs.Field.{◌⊕◌, ◌⊗◌}
-use Rattle.uni_poly.specs.Taylor.{taylor}
 use Rattle.bi_poly.specs.Hasse.{hasse}
 use Rattle.gs_interpolate.specs.Family.{member, IsRowStep}
 use Rattle.gs_interpolate.specs.declared.condition.Condition.{Condition}
@@ -43,11 +41,3 @@ pub record IsWindowStep (factors : List ℕ) (p m : ℕ) (now before : List ℕ)
   pub size : length now ≡ length before
   pub each : (w : ℕ) → v ≤ w → w < m
       → IsRowStep factors p (window_row (length factors) m now w) (window_row (length factors) m before w) (m - w)
-
--- the first n of the sums are first and a times what is multiplied, place by place
-abbrev pub AreSums : ℕ → ℕ → List ℕ → List ℕ → List ℕ → Type 0
-AreSums a n sums first multiplied = (k : ℕ) → k < n → slice_index sums k ≡ slice_index first k ⊕ a ⊗ slice_index multiplied k
-
--- the first m coefficients about a of the polynomials f 0, .., f (n - 1), side by side
-abbrev pub AreExpanded : ℕ → ℕ → ℕ → List ℕ → (ℕ → List ℕ) → Type 0
-AreExpanded n m a made f = (u g : ℕ) → u < m → g < n → slice_index made (u * n + g) ≡ taylor (f g) a u

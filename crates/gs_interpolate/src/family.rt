@@ -1,20 +1,22 @@
-//! Polynomials side by side, so that a step of the iteration is the same for all of them, 16 at once: the coefficients that
+//! Polynomials side by side, so that a step of the iteration is the same for all of them, 32 at once or 16: the coefficients that
 //! they have at one power of x stand together in a row, one in each lane, and then those at the next power. There may be
 //! more lanes than polynomials.
 
-ghost use Rattle.std.specs.Prelude.{ℕ, ◌≡◌, ◌≢◌, ◌+◌, ◌*◌, ◌<◌, ◌≤◌, length, slice_index, IfOk};
+ghost use Rattle.std.specs.Prelude.{ℕ, ◌≡◌, ◌≢◌, ◌+◌, ◌-◌, ◌*◌, ◌<◌, ◌≤◌, length, slice_index, IfOk};
+ghost use Rattle.std.specs.Simd.Lanes.{chunk};
 ghost use Rattle.gf256.specs.Field.{◌⊕◌};
-ghost use Rattle.gs_interpolate.specs.Family.{bytes_of, AreCoefficients, AreMultiplesAdded, IsCellStep, IsFamilyStep, IsRowStep, AreVectors, IsStepCount, StaysWhole};
+ghost use Rattle.gs_interpolate.specs.Family.{bytes_of, AreCoefficients, AreMultiplesAdded, IsCellStep, IsFamilyStep, IsRowStep, AreVectors, FillsVectors, IsStepCount, StaysWhole};
 
 use crate::basis::MOST_PLACES;
 use gf256::rows::{Products, add_scaled_row};
+use gf256::vectors::LANES;
 use quantity_limits::MOST_DEGREE;
 use std::alloc::{AllocError, Global};
 use std::marker::Model;
 use std::simd::prelude::*;
 
 /// As many vectors of factors as are held at once. A list within the limit on costs has no more.
-pub(crate) const MOST_VECTORS: usize = 16;
+pub(crate) const MOST_VECTORS: usize = 8;
 
 /// The products with every byte, made once. Contracts see the bytes.
 #[derive(Drop)]
@@ -36,7 +38,7 @@ impl Model for Tables {
 impl Tables {
     /// `AllocError` where there is no memory for them.
     pub(crate) fn new(alloc: Global) -> Result<Tables, AllocError> {
-        let mut all = Vec::new(alloc);
+        let mut all = Vec::with_capacity(alloc, 256)?;
         for factor in 0..256u16 {
             all.push(Products::of(factor as u8))?;
         }
@@ -87,44 +89,50 @@ fn step_cell(cell: &mut [u8], factors: &[u8], p: usize, carry: u8) -> u8
     own
 }
 
-/// These bytes, 16 in a vector.
+/// The first of these bytes, in vectors.
 #[inline(always)]
-fn vectors_of<const VECTORS: usize>(bytes: &[u8]) -> [u8x16; VECTORS]
+fn vectors_of<const VECTORS: usize>(bytes: &[u8]) -> [u8x32; VECTORS]
     requires few { VECTORS ≤ MOST_VECTORS }
-    requires whole { length bytes.now ≡ VECTORS * 16 }
+    requires room { VECTORS * LANES ≤ length bytes.now }
     ensures { AreVectors VECTORS bytes.now result }
 {
-    let mut vectors = [u8x16::splat(0); VECTORS];
+    let mut vectors = [u8x32::splat(0); VECTORS];
     for v in 0..VECTORS {
-        vectors[v] = u8x16::from_slice(&bytes[v * 16..]);
+        vectors[v] = u8x32::from_slice(&bytes[v * LANES..]);
     }
     vectors
 }
 
-/// Adds `own` times the factors, which are in the vectors `held`. Where it is 0, zeros are added: to look whether it is would
-/// take longer.
+/// Adds `own` times the factors, of which the first are in the vectors `held`, and the last 16 in `last`: past the vectors
+/// there may be 16 more. Where `own` is 0, zeros are added: to look whether it is would take longer.
 #[inline(always)]
 fn add_held_multiple<const VECTORS: usize>(
     cell: &mut [u8],
     factors: &[u8],
-    held: &[u8x16; VECTORS],
+    held: &[u8x32; VECTORS],
+    last: u8x16,
     own: u8,
     tables: &Tables,
 )
     requires same { length factors.now ≡ length cell.old }
-    requires size { length cell.old ≡ VECTORS * 16 }
+    requires size { FillsVectors VECTORS (length cell.old) }
     requires held { AreVectors VECTORS factors.now held.now }
+    requires last { last ≡ chunk (length factors.now - 16) 16 factors.now }
     ensures { AreMultiplesAdded factors.now own cell.new cell.old }
 {
     // Read once, and not again after each write.
     let products = tables.products(own).copied();
     for v in 0..VECTORS {
-        let sum = u8x16::from_slice(&cell[v * 16..]) ^ products.times(held[v]);
-        sum.copy_to_slice(&mut cell[v * 16..]);
+        let sum = u8x32::from_slice(&cell[v * LANES..]) ^ products.times(held[v]);
+        sum.copy_to_slice(&mut cell[v * LANES..]);
+    }
+    if VECTORS * LANES < cell.len() {
+        let sum = u8x16::from_slice(&cell[VECTORS * LANES..]) ^ products.times(last);
+        sum.copy_to_slice(&mut cell[VECTORS * LANES..]);
     }
 }
 
-/// Takes a step in one row of so many vectors of lanes, as `step_row` does. The factors stay in vectors.
+/// Takes a step in one row of so many vectors of lanes, and perhaps 16 more, as `step_row` does. The factors stay in vectors.
 #[inline(always)]
 fn step_held_row<const VECTORS: usize>(
     row: &mut [u8],
@@ -133,20 +141,21 @@ fn step_held_row<const VECTORS: usize>(
     count: usize,
     tables: &Tables,
 )
-    requires vectors { (1 ≤ VECTORS) × (VECTORS ≤ MOST_VECTORS) }
-    requires lanes { length factors.now ≡ VECTORS * 16 }
+    requires vectors { VECTORS ≤ MOST_VECTORS }
+    requires lanes { FillsVectors VECTORS (length factors.now) }
     requires inside { p < length factors.now }
     requires room { count * length factors.now ≤ length row.old }
     ensures { IsRowStep factors.now p row.new row.old count }
 {
     let lanes = factors.len();
     let held = vectors_of::<VECTORS>(factors);
+    let last = u8x16::from_slice(&factors[lanes - 16..]);
     let mut carry = 0;
     for i in 0..count {
         let start = i * lanes;
         let cell = &mut row[start..start + lanes];
         let own = cell[p];
-        add_held_multiple::<VECTORS>(cell, factors, &held, own, tables);
+        add_held_multiple::<VECTORS>(cell, factors, &held, last, own, tables);
         add_carry(cell, p, carry);
         carry = own;
     }
@@ -174,20 +183,14 @@ fn step_wide_row(row: &mut [u8], factors: &[u8], p: usize, count: usize, tables:
     ensures { IsRowStep factors.now p row.new row.old count }
 {
     match factors.len() {
-        48 => step_held_row::<3>(row, factors, p, count, tables),
-        64 => step_held_row::<4>(row, factors, p, count, tables),
-        80 => step_held_row::<5>(row, factors, p, count, tables),
-        96 => step_held_row::<6>(row, factors, p, count, tables),
-        112 => step_held_row::<7>(row, factors, p, count, tables),
-        128 => step_held_row::<8>(row, factors, p, count, tables),
-        144 => step_held_row::<9>(row, factors, p, count, tables),
-        160 => step_held_row::<10>(row, factors, p, count, tables),
-        176 => step_held_row::<11>(row, factors, p, count, tables),
-        192 => step_held_row::<12>(row, factors, p, count, tables),
-        208 => step_held_row::<13>(row, factors, p, count, tables),
-        224 => step_held_row::<14>(row, factors, p, count, tables),
-        240 => step_held_row::<15>(row, factors, p, count, tables),
-        256 => step_held_row::<16>(row, factors, p, count, tables),
+        48 => step_held_row::<1>(row, factors, p, count, tables),
+        64 | 80 => step_held_row::<2>(row, factors, p, count, tables),
+        96 | 112 => step_held_row::<3>(row, factors, p, count, tables),
+        128 | 144 => step_held_row::<4>(row, factors, p, count, tables),
+        160 | 176 => step_held_row::<5>(row, factors, p, count, tables),
+        192 | 208 => step_held_row::<6>(row, factors, p, count, tables),
+        224 | 240 => step_held_row::<7>(row, factors, p, count, tables),
+        256 => step_held_row::<8>(row, factors, p, count, tables),
         _ => step_row_of_any(row, factors, p, count),
     }
 }
@@ -201,8 +204,8 @@ pub(crate) fn step_row(row: &mut [u8], factors: &[u8], p: usize, count: usize, t
     ensures { IsRowStep factors.now p row.new row.old count }
 {
     match factors.len() {
-        16 => step_held_row::<1>(row, factors, p, count, tables),
-        32 => step_held_row::<2>(row, factors, p, count, tables),
+        16 => step_held_row::<0>(row, factors, p, count, tables),
+        32 => step_held_row::<1>(row, factors, p, count, tables),
         _ => step_wide_row(row, factors, p, count, tables),
     }
 }

@@ -16,13 +16,13 @@ use std::alloc::{AllocError, Global};
 /// many times as its row has monomials that weigh at most `d`, and these are more than the conditions.
 ///
 /// It begins with as many polynomials as it takes rows of monomials to outnumber the conditions, and not always `d / t + 1`.
-/// They stand side by side, so that each product is of 16 coefficients at once. At each point their derivatives are found
-/// once, and follow the steps from condition to condition.
+/// They stand side by side, so that each product is of 16 coefficients at once, or 32. At each point their derivatives are
+/// found once, and follow the steps from condition to condition.
 ///
 /// Let there be n polynomials, in whose rows s monomials weigh at most `d`: more than the conditions, by at most the last
 /// row. Whatever the points are, the steps take at most about `s^2 / 2` times `n / 16` such products, since none is raised
-/// twice from the same weight, and the derivatives at each point, with multiplicity m, about `m * s * n / 16`. The rows take
-/// about `s * n` bytes.
+/// twice from the same weight, and the derivatives at each point, with multiplicity m and the least power e of two that is
+/// not less, about `s + (e * log2(e) / 2 + m) * n` times `n / 16`. The rows take about `s * n` bytes.
 pub struct Koetter;
 
 impl Interpolate for Koetter {

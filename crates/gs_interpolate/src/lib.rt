@@ -11,6 +11,7 @@
 mod basis;
 mod condition;
 mod elimination;
+mod expansion;
 mod family;
 mod koetter;
 mod layout;

@@ -1,73 +1,15 @@
 //! The Hasse derivatives of polynomials side by side at one point.
 
-ghost use Rattle.std.specs.Prelude.{ℕ, ◌≡◌, ◌+◌, ◌*◌, ◌++◌, ◌%◌, ◌<◌, ◌≤◌, length, slice_index, IfOk};
-ghost use Rattle.gs_interpolate.specs.Family.{bytes_of, lane, AreWhole};
-ghost use Rattle.gs_interpolate.specs.Window.{derivative, with_cells, AreExpanded, AreSums, IsWindow, IsWindowStep};
+ghost use Rattle.std.specs.Prelude.{ℕ, ◌≡◌, ◌+◌, ◌*◌, ◌<◌, ◌≤◌, length, slice_index, IfOk};
+ghost use Rattle.gs_interpolate.specs.Family.{bytes_of};
+ghost use Rattle.gs_interpolate.specs.Window.{derivative, with_cells, IsWindow, IsWindowStep};
 
+use crate::basis::MOST_LANES;
+use crate::expansion::{add_values, expand, expand_row};
 use crate::family::{Tables, step_row};
-use gf256::rows::{Products, clear};
+use interpolation::MOST_MULTIPLICITY;
 use std::alloc::{AllocError, Global};
 use std::marker::Model;
-use std::mem;
-use std::simd::prelude::*;
-
-/// Makes each byte of `sums` that of `row` plus the product of that of `multiplied`; all three are as long.
-fn set_sums(sums: &mut [u8], row: &[u8], multiplied: &[u8], products: &Products)
-    requires row { length row.now ≡ length sums.old }
-    requires multiplied { length multiplied.now ≡ length sums.old }
-    ensures { AreSums products.now (length sums.old) sums.new row.now multiplied.now }
-{
-    let held = products.copied();
-    let mut at = 0;
-    'lanes: while sums.len() - at >= 16 {
-        let sum = u8x16::from_slice(&row[at..]) ^ held.times(u8x16::from_slice(&multiplied[at..]));
-        sum.copy_to_slice(&mut sums[at..]);
-        at += 16;
-    }
-    for k in at..sums.len() {
-        sums[k] = gf256::add(row[k], gf256::mul(products.factor(), multiplied[k]));
-    }
-}
-
-/// Takes a step of Horner's rule for polynomials side by side: `next` becomes `x + a` times the polynomials whose first
-/// coefficients are `sums`, plus the constants `first`, where `products` are those with a. There is room for as many
-/// coefficients as before.
-fn horner(next: &mut [u8], sums: &[u8], first: &[u8], products: &Products)
-    requires same { length next.old ≡ length sums.now }
-    requires room { length first.now ≤ length sums.now }
-    ensures { AreSums products.now (length sums.now) next.new (first.now ++ sums.now) sums.now }
-{
-    let (low, high) = next.split_at_mut(first.len());
-    set_sums(low, first, &sums[..first.len()], products);
-    set_sums(high, &sums[..high.len()], &sums[first.len()..], products);
-}
-
-/// Makes `made` the first `m` coefficients about a, those of the powers of `x - a`, of each of the polynomials in one row,
-/// where `products` are those with a. `next` is as long, and what it holds is of no use.
-fn expand(
-    made: &mut Vec<u8>,
-    next: &mut Vec<u8>,
-    row: &[u8],
-    lanes: usize,
-    m: usize,
-    products: &Products,
-)
-    requires some { 1 ≤ lanes }
-    requires terms { 1 ≤ m }
-    requires whole { length row.now % lanes ≡ 0 }
-    requires size { length made.old.items ≡ m * lanes }
-    requires room { length next.old.items ≡ m * lanes }
-    ensures size { length made.new.items ≡ m * lanes }
-    ensures room { length next.new.items ≡ m * lanes }
-    ensures expanded { AreExpanded lanes m products.now made.new.items (λ g. lane lanes g row.now) }
-{
-    clear(made);
-    for i in (0..row.len() / lanes).rev() {
-        let start = i * lanes;
-        horner(next, made, &row[start..start + lanes], products);
-        mem::swap(made, next);
-    }
-}
 
 /// Takes a step in the rows of a window from `v` on, of which each has `m` cells.
 fn step_cells(cells: &mut [u8], m: usize, factors: &[u8], p: usize, v: usize, tables: &Tables)
@@ -118,23 +60,21 @@ impl Window {
         b: u8,
     ) -> Result<Window, AllocError>
         requires some { 1 ≤ lanes }
+        requires few { lanes ≤ MOST_LANES }
         requires wide { length rows.now ≤ lanes }
-        requires terms { 1 ≤ m }
-        requires few { m * (m * lanes) < usize.MAX }
-        requires whole { AreWhole lanes (bytes_of rows.now) }
+        requires terms { (1 ≤ m) × (m ≤ MOST_MULTIPLICITY) }
         ensures { IfOk result (IsWindow lanes m a b (bytes_of rows.now)) }
     {
+        let terms = m.next_power_of_two();
         let size = m * lanes;
-        let mut cells = vec![in alloc; 0; m * size]?;
-        let mut next = vec![in alloc; 0; m * size]?;
-        let mut first = vec![in alloc; 0; size]?;
-        let mut spare = vec![in alloc; 0; size]?;
-        let (along_x, along_y) = (Products::of(a), Products::of(b));
-        for j in (0..rows.len()).rev() {
-            expand(&mut first, &mut spare, &rows[j], lanes, m, &along_x);
-            horner(&mut next, &cells, &first, &along_y);
-            mem::swap(&mut cells, &mut next);
+        let mut cells = vec![in alloc; 0; terms * size]?;
+        let mut first = vec![in alloc; 0; terms * lanes]?;
+        for j in 0..rows.len() {
+            expand_row(&mut first, &rows[j], lanes, terms, a);
+            add_values(&mut cells, &first[..size], j, terms, b);
         }
+        expand(&mut cells, size, terms, b);
+        cells.truncate(m * size);
         Ok(Window {
             lanes,
             m,

@@ -1,8 +1,9 @@
 -- The sums of several queries in blocks of so many lanes: the sums of as many columns for the first
 -- query, then those of the same columns for the second, and so on, and then the next columns.
-use Rattle.std.specs.Prelude.{◌≡◌, ℕ, ◌<◌, List, ◌+◌, ◌-◌, ◌*◌, ◌/◌, ◌%◌, min, slice_index}
+use Rattle.std.specs.Prelude.{◌≡◌, ◌⊎◌, ℕ, ◌<◌, ◌≤◌, List, ◌+◌, ◌-◌, ◌*◌, ◌/◌, ◌%◌, min, slice_index}
 use Rattle.gf256.specs.Field.{◌⊕◌}
 use Rattle.gf256.specs.Rows.{IsAdded}
+use Rattle.gf256.specs.declared.vectors.TheConstants.{LANES}
 
 -- the first of the columns of block i: the last block ends where the row ends
 abbrev pub block_start : ℕ → ℕ → ℕ → ℕ
@@ -42,3 +43,8 @@ AreOfQuery lanes blocks width n v sums =
 abbrev pub AreLaidOut : ℕ → List ℕ → ℕ → ℕ → List ℕ → Type 0
 AreLaidOut lanes blocks width n sums = (v c : ℕ) → v < n → c < width
     → slice_index sums (v * width + c) ≡ slice_index blocks (place_of lanes width n v c)
+
+-- rows of so many bytes are taken in blocks of 32 columns, and not of 16: they have as many, and the last block repeats fewer than
+-- 16 of the one before, or there are many blocks
+abbrev pub FitsWideBlocks : ℕ → Type 0
+FitsWideBlocks width = (LANES ≤ width) × ((width % LANES ≡ 0) ⊎ (16 < width % LANES) ⊎ (1024 ≤ width))

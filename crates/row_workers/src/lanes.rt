@@ -1,8 +1,9 @@
 //! Some bytes of a row at once.
 
-ghost use Rattle.std.specs.Prelude.{◌≡◌, ◌+◌, ◌≤◌, length, true};
+ghost use Rattle.std.specs.Prelude.{◌≡◌, ◌↔◌, ◌+◌, ◌≤◌, length, true, IsTrue};
 ghost use Rattle.std.specs.Simd.Lanes.{chunk};
 ghost use Rattle.gf256.specs.declared.vectors.TheConstants.{LANES};
+ghost use Rattle.row_workers.specs.Blocks.{FitsWideBlocks};
 
 use gf256::vectors::LANES;
 use std::simd::prelude::*;
@@ -20,7 +21,8 @@ pub fn lanes_of<const N: usize>(row: &[u8], at: usize) -> Simd<u8, N>
 /// row has as many, and the last block repeats few columns of the one before. Else they lie in blocks
 /// of 16.
 pub fn takes_wide_lanes(width: usize) -> bool
-    ensures { result ≡ true → LANES ≤ width }
+    ensures wide { result ≡ true → LANES ≤ width }
+    ensures chosen { IsTrue result ↔ FitsWideBlocks width }
 {
     width >= LANES && (width % LANES == 0 || width % LANES > 16 || width >= 1024)
 }

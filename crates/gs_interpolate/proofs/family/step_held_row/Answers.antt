@@ -1,7 +1,7 @@
 use Rattle.std.proofs.Common.{◌≡◌, ◌<◌, ◌+◌, ◌-◌, ◌*◌, ◌≤◌, length, get_or, take, drop, refl, sym, ap, subst, ◌∙◌, arith}
 use borrow.Rule.Slice.PartMut.{put_mid}
 use borrow.Author.Count.{falls}
-use Rattle.gs_interpolate.specs.Family.{IsCellStep, IsRowStep}
+use Rattle.gs_interpolate.specs.Family.{IsCellStep, IsRowStep, FillsVectors}
 use Rattle.gf256.proofs.FlatRows.{row_within}
 use Rattle.gs_interpolate.proofs.Places.{length-part, length-power}
 use Rattle.gs_interpolate.proofs.Steps.{IsNextPower, cell_step, row_step-none, row_step-next, carried_on}
@@ -61,7 +61,7 @@ pub add_held_multiple-requires : goal.add_held_multiple-requires
 add_held_multiple-requires g c =
     let factors = c.args.factors.now in
     let power = length-power c.loop-i.row (length factors) c.loop-i.i c.args.count _ c.loop-i-test.true c.requires.room c.loop-i.auto.row in
-    (omega (arith, c.requires.vectors.1), (sym power, (power ∙ c.requires.lanes, c.vectors_of-held.ensures)))
+    (omega (arith, c.requires.vectors), (sym power, (subst (FillsVectors g.row.VECTORS) (sym power) c.requires.lanes, (c.vectors_of-held.ensures, refl))))
 
 pub add_carry-requires : goal.add_carry-requires
 add_carry-requires g c =

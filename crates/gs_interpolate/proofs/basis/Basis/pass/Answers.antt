@@ -1,12 +1,10 @@
-use Rattle.std.proofs.Common.{ℕ, List, length, refl, ap, subst, ◌∙◌, arith, take_at, Vec, Global, ◌+◌, ◌*◌, ◌-◌, ◌≤◌, sym, mul-le-mul}
+use Rattle.std.proofs.Common.{ℕ, List, length, refl, ap, subst, ◌∙◌, arith, take_at, Vec, Global, ◌+◌, ◌-◌, sym}
 use Rattle.std.proofs.lemmas.List.{length-map, length-replicate}
 use Rattle.std.proofs.lemmas.Result.{IfOk-from_err}
 use borrow.Author.Count.{falls}
-use Rattle.interpolation.specs.declared.TheConstants.{MOST_MULTIPLICITY}
-use Rattle.gs_interpolate.specs.Family.{bytes_of, AreWhole}
+use Rattle.gs_interpolate.specs.Family.{bytes_of}
 use Rattle.gs_interpolate.specs.Window.{condition_at, IsWindow}
 use Rattle.gs_interpolate.specs.Basis.{IsPassing}
-use Rattle.gs_interpolate.specs.declared.basis.TheConstants.{MOST_LANES}
 use Rattle.gs_interpolate.proofs.FamilySteps.{light_window}
 use Rattle.gs_interpolate.proofs.Passing.{IsUnder, under-none, under-room, under-imposed, under-row, under-all}
 use Rattle.gs_interpolate.proofs.basis.Basis.pass.Goals as goal
@@ -97,17 +95,6 @@ pub of-requires-clause-wide : goal.of-requires-clause-wide
 of-requires-clause-wide c =
     let f : Vec ℕ Global → List ℕ = λ r. r.items in
     omega (arith, ap length c.deref.ensures.value, length-map c.self.inside.rows.items f, c.self.invariant.wide)
-
-pub of-requires-clause-few : goal.of-requires-clause-few
-of-requires-clause-few c =
-    let m : c.args.m ≤ MOST_MULTIPLICITY = omega arith in
-    let row : c.args.m * c.self.inside.lanes ≤ MOST_MULTIPLICITY * MOST_LANES = mul-le-mul m c.self.invariant.width in
-    omega (arith, mul-le-mul m row)
-
-pub of-requires-clause-whole : goal.of-requires-clause-whole
-of-requires-clause-whole c =
-    subst (λ (rows : List (Vec ℕ Global)). AreWhole c.self.inside.lanes (bytes_of rows)) (sym c.deref.ensures.value)
-    (subst (λ s. AreWhole s.lanes s.rows) (sym c.self.view_is) c.requires.basis.whole)
 
 pub impose-requires-clause-room : goal.impose-requires-clause-room
 impose-requires-clause-room c =

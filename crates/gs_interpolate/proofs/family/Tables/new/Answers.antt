@@ -5,8 +5,8 @@ use Rattle.gs_interpolate.proofs.family.Tables.new.Goals as goal
 
 pub loop-factor-init : goal.loop-factor-init
 loop-factor-init c = record {
-  size = ap length c.new-all.ensures.items;
-  each = below_none (λ f. get_or c.new-all.result.items f 0 ≡ f);
+  size = ap length c.in_ok-all.ensures.items;
+  each = below_none (λ f. get_or c.in_ok-all.all.items f 0 ≡ f);
 }
 
 pub overflow_cast-factor : goal.overflow_cast-factor

@@ -1,0 +1,234 @@
+-- Polynomials about another point, by remainders.
+use Rattle.std.proofs.Common.{◌≡◌, ℕ, zero, suc, ◌+◌, ◌-◌, ◌*◌, ◌/◌, ◌^◌, ◌≢◌, ◌<◌, ◌≤◌, List, ◌++◌, length, get_or, sym, ap, ap₂, subst, ◌∙◌, arith, inl, inr, lit≤, length-append, add-mul, mul_assoc, mul_comm, pow-suc}
+use Rattle.std.proofs.Math.Nat.{mul-le-mul_right}
+use Rattle.std.proofs.lemmas.Bool.{cases_lt}
+use Rattle.std.proofs.lemmas.List.{get_or_past, get_or_append_left, get_or-append_right}
+use Rattle.std.proofs.lemmas.List.FromFn.{length-map-range_with_len}
+use Rattle.std.specs.Int.{IsPowerOfTwo}
+use Rattle.gf256.specs.Field.{◌⊕◌, ◌⊗◌, power}
+use Rattle.gf256.specs.Sums.{sum_to}
+use Rattle.gf256.specs.Polynomial.{coef}
+use Rattle.gf256.proofs.Xor.{add_zero, zero_add}
+use Rattle.gf256.proofs.FieldLaws.{ring, add_mul, mul_add, mul_zero, zero_mul, one_mul, mul_one}
+use Rattle.gf256.proofs.Powers.{power-add, power_lt}
+use Rattle.gf256.proofs.Sums.{sum_to-same, sum_to-zero, sum_to-longer, sum_to-append, sum_to-swap, sum_to-mul, mul-sum_to}
+use Rattle.gf256.proofs.FlatRows.{row_within}
+use Rattle.uni_poly.specs.Taylor.{taylor}
+use Rattle.bi_poly.specs.Hasse.{binomial_parity}
+use Rattle.bi_poly.proofs.Binomials.{HasPascalSteps, pascal_steps-power, binomial_parity-none, binomial_parity-small}
+use Rattle.bi_poly.proofs.Derivatives.{taylor-derivative, derivative_to, derivative_to-all}
+use Rattle.gs_interpolate.specs.Family.{lane}
+use Rattle.gs_interpolate.specs.Expansion.{folded, AreExpanded}
+use Rattle.gs_interpolate.proofs.Places.{coef-lane}
+
+-- what a coefficient c at x ^ i adds to the coefficient at x ^ u about a
+abbrev pub term : ℕ → ℕ → ℕ → ℕ → ℕ
+term a u i c = binomial_parity i u ⊗ (c ⊗ power a (i - u))
+
+-- where there is no coefficient, nothing
+pub term-zero : (a u i : ℕ) → term a u i 0 ≡ 0
+term-zero a u i = ap (◌⊗◌ (binomial_parity i u)) (zero_mul (power a (i - u))) ∙ mul_zero (binomial_parity i u)
+
+-- a sum of two coefficients adds what both add
+pub term-add : (a u i c d : ℕ) → term a u i (c ⊕ d) ≡ term a u i c ⊕ term a u i d
+term-add a u i c d =
+    ap (◌⊗◌ (binomial_parity i u)) (add_mul c d (power a (i - u))) ∙ mul_add (binomial_parity i u) (c ⊗ power a (i - u)) (d ⊗ power a (i - u))
+
+-- a coefficient once
+term-one : (a u i c : ℕ) → term a u i (1 ⊗ c) ≡ term a u i c
+term-one a u i c = ap (◌⊗◌ (binomial_parity i u)) (let once : (1 ⊗ c) ⊗ power a (i - u) ≡ c ⊗ power a (i - u) = simp ring in once)
+
+-- a coefficient before the order adds nothing
+term-before : (a u i c : ℕ) → i < u → term a u i c ≡ 0
+term-before a u i c l = ap (λ x. x ⊗ (c ⊗ power a (i - u))) (binomial_parity-small i u l) ∙ zero_mul (c ⊗ power a (i - u))
+
+-- a coefficient e powers further, where e is a power of two and the order is below, adds what a ^ e times it adds here
+term-further : (e a u i c : ℕ) → HasPascalSteps e → u < e → term a u (e + i) c ≡ term a u i (power a e ⊗ c)
+term-further e a u i c step l =
+    ap (λ x. x ⊗ (c ⊗ power a (e + i - u))) (step.below i u l)
+    ∙ elim (cases_lt i u) [
+      | inl before ↦
+          ap (λ x. x ⊗ (c ⊗ power a (e + i - u))) (binomial_parity-small i u before) ∙ zero_mul (c ⊗ power a (e + i - u))
+          ∙ sym (term-before a u i (power a e ⊗ c) before)
+      | inr past ↦
+          let rest : e + i - u ≡ e + (i - u) = omega (arith, past) in
+          let order : c ⊗ (power a e ⊗ power a (i - u)) ≡ (power a e ⊗ c) ⊗ power a (i - u) = simp ring in
+          ap (◌⊗◌ (binomial_parity i u)) (ap (λ k. c ⊗ power a k) rest ∙ ap (◌⊗◌ c) (power-add a e (i - u)) ∙ order)
+    ]
+
+-- and several times e powers further
+pub term-folded : (e a u b i c : ℕ) → HasPascalSteps e → u < e → term a u (b * e + i) c ≡ term a u i (power (power a e) b ⊗ c)
+unfolding power
+term-folded e a u zero i c step l =
+    let none : 0 * e + i ≡ i = omega arith in
+    ap (λ k. term a u k c) none ∙ sym (term-one a u i c)
+term-folded e a u (suc b) i c step l =
+    let more : suc b * e + i ≡ e + (b * e + i) = omega arith in
+    let order : power (power a e) b ⊗ (power a e ⊗ c) ≡ power a e ⊗ power (power a e) b ⊗ c = simp ring in
+    ap (λ k. term a u k c) more ∙ term-further e a u (b * e + i) c step l ∙ term-folded e a u b i (power a e ⊗ c) step l
+    ∙ ap (term a u i) order
+
+-- the series of a polynomial beside others, term by term
+pub taylor-terms : (s g a u n : ℕ) (r : List ℕ) → 1 ≤ s → length r ≤ n * s → taylor (lane s g r) a u ≡ sum_to (λ i. term a u i (get_or r (i * s + g) 0)) n
+unfolding lane derivative_to coef
+taylor-terms s g a u n r some fits =
+    let F = λ (i : ℕ). term a u i (get_or r (i * s + g) 0) in
+    let size = length-map-range_with_len (λ i. get_or r (i * s + g) 0) 0 (length r) in
+    let all = n + length r in
+    taylor-derivative (lane s g r) a u
+    ∙ sym (derivative_to-all (lane s g r) a u all (omega (arith, size)))
+    ∙ sum_to-same (λ i. term a u i (get_or (lane s g r) i 0)) F all (λ i l. ap (term a u i) (coef-lane s g r i some))
+    ∙ sum_to-longer F n all (omega arith) (λ i l.
+    let past = mul-le-mul_right s l in
+    ap (term a u i) (get_or_past r (i * s + g) 0 (omega (arith, past, fits))) ∙ term-zero a u i)
+
+-- a sum in pieces of e terms
+sum_to-pieces : (f : ℕ → ℕ) (e b : ℕ) → sum_to (λ k. sum_to (λ r. f (k * e + r)) e) b ≡ sum_to f (b * e)
+unfolding sum_to
+sum_to-pieces f e zero = ap (sum_to f) (let none : 0 ≡ 0 * e = omega arith in none)
+sum_to-pieces f e (suc b) =
+    ap (λ x. x ⊕ sum_to (λ r. f (b * e + r)) e) (sum_to-pieces f e b) ∙ sym (sum_to-append f (b * e) e)
+    ∙ ap (sum_to f) (let more : b * e + e ≡ suc b * e = omega arith in more)
+
+-- what a sum of coefficients adds
+term-sum : (a u i n : ℕ) (f : ℕ → ℕ) → term a u i (sum_to f n) ≡ sum_to (λ b. term a u i (f b)) n
+term-sum a u i n f =
+    ap (◌⊗◌ (binomial_parity i u)) (sum_to-mul (power a (i - u)) f n) ∙ mul-sum_to (binomial_parity i u) (λ b. f b ⊗ power a (i - u)) n
+
+-- What is left of a row in sums: at each of e powers they add what the folded row adds.
+module _ (s e a u g : ℕ) (row sums : List ℕ) (some : 1 ≤ s) (step : HasPascalSteps e) (low : u < e) (inside : g < s) (size : length sums ≡ e * s) where
+  -- then it has the first coefficients about a that the whole has
+  taylor-left : ((r : ℕ) → r < e → term a u r (get_or sums (r * s + g) 0) ≡ term a u r (folded (e * s) (power a e) row (r * s + g)))
+      → taylor (lane s g sums) a u ≡ taylor (lane s g row) a u
+  taylor-left is =
+      let B = length row in
+      let p = power a e in
+      let F = λ (i : ℕ). term a u i (get_or row (i * s + g) 0) in
+      let most : 1 * s ≤ e * s = mul-le-mul_right s (omega (arith, low)) in
+      let wide : 1 ≤ e * s = omega (arith, most, some) in
+      let enough = mul-le-mul_right B wide in
+      let same : B * e * s ≡ e * s * B = mul_assoc B e s ∙ mul_comm B (e * s) in
+      taylor-terms s g a u e sums some (omega (arith, size))
+      ∙ sum_to-same (λ r. term a u r (get_or sums (r * s + g) 0)) (λ r. sum_to (λ b. F (b * e + r)) B) e (λ r k.
+      is r k
+      ∙ term-sum a u r B (λ b. power p b ⊗ get_or row (b * (e * s) + (r * s + g)) 0)
+      ∙ sum_to-same (λ b. term a u r (power p b ⊗ get_or row (b * (e * s) + (r * s + g)) 0)) (λ b. F (b * e + r)) B (λ b j.
+      let place : b * (e * s) + (r * s + g) ≡ (b * e + r) * s + g = omega (arith, mul_assoc b e s, add-mul (b * e) r s) in
+      ap (λ k. term a u r (power p b ⊗ get_or row k 0)) place ∙ sym (term-folded e a u b r (get_or row ((b * e + r) * s + g) 0) step low)))
+      ∙ sum_to-swap (λ r b. F (b * e + r)) e B
+      ∙ sum_to-pieces F e B
+      ∙ sym (taylor-terms s g a u (B * e) row some (omega (arith, enough, same)))
+
+  -- as where the sums are the folded row
+  pub taylor-folded : ((k : ℕ) → k < e * s → get_or sums k 0 ≡ folded (e * s) (power a e) row k) → taylor (lane s g sums) a u ≡ taylor (lane s g row) a u
+  taylor-folded is = taylor-left (λ r k. let fit = row_within r e s k in ap (term a u r) (is (r * s + g) (omega (arith, fit, inside))))
+
+-- the coefficients about a past those of the first half are those of the second half
+pub taylor-high : (s h a w g : ℕ) (low high : List ℕ) → 1 ≤ s → HasPascalSteps h → w < h → g < s → length low ≡ h * s → length high ≡ h * s
+    → taylor (lane s g (low ++ high)) a (h + w) ≡ taylor (lane s g high) a w
+taylor-high s h a w g low high some step l inside size long =
+    let xs = low ++ high in
+    let F = λ (i : ℕ). term a (h + w) i (get_or xs (i * s + g) 0) in
+    taylor-terms s g a (h + w) (h + h) xs some (omega (arith, length-append low high, size, long, add-mul h h s))
+    ∙ sum_to-append F h h
+    ∙ ap₂ ◌⊕◌ (sum_to-zero F h (λ i k. term-before a (h + w) i (get_or xs (i * s + g) 0) (omega (arith, k))))
+    (sum_to-same (λ r. F (h + r)) (λ r. term a w r (get_or high (r * s + g) 0)) h (λ r k.
+    let place : (h + r) * s + g ≡ h * s + (r * s + g) = omega (arith, add-mul h r s) in
+    let back : h * s + (r * s + g) - h * s ≡ r * s + g = omega arith in
+    let less : h + r - (h + w) ≡ r - w = omega arith in
+    ap₂ (λ x c. x ⊗ (c ⊗ power a (h + r - (h + w))))
+    (step.above r w ∙ ap (◌⊕◌ (binomial_parity r w)) (binomial_parity-small r (h + w) (omega (arith, k))) ∙ add_zero (binomial_parity r w))
+    (ap (λ k. get_or xs k 0) place ∙ get_or-append_right low high (h * s) (h * s + (r * s + g)) 0 size (omega arith) ∙ ap (λ k. get_or high k 0) back)
+    ∙ ap (λ k. binomial_parity r w ⊗ (get_or high (r * s + g) 0 ⊗ power a k)) less))
+    ∙ zero_add _
+    ∙ sym (taylor-terms s g a w h high some (omega (arith, long)))
+
+-- a power of two has steps like Pascal's
+pub steps_of : (e : ℕ) → IsPowerOfTwo e → HasPascalSteps e
+steps_of e power = subst HasPascalSteps (sym power.1) (pascal_steps-power power.0)
+
+-- half of a power of two that isn't 1
+half_power : (k e : ℕ) → e ≡ 2 ^ k → e ≢ 1 → IsPowerOfTwo (e / 2)
+half_power zero e is more = absurd (more is)
+half_power (suc k) e is more = (k, (let half : e / 2 ≡ 2 ^ k = omega (arith, is, pow-suc 2 k) in half))
+
+pub half-IsPowerOfTwo : (e : ℕ) → IsPowerOfTwo e → e ≢ 1 → IsPowerOfTwo (e / 2)
+half-IsPowerOfTwo e power more = half_power power.0 e power.1 more
+
+-- twice that half is the whole
+two_halves : (k e : ℕ) → e ≡ 2 ^ k → e ≢ 1 → e / 2 + e / 2 ≡ e
+two_halves zero e is more = absurd (more is)
+two_halves (suc k) e is more = omega (arith, is, pow-suc 2 k)
+
+-- and is less
+power_some : (k : ℕ) → 1 ≤ 2 ^ k
+power_some zero = lit≤ tt
+power_some (suc k) = omega (arith, power_some k, pow-suc 2 k)
+
+pub half_less : (e : ℕ) → IsPowerOfTwo e → e / 2 < e
+half_less e power = let some = power_some power.0 in omega (arith, some, power.1)
+
+pub halves-IsPowerOfTwo : (e : ℕ) → IsPowerOfTwo e → e ≢ 1 → e / 2 + e / 2 ≡ e
+halves-IsPowerOfTwo e power more = two_halves power.0 e power.1 more
+
+-- a constant is its own series
+pub expanded-one : (s a : ℕ) (cells : List ℕ) → 1 ≤ s → ((k : ℕ) → get_or cells k 0 < 256) → length cells ≡ s → AreExpanded s 1 a cells (λ g. lane s g cells)
+unfolding sum_to power
+expanded-one s a cells some byte size u g l h =
+    let none : u ≡ 0 = omega (arith, l) in
+    let c = get_or cells (0 * s + g) 0 in
+    let byte : c < 256 = byte (0 * s + g) in
+    ap (λ k. get_or cells (k * s + g) 0) none
+    ∙ sym (ap (taylor (lane s g cells) a) none
+    ∙ taylor-terms s g a 0 1 cells some (omega (arith, size))
+    ∙ zero_add (binomial_parity 0 0 ⊗ (c ⊗ 1))
+    ∙ ap (λ x. x ⊗ (c ⊗ 1)) (binomial_parity-none 0) ∙ ap (◌⊗◌ 1) (mul_one c byte) ∙ one_mul c byte)
+
+-- two pieces folded
+folded-two : (n p : ℕ) (low high : List ℕ) (k : ℕ) → length low ≡ n → length high ≡ n → k < n → p < 256
+    → folded n p (low ++ high) k ≡ 1 ⊗ get_or low k 0 ⊕ p ⊗ get_or high k 0
+unfolding sum_to power
+folded-two n p low high k size long l byte =
+    let xs = low ++ high in
+    let F = λ (b : ℕ). power p b ⊗ get_or xs (b * n + k) 0 in
+    let all = length-append low high in
+    let first : 0 * n + k ≡ k = omega arith in
+    let second : 1 * n + k ≡ n + k = omega arith in
+    let back : n + k - n ≡ k = omega arith in
+    sum_to-longer F 2 (length xs) (omega (arith, all, size, long, l)) (λ b m.
+    let past = mul-le-mul_right n m in
+    ap (◌⊗◌ (power p b)) (get_or_past xs (b * n + k) 0 (omega (arith, past, all, size, long))) ∙ mul_zero (power p b))
+    ∙ ap₂ ◌⊕◌ (zero_add (F 0) ∙ ap (λ j. 1 ⊗ get_or xs j 0) first ∙ ap (◌⊗◌ 1) (get_or_append_left low high 0 k (omega (arith, l, size))))
+    (ap₂ (λ q j. q ⊗ get_or xs j 0) (mul_one p byte) second
+    ∙ ap (◌⊗◌ p) (get_or-append_right low high n (n + k) 0 size (omega arith) ∙ ap (λ j. get_or high j 0) back))
+
+-- two remainders of half the length
+pub expanded-halves : (s h a : ℕ) (low high sum made rest : List ℕ) → 1 ≤ s → IsPowerOfTwo h → length low ≡ h * s → length high ≡ h * s → length sum ≡ h * s → length made ≡ h * s
+    → ((k : ℕ) → get_or sum k 0 ≡ get_or low k 0 ⊕ power a h ⊗ get_or high k 0)
+    → AreExpanded s h a made (λ g. lane s g sum) → AreExpanded s h a rest (λ g. lane s g high)
+    → AreExpanded s (h + h) a (made ++ rest) (λ g. lane s g (low ++ high))
+expanded-halves s h a low high sum made rest some two size long size-sum size-made is done there u g l k =
+    let steps = steps_of h two in
+    elim (cases_lt u h) [
+      | inl before ↦
+          let fit = row_within u h s before in
+          get_or_append_left made rest 0 (u * s + g) (omega (arith, fit, k, size-made)) ∙ done u g before k
+          ∙ taylor-left s h a u g (low ++ high) sum some steps before k size-sum (λ r m.
+          let j = r * s + g in
+          let inside = row_within r h s m in
+          let x = get_or low j 0 in
+          let y = power a h ⊗ get_or high j 0 in
+          ap (term a u r) (is j) ∙ term-add a u r x y ∙ ap (λ z. z ⊕ term a u r y) (sym (term-one a u r x)) ∙ sym (term-add a u r (1 ⊗ x) y)
+          ∙ ap (term a u r) (sym (folded-two (h * s) (power a h) low high j size long (omega (arith, inside, k)) (power_lt a h))))
+      | inr past ↦
+          let w = u - h in
+          let order : h + w ≡ u = omega (arith, past) in
+          let inside : w < h = omega (arith, past, l) in
+          let place : u * s + g ≡ h * s + (w * s + g) = ap (λ x. x * s + g) (sym order) ∙ (let e : (h + w) * s + g ≡ h * s + (w * s + g) = omega (arith, add-mul h w s) in e) in
+          let back : h * s + (w * s + g) - h * s ≡ w * s + g = omega arith in
+          ap (λ j. get_or (made ++ rest) j 0) place
+          ∙ get_or-append_right made rest (h * s) (h * s + (w * s + g)) 0 size-made (omega arith) ∙ ap (λ j. get_or rest j 0) back
+          ∙ there w g inside k
+          ∙ sym (taylor-high s h a w g low high some steps inside k size long)
+          ∙ ap (taylor (lane s g (low ++ high)) a) order
+    ]

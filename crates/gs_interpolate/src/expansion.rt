@@ -1,0 +1,78 @@
+//! Polynomials side by side about another point: the coefficients that they have at one power of x stand together, as many
+//! as there are polynomials, and then those at the next power.
+//!
+//! In characteristic 2, `(x - a)^e` is `x^e - a^e` where e is a power of two. So the first e coefficients about a are those
+//! of the remainder by `x^e - a^e`, which takes one product for each coefficient. And of the e coefficients of a remainder
+//! the second half times `a^(e/2)`, added to the first half, leaves two remainders of half the length, for
+//! `(x - a)^(e/2)` is `x^(e/2) - a^(e/2)`.
+
+ghost use Rattle.std.specs.Prelude.{◌≡◌, ℕ, ◌-◌, ◌*◌, ◌%◌, ◌<◌, ◌≤◌, length};
+ghost use Rattle.std.specs.Int.{IsPowerOfTwo};
+ghost use Rattle.gf256.specs.Field.{power};
+ghost use Rattle.gs_interpolate.specs.Family.{lane};
+ghost use Rattle.gs_interpolate.specs.Expansion.{AreExpanded, IsFoldedOnto, IsPieceAdded};
+
+use crate::basis::MOST_LANES;
+use gf256::rows::{add_scaled_row, clear};
+
+/// More coefficients than any expansion has.
+pub(crate) const MOST_TERMS: usize = 512;
+
+/// Adds the remainder of a row: its bytes in pieces as long as the sums, each times one power more of `factor`.
+fn add_folded(sums: &mut [u8], row: &[u8], factor: u8)
+    requires { 1 ≤ length sums.old }
+    ensures { IsFoldedOnto factor row.now sums.new sums.old }
+{
+    let size = sums.len();
+    let mut power = 1;
+    for b in 0..row.len().div_ceil(size) {
+        let start = b * size;
+        let end = row.len().min(start + size);
+        add_scaled_row(&mut sums[..end - start], &row[start..end], power);
+        power = gf256::mul(power, factor);
+    }
+}
+
+/// Adds values at the power j to the remainder by `x^terms - a^terms`, which has `terms` pieces as long as they are.
+pub(crate) fn add_values(sums: &mut [u8], values: &[u8], j: usize, terms: usize, a: u8)
+    requires some { 1 ≤ terms }
+    requires size { length sums.old ≡ terms * length values.now }
+    requires few { j ≤ MOST_LANES }
+    ensures { IsPieceAdded (power a (j - j % terms)) (j % terms) values.now sums.new sums.old }
+{
+    let at = j % terms;
+    let start = at * values.len();
+    let factor = gf256::pow(a, (j - at) as u32);
+    add_scaled_row(&mut sums[start..start + values.len()], values, factor);
+}
+
+/// Makes of polynomials with `terms` coefficients those about a.
+pub(crate) fn expand(cells: &mut [u8], lanes: usize, terms: usize, a: u8)
+    requires some { 1 ≤ lanes }
+    requires power { IsPowerOfTwo terms }
+    requires few { terms ≤ MOST_TERMS }
+    requires size { length cells.old ≡ terms * lanes }
+    ensures { AreExpanded lanes terms a cells.new (λ g. lane lanes g cells.old) }
+{
+    if terms == 1 {
+        return;
+    }
+    let half = terms / 2;
+    let (low, high) = cells.split_at_mut(half * lanes);
+    add_scaled_row(low, high, gf256::pow(a, half as u32));
+    expand(low, lanes, half, a);
+    expand(high, lanes, half, a);
+}
+
+/// Makes `made` the first `terms` coefficients about a of each of the polynomials in one row.
+pub(crate) fn expand_row(made: &mut [u8], row: &[u8], lanes: usize, terms: usize, a: u8)
+    requires some { 1 ≤ lanes }
+    requires power { IsPowerOfTwo terms }
+    requires few { terms ≤ MOST_TERMS }
+    requires size { length made.old ≡ terms * lanes }
+    ensures { AreExpanded lanes terms a made.new (λ g. lane lanes g row.now) }
+{
+    clear(made);
+    add_folded(made, row, gf256::pow(a, terms as u32));
+    expand(made, lanes, terms, a);
+}
