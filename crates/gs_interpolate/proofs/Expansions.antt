@@ -1,8 +1,8 @@
 -- Polynomials about another point, by remainders.
-use Rattle.std.proofs.Common.{◌≡◌, ℕ, zero, suc, ◌+◌, ◌-◌, ◌*◌, ◌/◌, ◌^◌, ◌≢◌, ◌<◌, ◌≤◌, List, ◌++◌, length, get_or, sym, ap, ap₂, subst, ◌∙◌, arith, inl, inr, lit≤, length-append, add-mul, mul_assoc, mul_comm, pow-suc}
+use Rattle.std.proofs.Common.{◌≡◌, ℕ, zero, suc, ◌+◌, ◌-◌, ◌*◌, ◌/◌, ◌^◌, ◌≢◌, ◌<◌, ◌≤◌, List, ◌++◌, length, get_or, sym, ap, ap₂, subst, ◌∙◌, arith, inl, inr, lit≤, length-append, length-drop, drop, add-mul, mul_assoc, mul_comm, pow-suc}
 use Rattle.std.proofs.Math.Nat.{mul-le-mul_right}
 use Rattle.std.proofs.lemmas.Bool.{cases_lt}
-use Rattle.std.proofs.lemmas.List.{get_or_past, get_or_append_left, get_or-append_right}
+use Rattle.std.proofs.lemmas.List.{get_or_past, get_or-drop, get_or_append_left, get_or-append_right}
 use Rattle.std.proofs.lemmas.List.FromFn.{length-map-range_with_len}
 use Rattle.std.specs.Int.{IsPowerOfTwo}
 use Rattle.gf256.specs.Field.{◌⊕◌, ◌⊗◌, power}
@@ -11,7 +11,7 @@ use Rattle.gf256.specs.Polynomial.{coef}
 use Rattle.gf256.proofs.Xor.{add_zero, zero_add}
 use Rattle.gf256.proofs.FieldLaws.{ring, add_mul, mul_add, mul_zero, zero_mul, one_mul, mul_one}
 use Rattle.gf256.proofs.Powers.{power-add, power_lt}
-use Rattle.gf256.proofs.Sums.{sum_to-same, sum_to-zero, sum_to-longer, sum_to-append, sum_to-swap, sum_to-mul, mul-sum_to}
+use Rattle.gf256.proofs.Sums.{sum_to-same, sum_to-zero, sum_to-longer, sum_to-append, sum_to-first, sum_to-swap, sum_to-mul, mul-sum_to}
 use Rattle.gf256.proofs.FlatRows.{row_within}
 use Rattle.uni_poly.specs.Taylor.{taylor}
 use Rattle.bi_poly.specs.Hasse.{binomial_parity}
@@ -183,6 +183,36 @@ expanded-one s a cells some byte size u g l h =
     ∙ taylor-terms s g a 0 1 cells some (omega (arith, size))
     ∙ zero_add (binomial_parity 0 0 ⊗ (c ⊗ 1))
     ∙ ap (λ x. x ⊗ (c ⊗ 1)) (binomial_parity-none 0) ∙ ap (◌⊗◌ 1) (mul_one c byte) ∙ one_mul c byte)
+
+-- nothing folded
+pub folded-none : (n p k : ℕ) (row : List ℕ) → length row ≡ 0 → folded n p row k ≡ 0
+unfolding sum_to
+folded-none n p k row none = ap (sum_to (λ b. power p b ⊗ get_or row (b * n + k) 0)) none
+
+-- one more piece in front
+pub folded-next : (n p k : ℕ) (row : List ℕ) → 1 ≤ n → ((k : ℕ) → get_or row k 0 < 256) → folded n p row k ≡ get_or row k 0 ⊕ p ⊗ folded n p (drop n row) k
+unfolding power
+folded-next n p k row some byte =
+    let all = length row in
+    let back = drop n row in
+    let F = λ (b : ℕ). power p b ⊗ get_or row (b * n + k) 0 in
+    let G = λ (b : ℕ). power p b ⊗ get_or back (b * n + k) 0 in
+    let first : 0 * n + k ≡ k = omega arith in
+    let less = length-drop n row in
+    sym (sum_to-longer F all (suc all) (omega arith) (λ b l.
+    let wide = mul-le-mul_right b some in
+    ap (◌⊗◌ (power p b)) (get_or_past row (b * n + k) 0 (omega (arith, wide, l, mul_comm b n))) ∙ mul_zero (power p b)))
+    ∙ sum_to-first F all
+    ∙ ap₂ ◌⊕◌ (ap (λ i. 1 ⊗ get_or row i 0) first ∙ one_mul (get_or row k 0) (byte k))
+    (sum_to-same (λ b. F (suc b)) (λ b. p ⊗ G b) all (λ b l.
+    let place : suc b * n + k ≡ n + (b * n + k) = omega (arith, add-mul b 1 n) in
+    let y = get_or back (b * n + k) 0 in
+    ap (λ x. (p ⊗ power p b) ⊗ x) (ap (λ i. get_or row i 0) place ∙ sym (get_or-drop n row (b * n + k) 0))
+    ∙ (let order : (p ⊗ power p b) ⊗ y ≡ p ⊗ (power p b ⊗ y) = simp ring in order))
+    ∙ sym (mul-sum_to p G all)
+    ∙ ap (◌⊗◌ p) (sum_to-longer G (length back) all (omega (arith, less)) (λ b l.
+    let wide = mul-le-mul_right b some in
+    ap (◌⊗◌ (power p b)) (get_or_past back (b * n + k) 0 (omega (arith, wide, l, mul_comm b n))) ∙ mul_zero (power p b))))
 
 -- two pieces folded
 folded-two : (n p : ℕ) (low high : List ℕ) (k : ℕ) → length low ≡ n → length high ≡ n → k < n → p < 256

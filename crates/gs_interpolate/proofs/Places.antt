@@ -1,15 +1,12 @@
 -- Places of polynomials side by side, and parts of a list that are written anew.
-use Rattle.std.proofs.Common.{◌≡◌, ◌⊎◌, ℕ, ◌+◌, ◌-◌, ◌*◌, ◌<◌, ◌≤◌, List, [], ◌++◌, length, get_or, take, drop, sym, ap, subst, ◌∙◌, arith, inl, inr, length-drop, length-append}
+use Rattle.std.proofs.Common.{◌≡◌, ◌⊎◌, ℕ, ◌+◌, ◌-◌, ◌*◌, ◌<◌, ◌≤◌, List, [], ◌++◌, length, get_or, take, drop, sym, ap, ◌∙◌, arith, inl, inr, length-drop, length-append}
 use Rattle.std.proofs.Math.Nat.{mul-le-mul_right}
 use Rattle.std.proofs.lemmas.Bool.{cases_lt}
 use Rattle.std.proofs.lemmas.List.{ext_get_or, get_or-drop, get_or-take, get_or-map, get_or_past, get_or_append_left, get_or-append_right, length-take-le, length-map}
 use Rattle.std.proofs.lemmas.List.FromFn.{get_or-map-range_with_len, length-map-range_with_len}
-use Rattle.std.specs.Simd.Lanes.{put_chunk}
-use Rattle.std.proofs.lemmas.Simd.{get_or-put_chunk_at, get_or-put_chunk_below}
 use borrow.Rule.Slice.PartMut.{put_mid}
 use Rattle.gf256.specs.Polynomial.{coef}
 use Rattle.gf256.specs.declared.vectors.TheConstants.{LANES}
-use Rattle.gf256.specs.Rows.{AreLanes}
 use Rattle.gf256.proofs.FlatRows.{row_within}
 use Rattle.bi_poly.specs.Rows.{row, cell}
 use Rattle.gs_interpolate.specs.Family.{lane, member, FillsVectors}
@@ -119,15 +116,3 @@ fills-enough n bytes fills = elim fills.1 [ inl all ↦ omega (arith, all) | inr
 -- and where there are more, these are 16
 pub fills-more : (n bytes : ℕ) → FillsVectors n bytes → n * LANES < bytes → bytes ≡ n * LANES + 16
 fills-more n bytes fills past = elim fills.1 [ inl all ↦ absurd (omega (arith, all, past)) | inr more ↦ more ]
-
--- 16 places at once, after those before
-pub lanes_written : (xs lanes : List ℕ) (g : ℕ → ℕ) (at : ℕ) → at + 16 ≤ length xs → AreLanes 16 lanes g at → ((k : ℕ) → k < at → get_or xs k 0 ≡ g k)
-    → (k : ℕ) → k < at + 16 → get_or (put_chunk at xs lanes) k 0 ≡ g k
-lanes_written xs lanes g at room are done k l =
-    elim (cases_lt k at) [
-      | inl low ↦ get_or-put_chunk_below at xs lanes k 0 low ∙ done k low
-      | inr high ↦
-          let place : at + (k - at) ≡ k = omega (arith, high) in
-          subst (λ p. get_or (put_chunk at xs lanes) p 0 ≡ g p) place
-          (get_or-put_chunk_at at xs lanes (k - at) 0 (omega (arith, l, high, are.size)) (omega (arith, l, high, room)) ∙ are.each (k - at) (omega (arith, l, high)))
-    ]

@@ -8,10 +8,15 @@ use Rattle.uni_poly.specs.Taylor.{taylor}
 abbrev pub folded : ℕ → ℕ → List ℕ → ℕ → ℕ
 folded n factor row k = sum_to (λ b. power factor b ⊗ slice_index row (b * n + k)) (length row)
 
--- what is left of a row folded to the length of the sums was added to them
-abbrev pub IsFoldedOnto : ℕ → List ℕ → List ℕ → List ℕ → Type 0
-IsFoldedOnto factor row now before =
-    (k : ℕ) → k < length before → slice_index now k ≡ slice_index before k ⊕ folded (length before) factor row k
+-- the first so many sums became what they were times a factor, plus the bytes of a row, and the others stayed
+pub record AreRaised (factor : ℕ) (row now before : List ℕ) (to : ℕ) : Type 0 where
+  pub size : length now ≡ length before
+  pub done : (k : ℕ) → k < to → slice_index now k ≡ slice_index row k ⊕ factor ⊗ slice_index before k
+  pub rest : (k : ℕ) → to ≤ k → slice_index now k ≡ slice_index before k
+
+-- the sums are a row folded to their length
+abbrev pub AreFolded : ℕ → List ℕ → List ℕ → Type 0
+AreFolded factor row sums = (k : ℕ) → k < length sums → slice_index sums k ≡ folded (length sums) factor row k
 
 -- so many values, times a factor, were added to those at place `at` of pieces as long, and the rest stayed
 pub record IsPieceAdded (factor at : ℕ) (values now before : List ℕ) : Type 0 where

@@ -6,30 +6,68 @@
 //! the second half times `a^(e/2)`, added to the first half, leaves two remainders of half the length, for
 //! `(x - a)^(e/2)` is `x^(e/2) - a^(e/2)`.
 
-ghost use Rattle.std.specs.Prelude.{◌≡◌, ℕ, ◌-◌, ◌*◌, ◌%◌, ◌<◌, ◌≤◌, length};
+ghost use Rattle.std.specs.Prelude.{◌≡◌, ℕ, List, ◌+◌, ◌-◌, ◌*◌, ◌%◌, ◌<◌, ◌≤◌, length};
 ghost use Rattle.std.specs.Int.{IsPowerOfTwo};
 ghost use Rattle.gf256.specs.Field.{power};
 ghost use Rattle.gs_interpolate.specs.Family.{lane};
-ghost use Rattle.gs_interpolate.specs.Expansion.{AreExpanded, IsFoldedOnto, IsPieceAdded};
+ghost use Rattle.gs_interpolate.specs.Expansion.{AreExpanded, AreFolded, AreRaised, IsPieceAdded};
 
 use crate::basis::MOST_LANES;
-use gf256::rows::{add_scaled_row, clear};
+use gf256::rows::{Products, add_scaled_row, clear};
+use gf256::vectors::{LANES, LookUp, Vectors};
+use std::simd::prelude::*;
 
 /// More coefficients than any expansion has.
 pub(crate) const MOST_TERMS: usize = 512;
 
-/// Adds the remainder of a row: its bytes in pieces as long as the sums, each times one power more of `factor`.
-fn add_folded(sums: &mut [u8], row: &[u8], factor: u8)
-    requires { 1 ≤ length sums.old }
-    ensures { IsFoldedOnto factor row.now sums.new sums.old }
+/// N bytes of the sums from place `at` on become what they were times the factor, plus those of the row.
+#[inline(always)]
+fn raise_lanes<const N: usize>(sums: &mut [u8], row: &[u8], products: &Products, at: usize)
+where
+    Vectors: LookUp<N>,
+    requires same { length row.now ≡ length sums.old }
+    requires within { at + N ≤ length sums.old }
+    ensures { (before : List ℕ) → AreRaised products.now row.now sums.old before at
+        → AreRaised products.now row.now sums.new before (at + N) }
 {
+    let more = products.times(Simd::<u8, N>::from_slice(&sums[at..]));
+    let sum = Simd::from_slice(&row[at..]) ^ more;
+    sum.copy_to_slice(&mut sums[at..]);
+}
+
+/// The sums become what they were times the factor, plus a row as long.
+fn raise(sums: &mut [u8], row: &[u8], products: &Products)
+    requires { length row.now ≡ length sums.old }
+    ensures { AreRaised products.now row.now sums.new sums.old (length sums.old) }
+{
+    // Read once, and not again after each write.
+    let held = products.copied();
+    let mut at = 0;
+    'wide: while sums.len() - at >= LANES {
+        raise_lanes::<LANES>(sums, row, &held, at);
+        at += LANES;
+    }
+    'lanes: while sums.len() - at >= 16 {
+        raise_lanes::<16>(sums, row, &held, at);
+        at += 16;
+    }
+    for k in at..sums.len() {
+        sums[k] = gf256::add(row[k], gf256::mul(products.factor(), sums[k]));
+    }
+}
+
+/// Makes the sums the remainder of a row: of its pieces as long as they are the first, plus the factor times the second,
+/// and so on, by Horner's rule.
+fn fold(sums: &mut [u8], row: &[u8], products: &Products)
+    requires { 1 ≤ length sums.old }
+    ensures { AreFolded products.now row.now sums.new }
+{
+    clear(sums);
     let size = sums.len();
-    let mut power = 1;
-    for b in 0..row.len().div_ceil(size) {
+    for b in (0..row.len().div_ceil(size)).rev() {
         let start = b * size;
         let end = row.len().min(start + size);
-        add_scaled_row(&mut sums[..end - start], &row[start..end], power);
-        power = gf256::mul(power, factor);
+        raise(&mut sums[..end - start], &row[start..end], products);
     }
 }
 
@@ -72,7 +110,6 @@ pub(crate) fn expand_row(made: &mut [u8], row: &[u8], lanes: usize, terms: usize
     requires size { length made.old ≡ terms * lanes }
     ensures { AreExpanded lanes terms a made.new (λ g. lane lanes g row.now) }
 {
-    clear(made);
-    add_folded(made, row, gf256::pow(a, terms as u32));
+    fold(made, row, &Products::of(gf256::pow(a, terms as u32)));
     expand(made, lanes, terms, a);
 }

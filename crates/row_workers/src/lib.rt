@@ -5,11 +5,12 @@
 //! ([`RowSums`]): each worker has its share of the rows ([`rows_of`]) and its own part of the room
 //! ([`run_on_parts`]), and the parts are added. [`sum_group`] makes the sums of several queries in one
 //! pass over the rows ([`GroupSums`]), in blocks of 16 or 32 columns that [`blocks`] lays out query
-//! by query. [`four_apart`] has four rows to be added at once, [`share_of`] how far apart such rows
-//! stand, and [`lanes_of`] some bytes of a row. No call takes memory, and none can fail.
+//! by query, and [`takes_wide_lanes`] says for which rows there are 32. [`four_apart`] has four rows
+//! to be added at once, [`share_of`] how far apart such rows stand, and [`lanes_of`] some bytes of a
+//! row. No call takes memory, and none can fail.
 //!
-//! Not promised: that a worker passes its [`Gate`], that the workers run at the same time, for which
-//! rows of 32 bytes or more [`takes_wide_lanes`] chooses blocks of 32 columns, or anything of time.
+//! Not promised: that a worker passes its [`Gate`], that the workers run at the same time, or anything
+//! of time.
 #![tactic(auto)]
 
 pub mod blocks;
