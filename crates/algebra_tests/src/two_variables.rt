@@ -36,6 +36,10 @@ fn both_roots_are_roots(rt: HostRuntime) -> Result<(), AllocError> {
     assert!(rt; is_zero_at(rt.alloc(), &q, &[0x01, 0x00])?);
     assert!(rt; is_zero_at(rt.alloc(), &q, &[0x00, 0x01])?);
     assert!(rt; !is_zero_at(rt.alloc(), &q, &[0x02])?);
+    // Of the constants 1 alone is one: where 0 stands for y, x is left.
+    assert!(rt; q.vanishes_at(0x01));
+    assert!(rt; !q.vanishes_at(0x00));
+    assert!(rt; !q.vanishes_at(0x02));
     Ok(())
 }
 

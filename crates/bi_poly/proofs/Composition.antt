@@ -1,16 +1,17 @@
 -- The polynomial q(x, phi(x)), by Horner's rule.
 use Rattle.std.proofs.Common.{◌≡◌, ℕ, zero, suc, ◌+◌, ◌<◌, ◌≤◌, List, [], ◌∷◌, length, drop, refl, sym, ap, ap₂, ◌∙◌}
 use Rattle.std.proofs.lemmas.List.{drop_more, drop_all}
-use Rattle.gf256.specs.Field.{◌⊕◌}
+use Rattle.gf256.specs.Field.{◌⊕◌, ◌⊗◌}
 use Rattle.gf256.specs.Sums.{sum_to}
-use Rattle.gf256.specs.Polynomial.{coef}
-use Rattle.gf256.proofs.Xor.{zero_add, add_comm}
-use Rattle.gf256.proofs.FieldLaws.{mul_zero}
+use Rattle.gf256.specs.Polynomial.{coef, val}
+use Rattle.gf256.proofs.Xor.{zero_add, add_zero, add_comm}
+use Rattle.gf256.proofs.FieldLaws.{mul_zero, mul_one}
 use Rattle.gf256.proofs.Sums.{sum_to-first, sum_to-same}
 use Rattle.uni_poly.specs.Product.{product_coef}
 use Rattle.uni_poly.proofs.Series.{ext, times, tail, plus, times-plus_r, times_comm}
 use Rattle.uni_poly.proofs.Products.{coef-product, coef-product_times}
-use Rattle.bi_poly.specs.Rows.{row}
+use Rattle.uni_poly.proofs.Values.{val_nil, val_cons}
+use Rattle.bi_poly.specs.Rows.{row, cell, column, AreBytes}
 use Rattle.bi_poly.specs.Substitution.{times_power, at_poly_coef}
 
 -- the coefficients of q(x, f), where f is a series
@@ -62,3 +63,22 @@ at_series-drop q phi p j e l h =
 pub at_series-end : (q : List (List ℕ)) (f : ℕ → ℕ) (j e : ℕ) → length q ≤ j → at_series (drop j q) f e ≡ 0
 unfolding at_series
 at_series-end q f j e l = ap (λ s. at_series s f e) (drop_all j q l)
+
+-- a product with a constant
+times-constant : (g : ℕ) (f : ℕ → ℕ) (e : ℕ) → times (coef (g ∷ [])) f e ≡ g ⊗ f e
+unfolding times tail coef
+times-constant g f zero = refl
+times-constant g f (suc e) = ap (◌⊕◌ (g ⊗ f (suc e))) (times_comm (tail (coef (g ∷ []))) f e ∙ times-zero f e) ∙ add_zero _
+
+-- where a constant stands for y, each column has its value there
+at_series-constant : (q : List (List ℕ)) (g e : ℕ) → AreBytes q → at_series q (coef (g ∷ [])) e ≡ val (column q e) g
+unfolding at_series cell
+at_series-constant [] g e h = sym (val_nil g)
+at_series-constant (r ∷ q) g e h =
+    ap₂ ◌⊕◌ (sym (mul_one (coef r e) (h 0 e)))
+    (times-constant g (at_series q (coef (g ∷ []))) e ∙ ap (◌⊗◌ g) (at_series-constant q g e (λ j i. h (suc j) i)))
+    ∙ sym (val_cons (coef r e) (column q e) g)
+
+-- so has the polynomial
+pub at_poly_coef-constant : (q : List (List ℕ)) (g e : ℕ) → AreBytes q → at_poly_coef q (g ∷ []) e ≡ val (column q e) g
+at_poly_coef-constant q g e h = at_poly_coef-series q (g ∷ []) e ∙ at_series-constant q g e h

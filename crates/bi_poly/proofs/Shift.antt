@@ -25,7 +25,7 @@ taylor-past (c ∷ p) a (suc u) l =
     ap₂ ◌⊕◌ (taylor-past p a u (omega arith)) (ap (◌⊗◌ a) (taylor-past p a (suc u) (omega arith)) ∙ mul_zero a) ∙ zero_add 0
 
 -- a column past all rows is 0
-column-past : (q : List (List ℕ)) (i j : ℕ) → ((k : ℕ) → length (row q k) ≤ i) → coef (column q i) j ≡ 0
+pub column-past : (q : List (List ℕ)) (i j : ℕ) → ((k : ℕ) → length (row q k) ≤ i) → coef (column q i) j ≡ 0
 unfolding coef
 column-past q i j h =
     elim (cases_lt j (length q)) [

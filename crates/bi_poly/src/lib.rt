@@ -3,7 +3,8 @@
 //!
 //! Promised: a [`BiPoly`] has exactly the Hasse derivatives, the weighted degree, the greatest
 //! power of x that divides it and the substitutions for y that the contracts name. Want of memory
-//! is the only error, and `from_rows`, `rows`, `hasse`, `weighted_degree` and `strip_x` take none.
+//! is the only error, and `from_rows`, `rows`, `hasse`, `weighted_degree`, `strip_x` and `vanishes_at`
+//! take none.
 //! [`laws`] has what the decoder rests on: a polynomial is the sum of its Hasse derivatives at a
 //! point times the powers about it, and a zero of multiplicity m becomes a factor `(x - a)^m` once
 //! a polynomial through that point stands for y.
@@ -17,14 +18,16 @@ pub mod laws;
 mod product;
 mod row;
 
-ghost use Rattle.std.specs.Prelude.{◌≡◌, ℕ, ◌<◌, ◌≤◌, length, map, slice_index, MatchOption, IfOk};
+ghost use Rattle.std.specs.Prelude.{◌≡◌, ℕ, [], ◌∷◌, ◌<◌, ◌≤◌, ◌↔◌, IsTrue, length, map, slice_index, MatchOption, IfOk};
 ghost use Rattle.gf256.specs.Field.{◌⊕◌};
+ghost use Rattle.gf256.specs.Polynomial.{val};
 ghost use Rattle.uni_poly.specs.Taylor.{taylor};
-ghost use Rattle.bi_poly.specs.Rows.{row as row_of, column, IsZero, IsWithinLimits, IsWidth};
+ghost use Rattle.bi_poly.specs.Rows.{row as row_of, column, AreBytes, IsZero, IsWithinLimits, IsWidth};
 ghost use Rattle.bi_poly.specs.Degree.{IsWeightedDegree, IsOrderInX, without_first};
 ghost use Rattle.bi_poly.specs.Hasse.{hasse};
-ghost use Rattle.bi_poly.specs.Substitution.{AreDerivativesAdded, IsAtPoly, IsShiftedRoot, shifted_row};
+ghost use Rattle.bi_poly.specs.Substitution.{at_poly_coef, AreDerivativesAdded, IsAtPoly, IsShiftedRoot, shifted_row};
 
+use crate::laws::coefficients_are_bytes;
 use crate::product::multiply_and_add;
 pub use crate::row::is_odd_binomial;
 use crate::row::{coefficient, degree, derivative, drop_first, order};
@@ -156,7 +159,7 @@ impl BiPoly {
     fn column(&self, alloc: Global, i: usize) -> Result<Vec<u8>, AllocError>
         ensures { IfOk result (λ v. v.items ≡ column self.now i) }
     {
-        let mut made = Vec::new(alloc);
+        let mut made = Vec::with_capacity(alloc, self.len())?;
         for j in 0..self.len() {
             made.push(coefficient(self.row(j), i))?;
         }
@@ -190,6 +193,32 @@ impl BiPoly {
             made = multiply_and_add(alloc, phi, &made, self.row(j))?;
         }
         Ok(made)
+    }
+
+    /// The value at `gamma` of column `i`, by Horner's rule.
+    fn column_value(&self, i: usize, gamma: u8) -> u8
+        requires { AreBytes self.now }
+        ensures { result ≡ val (column self.now i) gamma }
+    {
+        let mut value = 0;
+        for j in (0..self.len()).rev() {
+            value = gf256::add(gf256::mul(value, gamma), coefficient(self.row(j), i));
+        }
+        value
+    }
+
+    /// Whether the polynomial is 0 where the constant `gamma` stands for y, as `y^2 + (1 + x)*y + x` is
+    /// where 1 does. It takes no memory, and looks no further than the first power of x that is left.
+    pub fn vanishes_at(&self, gamma: u8) -> bool
+        ensures { IsTrue result ↔ ((e : ℕ) → at_poly_coef self.now (gamma ∷ []) e ≡ 0) }
+    {
+        coefficients_are_bytes(self);
+        for i in 0..self.width() {
+            if self.column_value(i, gamma) != 0 {
+                return false;
+            }
+        }
+        true
     }
 
     /// The length of the longest row, 0 where there is none.
@@ -249,7 +278,7 @@ impl BiPoly {
         ensures { IfOk result (IsShiftedRoot self.now gamma) }
     {
         let mut sums = vec![in alloc; 0; self.width()]?;
-        let mut rows = Vec::new(alloc);
+        let mut rows = Vec::with_capacity(alloc, self.len())?;
         for j in 0..self.len() {
             rows.push(self.shifted_row(alloc, j, gamma, &mut sums)?)?;
         }

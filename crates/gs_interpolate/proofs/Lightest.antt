@@ -1,5 +1,5 @@
 -- The lightest polynomial of the iteration is what interpolation promises.
-use Rattle.std.proofs.Common.{◌≡◌, ℕ, suc, ◌+◌, ◌-◌, ◌*◌, ◌<◌, ◌≤◌, List, [], ◌∷◌, length, get_or, sum, All, sym, ap, ◌∙◌, arith, inl, inr}
+use Rattle.std.proofs.Common.{◌≡◌, ℕ, suc, ◌+◌, ◌*◌, ◌<◌, ◌≤◌, List, [], ◌∷◌, length, get_or, sum, All, sym, ap, ◌∙◌, arith, inl, inr}
 use Rattle.std.proofs.lemmas.Bool.{cases_lt}
 use Rattle.std.proofs.lemmas.List.Sums.{sum_by-cons}
 use Rattle.std.proofs.lemmas.List.{get_or_past}
@@ -71,11 +71,11 @@ module _ (points : List (ℕ × ℕ)) (m : ℕ) (ns : List ℕ) (s : Polynomials
       }
 
 -- the rows of the polynomial with the least weight, without what is past that weight
-pub is_lightest : (s : Polynomials) (q : List (List ℕ)) (place most : ℕ) → IsBasis s → IsLeast s place → most ≡ weight s place
+pub is_lightest : (s : Polynomials) (q : List (List ℕ)) (place count : ℕ) → IsBasis s → IsLeast s place → count ≡ weight s place + 1
     → length q ≡ length s.rows
-    → ((j : ℕ) → j < length s.rows → AreCoefficients s.lanes place (most + 1 - s.t * j) (row s.rows j) (row q j)) → IsLightest s q
+    → ((j : ℕ) → j < length s.rows → AreCoefficients s.lanes place count (row s.rows j) (row q j)) → IsLightest s q
 unfolding cell coef
-is_lightest s q place most basis least weight size coefficients = record {
+is_lightest s q place count basis least weight size coefficients = record {
   place = place;
   least = least;
   is = λ light j i.
@@ -87,7 +87,7 @@ is_lightest s q place most basis least weight size coefficients = record {
       elim (cases_lt j (length s.rows)) [
         | inl l ↦
             let of_row = coefficients j l in
-            elim (cases_lt i (most + 1 - s.t * j)) [
+            elim (cases_lt i count) [
               | inl h ↦ of_row.each i h ∙ sym (cell-member s.lanes s.rows place j i some)
               | inr h ↦
                   let many = of_row.size in

@@ -28,6 +28,10 @@ condition_at w u v = record { u = u; v = v; a = w.a; b = w.b }
 abbrev pub with_cells : Derivatives → List ℕ → Derivatives
 with_cells w cells = record w { cells = cells }
 
+-- w has so many lanes, and orders below m
+abbrev pub IsForLanes : ℕ → ℕ → Derivatives → Type 0
+IsForLanes n m w = (w.lanes ≡ n) × (w.m ≡ m)
+
 -- w has the derivatives at (a, b) of the polynomials in these rows: cell u of row v has that of order (u, v), where u + v < m
 pub record IsWindow (n m a b : ℕ) (rows : List (List ℕ)) (w : Derivatives) : Type 0 where
   pub lanes : w.lanes ≡ n
@@ -36,8 +40,9 @@ pub record IsWindow (n m a b : ℕ) (rows : List (List ℕ)) (w : Derivatives) :
   pub second : w.b ≡ b
   pub each : (u v g : ℕ) → u + v < m → g < length rows → derivative w u v g ≡ hasse (member n rows g) u v a b
 
--- a step in the rows of a window from v on
+-- a step in the rows of a window from v on; those before stay
 pub record IsWindowStep (factors : List ℕ) (p m : ℕ) (now before : List ℕ) (v : ℕ) : Type 0 where
   pub size : length now ≡ length before
   pub each : (w : ℕ) → v ≤ w → w < m
       → IsRowStep factors p (window_row (length factors) m now w) (window_row (length factors) m before w) (m - w)
+  pub others : (w : ℕ) → w < v → w < m → window_row (length factors) m now w ≡ window_row (length factors) m before w

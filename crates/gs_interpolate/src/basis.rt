@@ -1,9 +1,9 @@
 //! The polynomials of Koetter's iteration.
 
-ghost use Rattle.std.specs.Prelude.{◌≡◌, ◌≢◌, ℕ, ◌+◌, ◌<◌, ◌≤◌, length, sum, slice_index, IfOk, MatchOption};
+ghost use Rattle.std.specs.Prelude.{◌≡◌, ◌≢◌, ℕ, ◌+◌, ◌*◌, ◌<◌, ◌≤◌, length, sum, slice_index, IfOk, MatchOption};
 ghost use Rattle.interpolation.specs.Monomials.{conditions};
 ghost use Rattle.gs_interpolate.specs.Basis.{weight, factor, AreZero, AreZeroWhereLight, ArePowersOfY, IsBasis, IsFirstFailing, IsFirstNonzero, IsImposed, IsLeast, IsLightWindow, IsLightest, IsPassing, IsPivot, IsPowerRow, IsStepInRows};
-ghost use Rattle.gs_interpolate.specs.Window.{condition_at, with_cells};
+ghost use Rattle.gs_interpolate.specs.Window.{condition_at, with_cells, IsForLanes};
 
 use crate::family::{Tables, coefficients, step_rows};
 use crate::window::Window;
@@ -52,12 +52,14 @@ impl Model for Basis {
     ghost invariant = { IsSound };
 }
 
-/// Row j of the powers of y, in which that at place j alone has a coefficient.
-fn power_row(alloc: Global, lanes: usize, j: usize) -> Result<Vec<u8>, AllocError>
-    requires { j < lanes }
+/// Row j of the powers of y, in which that at place j alone has a coefficient. There is room for so many powers of x.
+fn power_row(alloc: Global, lanes: usize, j: usize, powers: usize) -> Result<Vec<u8>, AllocError>
+    requires inside { j < lanes }
+    requires small { powers * lanes < usize.MAX }
     ensures { IfOk result (λ r. IsPowerRow lanes r.items j) }
 {
-    let mut row = vec![in alloc; 0; lanes]?;
+    let mut row = Vec::with_capacity(alloc, powers * lanes)?;
+    row.resize(lanes, 0)?;
     row[j] = 1;
     Ok(row)
 }
@@ -94,9 +96,10 @@ impl Basis {
         ensures { IfOk result (ArePowersOfY t d n) }
     {
         let lanes = (n + 15) / 16 * 16;
-        let mut rows = Vec::new(alloc);
+        let mut rows = Vec::with_capacity(alloc, n)?;
         for j in 0..n {
-            rows.push(power_row(alloc, lanes, j)?)?;
+            let powers = (d as usize + 1).saturating_sub(t as usize * j);
+            rows.push(power_row(alloc, lanes, j, powers)?)?;
         }
         let exponents = vec![in alloc; 0; n]?;
         Ok(Basis {
@@ -193,29 +196,41 @@ impl Basis {
         Ok(())
     }
 
-    /// Imposes the conditions of a zero of multiplicity `m` at `(a, b)`: the derivatives of all polynomials at the point are
-    /// found once, and then those of the light ones follow the steps.
+    /// The number of lanes: that of the polynomials, or more, so that they are whole vectors.
+    pub(crate) fn lanes(&self) -> usize
+        ensures lanes { result ≡ self.now.lanes }
+        ensures few { result ≤ MOST_LANES }
+    {
+        self.lanes
+    }
+
+    /// Imposes the conditions of a zero at `(a, b)` of the multiplicity of the window: the derivatives of all polynomials at the
+    /// point are found once, and then those of the light ones follow the steps. `factors` has room for one byte for each
+    /// lane. Gives the window back, so that its room serves for the next point.
     pub(crate) fn pass(
         &mut self,
-        alloc: Global,
+        window: Window,
+        factors: &mut [u8],
         a: u8,
         b: u8,
-        m: u32,
         tables: &Tables,
-    ) -> Result<(), AllocError>
-        requires multiplicity { (1 ≤ m) × (m ≤ MOST_MULTIPLICITY) }
-        requires room { sum self.old.exponents + conditions 1 m < MOST_EXPONENTS }
+    ) -> Result<Window, AllocError>
+        requires multiplicity { (1 ≤ window.m) × (window.m ≤ MOST_MULTIPLICITY) }
+        requires lanes { window.lanes ≡ self.old.lanes }
+        requires factors { length factors.old ≡ self.old.lanes }
+        requires room { sum self.old.exponents + conditions 1 window.m < MOST_EXPONENTS }
         requires basis { IsBasis self.old }
-        ensures { IfOk result (λ _. IsPassing self.old self.new a b m) }
+        ensures passing { IfOk result (λ _. IsPassing self.old self.new a b window.m) }
+        ensures window { IfOk result (IsForLanes self.old.lanes window.m) }
     {
-        let mut window = Window::of(alloc, &self.rows, self.lanes, m as usize, a, b)?;
-        let mut factors = vec![in alloc; 0; self.lanes]?;
+        let m = window.m();
+        let mut window = window.at(&self.rows, a, b)?;
         'rows: for v in 0..m {
             'orders: for u in 0..m - v {
-                self.impose(&mut window, &mut factors, u as usize, v as usize, tables)?;
+                self.impose(&mut window, factors, u, v, tables)?;
             }
         }
-        Ok(())
+        Ok(window)
     }
 
     /// The place of the polynomial whose leading monomial has the least weight.
@@ -231,16 +246,16 @@ impl Basis {
         lightest
     }
 
-    /// The polynomial whose leading monomial has the least weight, if that one is light.
+    /// The polynomial whose leading monomial has the least weight, if that one is light. Its rows are as long as its first, so
+    /// that they can be taken many bytes at once.
     pub(crate) fn into_lightest(self, alloc: Global) -> Result<BiPoly, AllocError>
         requires { IsBasis self }
         ensures { IfOk result (IsLightest self) }
     {
         let place = self.lightest();
-        let most = self.weight(place);
-        let mut rows = Vec::new(alloc);
+        let count = self.weight(place) as usize + 1;
+        let mut rows = Vec::with_capacity(alloc, self.rows.len())?;
         for j in 0..self.rows.len() {
-            let count = (most + 1).saturating_sub(self.t as u64 * j as u64) as usize;
             rows.push(coefficients(alloc, &self.rows[j], self.lanes, place, count)?)?;
         }
         Ok(BiPoly::from_rows(rows))

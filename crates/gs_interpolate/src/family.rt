@@ -286,7 +286,7 @@ pub(crate) fn coefficients(
     requires small { count * lanes + g < usize.MAX }
     ensures { IfOk result (λ made. AreCoefficients lanes g count row.now made.items) }
 {
-    let mut made = Vec::new(alloc);
+    let mut made = Vec::with_capacity(alloc, count)?;
     for i in 0..count {
         made.push(row.get(i * lanes + g).copied().unwrap_or(0))?;
     }

@@ -4,6 +4,7 @@ use crate::Interpolate;
 use crate::basis::Basis;
 use crate::family::Tables;
 use crate::layout::row_lengths;
+use crate::window::Window;
 use bi_poly::BiPoly;
 use std::alloc::{AllocError, Global};
 
@@ -38,8 +39,10 @@ impl Interpolate for Koetter {
         let lengths = row_lengths(alloc, conditions as u32 + 1, t, d)?;
         let mut basis = Basis::new(alloc, lengths.len(), t, d)?;
         let tables = Tables::new(alloc)?;
+        let mut window = Window::new(alloc, basis.lanes(), m as usize)?;
+        let mut factors = vec![in alloc; 0; basis.lanes()]?;
         for &(a, b) in points {
-            basis.pass(alloc, a, b, m, &tables)?;
+            window = basis.pass(window, &mut factors, a, b, &tables)?;
         }
         basis.into_lightest(alloc)
     }

@@ -2,7 +2,7 @@
 
 ghost use Rattle.std.specs.Prelude.{ℕ, ◌≡◌, ◌+◌, ◌*◌, ◌<◌, ◌≤◌, length, slice_index, IfOk};
 ghost use Rattle.gs_interpolate.specs.Family.{bytes_of};
-ghost use Rattle.gs_interpolate.specs.Window.{derivative, with_cells, IsWindow, IsWindowStep};
+ghost use Rattle.gs_interpolate.specs.Window.{derivative, with_cells, IsForLanes, IsWindow, IsWindowStep};
 
 use crate::basis::MOST_LANES;
 use crate::expansion::{add_values, expand, expand_row};
@@ -33,6 +33,8 @@ pub(crate) struct Window {
     a: u8,
     b: u8,
     cells: Vec<u8>,
+    /// Room for what one row expands to.
+    first: Vec<u8>,
 }
 
 impl Model for Window {
@@ -47,28 +49,49 @@ impl Model for Window {
 }
 
 impl Window {
-    /// The derivatives at `(a, b)` of the polynomials in these rows: each row is expanded about a, and what they expand to,
-    /// polynomials in y, about b.
+    /// Room for the derivatives of polynomials in so many lanes, which are 0 so far.
     ///
     /// `AllocError` where there is no memory for them.
-    pub(crate) fn of(
-        alloc: Global,
-        rows: &[Vec<u8>],
-        lanes: usize,
-        m: usize,
-        a: u8,
-        b: u8,
-    ) -> Result<Window, AllocError>
-        requires some { 1 ≤ lanes }
+    pub(crate) fn new(alloc: Global, lanes: usize, m: usize) -> Result<Window, AllocError>
         requires few { lanes ≤ MOST_LANES }
-        requires wide { length rows.now ≤ lanes }
         requires terms { (1 ≤ m) × (m ≤ MOST_MULTIPLICITY) }
-        ensures { IfOk result (IsWindow lanes m a b (bytes_of rows.now)) }
+        ensures { IfOk result (IsForLanes lanes m) }
     {
         let terms = m.next_power_of_two();
         let size = m * lanes;
-        let mut cells = vec![in alloc; 0; terms * size]?;
-        let mut first = vec![in alloc; 0; terms * lanes]?;
+        let mut cells = Vec::with_capacity(alloc, terms * size)?;
+        cells.resize(m * size, 0)?;
+        let first = Vec::with_capacity(alloc, terms * lanes)?;
+        Ok(Window {
+            lanes,
+            m,
+            a: 0,
+            b: 0,
+            cells,
+            first,
+        })
+    }
+
+    /// The derivatives at `(a, b)` of the polynomials in these rows, in the same room: each row is expanded about a, and what
+    /// they expand to, polynomials in y, about b.
+    ///
+    /// `AllocError` where there is no memory for them.
+    pub(crate) fn at(self, rows: &[Vec<u8>], a: u8, b: u8) -> Result<Window, AllocError>
+        requires some { 1 ≤ self.lanes }
+        requires few { self.lanes ≤ MOST_LANES }
+        requires wide { length rows.now ≤ self.lanes }
+        requires terms { (1 ≤ self.m) × (self.m ≤ MOST_MULTIPLICITY) }
+        ensures { IfOk result (IsWindow self.lanes self.m a b (bytes_of rows.now)) }
+    {
+        let (lanes, m) = (self.lanes, self.m);
+        let terms = m.next_power_of_two();
+        let size = m * lanes;
+        let mut cells = self.cells;
+        cells.clear();
+        cells.resize(terms * size, 0)?;
+        let mut first = self.first;
+        first.clear();
+        first.resize(terms * lanes, 0)?;
         for j in 0..rows.len() {
             expand_row(&mut first, &rows[j], lanes, terms, a);
             add_values(&mut cells, &first[..size], j, terms, b);
@@ -81,7 +104,15 @@ impl Window {
             a,
             b,
             cells,
+            first,
         })
+    }
+
+    /// How many orders there are in x and y, and together.
+    pub(crate) fn m(&self) -> usize
+        ensures { result ≡ self.now.m }
+    {
+        self.m
     }
 
     /// The x of the point.

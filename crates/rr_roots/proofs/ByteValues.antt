@@ -1,7 +1,7 @@
 -- The values of a polynomial at all bytes, term by term.
-use Rattle.std.proofs.Common.{◌≡◌, ℕ, ◌+◌, ◌-◌, ◌<◌, List, [], ◌∷◌, ◌++◌, length, get_or, refl, sym, ap, ◌∙◌, arith, inl, inr, add-one, length-append}
+use Rattle.std.proofs.Common.{◌≡◌, ◌≢◌, ℕ, ◌+◌, ◌-◌, ◌<◌, List, [], ◌∷◌, ◌++◌, length, get_or, refl, sym, ap, ◌∙◌, arith, inl, inr, add-one, length-append}
 use Rattle.std.proofs.lemmas.Bool.{cases_lt}
-use Rattle.std.proofs.lemmas.List.{get_or_append_left, get_or-append_right, get_or_default}
+use Rattle.std.proofs.lemmas.List.{get_or_append_left, get_or-append_right}
 use Rattle.gf256.specs.Field.{◌⊕◌, ◌⊗◌, power}
 use Rattle.gf256.specs.Sums.{sum_to}
 use Rattle.gf256.specs.Polynomial.{coef, val}
@@ -67,10 +67,9 @@ powers-more rows new n count before size each = record {
         get_or-append_right rows (new ∷ []) n e [] count (omega arith)
         ∙ (let z : e - n ≡ 0 = omega arith in ap (λ k. get_or (new ∷ []) k []) z)
 
--- the value that was tested
-pub value-tested : {values p : List ℕ} (g v : ℕ) → AreValues values p → g < 256 → v ≡ get_or values g v → val p g ≡ v
-value-tested {values} g v are l is = sym (are.each g l) ∙ get_or_default values g 0 v (omega (arith, are.size, l)) ∙ sym is
+-- the value that was tested is 0 exactly where the polynomial is
+pub value-zero : {values p : List ℕ} (g : ℕ) → AreValues values p → g < 256 → get_or values g 0 ≡ 0 → val p g ≡ 0
+value-zero g are l zero = sym (are.each g l) ∙ zero
 
--- where it is 0
-pub value-zero : {values p : List ℕ} (g v : ℕ) → AreValues values p → g < 256 → v ≡ get_or values g v → v ≡ 0 → val p g ≡ 0
-value-zero g v are l is zero = value-tested g v are l is ∙ zero
+pub value-other : {values p : List ℕ} (g : ℕ) → AreValues values p → g < 256 → get_or values g 0 ≢ 0 → val p g ≢ 0
+value-other g are l other z = other (are.each g l ∙ z)

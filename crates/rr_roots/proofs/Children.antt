@@ -1,53 +1,26 @@
 -- A node of the tree and its children: from the y-roots of a child to those of the node that begin with its byte (Roth and
 -- Ruckenstein 2000).
-use Rattle.std.proofs.Common.{◌≡◌, ◌↔◌, ℕ, suc, ◌+◌, ◌-◌, ◌<◌, ◌≤◌, List, [], ◌∷◌, length, map, drop, get_or, All, sym, ap, ap₂, subst, ◌∙◌, inl, inr, arith}
+use Rattle.std.proofs.Common.{◌≡◌, ◌↔◌, ℕ, suc, ◌+◌, ◌-◌, ◌<◌, ◌≤◌, List, [], ◌∷◌, length, drop, sym, ap, ap₂, subst, ◌∙◌, inl, inr, arith}
 use Rattle.std.proofs.lemmas.Bool.{cases_lt}
-use Rattle.std.proofs.lemmas.List.{get_or_past, get_or_default, get_or-map, length-map, nil_from_length}
+use Rattle.std.proofs.lemmas.List.{length-map}
 use Rattle.std.proofs.lemmas.List.Elements.{All-cons, All-tail}
 use Rattle.gf256.specs.Field.{◌⊕◌, ◌⊗◌}
 use Rattle.gf256.specs.Polynomial.{coef, val}
-use Rattle.gf256.proofs.Xor.{add_zero}
 use Rattle.gf256.proofs.FieldLaws.{mul_one}
 use Rattle.uni_poly.specs.Coefficients.{IsBytes, HasDegreeBelow}
 use Rattle.uni_poly.specs.Coefficients as one
-use Rattle.uni_poly.proofs.Series.{times, times_comm}
+use Rattle.uni_poly.proofs.Series.{times}
 use Rattle.uni_poly.proofs.Coefficients.{IsBytes-from_all}
 use Rattle.uni_poly.proofs.Values.{val_nil, val_cons}
-use Rattle.bi_poly.specs.Rows.{row, cell, column, IsZero, AreBytes}
+use Rattle.bi_poly.specs.Rows.{cell, column, IsZero, AreBytes}
 use Rattle.bi_poly.specs.Substitution.{at_poly_coef, IsShiftedRoot}
-use Rattle.bi_poly.proofs.Composition.{at_series, at_poly_coef-series, times-zero}
+use Rattle.bi_poly.proofs.Composition.{at_series, at_poly_coef-series}
 use Rattle.bi_poly.proofs.Degree.{coef-column}
 use Rattle.bi_poly.proofs.Peeling.{peeled, spread, spread-low, spread-high, stripped-at_poly, zero_from_shifted}
 use Rattle.bi_poly.proofs.Strip.{cell-without_first}
 use Rattle.rr_roots.specs.Roots.{IsYRoot, HasDegreeInYAtMost}
 use Rattle.rr_roots.specs.Descent.{IsRootOfSize, HasLowestColumnDegreeAtMost, IsStripped}
 use Rattle.rr_roots.proofs.Multiplicities.{multiplicity, taylor-multiplicity}
-
--- ---- no coefficient
-
--- q where y is 0 is row 0
-at_nothing : (q : List (List ℕ)) (e : ℕ) → at_poly_coef q [] e ≡ coef (row q 0) e
-unfolding at_series coef
-at_nothing [] e = at_poly_coef-series [] [] e
-at_nothing (r ∷ q) e =
-    at_poly_coef-series (r ∷ q) [] e
-    ∙ ap (◌⊕◌ (coef r e)) (times_comm (coef []) (at_series q (coef [])) e ∙ times-zero (at_series q (coef [])) e) ∙ add_zero _
-
--- nothing is a y-root exactly where row 0 is 0
-pub nothing_is_root : (q : List (List ℕ)) (r : List ℕ) → row q 0 ≡ r → All (λ c. c ≡ 0) r ↔ IsYRoot q []
-unfolding coef
-nothing_is_root q r same = (
-  λ z e. at_nothing q e ∙ ap (λ r. coef r e) same ∙ elim (cases_lt e (length r)) [ inl within ↦ z e 0 within | inr past ↦ get_or_past r e 0 past ],
-  λ h k d l. sym (get_or_default r k 0 d l) ∙ sym (ap (λ r. coef r k) same) ∙ sym (at_nothing q k) ∙ h k,
-)
-
--- row 0 of rows that are seen as lists
-pub first_row : {V : Type 0} (items : V → List ℕ) (rows : List V) (q : List (List ℕ)) (r : V) → map items rows ≡ q → ((d : V) → r ≡ get_or rows 0 d) → 0 < length rows → row q 0 ≡ items r
-first_row items rows q r view is some = ap (λ q. row q 0) (sym view) ∙ get_or-map items rows 0 r [] some ∙ ap items (sym (is r))
-
--- without rows it is empty
-pub no_row : {V : Type 0} (items : V → List ℕ) (rows : List V) (q : List (List ℕ)) → map items rows ≡ q → length rows ≡ 0 → row q 0 ≡ []
-no_row items rows q view none = ap (λ q. row q 0) (sym view) ∙ ap (λ rows. row (map items rows) 0) (nil_from_length rows none)
 
 -- ---- the first coefficient
 
@@ -115,6 +88,13 @@ module _ {whole q : List (List ℕ)} {r : ℕ} (s : IsStripped whole q r) where
         λ h e. let k : r + e - r ≡ e = omega arith in
             ap (at_poly_coef q phi) (sym k) ∙ sym (spread-high (at_poly_coef q phi) r (r + e) (omega arith)) ∙ sym (at (r + e)) ∙ h (r + e),
       )
+
+  -- also those of so many bytes
+  pub roots-of_size : (m n : ℕ) (phi : List ℕ) → m ≡ n → IsRootOfSize q m phi ↔ IsRootOfSize whole n phi
+  roots-of_size m n phi same = (
+    λ a. record { size = a.size ∙ same; bytes = a.bytes; root = (roots-stripped phi).0 a.root },
+    λ b. record { size = b.size ∙ sym same; bytes = b.bytes; root = (roots-stripped phi).1 b.root },
+  )
 
   -- a y-root begins with a root of them
   pub begins_with_root : (n : ℕ) (phi : List ℕ) → 0 < n → IsRootOfSize whole n phi → val (column q 0) (coef phi 0) ≡ 0

@@ -3,3 +3,4 @@ mod Multiplicities
 mod Children
 mod Nodes
 mod ByteValues
+pub mod Places

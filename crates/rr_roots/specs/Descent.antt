@@ -1,6 +1,6 @@
 -- The tree of the roots' coefficients (Roth and Ruckenstein 2000): a node has a polynomial in two variables, and below it
 -- are the y-roots of that polynomial, each after the coefficients on the way to the node.
-use Rattle.std.specs.Prelude.{◌≡◌, ℕ, ◌+◌, ◌<◌, ◌≤◌, ◌↔◌, List, ◌++◌, length, map, All, Contains}
+use Rattle.std.specs.Prelude.{◌≡◌, ℕ, ◌+◌, ◌<◌, ◌≤◌, ◌↔◌, List, [], ◌∷◌, ◌++◌, length, map, All, Contains}
 use Rattle.std.specs.Cmp.Lexicographic.{slice_cmp}
 use Rattle.std.specs.List.Sorted.{IsStrictlySortedBy}
 use Rattle.std.specs.Ordering.{nat_cmp}
@@ -32,6 +32,12 @@ pub record Appends (P : List ℕ → Type 0) (prefix : List ℕ) (old new : List
 pub record AppendsRoots (q : List (List ℕ)) (n : ℕ) (old new : Walk) : Type 0 where
   pub kept : new.prefix.items ≡ old.prefix.items
   pub appends : Appends (IsRootOfSize q n) old.prefix.items (map (λ r. r.items) old.roots.items) (map (λ r. r.items) new.roots.items)
+
+-- and those of one byte that is gamma, or none, after the same prefix
+pub record AppendsLast (q : List (List ℕ)) (gamma : ℕ) (old new : Walk) : Type 0 where
+  pub kept : new.prefix.items ≡ old.prefix.items
+  pub appends : Appends (λ psi. IsRootOfSize q 1 (gamma ∷ psi)) (old.prefix.items ++ gamma ∷ [])
+      (map (λ r. r.items) old.roots.items) (map (λ r. r.items) new.roots.items)
 
 -- there are more roots than before
 abbrev pub HasMoreRoots : Walk → Walk → Type 0

@@ -1,6 +1,6 @@
 -- The values of a polynomial at all bytes, and the powers of bytes that they are made from.
-use Rattle.std.specs.Prelude.{◌≡◌, ℕ, ◌<◌, List, length, slice_index}
-use Rattle.gf256.specs.Field.{power}
+use Rattle.std.specs.Prelude.{◌≡◌, ℕ, ◌*◌, ◌<◌, ◌≤◌, List, length, slice_index}
+use Rattle.gf256.specs.Field.{◌⊗◌, power}
 use Rattle.gf256.specs.Polynomial.{val}
 use Rattle.bi_poly.specs.Rows.{row}
 
@@ -8,6 +8,12 @@ use Rattle.bi_poly.specs.Rows.{row}
 pub record ArePowers (rows : List (List ℕ)) : Type 0 where
   pub size : (e : ℕ) → e < length rows → length (row rows e) ≡ 256
   pub each : (e g : ℕ) → e < length rows → g < 256 → slice_index (row rows e) g ≡ power g e
+
+-- the bytes in the first so many blocks of 16 became their products with their places, and the others stayed
+pub record AreTimesPlaces (before now : List ℕ) (blocks : ℕ) : Type 0 where
+  pub size : length now ≡ length before
+  pub done : (k : ℕ) → k < blocks * 16 → slice_index now k ≡ k ⊗ slice_index before k
+  pub rest : (k : ℕ) → blocks * 16 ≤ k → slice_index now k ≡ slice_index before k
 
 -- at place g is the value of p at the byte g
 pub record AreValues (values p : List ℕ) : Type 0 where

@@ -26,7 +26,7 @@ use uni_poly::steps::Steps;
 fn copy(alloc: Global, q: &BiPoly) -> Result<BiPoly, AllocError>
     ensures { IfOk result (λ c. c ≡ q.now) }
 {
-    let mut rows = Vec::new(alloc);
+    let mut rows = Vec::with_capacity(alloc, q.rows().len())?;
     for row in q.rows() {
         rows.push(Vec::from_slice(alloc, row)?)?;
     }
@@ -42,8 +42,8 @@ fn copy(alloc: Global, q: &BiPoly) -> Result<BiPoly, AllocError>
 /// 0, and at least `t + 1` where there is a root.
 ///
 /// It takes memory for the roots, for a copy of `q`, for 256 bytes for each row of `q`, which are the powers of all bytes,
-/// and for one polynomial on each level of the tree, with as many rows as `q`, each longer by less than that number than
-/// the longest row of the level before. It is a recursion of depth `t + 1`.
+/// and for one polynomial on each level of the tree but the last, with as many rows as `q`, each longer by less than that
+/// number than the longest row of the level before. It is a recursion of depth `t + 1`.
 ///
 /// # Errors
 ///
@@ -67,6 +67,6 @@ pub fn y_roots<N: Ledger>(
     };
     let whole = copy(alloc, q)?;
     let powers = powers_of_bytes(alloc, q.rows().len())?;
-    descend(alloc, whole, &powers, t + 1, &mut walk, nodes)?;
+    descend(alloc, whole, &powers, t, &mut walk, nodes)?;
     Ok(walk.roots)
 }

@@ -1,19 +1,58 @@
 //! The values of a polynomial at all bytes, 16 of them at once.
 
-ghost use Rattle.std.specs.Prelude.{ℕ, ◌≡◌, ◌<◌, ◌≤◌, length, map, slice_index, IfOk};
+ghost use Rattle.std.specs.Prelude.{ℕ, List, ◌≡◌, ◌+◌, ◌<◌, ◌≤◌, length, map, slice_index, IfOk};
 ghost use Rattle.gf256.specs.Field.{◌⊗◌};
-ghost use Rattle.rr_roots.specs.Values.{ArePowers, AreValues};
+ghost use Rattle.gf256.specs.Rows.{AreLanes};
+ghost use Rattle.bi_poly.specs.Rows.{column};
+ghost use Rattle.rr_roots.specs.Values.{ArePowers, AreTimesPlaces, AreValues};
 
-use gf256::rows::add_scaled_row;
+use bi_poly::BiPoly;
+use gf256::rows::{Products, add_scaled_row};
 use std::alloc::{AllocError, Global};
+use std::simd::prelude::*;
+
+/// The product of each of 16 bytes with its place: the sum of those with the powers of two that the place is made of.
+#[inline(always)]
+fn times_first_places(bytes: u8x16) -> u8x16
+    ensures { AreLanes 16 result (λ k. k ⊗ slice_index bytes k) 0 }
+{
+    let ones = u8x16::from_array([
+        0, 255, 0, 255, 0, 255, 0, 255, 0, 255, 0, 255, 0, 255, 0, 255,
+    ]);
+    let twos = u8x16::from_array([
+        0, 0, 255, 255, 0, 0, 255, 255, 0, 0, 255, 255, 0, 0, 255, 255,
+    ]);
+    let fours = u8x16::from_array([
+        0, 0, 0, 0, 255, 255, 255, 255, 0, 0, 0, 0, 255, 255, 255, 255,
+    ]);
+    let eights = u8x16::from_array([
+        0, 0, 0, 0, 0, 0, 0, 0, 255, 255, 255, 255, 255, 255, 255, 255,
+    ]);
+    let low = (bytes & ones) ^ (Products::of(2).times(bytes) & twos);
+    let high = (Products::of(4).times(bytes) & fours) ^ (Products::of(8).times(bytes) & eights);
+    low ^ high
+}
+
+/// Makes of each of the 16 bytes from place `16 * block` on its product with its place.
+#[inline(always)]
+fn times_block(row: &mut [u8], block: usize)
+    requires size { length row.old ≡ 256 }
+    requires inside { block < 16 }
+    ensures { (xs : List ℕ) → AreTimesPlaces xs row.old block → AreTimesPlaces xs row.new (block + 1) }
+{
+    let at = block * 16;
+    let bytes = u8x16::from_slice(&row[at..]);
+    let products = Products::of(at as u8).times(bytes) ^ times_first_places(bytes);
+    products.copy_to_slice(&mut row[at..]);
+}
 
 /// Makes of each of 256 bytes its product with its place.
 fn times_places(row: &mut [u8])
     requires { length row.old ≡ 256 }
     ensures { (g : ℕ) → g < 256 → slice_index row.new g ≡ g ⊗ slice_index row.old g }
 {
-    for g in 0..256usize {
-        row[g] = gf256::mul(g as u8, row[g]);
+    for block in 0..16 {
+        times_block(row, block);
     }
 }
 
@@ -24,30 +63,31 @@ pub(crate) fn powers_of_bytes(alloc: Global, count: usize) -> Result<Vec<Vec<u8>
     ensures size { IfOk result (λ rows. length rows.items ≡ count) }
     ensures powers { IfOk result (λ rows. ArePowers (map (λ r. r.items) rows.items)) }
 {
-    let mut rows = Vec::new(alloc);
-    let mut row = vec![in alloc; 1; 256]?;
-    for _ in 0..count {
-        rows.push(Vec::from_slice(alloc, &row)?)?;
+    let mut rows = Vec::with_capacity(alloc, count)?;
+    if count == 0 {
+        return Ok(rows);
+    }
+    rows.push(vec![in alloc; 1; 256]?)?;
+    for e in 1..count {
+        let mut row = Vec::from_slice(alloc, &rows[e - 1])?;
         times_places(&mut row);
+        rows.push(row)?;
     }
     Ok(rows)
 }
 
-/// The values of `p` at all bytes: at place g that at g. There is a row of powers for each coefficient.
-///
-/// `AllocError` where there is no memory for them.
-pub(crate) fn values_at_bytes(
-    alloc: Global,
-    p: &[u8],
-    powers: &[Vec<u8>],
-) -> Result<Vec<u8>, AllocError>
-    requires enough { length p.now ≤ length powers.now }
+/// The values at all bytes of what stands in `q` before `x^0`: at place g that at g. There is a row of powers for each row of
+/// `q`.
+pub(crate) fn values_at_bytes(q: &BiPoly, powers: &[Vec<u8>]) -> [u8; 256]
+    requires enough { length q.now ≤ length powers.now }
     requires powers { ArePowers (map (λ r. r.items) powers.now) }
-    ensures { IfOk result (λ values. AreValues values.items p.now) }
+    ensures { AreValues result (column q.now 0) }
 {
-    let mut sums = vec![in alloc; 0; 256]?;
-    for e in 0..p.len() {
-        add_scaled_row(&mut sums, &powers[e], p[e]);
+    let rows = q.rows();
+    let mut sums = [0; 256];
+    for e in 0..rows.len() {
+        let constant = rows[e].get(0).copied().unwrap_or(0);
+        add_scaled_row(&mut sums, &powers[e], constant);
     }
-    Ok(sums)
+    sums
 }

@@ -20,7 +20,7 @@ all_copied : (done rows : List (Vec ℕ Global)) (i : ℕ) (q made : List (List 
 all_copied done rows i q made is same past view = is ∙ same ∙ ap seen (take_all i rows past) ∙ view
 
 pub loop-row-init : goal.loop-row-init
-loop-row-init c = ap seen c.new-rows.ensures.items
+loop-row-init c = ap seen c.in_ok-rows.ensures.items
 
 pub loop-row-preserved : goal.loop-row-preserved
 loop-row-preserved c =
@@ -30,8 +30,11 @@ loop-row-preserved c =
 pub loop-row-smaller : goal.loop-row-smaller
 loop-row-smaller c = falls (length c.rows-row-items.result.now) c.loop-row.row-index c.loop-row-test.true
 
+pub returns-in_err-rows : goal.returns-in_err-rows
+returns-in_err-rows c = IfOk-from_err c.from_residual.result _ c.from_residual.ensures.0
+
 pub returns-in_err-from_slice : goal.returns-in_err-from_slice
-returns-in_err-from_slice c = IfOk-from_err c.from_residual.result _ c.from_residual.ensures.0
+returns-in_err-from_slice c = IfOk-from_err c.from_residual-in_err-from_slice.result _ c.from_residual-in_err-from_slice.ensures.0
 
 pub returns-in_err-push : goal.returns-in_err-push
 returns-in_err-push c = IfOk-from_err c.from_residual-in_err-push.result _ c.from_residual-in_err-push.ensures.0

@@ -11,7 +11,10 @@ loop-j-preserved c =
     ∙ sym (map_more (λ (r : List ℕ). coef r c.args.i) c.args.self.now c.loop-j.j [] (omega (arith, c.loop-j-test.true, c.len-j-end.ensures)))
 
 pub returns-in_err-push : goal.returns-in_err-push
-returns-in_err-push c = IfOk-from_err c.from_residual.result _ c.from_residual.ensures.0
+returns-in_err-push c = IfOk-from_err c.from_residual-in_err-push.result _ c.from_residual-in_err-push.ensures.0
 
 pub returns : goal.returns
 returns c = c.loop-j.invariant ∙ ap (map (λ (r : List ℕ). coef r c.args.i)) (take_all c.loop-j.j c.args.self.now (omega (arith, c.loop-j-test.false, c.len-j-end.ensures)))
+
+pub returns-in_err-made : goal.returns-in_err-made
+returns-in_err-made c = IfOk-from_err c.from_residual.result _ c.from_residual.ensures.0

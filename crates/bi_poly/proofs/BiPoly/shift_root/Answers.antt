@@ -51,3 +51,6 @@ returns-in_err-shifted_row c = IfOk-from_err c.from_residual-in_err-shifted_row.
 
 pub returns-in_err-push : goal.returns-in_err-push
 returns-in_err-push c = IfOk-from_err c.from_residual-in_err-push.result _ c.from_residual-in_err-push.ensures.0
+
+pub returns-in_err-rows : goal.returns-in_err-rows
+returns-in_err-rows c = IfOk-from_err c.from_residual-in_err-rows.result _ c.from_residual-in_err-rows.ensures.0

@@ -14,8 +14,8 @@ overflow_add-i c = omega (arith, row_within c.loop-i.i c.args.count c.args.lanes
 
 pub loop-i-init : goal.loop-i-init
 loop-i-init c = record {
-  size = ap length c.new-made.ensures.items;
-  each = below_none (λ k. get_or c.new-made.result.items k 0 ≡ get_or c.args.row.now (k * c.args.lanes + c.args.g) 0);
+  size = ap length c.in_ok-made.ensures.items;
+  each = below_none (λ k. get_or c.in_ok-made.made.items k 0 ≡ get_or c.args.row.now (k * c.args.lanes + c.args.g) 0);
 }
 
 pub loop-i-smaller : goal.loop-i-smaller
@@ -33,8 +33,11 @@ loop-i-preserved c =
           c.loop-i.invariant.each (c.unwrap_or.ensures ∙ ap (λ o. unwrap_or o 0) c.copied.ensures ∙ (search rules));
     }
 
+pub returns-in_err-made : goal.returns-in_err-made
+returns-in_err-made c = IfOk-from_err c.from_residual.result _ c.from_residual.ensures.0
+
 pub returns-in_err-push : goal.returns-in_err-push
-returns-in_err-push c = IfOk-from_err c.from_residual.result _ c.from_residual.ensures.0
+returns-in_err-push c = IfOk-from_err c.from_residual-in_err-push.result _ c.from_residual-in_err-push.ensures.0
 
 pub returns : goal.returns
 returns c =

@@ -1,9 +1,10 @@
 use Rattle.std.proofs.Common.{◌≡◌, ℕ, ◌+◌, ◌-◌, ◌*◌, ◌<◌, ◌≤◌, get_or, inl, inr, ap, subst, ◌∙◌, arith}
-use Rattle.std.proofs.lemmas.Bool.{cases_eq}
+use Rattle.std.proofs.lemmas.Bool.{cases_eq, cases_lt}
 use Rattle.gf256.proofs.FlatRows.{row_within}
 use Rattle.gs_interpolate.specs.Family.{preceding}
 use Rattle.gs_interpolate.proofs.Steps.{preceding-next}
 use Rattle.gs_interpolate.proofs.family.powers_to_step.Goals as goal
+use Rattle.gs_interpolate.proofs.family.powers_to_step.Goals.{then-zeros-test+else-row-powers-eq0, else-zeros-test}
 
 -- a row has the place of each coefficient
 row_fits : (powers count n : ℕ) → 0 < powers → powers ≤ count → (powers - 1) * n + n ≤ count * n
@@ -41,4 +42,16 @@ returns c =
       before = λ i l m.
           let some : i - 1 + 1 ≡ i = omega (arith, l, m) in
           subst (λ k. preceding n p row k ≡ 0) some (preceding-next n p row (i - 1) ∙ c.zeros.invariant.zero (i - 1) (omega (arith, l, m)) (omega (arith, m, some)));
+      least = λ i e.
+          elim c.zeros-test.branch [
+            | then-zeros-test+else-row-powers-eq0 w ↦ elim (cases_lt c.zeros.powers (i + 2)) [
+              | inl fewer ↦
+                  let same : c.zeros.powers - 1 ≡ i = omega (arith, e, c.min.ensures, fewer) in
+                  inr (λ z. w.if-row-powers-eq0.false (ap (λ k. get_or row (k * n + p) 0) same ∙ z))
+              | inr more ↦
+                  let same : c.zeros.powers - 1 ≡ i + 1 = omega (arith, e, c.min.ensures, more, c.zeros.invariant.few) in
+                  inl (λ z. w.if-row-powers-eq0.false (ap (λ k. get_or row (k * n + p) 0) same ∙ z))
+            ]
+            | else-zeros-test w ↦ absurd (omega (arith, e, c.min.ensures, w.zeros-test.false))
+          ];
     }

@@ -53,6 +53,8 @@ loop-w-preserved c =
                 (subst (λ r. IsRowStep c.args.factors.now c.args.p r (window_row n m old w) (m - w)) (sym here)
                 (subst (λ r. IsRowStep c.args.factors.now c.args.p new r (m - w)) (held ∙ c.loop-w.invariant.rest w (omega arith) (omega arith)) c.step_row.ensures))
           ]);
+      others = subst (λ xs. (k : ℕ) → k < c.args.v → k < m → window_row n m xs k ≡ window_row n m old k) (sym back)
+          (λ k before l. other k l (inl (omega (arith, before, c.loop-w.auto.w))) ∙ c.loop-w.invariant.others k before l);
       rest = subst (λ xs. (k : ℕ) → w + 1 ≤ k → k < m → window_row n m xs k ≡ window_row n m old k) (sym back)
           (λ k from l. other k l (inr (omega arith)) ∙ c.loop-w.invariant.rest k (omega arith) l);
     }
@@ -61,6 +63,7 @@ pub returns : goal.returns
 returns c = record {
   size = c.loop-w.auto.cells;
   each = λ w from l. c.loop-w.invariant.each w from (omega arith) l;
+  others = c.loop-w.invariant.others;
 }
 
 pub slice_bounds-step_row-count : goal.slice_bounds-step_row-count

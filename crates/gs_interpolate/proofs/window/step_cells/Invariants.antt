@@ -8,5 +8,6 @@ invariant-loop-w l =
     let n = length l.factors in
     record {
       each : (k : ℕ) → l.v ≤ k → k < l.w → k < l.m → IsRowStep l.factors l.p (window_row n l.m l.cells k) (window_row n l.m l.initial.cells k) (l.m - k);
+      others : (k : ℕ) → k < l.v → k < l.m → window_row n l.m l.cells k ≡ window_row n l.m l.initial.cells k;
       rest : (k : ℕ) → l.w ≤ k → k < l.m → window_row n l.m l.cells k ≡ window_row n l.m l.initial.cells k;
     }

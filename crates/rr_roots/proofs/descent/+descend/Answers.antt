@@ -1,15 +1,15 @@
-use Rattle.std.proofs.Common.{◌≡◌, ◌≢◌, ◌<◌, ◌≤◌, ◌+◌, ◌-◌, ℕ, Fits, w8, w64, le_of_lt, List, [], ◌∷◌, ◌++◌, length, map, take, vec_len, refl, sym, ap, subst, ◌∙◌, arith}
+use Rattle.std.proofs.Common.{◌≡◌, ◌≢◌, ◌<◌, ◌≤◌, ◌+◌, ◌-◌, ◌*◌, ℕ, Fits, w8, w64, List, [], ◌∷◌, ◌++◌, length, map, take, vec_len, refl, ap, subst, ◌∙◌, arith}
 use Rattle.std.proofs.Math.Nat.{le_refl, le-add_right}
 use Rattle.std.proofs.Math.Seq.{take-append_seam}
 use Rattle.std.proofs.lemmas.List.{length-append}
-use Rattle.std.proofs.lemmas.Result.{on_ok_weaker, IfOk-from_err}
+use Rattle.std.proofs.lemmas.Result.{IfOk-from_err}
 use Rattle.gf256.specs.Polynomial.{val}
 use Rattle.bi_poly.specs.Rows.{column}
-use Rattle.rr_roots.specs.Descent.{Appends, AppendsRoots, IsRootOfSize}
-use Rattle.rr_roots.proofs.Children.{first_is_below, root_begins, child-nonzero, child-rows, child-roots, child-degree}
+use Rattle.rr_roots.specs.Descent.{Appends, IsRootOfSize}
+use Rattle.rr_roots.proofs.Children.{first_is_below, root_begins, roots-of_size, child-nonzero, child-rows, child-roots, child-degree}
 use Rattle.rr_roots.proofs.Levels.{appends-none_yet, appends-skip, appends-more, appends-all}
 use Rattle.rr_roots.proofs.Multiplicities.{multiplicity}
-use Rattle.rr_roots.proofs.ByteValues.{value-tested, value-zero}
+use Rattle.rr_roots.proofs.ByteValues.{value-zero, value-other}
 use borrow.Author.Count.{falls}
 use Rattle.rr_roots.proofs.Nodes.{counted, none_begins, nodes-skip, nodes-more, nodes-most, nodes-spent, nodes-least}
 use Rattle.rr_roots.proofs.descent.+descend.Goals as goal
@@ -17,10 +17,6 @@ use Rattle.rr_roots.proofs.descent.+descend.Goals as goal
 -- where it is not 0, it is more
 positive : (n : ℕ) → n ≢ 0 → 0 < n
 positive n some = omega (arith, some)
-
--- a byte's place among 256
-in_place : (n b : ℕ) → n ≡ 256 → b < 256 → b < n
-in_place n b size less = omega (arith, size, less)
 
 -- a byte is a place
 fits : (b : ℕ) → b < 256 → Fits w64 b
@@ -34,24 +30,34 @@ fits_byte b less = omega (arith, less)
 never : (n : ℕ) → n < n → ⊥
 never n less = omega (arith, less)
 
--- with none left nothing is added
-none_left : (n l : ℕ) → l ≡ 0 → n + l ≤ n
-none_left n l none = omega (arith, none)
+-- what stayed twice stayed
+stayed : (xs ys zs : List ℕ) → zs ≡ ys → ys ≡ xs → zs ≡ xs
+stayed xs ys zs later earlier = later ∙ earlier
 
 -- one fewer is left
-fewer : (l t : ℕ) → l ≡ t → l ≢ 0 → l - 1 < t
-fewer l t same some = omega (arith, same, some)
+fewer : (t m : ℕ) → t ≡ m → t ≢ 0 → t - 1 < m
+fewer t m same some = omega (arith, same, some)
 
-pub returns-then-left-eq0-clause-found : goal.returns-then-left-eq0-clause-found
-returns-then-left-eq0-clause-found g t c =
-    on_ok_weaker c.keep_root.result
-    (λ kept. subst (λ left. AppendsRoots c.args.q left c.args.walk.now c.keep_root.new.walk) (sym c.if-left-eq0.true) kept)
-    c.keep_root.ensures
+-- a number and one more
+more_than_none : (t : ℕ) → 0 < t + 1
+more_than_none t = omega arith
+
+-- those that are left
+again : (t : ℕ) → t ≢ 0 → t - 1 + 1 ≡ t + 1 - 1
+again t some = omega (arith, some)
+
+-- on the last level there is one
+only_one : (t : ℕ) → t ≡ 0 → 1 ≡ t + 1
+only_one t none = omega (arith, none)
+
+-- and none after it
+nothing_after : (n t : ℕ) → t ≡ 0 → n + (t + 1 - 1) ≤ n
+nothing_after n t none = omega (arith, none)
 
 pub loop-byte-init : goal.loop-byte-init
 loop-byte-init g t c = record {
   kept = refl;
-  appends = appends-none_yet (IsRootOfSize c.args.q c.args.left) c.args.walk.now.prefix.items (map (λ r. r.items) c.args.walk.now.roots.items);
+  appends = appends-none_yet (IsRootOfSize c.args.q (c.args.t + 1)) c.args.walk.now.prefix.items (map (λ r. r.items) c.args.walk.now.roots.items);
   most = le-add_right c.args.nodes.now _;
   least = λ found. absurd (never (length c.args.walk.now.roots.items) found);
   rises = le_refl c.args.nodes.now;
@@ -59,14 +65,25 @@ loop-byte-init g t c = record {
 
 pub returns-in_err-child-clause-most : goal.returns-in_err-child-clause-most
 returns-in_err-child-clause-most g t c = λ d h.
-    nodes-most c.in_ok-node.ensures.stripped c.args.left c.args.nodes.now c.loop-byte.nodes c.loop-byte.byte d
-    (le_of_lt c.loop-byte-test.true) h c.loop-byte.invariant.most
+    let g = c.loop-byte.byte in
+    let less : g < 256 = c.loop-byte-test.true in
+    nodes-spent c.open-node.ensures.stripped (c.args.t + 1) c.args.nodes.now c.loop-byte.nodes c.tick.new.self c.tick.new.self g d
+    (more_than_none c.args.t) less (value-zero g c.open-node.ensures.values_are less c.if-node-byte-ne0.false) h
+    c.loop-byte.invariant.most c.tick.ensures (le-add_right c.tick.new.self _)
+
+pub returns-in_err-keep_root-clause-most : goal.returns-in_err-keep_root-clause-most
+returns-in_err-keep_root-clause-most g t c = λ d h.
+    let g = c.loop-byte.byte in
+    let less : g < 256 = c.loop-byte-test.true in
+    nodes-spent c.open-node.ensures.stripped (c.args.t + 1) c.args.nodes.now c.loop-byte.nodes c.tick.new.self c.tick.new.self g d
+    (more_than_none c.args.t) less (value-zero g c.open-node.ensures.values_are less c.if-node-byte-ne0.false) h
+    c.loop-byte.invariant.most c.tick.ensures (le-add_right c.tick.new.self _)
 
 pub descend-requires : goal.descend-requires
 descend-requires g t c κs within =
-    let s = c.in_ok-node.ensures.stripped in
+    let s = c.open-node.ensures.stripped in
     let child = c.in_ok-child.ensures.child in (
-      fewer c.args.left t c.decreases c.if-left-eq0.false,
+      fewer c.args.t t c.decreases c.if-t-eq0.false,
       (
         within,
         record {
@@ -79,14 +96,16 @@ descend-requires g t c κs within =
 
 pub returns-in_err-descend-clause-most : goal.returns-in_err-descend-clause-most
 returns-in_err-descend-clause-most g t c = λ d h.
-    let s = c.in_ok-node.ensures.stripped in
+    let s = c.open-node.ensures.stripped in
     let g = c.loop-byte.byte in
-    let p = column c.in_ok-node.node.q 0 in
+    let p = column c.open-node.result.q 0 in
     let less : g < 256 = c.loop-byte-test.true in
-    let zero : val p g ≡ 0 = value-zero g c.index.result.now c.in_ok-node.ensures.values_are less c.index.ensures c.if-index-ne0.false in
-    nodes-spent s c.args.left c.args.nodes.now c.loop-byte.nodes c.tick.new.self c.descend.new.nodes g d
-    (positive c.args.left c.if-left-eq0.false) less zero h
-    c.loop-byte.invariant.most c.tick.ensures (c.descend.ensures.most (multiplicity p g) (child-degree s less c.in_ok-child.ensures.child))
+    let zero : val p g ≡ 0 = value-zero g c.open-node.ensures.values_are less c.if-node-byte-ne0.false in
+    nodes-spent s (c.args.t + 1) c.args.nodes.now c.loop-byte.nodes c.tick.new.self c.descend.new.nodes g d
+    (more_than_none c.args.t) less zero h
+    c.loop-byte.invariant.most c.tick.ensures
+    (subst (λ n. c.descend.new.nodes ≤ c.tick.new.self + n * multiplicity p g) (again c.args.t c.if-t-eq0.false)
+    (c.descend.ensures.most (multiplicity p g) (child-degree s less c.in_ok-child.ensures.child)))
 
 -- a coefficient at the end of what stayed
 with_last : (xs ys zs : List ℕ) (n : ℕ) → zs ≡ ys ++ n ∷ [] → ys ≡ xs → zs ≡ xs ++ n ∷ []
@@ -99,32 +118,31 @@ without_last xs ys zs rest n m pushed kept count popped =
     let k : m - 1 ≡ length xs = omega (arith, length-append xs (n ∷ []), ap length same, count) in
     popped ∙ ap (λ zs. take (m - 1) zs) same ∙ ap (λ k. take k (xs ++ n ∷ [])) k ∙ take-append_seam xs (n ∷ [])
 
-pub loop-byte-preserved-then-index-ne0 : goal.loop-byte-preserved-then-index-ne0
-loop-byte-preserved-then-index-ne0 g t c =
-    let s = c.in_ok-node.ensures.stripped in
+pub loop-byte-preserved-then-node-byte-ne0 : goal.loop-byte-preserved-then-node-byte-ne0
+loop-byte-preserved-then-node-byte-ne0 g t c =
+    let s = c.open-node.ensures.stripped in
     let g = c.loop-byte.byte in
     let less : g < 256 = c.loop-byte-test.true in
-    let tested : val (column c.in_ok-node.node.q 0) g ≡ c.index.result.now = value-tested g c.index.result.now c.in_ok-node.ensures.values_are less c.index.ensures in
     record {
       kept = c.loop-byte.invariant.kept;
-      appends = appends-skip (IsRootOfSize c.args.q c.args.left) g c.args.walk.now.prefix.items (map (λ r. r.items) c.args.walk.now.roots.items) (map (λ r. r.items) c.loop-byte.walk.roots.items)
+      appends = appends-skip (IsRootOfSize c.args.q (c.args.t + 1)) g c.args.walk.now.prefix.items (map (λ r. r.items) c.args.walk.now.roots.items) (map (λ r. r.items) c.loop-byte.walk.roots.items)
           c.loop-byte.invariant.appends
-          (none_begins s c.args.left g (positive c.args.left c.if-left-eq0.false) (λ z. c.if-index-ne0.true (sym tested ∙ z)));
-      most = nodes-skip s c.args.left c.args.nodes.now c.loop-byte.nodes g c.loop-byte.invariant.most;
+          (none_begins s (c.args.t + 1) g (more_than_none c.args.t) (value-other g c.open-node.ensures.values_are less c.if-node-byte-ne0.true));
+      most = nodes-skip s (c.args.t + 1) c.args.nodes.now c.loop-byte.nodes g c.loop-byte.invariant.most;
       least = c.loop-byte.invariant.least;
       rises = c.loop-byte.invariant.rises;
     }
 
 pub loop-byte-preserved : goal.loop-byte-preserved
 loop-byte-preserved g t c =
-    let s = c.in_ok-node.ensures.stripped in
+    let s = c.open-node.ensures.stripped in
     let child = c.in_ok-child.ensures.child in
     let g = c.loop-byte.byte in
-    let p = column c.in_ok-node.node.q 0 in
-    let left = c.args.left in
+    let p = column c.open-node.result.q 0 in
+    let left = c.args.t + 1 in
     let less : g < 256 = c.loop-byte-test.true in
-    let some : 0 < left = positive left c.if-left-eq0.false in
-    let zero : val p g ≡ 0 = value-zero g c.index.result.now c.in_ok-node.ensures.values_are less c.index.ensures c.if-index-ne0.false in
+    let some : 0 < left = more_than_none c.args.t in
+    let zero : val p g ≡ 0 = value-zero g c.open-node.ensures.values_are less c.if-node-byte-ne0.false in
     let prefix = c.args.walk.now.prefix.items in
     let pushed : c.child_at.new.prefix.items ≡ prefix ++ g ∷ [] =
     with_last prefix c.loop-byte.walk.prefix.items c.child_at.new.prefix.items g c.in_ok-child.ensures.prefix c.loop-byte.invariant.kept in
@@ -132,51 +150,74 @@ loop-byte-preserved g t c =
     let old = map (λ r. r.items) c.args.walk.now.roots.items in
     let before = map (λ r. r.items) c.loop-byte.walk.roots.items in
     let new = map (λ r. r.items) c.descend.new.walk.roots.items in
+    let rest : c.args.t - 1 + 1 ≡ left - 1 = again c.args.t c.if-t-eq0.false in
     record {
       kept = without_last prefix c.child_at.new.prefix.items c.descend.new.walk.prefix.items c.pop.new.self.items g (vec_len c.descend.new.walk.prefix)
           pushed c.in_ok-descend.ensures.found.kept c.descend.new.walk.prefix.ok.0 c.pop.ensures.rest;
       appends = appends-more (IsRootOfSize c.args.q left) Sub g prefix old before new (root_begins c.args.q left some)
           (λ psi. child-roots s less child left psi some)
           c.loop-byte.invariant.appends
-          (subst (λ prefix. Appends Sub prefix before new) pushed c.in_ok-descend.ensures.found.appends);
+          (subst (λ n. Appends (IsRootOfSize c.in_ok-child.child n) (prefix ++ g ∷ []) before new) rest
+          (subst (λ prefix. Appends (IsRootOfSize c.in_ok-child.child (c.args.t - 1 + 1)) prefix before new) pushed c.in_ok-descend.ensures.found.appends));
       most = nodes-more s left c.args.nodes.now c.loop-byte.nodes c.tick.new.self c.descend.new.nodes g some less zero
-          c.loop-byte.invariant.most c.tick.ensures (c.in_ok-descend.ensures.most (multiplicity p g) (child-degree s less child));
+          c.loop-byte.invariant.most c.tick.ensures
+          (subst (λ n. c.descend.new.nodes ≤ c.tick.new.self + n * multiplicity p g) rest (c.in_ok-descend.ensures.most (multiplicity p g) (child-degree s less child)));
       least = nodes-least left c.args.nodes.now c.loop-byte.nodes c.tick.new.self c.descend.new.nodes
           (length c.args.walk.now.roots.items) (length c.loop-byte.walk.roots.items) (length c.descend.new.walk.roots.items)
-          some c.loop-byte.invariant.rises c.tick.ensures c.in_ok-descend.ensures.rises c.loop-byte.invariant.least c.in_ok-descend.ensures.least;
+          some c.loop-byte.invariant.rises c.tick.ensures c.in_ok-descend.ensures.rises c.loop-byte.invariant.least
+          (λ more. subst (λ n. c.tick.new.self + n ≤ c.descend.new.nodes) rest (c.in_ok-descend.ensures.least more));
       rises = counted c.args.nodes.now c.loop-byte.nodes c.tick.new.self c.descend.new.nodes c.loop-byte.invariant.rises c.tick.ensures c.in_ok-descend.ensures.rises;
+    }
+
+pub loop-byte-preserved-then-t-eq0 : goal.loop-byte-preserved-then-t-eq0
+loop-byte-preserved-then-t-eq0 g t c =
+    let s = c.open-node.ensures.stripped in
+    let q = c.open-node.result.q in
+    let g = c.loop-byte.byte in
+    let left = c.args.t + 1 in
+    let one : 1 ≡ left = only_one c.args.t c.if-t-eq0.true in
+    let less : g < 256 = c.loop-byte-test.true in
+    let some : 0 < left = more_than_none c.args.t in
+    let zero : val (column q 0) g ≡ 0 = value-zero g c.open-node.ensures.values_are less c.if-node-byte-ne0.false in
+    let Sub = λ (psi : List ℕ). IsRootOfSize q 1 (g ∷ psi) in
+    let before = map (λ r. r.items) c.loop-byte.walk.roots.items in
+    let new = map (λ r. r.items) c.keep_root.new.walk.roots.items in
+    record {
+      kept = stayed c.args.walk.now.prefix.items c.loop-byte.walk.prefix.items c.keep_root.new.walk.prefix.items c.in_ok-keep_root.ensures.kept c.loop-byte.invariant.kept;
+      appends = appends-more (IsRootOfSize c.args.q left) Sub g c.args.walk.now.prefix.items (map (λ r. r.items) c.args.walk.now.roots.items) before new
+          (root_begins c.args.q left some) (λ psi. roots-of_size s 1 left (g ∷ psi) one)
+          c.loop-byte.invariant.appends
+          (subst (λ prefix. Appends Sub (prefix ++ g ∷ []) before new) c.loop-byte.invariant.kept c.in_ok-keep_root.ensures.appends);
+      most = nodes-more s left c.args.nodes.now c.loop-byte.nodes c.tick.new.self c.tick.new.self g some less zero
+          c.loop-byte.invariant.most c.tick.ensures (le-add_right c.tick.new.self _);
+      least = nodes-least left c.args.nodes.now c.loop-byte.nodes c.tick.new.self c.tick.new.self
+          (length c.args.walk.now.roots.items) (length c.loop-byte.walk.roots.items) (length c.keep_root.new.walk.roots.items)
+          some c.loop-byte.invariant.rises c.tick.ensures (le_refl c.tick.new.self) c.loop-byte.invariant.least
+          (λ more. nothing_after c.tick.new.self c.args.t c.if-t-eq0.true);
+      rises = counted c.args.nodes.now c.loop-byte.nodes c.tick.new.self c.tick.new.self c.loop-byte.invariant.rises c.tick.ensures (le_refl c.tick.new.self);
     }
 
 pub returns-clause-found : goal.returns-clause-found
 returns-clause-found g t c = record {
   kept = c.loop-byte.invariant.kept;
-  appends = appends-all (IsRootOfSize c.args.q c.args.left) c.loop-byte.byte c.args.walk.now.prefix.items
+  appends = appends-all (IsRootOfSize c.args.q (c.args.t + 1)) c.loop-byte.byte c.args.walk.now.prefix.items
       (map (λ r. r.items) c.args.walk.now.roots.items) (map (λ r. r.items) c.loop-byte.walk.roots.items)
-      (first_is_below c.args.q c.args.left c.loop-byte.byte c.loop-byte-test.false) c.loop-byte.invariant.appends;
+      (first_is_below c.args.q (c.args.t + 1) c.loop-byte.byte c.loop-byte-test.false) c.loop-byte.invariant.appends;
 }
 
 pub returns-clause-most : goal.returns-clause-most
 returns-clause-most g t c = λ d h.
-    nodes-most c.in_ok-node.ensures.stripped c.args.left c.args.nodes.now c.loop-byte.nodes c.loop-byte.byte d
+    nodes-most c.open-node.ensures.stripped (c.args.t + 1) c.args.nodes.now c.loop-byte.nodes c.loop-byte.byte d
     c.loop-byte.auto.byte-end h c.loop-byte.invariant.most
 
 pub returns-clause-least : goal.returns-clause-least
 returns-clause-least g t c = c.loop-byte.invariant.least
 
-pub returns-then-left-eq0-clause-most : goal.returns-then-left-eq0-clause-most
-returns-then-left-eq0-clause-most g t c = λ d h. le-add_right c.args.nodes.now _
-
-pub returns-then-left-eq0-clause-rises : goal.returns-then-left-eq0-clause-rises
-returns-then-left-eq0-clause-rises g t c = le_refl c.args.nodes.now
-
-pub returns-in_err-node-clause-most : goal.returns-in_err-node-clause-most
-returns-in_err-node-clause-most g t c = λ d h. le-add_right c.args.nodes.now _
-
-pub returns-in_err-node-clause-rises : goal.returns-in_err-node-clause-rises
-returns-in_err-node-clause-rises g t c = le_refl c.args.nodes.now
-
 pub returns-in_err-child-clause-rises : goal.returns-in_err-child-clause-rises
-returns-in_err-child-clause-rises g t c = c.loop-byte.invariant.rises
+returns-in_err-child-clause-rises g t c = counted c.args.nodes.now c.loop-byte.nodes c.tick.new.self c.tick.new.self c.loop-byte.invariant.rises c.tick.ensures (le_refl c.tick.new.self)
+
+pub returns-in_err-keep_root-clause-rises : goal.returns-in_err-keep_root-clause-rises
+returns-in_err-keep_root-clause-rises g t c = counted c.args.nodes.now c.loop-byte.nodes c.tick.new.self c.tick.new.self c.loop-byte.invariant.rises c.tick.ensures (le_refl c.tick.new.self)
 
 pub returns-in_err-descend-clause-rises : goal.returns-in_err-descend-clause-rises
 returns-in_err-descend-clause-rises g t c = counted c.args.nodes.now c.loop-byte.nodes c.tick.new.self c.descend.new.nodes c.loop-byte.invariant.rises c.tick.ensures c.in_err-descend.ensures.rises
@@ -184,20 +225,17 @@ returns-in_err-descend-clause-rises g t c = counted c.args.nodes.now c.loop-byte
 pub returns-clause-rises : goal.returns-clause-rises
 returns-clause-rises g t c = c.loop-byte.invariant.rises
 
-pub returns-then-left-eq0-clause-least : goal.returns-then-left-eq0-clause-least
-returns-then-left-eq0-clause-least g t c = on_ok_weaker c.keep_root.result (λ found some. none_left c.args.nodes.now c.args.left c.if-left-eq0.true) c.keep_root.ensures
-
-pub returns-in_err-node-clause-found : goal.returns-in_err-node-clause-found
-returns-in_err-node-clause-found g t c = IfOk-from_err c.from_residual.result _ c.from_residual.ensures.0
-
-pub returns-in_err-node-clause-least : goal.returns-in_err-node-clause-least
-returns-in_err-node-clause-least g t c = IfOk-from_err c.from_residual.result _ c.from_residual.ensures.0
-
 pub returns-in_err-child-clause-found : goal.returns-in_err-child-clause-found
 returns-in_err-child-clause-found g t c = IfOk-from_err c.from_residual-in_err-child.result _ c.from_residual-in_err-child.ensures.0
 
 pub returns-in_err-child-clause-least : goal.returns-in_err-child-clause-least
 returns-in_err-child-clause-least g t c = IfOk-from_err c.from_residual-in_err-child.result _ c.from_residual-in_err-child.ensures.0
+
+pub returns-in_err-keep_root-clause-found : goal.returns-in_err-keep_root-clause-found
+returns-in_err-keep_root-clause-found g t c = IfOk-from_err c.from_residual.result _ c.from_residual.ensures.0
+
+pub returns-in_err-keep_root-clause-least : goal.returns-in_err-keep_root-clause-least
+returns-in_err-keep_root-clause-least g t c = IfOk-from_err c.from_residual.result _ c.from_residual.ensures.0
 
 pub returns-in_err-descend-clause-found : goal.returns-in_err-descend-clause-found
 returns-in_err-descend-clause-found g t c = IfOk-from_err c.from_residual-in_err-descend.result _ c.from_residual-in_err-descend.ensures.0
@@ -208,8 +246,11 @@ returns-in_err-descend-clause-least g t c = IfOk-from_err c.from_residual-in_err
 pub loop-byte-smaller : goal.loop-byte-smaller
 loop-byte-smaller g t c = falls 256 c.loop-byte.byte c.loop-byte-test.true
 
-pub loop-byte-smaller-then-index-ne0 : goal.loop-byte-smaller-then-index-ne0
-loop-byte-smaller-then-index-ne0 g t c = falls 256 c.loop-byte.byte c.loop-byte-test.true
+pub loop-byte-smaller-then-node-byte-ne0 : goal.loop-byte-smaller-then-node-byte-ne0
+loop-byte-smaller-then-node-byte-ne0 g t c = falls 256 c.loop-byte.byte c.loop-byte-test.true
+
+pub loop-byte-smaller-then-t-eq0 : goal.loop-byte-smaller-then-t-eq0
+loop-byte-smaller-then-t-eq0 g t c = falls 256 c.loop-byte.byte c.loop-byte-test.true
 
 pub overflow_cast-byte : goal.overflow_cast-byte
 overflow_cast-byte g t c = fits c.loop-byte.byte c.loop-byte-test.true
@@ -217,11 +258,8 @@ overflow_cast-byte g t c = fits c.loop-byte.byte c.loop-byte-test.true
 pub overflow_cast-byte-in-loop-byte : goal.overflow_cast-byte-in-loop-byte
 overflow_cast-byte-in-loop-byte g t c = fits_byte c.loop-byte.byte c.loop-byte-test.true
 
-pub overflow_sub-left : goal.overflow_sub-left
-overflow_sub-left g t c = positive c.args.left c.if-left-eq0.false
+pub overflow_sub-t : goal.overflow_sub-t
+overflow_sub-t g t c = positive c.args.t c.if-t-eq0.false
 
-pub index-requires : goal.index-requires
-index-requires g t c = in_place (vec_len c.in_ok-node.node.values) c.loop-byte.byte (c.in_ok-node.node.values.ok.0 ∙ c.in_ok-node.ensures.values_are.size) c.loop-byte-test.true
-
-pub open-requires : goal.open-requires
-open-requires g t c = c.requires
+pub open-node-requires : goal.open-node-requires
+open-node-requires g t c = c.requires

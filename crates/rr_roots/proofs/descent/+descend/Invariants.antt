@@ -6,14 +6,14 @@ use Rattle.rr_roots.proofs.Multiplicities.{roots_below}
 use Rattle.rr_roots.proofs.descent.+descend.Given as goal
 
 abbrev pub decreases-descend : goal.decreases-descend
-decreases-descend g l = l.left
+decreases-descend g l = l.t
 
 abbrev pub invariant-loop-byte : goal.invariant-loop-byte
 invariant-loop-byte g l = record {
   kept : l.walk.prefix.items ≡ l.initial.walk.prefix.items;
-  appends : Appends (HoldsBelow (IsRootOfSize l.fn.q l.fn.left) l.byte) l.initial.walk.prefix.items
+  appends : Appends (HoldsBelow (IsRootOfSize l.fn.q (l.fn.t + 1)) l.byte) l.initial.walk.prefix.items
       (map (λ r. r.items) l.initial.walk.roots.items) (map (λ r. r.items) l.walk.roots.items);
-  most : l.nodes ≤ l.initial.nodes + l.fn.left * roots_below (column l.node.q 0) l.byte;
-  least : length l.initial.walk.roots.items < length l.walk.roots.items → l.initial.nodes + l.fn.left ≤ l.nodes;
+  most : l.nodes ≤ l.initial.nodes + (l.fn.t + 1) * roots_below (column l.node.q 0) l.byte;
+  least : length l.initial.walk.roots.items < length l.walk.roots.items → l.initial.nodes + (l.fn.t + 1) ≤ l.nodes;
   rises : l.initial.nodes ≤ l.nodes;
 }

@@ -1,6 +1,5 @@
 use Rattle.std.proofs.Common.{◌≡◌, ◌≤◌, ℕ, length, drop, ap, ◌∙◌, arith, Vec, Global}
 use Rattle.std.proofs.lemmas.List.{length-map}
-use Rattle.std.proofs.lemmas.Result.{IfOk-from_err}
 use Rattle.rr_roots.proofs.descent.open.Goals as goal
 
 -- what is as much as something at most as much
@@ -10,24 +9,18 @@ fits_in a b c d same fits rows = omega (arith, same, fits, rows)
 pub strip_x-requires : goal.strip_x-requires
 strip_x-requires c = c.requires.nonzero
 
-pub values_at_bytes-requires-clause-enough : goal.values_at_bytes-requires-clause-enough
-values_at_bytes-requires-clause-enough c =
-    let there = ap length (c.deref.ensures.value ∙ c.in_ok-constants.ensures) ∙ length-map c.strip_x.new.self _ ∙ ap length c.strip_x.ensures.quotient ∙ length-map c.args.q (drop _) in
+pub values_at_bytes-values-requires-clause-enough : goal.values_at_bytes-values-requires-clause-enough
+values_at_bytes-values-requires-clause-enough c =
+    let there = ap length c.strip_x.ensures.quotient ∙ length-map c.args.q (drop _) in
     let rows = length-map c.args.powers.now (λ (r : Vec ℕ Global). r.items) in
     fits_in _ _ _ _ there c.requires.enough rows
 
-pub values_at_bytes-requires-clause-powers : goal.values_at_bytes-requires-clause-powers
-values_at_bytes-requires-clause-powers c = c.requires.powers_are
-
-pub returns-in_err-constants : goal.returns-in_err-constants
-returns-in_err-constants c = IfOk-from_err c.from_residual.result _ c.from_residual.ensures.0
-
-pub returns-in_err-values : goal.returns-in_err-values
-returns-in_err-values c = IfOk-from_err c.from_residual-in_err-values.result _ c.from_residual-in_err-values.ensures.0
+pub values_at_bytes-values-requires-clause-powers : goal.values_at_bytes-values-requires-clause-powers
+values_at_bytes-values-requires-clause-powers c = c.requires.powers_are
 
 pub returns : goal.returns
 returns c = record {
   power = c.strip_x.result;
   stripped = record { order = c.strip_x.ensures.order; quotient = c.strip_x.ensures.quotient; bytes = c.coefficients_are_bytes.ensures };
-  values_are = rw (c.deref.ensures.value ∙ c.in_ok-constants.ensures) at c.in_ok-values.ensures;
+  values_are = c.values_at_bytes-values.ensures;
 }

@@ -1,4 +1,4 @@
-use Rattle.std.proofs.Common.{◌≡◌, ℕ, ◌+◌, ◌-◌, ◌*◌, ◌≤◌, ◌^◌, List, [], ◌∷◌, length, map, sym, ap, subst, ◌∙◌, arith, Vec, Global, mul-le-mul}
+use Rattle.std.proofs.Common.{◌≡◌, ℕ, ◌+◌, ◌≤◌, ◌^◌, List, [], ◌∷◌, length, map, sym, ap, subst, ◌∙◌, arith, Vec, Global, mul-le-mul}
 use Rattle.std.proofs.lemmas.List.{length-map, map-append, get_or-map}
 use Rattle.std.proofs.lemmas.Result.{IfOk-from_err}
 use borrow.Author.Count.{falls, below_none}
@@ -12,9 +12,9 @@ use Rattle.gs_interpolate.proofs.basis.Basis.into_lightest.Goals as goal
 
 pub loop-j-init : goal.loop-j-init
 loop-j-init c = record {
-  size = ap length c.new-rows.ensures.items;
-  each = below_none (λ k. AreCoefficients c.self.inside.lanes c.lightest-place.result (c.weight-most.result + 1 - c.self.inside.t * k)
-      (row (bytes_of c.self.inside.rows.items) k) (row (bytes_of c.new-rows.result.items) k));
+  size = ap length c.in_ok-rows.ensures.items;
+  each = below_none (λ k. AreCoefficients c.self.inside.lanes c.lightest-place.result (c.weight.result + 1)
+      (row (bytes_of c.self.inside.rows.items) k) (row (bytes_of c.in_ok-rows.rows.items) k));
 }
 
 pub loop-j-smaller : goal.loop-j-smaller
@@ -24,9 +24,8 @@ pub loop-j-preserved : goal.loop-j-preserved
 loop-j-preserved c =
     let f : Vec ℕ Global → List ℕ = λ r. r.items in
     let n = c.self.inside.lanes in
-    let t = c.self.inside.t in
     let place = c.lightest-place.result in
-    let most = c.weight-most.result in
+    let count = c.weight.result + 1 in
     let rows = bytes_of c.self.inside.rows.items in
     let j = c.loop-j.j in
     let old = c.loop-j.rows.items in
@@ -36,11 +35,10 @@ loop-j-preserved c =
     c.deref.ensures.value ∙ ap f c.index.ensures ∙ sym (get_or-map f c.self.inside.rows.items j _ [] (omega arith)) in
     record {
       size = pushed_size old new made j c.in_ok-push.ensures.items c.loop-j.invariant.size;
-      each = pushed_each (λ k r. AreCoefficients n place (most + 1 - t * k) (row rows k) r) [] (map f old) (map f new) made.items j
+      each = pushed_each (λ k r. AreCoefficients n place count (row rows k) r) [] (map f old) (map f new) made.items j
           (ap (map f) c.in_ok-push.ensures.items ∙ map-append f old (made ∷ []))
           (length-map old f ∙ c.loop-j.invariant.size) c.loop-j.invariant.each
-          (subst (λ count. AreCoefficients n place count (row rows j) made.items) c.saturating_sub-count.ensures
-          (subst (λ r. AreCoefficients n place c.saturating_sub-count.result r made.items) held c.in_ok-coefficients.ensures));
+          (subst (λ r. AreCoefficients n place count r made.items) held c.in_ok-coefficients.ensures);
     }
 
 pub returns : goal.returns
@@ -52,32 +50,29 @@ returns c =
     let count = length-map c.self.inside.rows.items f in
     let all : c.loop-j.j ≡ length s.rows = omega (arith, count, rows) in
     subst (IsLightest s) (sym c.from_rows.ensures)
-    (is_lightest s made c.lightest-place.result c.weight-most.result c.requires c.lightest-place.ensures c.weight-most.ensures.weight
+    (is_lightest s made c.lightest-place.result (c.weight.result + 1) c.requires c.lightest-place.ensures (ap (λ w. w + 1) c.weight.ensures.weight)
     (length-map c.loop-j.rows.items f ∙ c.loop-j.invariant.size ∙ all)
     (λ j l.
-    subst (λ g. AreCoefficients g.lanes c.lightest-place.result (c.weight-most.result + 1 - g.t * j) (row g.rows j) (row made j)) c.self.view_is
+    subst (λ g. AreCoefficients g.lanes c.lightest-place.result (c.weight.result + 1) (row g.rows j) (row made j)) c.self.view_is
     (c.loop-j.invariant.each j (omega (arith, l, all)))))
 
-pub overflow_mul-self-inside : goal.overflow_mul-self-inside
-overflow_mul-self-inside c =
-    let f : Vec ℕ Global → List ℕ = λ r. r.items in
-    let place : c.loop-j.j ≤ MOST_PLACES = omega (arith, c.self.invariant.places, length-map c.self.inside.rows.items f) in
-    omega (arith, mul-le-mul c.self.invariant.weight place)
-
-pub overflow_add-most : goal.overflow_add-most
-overflow_add-most c = omega (arith, c.weight-most.ensures.small)
+pub overflow_add-count : goal.overflow_add-count
+overflow_add-count c = omega (arith, c.weight.ensures.small)
 
 pub coefficients-requires : goal.coefficients-requires
 coefficients-requires c =
     let place : c.lightest-place.result ≤ MOST_PLACES = omega (arith, c.lightest-place.ensures.inside, c.self.invariant.places, ap (λ s. length s.rows) c.self.view_is) in
-    let count : c.saturating_sub-count.result ≤ 2 ^ 33 = omega (arith, c.saturating_sub-count.ensures, c.weight-most.ensures.small) in
+    let count : c.weight.result + 1 ≤ 2 ^ 33 = omega (arith, c.weight.ensures.small) in
     omega (arith, mul-le-mul count c.self.invariant.width, place)
 
-pub weight-most-requires : goal.weight-most-requires
-weight-most-requires c = c.lightest-place.ensures.inside
+pub weight-requires : goal.weight-requires
+weight-requires c = c.lightest-place.ensures.inside
+
+pub returns-in_err-rows : goal.returns-in_err-rows
+returns-in_err-rows c = IfOk-from_err c.from_residual.result _ c.from_residual.ensures.0
 
 pub returns-in_err-coefficients : goal.returns-in_err-coefficients
-returns-in_err-coefficients c = IfOk-from_err c.from_residual.result _ c.from_residual.ensures.0
+returns-in_err-coefficients c = IfOk-from_err c.from_residual-in_err-coefficients.result _ c.from_residual-in_err-coefficients.ensures.0
 
 pub returns-in_err-push : goal.returns-in_err-push
 returns-in_err-push c = IfOk-from_err c.from_residual-in_err-push.result _ c.from_residual-in_err-push.ensures.0

@@ -1,4 +1,4 @@
-use Rattle.std.proofs.Common.{◌≡◌, ◌+◌, ◌*◌, ◌/◌, ◌%◌, ◌≤◌, List, [], ◌∷◌, ℕ, length, map, sum, get_or, refl, sym, ap, subst, ◌∙◌, arith, Vec, Global}
+use Rattle.std.proofs.Common.{◌≡◌, ◌+◌, ◌*◌, ◌/◌, ◌%◌, ◌^◌, ◌≤◌, List, [], ◌∷◌, ℕ, length, map, sum, get_or, refl, sym, ap, subst, ◌∙◌, arith, mul-le-mul, Vec, Global}
 use Rattle.std.proofs.Math.Nat.{mul-mod_left}
 use Rattle.std.proofs.lemmas.List.{length-map, map-append, length-replicate, get_or-replicate}
 use Rattle.std.proofs.lemmas.List.Folds.{sum_by-replicate}
@@ -7,6 +7,7 @@ use borrow.Author.Count.{falls, below_none}
 use Rattle.bi_poly.specs.Rows.{row}
 use Rattle.gs_interpolate.specs.Family.{member}
 use Rattle.gs_interpolate.specs.Basis.{IsLed, IsPowerRow}
+use Rattle.gs_interpolate.specs.declared.basis.TheConstants.{MOST_PLACES}
 use Rattle.gs_interpolate.proofs.Leading.{led-power}
 use Rattle.gs_interpolate.proofs.Pushed.{pushed_size, pushed_each}
 use Rattle.gs_interpolate.proofs.basis.Basis.new.Goals as goal
@@ -58,13 +59,27 @@ overflow_add-lanes c = omega arith
 pub overflow_mul-lanes : goal.overflow_mul-lanes
 overflow_mul-lanes c = omega arith
 
-pub power_row-requires : goal.power_row-requires
-power_row-requires c = omega arith
+pub power_row-requires-clause-inside : goal.power_row-requires-clause-inside
+power_row-requires-clause-inside c = omega (arith, c.loop-j-test.true)
+
+pub power_row-requires-clause-small : goal.power_row-requires-clause-small
+power_row-requires-clause-small c =
+    let few : c.saturating_sub-powers.result ≤ 2 ^ 32 = omega (arith, c.saturating_sub-powers.ensures) in
+    let wide : (c.args.n + 15) / 16 * 16 ≤ 2 ^ 18 = omega (arith, c.requires.few) in
+    omega (arith, mul-le-mul few wide)
+
+pub overflow_mul-t : goal.overflow_mul-t
+overflow_mul-t c =
+    let place : c.loop-j.j ≤ MOST_PLACES = omega (arith, c.loop-j-test.true, c.requires.few) in
+    omega (arith, mul-le-mul c.requires.weight place)
+
+pub returns-in_err-rows : goal.returns-in_err-rows
+returns-in_err-rows c = IfOk-from_err c.from_residual.result _ c.from_residual.ensures.0
 
 pub loop-j-init : goal.loop-j-init
 loop-j-init c = record {
-  size = ap length c.new-rows.ensures.items;
-  each = below_none (λ k. IsPowerRow ((c.args.n + 15) / 16 * 16) (row (map (λ r. r.items) c.new-rows.result.items) k) k);
+  size = ap length c.in_ok-rows.ensures.items;
+  each = below_none (λ k. IsPowerRow ((c.args.n + 15) / 16 * 16) (row (map (λ r. r.items) c.in_ok-rows.rows.items) k) k);
 }
 
 pub loop-j-smaller : goal.loop-j-smaller
@@ -84,7 +99,7 @@ loop-j-preserved c =
     }
 
 pub returns-in_err-power_row : goal.returns-in_err-power_row
-returns-in_err-power_row c = IfOk-from_err c.from_residual.result _ c.from_residual.ensures.0
+returns-in_err-power_row c = IfOk-from_err c.from_residual-in_err-power_row.result _ c.from_residual-in_err-power_row.ensures.0
 
 pub returns-in_err-push : goal.returns-in_err-push
 returns-in_err-push c = IfOk-from_err c.from_residual-in_err-push.result _ c.from_residual-in_err-push.ensures.0

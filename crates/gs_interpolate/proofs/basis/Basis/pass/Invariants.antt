@@ -9,7 +9,7 @@ invariant-rows l = record {
   order : l.window.m ≡ l.m;
   first : l.window.a ≡ l.a;
   second : l.window.b ≡ l.b;
-  room : length l.factors.items ≡ l.self.lanes;
+  room : length l.factors ≡ l.self.lanes;
   window : IsLightWindow l.self l.window l.v;
   under : IsUnder l.fn.self l.self (condition_at l.window 0 l.v) l.m;
 }
@@ -19,7 +19,7 @@ invariant-orders l = record {
   order : l.window.m ≡ l.m;
   first : l.window.a ≡ l.a;
   second : l.window.b ≡ l.b;
-  room : length l.factors.items ≡ l.self.lanes;
+  room : length l.factors ≡ l.self.lanes;
   window : IsLightWindow l.self l.window l.v;
   under : IsUnder l.fn.self l.self (condition_at l.window l.u l.v) l.m;
 }

@@ -1,11 +1,12 @@
-use Rattle.std.proofs.Common.{◌≡◌, ◌+◌, ◌≤◌, List, [], ◌∷◌, ℕ, length, sum, get_or, sym, ap, subst, ◌∙◌, arith, inl, inr}
+use Rattle.std.proofs.Common.{◌≡◌, ◌+◌, ◌≤◌, List, [], ◌∷◌, ℕ, length, sum, get_or, sym, ap, subst, ◌∙◌, arith, inl, inr, take_at}
 use Rattle.std.proofs.Math.Nat.{div-le_self}
 use Rattle.std.proofs.lemmas.Bool.{cases_lt}
-use Rattle.std.proofs.lemmas.List.{get_or_default}
+use Rattle.std.proofs.lemmas.List.{get_or_default, length-replicate}
 use Rattle.std.proofs.lemmas.Result.{IfOk-weaker}
 use Rattle.interpolation.specs.Interpolant.{IsInterpolant}
 use Rattle.interpolation.specs.Monomials.{conditions}
-use Rattle.gs_interpolate.specs.Basis.{HaveZero}
+use Rattle.interpolation.specs.declared.TheConstants.{MOST_MULTIPLICITY}
+use Rattle.gs_interpolate.specs.Basis.{HaveZero, IsPassing}
 use Rattle.gs_interpolate.specs.Layout.{IsLayout}
 use Rattle.gs_interpolate.proofs.Passing.{conditions-next, conditions-more}
 use Rattle.gs_interpolate.proofs.Lightest.{lightest_interpolates}
@@ -45,7 +46,7 @@ new-requires-clause-few c = omega (arith, c.in_ok-lengths.ensures.rows, c.len.en
 pub pass-requires-clause-room : goal.pass-requires-clause-room
 pass-requires-clause-room c =
     let more = conditions-more c.loop-a.a-index (length c.args.points.now) c.args.m c.loop-a-test.true in
-    omega (arith, more, c.loop-a.invariant.few, c.requires.few)
+    omega (arith, more, c.loop-a.invariant.few, c.requires.few, ap (conditions 1) c.loop-a.invariant.order)
 
 pub loop-a-init : goal.loop-a-init
 loop-a-init c =
@@ -56,6 +57,9 @@ loop-a-init c =
       size = let size = made.size in omega (arith, size, c.len.ensures);
       basis = made.basis;
       zeros = λ k l. absurd (omega (arith, l));
+      lanes = c.in_ok-window.ensures.0 ∙ c.lanes.ensures.lanes;
+      order = c.in_ok-window.ensures.1;
+      room = ap length (c.in_ok-factors.ensures.items_if_clones_equal (λ y e. e)) ∙ length-replicate _ 0 ∙ c.lanes-2.ensures.lanes;
       few = let none = made.exponents in omega (arith, none);
     }
 
@@ -66,7 +70,9 @@ loop-a-preserved c =
     let m = c.args.m in
     let points = c.args.points.now in
     let new = c.pass.new.self in
-    let passed = c.in_ok-pass.ensures in
+    let made = c.in_ok-window-2.ensures.window in
+    let passed = subst (IsPassing c.loop-a.basis new (get_or points i (0, 0)).0 (get_or points i (0, 0)).1) h.order c.in_ok-window-2.ensures.passing in
+    let alike = ap (λ s. s.lanes) passed.alike in
     record {
       weight = ap (λ s. s.t) passed.alike ∙ h.weight;
       degree = ap (λ s. s.d) passed.alike ∙ h.degree;
@@ -79,6 +85,11 @@ loop-a-preserved c =
                 let same : i ≡ k = omega (arith, l, past) in
                 subst (λ x. HaveZero new (get_or points x (0, 0)).0 (get_or points x (0, 0)).1 m) same passed.zeros
           ];
+      lanes = made.0 ∙ sym alike;
+      order = made.1 ∙ h.order;
+      room =
+          ap length (take_at c.pass.new.factors _ c.loop-a.factors.len (c.pass.auto.factors ∙ c.deref_mut.ensures.len))
+          ∙ c.pass.auto.factors ∙ ap length c.deref_mut.ensures.value ∙ h.room ∙ sym alike;
       few = let rise = passed.rise in let few = h.few in let next = conditions-next i m in omega (arith, rise, few, next);
     }
 
@@ -112,10 +123,16 @@ pub offset_bounds-points-a-index : goal.offset_bounds-points-a-index
 offset_bounds-points-a-index c = omega arith
 
 pub pass-requires-clause-multiplicity : goal.pass-requires-clause-multiplicity
-pass-requires-clause-multiplicity c = c.requires.multiplicity
+pass-requires-clause-multiplicity c = subst (λ m. (1 ≤ m) × (m ≤ MOST_MULTIPLICITY)) (sym c.loop-a.invariant.order) c.requires.multiplicity
 
 pub pass-requires-clause-basis : goal.pass-requires-clause-basis
 pass-requires-clause-basis c = c.loop-a.invariant.basis
+
+pub pass-requires-clause-lanes : goal.pass-requires-clause-lanes
+pass-requires-clause-lanes c = c.loop-a.invariant.lanes
+
+pub pass-requires-clause-factors : goal.pass-requires-clause-factors
+pass-requires-clause-factors c = ap length c.deref_mut.ensures.value ∙ c.loop-a.invariant.room
 
 pub into_lightest-requires : goal.into_lightest-requires
 into_lightest-requires c = c.loop-a.invariant.basis

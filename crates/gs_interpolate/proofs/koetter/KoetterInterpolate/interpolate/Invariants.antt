@@ -10,5 +10,8 @@ invariant-loop-a l = record {
   size : length l.basis.rows ≡ length l.lengths.items;
   basis : IsBasis l.basis;
   zeros : (k : ℕ) → k < l.a-index → HaveZero l.basis (get_or l.points k (0, 0)).0 (get_or l.points k (0, 0)).1 l.m;
+  lanes : l.window.lanes ≡ l.basis.lanes;
+  order : l.window.m ≡ l.m;
+  room : length l.factors.items ≡ l.basis.lanes;
   few : sum l.basis.exponents ≤ conditions l.a-index l.m;
 }

@@ -4,6 +4,7 @@ use Rattle.std.proofs.lemmas.List.{length-replicate, get_or-replicate, get_or_pa
 use Rattle.std.proofs.Math.Nat.{mul-le-mul_right}
 use Rattle.gf256.specs.Field.{power}
 use Rattle.uni_poly.specs.Taylor.{taylor}
+use Rattle.bi_poly.proofs.Shift.{filled}
 use Rattle.bi_poly.specs.Rows.{row}
 use Rattle.gs_interpolate.specs.Family.{lane}
 use Rattle.gs_interpolate.specs.Expansion.{AreExpanded, IsPieceAdded}
@@ -13,7 +14,7 @@ use Rattle.gs_interpolate.specs.declared.basis.TheConstants.{MOST_LANES}
 use Rattle.gs_interpolate.specs.declared.expansion.TheConstants.{MOST_TERMS}
 use Rattle.gs_interpolate.proofs.Expansions.{steps_of}
 use Rattle.gs_interpolate.proofs.Windows.{AreValuesFolded, values_folded-none, values_folded-next, values_folded-all, expanded-at, is_window}
-use Rattle.gs_interpolate.proofs.window.Window.of.Goals as goal
+use Rattle.gs_interpolate.proofs.window.Window.at.Goals as goal
 
 -- zeros are zeros at all places
 zeros_at : (n k : ℕ) (zeros : List ℕ) → zeros ≡ replicate n 0 → get_or zeros k 0 ≡ 0
@@ -30,32 +31,35 @@ cells_fit e m n terms few wide = mul-le-mul terms (mul-le-mul few wide)
 
 pub overflow_mul-terms : goal.overflow_mul-terms
 overflow_mul-terms c =
-    let few : c.next_power_of_two-terms.result ≤ MOST_TERMS = omega (arith, c.next_power_of_two-terms.ensures.upper_bound, c.requires.terms) in
-    let fit = cells_fit c.next_power_of_two-terms.result c.args.m c.args.lanes few c.requires.terms.1 c.requires.few in
+    let m = ap (λ w. w.m) c.self.view_is in
+    let lanes = ap (λ w. w.lanes) c.self.view_is in
+    let few : c.next_power_of_two-terms.result ≤ MOST_TERMS = omega (arith, c.next_power_of_two-terms.ensures.upper_bound, c.requires.terms, m) in
+    let fit = cells_fit c.next_power_of_two-terms.result c.self.inside.m c.self.inside.lanes few (omega (arith, c.requires.terms, m)) (omega (arith, c.requires.few, lanes)) in
     omega (arith, fit)
 
 pub loop-j-init : goal.loop-j-init
 loop-j-init c =
-    let n = c.args.lanes in
-    let s = c.args.m * n in
+    let n = c.self.inside.lanes in
+    let s = c.self.inside.m * n in
     let e = c.next_power_of_two-terms.result in
-    let zeros = c.in_ok-cells.ensures.items_if_clones_equal (λ y e. e) in
+    let zeros = filled c.resize.new.self.items _ (e * s) _ c.clear.ensures.items c.clear.ensures.len c.in_ok-resize.ensures.items in
+    let room = filled c.resize-2.new.self.items _ (e * n) _ c.clear-2.ensures.items c.clear-2.ensures.len c.in_ok-resize-2.ensures.items in
     record {
       size = ap length zeros ∙ length-replicate (e * s) 0;
-      first = ap length (c.in_ok-first.ensures.items_if_clones_equal (λ y e. e)) ∙ length-replicate (e * n) 0;
-      values = values_folded-none s e n c.args.a c.args.b (map (λ r. r.items) c.args.rows.now) c.in_ok-cells.cells.items (λ k. zeros_at (e * s) k c.in_ok-cells.cells.items zeros);
+      first = ap length room ∙ length-replicate (e * n) 0;
+      values = values_folded-none s e n c.args.a c.args.b (map (λ r. r.items) c.args.rows.now) c.resize.new.self.items (λ k. zeros_at (e * s) k c.resize.new.self.items zeros);
     }
 
 pub expand_row-requires-clause-few : goal.expand_row-requires-clause-few
-expand_row-requires-clause-few c = omega (arith, c.next_power_of_two-terms.ensures.upper_bound, c.requires.terms)
+expand_row-requires-clause-few c = omega (arith, c.next_power_of_two-terms.ensures.upper_bound, c.requires.terms, ap (λ w. w.m) c.self.view_is)
 
 pub expand-requires-clause-few : goal.expand-requires-clause-few
-expand-requires-clause-few c = omega (arith, c.next_power_of_two-terms.ensures.upper_bound, c.requires.terms)
+expand-requires-clause-few c = omega (arith, c.next_power_of_two-terms.ensures.upper_bound, c.requires.terms, ap (λ w. w.m) c.self.view_is)
 
 pub loop-j-preserved : goal.loop-j-preserved
 loop-j-preserved c =
-    let n = c.args.lanes in
-    let m = c.args.m in
+    let n = c.self.inside.lanes in
+    let m = c.self.inside.m in
     let s = m * n in
     let e = c.next_power_of_two-terms.result in
     let a = c.args.a in
@@ -67,7 +71,8 @@ loop-j-preserved c =
     let now = c.add_values.new.sums in
     let few : m ≤ e = c.next_power_of_two-terms.ensures.lower_bound in
     let wide = mul-le-mul_right n few in
-    let some : 1 ≤ e = omega (arith, few, c.requires.terms) in
+    let some : 1 ≤ e = omega (arith, few, c.requires.terms, ap (λ w. w.m) c.self.view_is) in
+    let any : 1 ≤ n = omega (arith, c.requires.some, ap (λ w. w.lanes) c.self.view_is) in
     let inside : j < length rows = omega (arith, c.loop-j-test.true, length-map c.args.rows.now f) in
     let held : c.deref.result.now ≡ row rows j = c.deref.ensures.value ∙ ap f c.index-rows-j.is ∙ sym (get_or-map f c.args.rows.now j _ [] c.loop-j-test.true) in
     let size-made : length made ≡ e * n = c.expand_row.auto.made ∙ ap length c.deref_mut.ensures.value ∙ c.loop-j.invariant.first in
@@ -78,7 +83,7 @@ loop-j-preserved c =
     let each = subst (λ r. AreExpanded n e a made (λ g. lane n g r)) held c.expand_row.ensures in
     let are : (k : ℕ) → k < s → get_or values k 0 ≡ taylor (lane n (k % n) (row rows j)) a (k / n) = λ k l.
     get_or-take s c.deref-in-loop-j.result.now k 0 l ∙ ap (λ xs. get_or xs k 0) whole
-    ∙ expanded-at n e a made (row rows j) k c.requires.some (omega (arith, l, wide)) each in
+    ∙ expanded-at n e a made (row rows j) k any (omega (arith, l, wide)) each in
     let added = subst (λ (xs : List ℕ). IsPieceAdded (power b (j - j % e)) (j % e) values now xs) c.deref_mut-in-loop-j.ensures.value c.add_values.ensures in
     let cells = take_at now _ c.loop-j.cells.len (c.add_values.ensures.size ∙ c.deref_mut-in-loop-j.ensures.len) in
     record {
@@ -90,8 +95,8 @@ loop-j-preserved c =
 
 pub returns : goal.returns
 returns c =
-    let n = c.args.lanes in
-    let m = c.args.m in
+    let n = c.self.inside.lanes in
+    let m = c.self.inside.m in
     let s = m * n in
     let e = c.next_power_of_two-terms.result in
     let a = c.args.a in
@@ -102,9 +107,13 @@ returns c =
     let cells = c.loop-j.cells.items in
     let all : c.loop-j.j ≡ length rows = omega (arith, c.loop-j-test.false, length-map c.args.rows.now f) in
     let items = c.truncate.ensures.items ∙ ap (take (m * s)) (take_at made _ c.loop-j.cells.len (c.expand.auto.cells ∙ c.deref_mut-2.ensures.len)) in
-    let some : 1 ≤ s = let most = mul-le-mul_right n c.requires.terms.0 in omega (arith, most, c.requires.some) in
+    let order = ap (λ w. w.m) c.self.view_is in
+    let lanes = ap (λ w. w.lanes) c.self.view_is in
+    let once : 1 ≤ m = omega (arith, c.requires.terms, order) in
+    let some : 1 ≤ s = let most = mul-le-mul_right n once in omega (arith, most, c.requires.some, lanes) in
     let expanded = subst (λ xs. AreExpanded s e b made (λ k. lane s k xs)) c.deref_mut-2.ensures.value c.expand.ensures in
     let done = values_folded-all s e m n a b rows cells made some c.next_power_of_two-terms.ensures.lower_bound c.loop-j.invariant.size
     (subst (AreValuesFolded s e n a b rows cells) all c.loop-j.invariant.values) expanded in
-    subst (λ xs. IsWindow n m a b rows (record { lanes = n; m = m; a = a; b = b; cells = xs })) (sym items)
-    (is_window n m a b (take (m * s) made) rows (omega (arith, c.requires.wide, length-map c.args.rows.now f)) done)
+    subst (λ w. IsWindow w.lanes w.m a b rows (record { lanes = n; m = m; a = a; b = b; cells = c.truncate.new.self.items })) c.self.view_is
+    (subst (λ xs. IsWindow n m a b rows (record { lanes = n; m = m; a = a; b = b; cells = xs })) (sym items)
+    (is_window n m a b (take (m * s) made) rows (omega (arith, c.requires.wide, lanes, length-map c.args.rows.now f)) done))

@@ -1,6 +1,6 @@
 use Rattle.std.proofs.Common.{◌≡◌, ◌*◌, length, map}
 use Rattle.gs_interpolate.proofs.Windows.{AreValuesFolded}
-use Rattle.gs_interpolate.proofs.window.Window.of.Given as goal
+use Rattle.gs_interpolate.proofs.window.Window.at.Given as goal
 
 abbrev pub invariant-loop-j : goal.invariant-loop-j
 invariant-loop-j l = record {
