@@ -1,6 +1,6 @@
 #!/usr/bin/env bash
 # Times the list of one column by Koetter's iteration, as the gate builds it and for AVX2, each beside the C++ program column.cc of
-# a folder, built for the same lanes, where that and a compiler are there.
+# a folder, built for the same lanes, at the same points, where that and a compiler are there.
 # usage: bench/decoder.sh [ROUNDS [FOLDER]]
 set -eu
 top=$(cd "$(dirname "$0")/.." && pwd)
@@ -17,7 +17,7 @@ elif ! command -v g++ >/dev/null; then
   echo "g++ isn't installed: the C++ program is skipped, and there is no ratio"
 else
   for lanes in $(each_build); do
-    g++ -O3 -std=c++17 "-m$lanes" -w "$peers/column.cc" -o "$built/column-$lanes" -lpthread
+    g++ -O3 -std=c++17 "-m$lanes" -w "-I$peers" "$top/bench/column_points.cc" -o "$built/column-$lanes" -lpthread
   done
   have=yes
 fi
@@ -49,17 +49,18 @@ turn() {
   local program count time
   program=$(built_for "$1")
   count=$((rounds * often))
-  if [ $have = yes ]; then
-    "$built/column-$1" bench 0.1 "$k,$t,$h" >"$built/lines"
-    time=$(awk -F'|' '$2 ~ /^ *few/ { split($4, a, " "); split($5, b, " "); print a[1] + b[1] }' "$built/lines")
-    theirs[$1]=$(least "${theirs[$1]-}" "$time")
-  fi
   # shellcheck disable=SC2046
   read -r time agree_count < <("$program" column "$t" "$h" "$count" $(points agree "$k"))
   agree[$1]=$(least "${agree[$1]-}" "$time")
   # shellcheck disable=SC2046
   read -r time few_count < <("$program" column "$t" "$h" "$count" $(points few "$k"))
   few[$1]=$(least "${few[$1]-}" "$time")
+  if [ $have = yes ]; then
+    # shellcheck disable=SC2046
+    read -r time theirs_count _ < <("$built/column-$1" "$t" "$h" "$count" $(points few "$k"))
+    theirs[$1]=$(least "${theirs[$1]-}" "$time")
+    [ "$theirs_count" = "$few_count" ] || echo "$k,$t,$h: we list $few_count, C++ $theirs_count" >&2
+  fi
 }
 
 # milliseconds NANOSECONDS
@@ -75,6 +76,6 @@ for shape in "8 1 3 40" "8 3 5 10" "20 3 8 2" "32 5 13 1" "32 28 30 1" "32 15 23
   done
   for lanes in $(each_build); do
     told "column $k,$t,$h agree, $lanes, $agree_count listed" "$(milliseconds "${agree[$lanes]}")" ""
-    told "column $k,$t,$h few, $lanes, $few_count listed" "$(milliseconds "${few[$lanes]}")" "${theirs[$lanes]-}"
+    told "column $k,$t,$h few, $lanes, $few_count listed" "$(milliseconds "${few[$lanes]}")" "${theirs[$lanes]:+$(milliseconds "${theirs[$lanes]}")}"
   done
 done
