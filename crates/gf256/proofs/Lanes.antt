@@ -15,10 +15,10 @@ abbrev pub down : ℕ → ℕ → ℕ
 down a b = a / 2 ^ b
 
 -- a byte is the sum of its low four bits and its high four
-halves : (f x : ℕ) → f ⊗ (x % 16) ⊕ f ⊗ (x / 16 * 16) ≡ f ⊗ x
-halves f x =
-    sym (mul_add f (x % 16) (x / 16 * 16))
-    ∙ ap (λ y. f ⊗ y) (add_comm (x % 16) (x / 16 * 16) ∙ add_parts (x / 16) (x % 16) 4 (mod_below x 16 (lit< tt)) ∙ omega arith)
+halves : (f l h : ℕ) → l < 16 → f ⊗ l ⊕ f ⊗ (h * 16) ≡ f ⊗ (h * 16 + l)
+halves f l h low =
+    sym (mul_add f l (h * 16))
+    ∙ ap (λ y. f ⊗ y) (add_comm l (h * 16) ∙ add_parts h l 4 low)
 
 -- a swizzle whose blocks are all the same table looks up in that table
 pub looked_up : (blocks : List ℕ) (f : ℕ → ℕ) (n i : ℕ) (js : List ℕ) → i + length js ≤ n → Each1 (λ j. j < 16) js
@@ -44,31 +44,44 @@ high_places (x ∷ xs) zero e bytes = absurd (omega arith)
 high_places (x ∷ xs) (suc n) e bytes = (let b = bytes.0 in omega arith, high_places xs n (omega arith) bytes.1)
 
 -- the product of one byte, from what the two tables have
-at_halves : (f x : ℕ) → x < 256
-    → bit_xor (get_or (low_of f) (bit_and x 15) 0) (get_or (high_of f) (down x 4) 0) ≡ f ⊗ x
+at_halves : (f l h : ℕ) → l < 16 → h < 16
+    → bit_xor (get_or (low_of f) l 0) (get_or (high_of f) h 0) ≡ f ⊗ (h * 16 + l)
 unfolding ◌⊕◌
-at_halves f x byte =
+at_halves f l h low high =
     ap₂ bit_xor
-    (ap (λ p. get_or (low_of f) p 0) (and_mask x 4)
-    ∙ get_or-map-range_with_len (λ i. f ⊗ i) 0 16 (x % 16) (x % 16) 0 (mod_below x 16 (lit< tt)) (omega arith))
-    (get_or-map-range_with_len (λ i. f ⊗ (i * 16)) 0 16 (x / 16) (x / 16) 0 (omega arith) (omega arith))
-    ∙ halves f x
+    (get_or-map-range_with_len (λ i. f ⊗ i) 0 16 l l 0 low (omega arith))
+    (get_or-map-range_with_len (λ i. f ⊗ (i * 16)) 0 16 h h 0 high (omega arith))
+    ∙ halves f l h low
 
 -- the products, from what the two tables have
-looked_up-times : (f : ℕ) (v : List ℕ) → Each1 (λ x. x < 256) v
-    → zip2 bit_xor (map (λ j. get_or (low_of f) j 0) (map (λ x. bit_and x 15) v))
-    (map (λ j. get_or (high_of f) j 0) (map (λ x. down x 4) v))
-    ≡ map (λ x. f ⊗ x) v
-looked_up-times f [] bytes = refl
-looked_up-times f (x ∷ xs) bytes = ap₂ (λ y ys. y ∷ ys) (at_halves f x bytes.0) (looked_up-times f xs bytes.1)
+looked_up-times : (f : ℕ) (ls hs : List ℕ) → Each1 (λ l. l < 16) ls → Each1 (λ h. h < 16) hs
+    → zip2 bit_xor (map (λ l. get_or (low_of f) l 0) ls) (map (λ h. get_or (high_of f) h 0) hs)
+    ≡ zip2 (λ l h. f ⊗ (h * 16 + l)) ls hs
+looked_up-times f [] hs low high = refl
+looked_up-times f (l ∷ ls) [] low high = refl
+looked_up-times f (l ∷ ls) (h ∷ hs) low high =
+    ap₂ (λ y ys. y ∷ ys) (at_halves f l h low.0 high.0) (looked_up-times f ls hs low.1 high.1)
 
-pub times_are : (f n : ℕ) (v low high lows highs : List ℕ) → length v ≡ n → Each1 (λ x. x < 256) v
+pub times_halves_are : (f : ℕ) (ls hs low high lows highs : List ℕ) → Each1 (λ l. l < 16) ls → Each1 (λ h. h < 16) hs
     → low ≡ low_of f → high ≡ high_of f
-    → lows ≡ map (λ j. get_or low j 0) (zip2 bit_and v (replicate n 15))
-    → highs ≡ map (λ j. get_or high j 0) (zip2 down v (replicate n 4))
-    → zip2 bit_xor lows highs ≡ map (λ x. f ⊗ x) v
-times_are f n v low high lows highs long bytes is_low is_high low_is high_is =
+    → lows ≡ map (λ l. get_or low l 0) ls → highs ≡ map (λ h. get_or high h 0) hs
+    → zip2 bit_xor lows highs ≡ zip2 (λ l h. f ⊗ (h * 16 + l)) ls hs
+times_halves_are f ls hs low high lows highs small_low small_high is_low is_high low_is high_is =
     ap₂ (zip2 bit_xor)
-    (low_is ∙ ap₂ (λ t js. map (λ j. get_or t j 0) js) is_low (zip2_splat bit_and v n 15 long))
-    (high_is ∙ ap₂ (λ t js. map (λ j. get_or t j 0) js) is_high (zip2_splat down v n 4 long))
-    ∙ looked_up-times f v bytes
+    (low_is ∙ ap (λ t. map (λ l. get_or t l 0) ls) is_low)
+    (high_is ∙ ap (λ t. map (λ h. get_or t h 0) hs) is_high)
+    ∙ looked_up-times f ls hs small_low small_high
+
+-- a byte is made of its low four bits and its high four
+parts_together : (f : ℕ) (v : List ℕ) → zip2 (λ l h. f ⊗ (h * 16 + l)) (map (λ x. bit_and x 15) v) (map (λ x. down x 4) v) ≡ map (λ x. f ⊗ x) v
+parts_together f [] = refl
+parts_together f (x ∷ xs) =
+    ap₂ (λ y ys. y ∷ ys)
+    (ap (λ l. f ⊗ (x / 16 * 16 + l)) (and_mask x 4) ∙ ap (λ y. f ⊗ y) (let e : x / 16 * 16 + x % 16 ≡ x = omega arith in e))
+    (parts_together f xs)
+
+pub times_are : (f n : ℕ) (v : List ℕ) → length v ≡ n
+    → zip2 (λ l h. f ⊗ (h * 16 + l)) (zip2 bit_and v (replicate n 15)) (zip2 down v (replicate n 4)) ≡ map (λ x. f ⊗ x) v
+times_are f n v long =
+    ap₂ (zip2 (λ l h. f ⊗ (h * 16 + l))) (zip2_splat bit_and v n 15 long) (zip2_splat down v n 4 long)
+    ∙ parts_together f v

@@ -8,7 +8,7 @@
 
 ghost use Rattle.std.specs.Prelude.{◌≡◌, ℕ, ◌+◌, ◌*◌, ◌<◌, ◌≤◌, length, map, slice_index};
 ghost use Rattle.std.specs.List.{range_with_len};
-ghost use Rattle.std.specs.Simd.Lanes.{chunk};
+ghost use Rattle.std.specs.Simd.Lanes.{chunk, zip2, Each1};
 ghost use Rattle.gf256.specs.Field.{◌⊕◌, ◌⊗◌};
 ghost use Rattle.gf256.specs.Products.{high_of, low_of};
 ghost use Rattle.gf256.specs.Rows.{multiple, IsAdded};
@@ -73,9 +73,22 @@ impl Products {
         Vectors: LookUp<N>,
         ensures { result ≡ map (λ x. self.now ⊗ x) bytes.entry }
     {
-        let low = Vectors::look_up(self.low, bytes & Simd::splat(15));
-        let high = Vectors::look_up(self.high, bytes >> Simd::splat(4));
-        low ^ high
+        self.times_halves(bytes & Simd::splat(15), bytes >> Simd::splat(4))
+    }
+
+    /// The product of each byte with the factor, where the low four bits of the bytes and the high four stand apart: who
+    /// multiplies bytes by many factors parts them once.
+    #[inline(always)]
+    pub fn times_halves<const N: usize>(&self, low: Simd<u8, N>, high: Simd<u8, N>) -> Simd<u8, N>
+    where
+        Vectors: LookUp<N>,
+        requires low { Each1 (λ l. l < 16) low }
+        requires high { Each1 (λ h. h < 16) high }
+        ensures { result ≡ zip2 (λ l h. self.now ⊗ (h * 16 + l)) low.entry high.entry }
+    {
+        let of_low = Vectors::look_up(self.low, low);
+        let of_high = Vectors::look_up(self.high, high);
+        of_low ^ of_high
     }
 }
 
