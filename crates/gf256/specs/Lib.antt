@@ -4,3 +4,4 @@ pub mod Polynomial
 pub mod Product
 pub mod Products
 pub mod Rows
+pub mod Tables

@@ -48,6 +48,16 @@ impl Products {
         }
     }
 
+    /// Those whose products with 0 to 15 and with 0, 16, .. 240 these are.
+    #[inline(always)]
+    pub(crate) fn of_lanes(low: u8x16, high: u8x16) -> Products
+        requires low { low ≡ low_of (slice_index low 1) }
+        requires high { high ≡ high_of (slice_index low 1) }
+        ensures { result ≡ slice_index low 1 }
+    {
+        Products { low, high }
+    }
+
     /// The same once more, so that it can be held in registers while other bytes are written.
     #[inline(always)]
     pub fn copied(&self) -> Products

@@ -2,6 +2,5 @@ pub mod SixSums
 pub mod RunSums
 pub mod QuerySums
 pub mod BlockSums
-pub mod ProductTables
 pub mod TrioSums
 pub mod Gathering

@@ -2,6 +2,5 @@ pub mod SixRows
 pub mod Runs
 pub mod Queries
 pub mod Blocks
-pub mod Tables
 pub mod Trios
 pub mod Gathered

@@ -1,6 +1,6 @@
 use Rattle.std.proofs.Common.{ap₂, bit_xor, ◌∙◌}
 use Rattle.std.specs.Simd.Lanes.{zip2}
-use Rattle.gf256.proofs.Tables.{high_rows}
+use Rattle.gf256.proofs.SmallTables.{high_rows}
 use Rattle.gf256.proofs.rows.high_products.Goals as goal
 
 pub returns : goal.returns

@@ -1,6 +1,6 @@
 use Rattle.std.proofs.Common.{ap₂, bit_xor, ◌∙◌}
 use Rattle.std.specs.Simd.Lanes.{zip2}
-use Rattle.gf256.proofs.Tables.{low_rows}
+use Rattle.gf256.proofs.SmallTables.{low_rows}
 use Rattle.gf256.proofs.rows.low_products.Goals as goal
 
 pub returns : goal.returns

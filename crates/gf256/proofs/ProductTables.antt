@@ -7,7 +7,9 @@ use Rattle.std.proofs.lemmas.List.{same_lists, length-map, get_or-map, get_or_de
 use Rattle.std.proofs.lemmas.List.FromFn.{get_or-map-range_with_len, length-map-range_with_len}
 use Rattle.std.proofs.lemmas.Simd.{length-chunk, length-put_chunk, get_or-chunk, get_or-put_chunk_at, get_or-put_chunk_below}
 use Rattle.gf256.specs.Field.{◌⊗◌}
-use Rattle.server_product.specs.Tables.{HasProducts}
+use Rattle.gf256.specs.Products.{low_of}
+use Rattle.gf256.proofs.FieldLaws.{mul_one}
+use Rattle.gf256.specs.Tables.{HasProducts}
 
 -- a product with one of 16 bytes
 product-at : (f i : ℕ) (xs : List ℕ) (g : ℕ → ℕ) → xs ≡ map g (range_with_len 0 16) → i < 16 → get_or (map (λ x. f ⊗ x) xs) i 0 ≡ f ⊗ g i
@@ -84,3 +86,7 @@ high-table table f at byte e has =
     let within : f * 32 + 16 + k < length table = omega arith in
     get_or-chunk (at + 16) 16 table k d small ∙ ap (λ p. get_or table p d) place ∙ get_or_default table (f * 32 + 16 + k) d 0 within ∙ has.high f k byte small
     ∙ sym (get_or-map-range_with_len (λ i. f ⊗ (i * 16)) 0 16 k k d small (omega arith)))
+
+-- the product of a factor with 1 is the factor
+pub factor_in : (f : ℕ) (low : List ℕ) → f < 256 → low ≡ low_of f → f ≡ get_or low 1 0
+factor_in f low byte is = sym (ap (λ v. get_or v 1 0) is ∙ mul_one f byte)

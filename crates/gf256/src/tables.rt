@@ -1,12 +1,12 @@
-//! The products of all factors, many at once, for bytes that are multiplied by many factors.
+//! The products with every byte, made once, for who multiplies by many factors.
 
-ghost use Rattle.std.specs.Prelude.{◌≡◌, ◌+◌, map};
+ghost use Rattle.std.specs.Prelude.{◌≡◌, ◌+◌, ◌≤◌, map};
+ghost use Rattle.std.specs.Simd.Lanes.{chunk};
 ghost use Rattle.gf256.specs.Field.{◌⊗◌};
-ghost use Rattle.server_product.specs.Tables.{HasProducts};
+ghost use Rattle.gf256.specs.Tables.{HasProducts};
 
-use gf256::rows::Products;
-use gf256::vectors::{LookUp, Vectors};
-use row_workers::lanes_of;
+use crate::rows::Products;
+use crate::vectors::{LookUp, Vectors};
 use std::simd::prelude::*;
 
 /// Puts the products of `factor` where they belong in a table of 8192 bytes.
@@ -20,6 +20,15 @@ fn put_products(table: &mut [u8], factor: u8)
     products.times(low).copy_to_slice(&mut table[at..]);
     let high = products.times(low << u8x16::splat(4));
     high.copy_to_slice(&mut table[at + 16..]);
+}
+
+/// The 16 bytes of a table from place `at` on.
+#[inline(always)]
+fn lanes_at(table: &[u8; 8192], at: usize) -> u8x16
+    requires { at + 16 ≤ 8192 }
+    ensures { result ≡ chunk at 16 table.now }
+{
+    u8x16::from_slice(&table[at..])
 }
 
 /// For each factor its products with 0 to 15 and with 0, 16, .. 240: 32 bytes each.
@@ -39,6 +48,15 @@ impl Tables {
         Tables { bytes }
     }
 
+    /// The products with `factor`, which takes less time than [`Products::of`].
+    #[inline(always)]
+    pub fn products(&self, factor: u8) -> Products
+        ensures { result ≡ factor }
+    {
+        let at = 32 * usize::from(factor);
+        Products::of_lanes(lanes_at(&self.bytes, at), lanes_at(&self.bytes, at + 16))
+    }
+
     /// The product of each of the bytes with the factor.
     #[inline(always)]
     pub fn times<const N: usize>(&self, factor: u8, bytes: Simd<u8, N>) -> Simd<u8, N>
@@ -46,9 +64,6 @@ impl Tables {
         Vectors: LookUp<N>,
         ensures { result ≡ map (λ x. factor ⊗ x) bytes.entry }
     {
-        let at = 32 * usize::from(factor);
-        let low = Vectors::look_up(lanes_of(&self.bytes, at), bytes & Simd::splat(15));
-        let high = Vectors::look_up(lanes_of(&self.bytes, at + 16), bytes >> Simd::splat(4));
-        low ^ high
+        self.products(factor).times(bytes)
     }
 }

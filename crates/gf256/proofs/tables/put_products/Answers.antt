@@ -1,6 +1,6 @@
 use Rattle.std.proofs.Common.{refl, arith}
-use Rattle.server_product.proofs.ProductTables.{products-more}
-use Rattle.server_product.proofs.tables.put_products.Goals as goal
+use Rattle.gf256.proofs.ProductTables.{products-more}
+use Rattle.gf256.proofs.tables.put_products.Goals as goal
 
 pub returns : goal.returns
 returns c =
