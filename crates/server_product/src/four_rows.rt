@@ -8,7 +8,7 @@ ghost use Rattle.row_workers.specs.RowSums.{AddsBelow};
 ghost use Rattle.row_workers.specs.Blocks.{IsAddedInBlock};
 ghost use Rattle.server_product.specs.Blocks.{four_at};
 
-use crate::tables::Tables;
+use gf256::tables::Tables;
 use gf256::vectors::{LookUp, Vectors};
 use row_workers::blocks::start_of;
 use row_workers::{FourRows, lanes_of};

@@ -294,7 +294,7 @@ fn add_six(
                 e: scaled_row(matrix, q, three.b),
                 f: scaled_row(matrix, q, three.c),
             };
-            add_six_rows(sums, six);
+            add_six_rows(sums, six, None);
             None
         }
     }

@@ -11,8 +11,8 @@ ghost use Rattle.server_product.specs.declared.group.TheConstants.{MOST_LANES};
 
 use crate::four_rows::add_four_rows;
 use crate::sixths::add_in_sixths;
-use crate::tables::Tables;
 use block_matrix::Matrix;
+use gf256::tables::Tables;
 use gf256::vectors::{LANES, LookUp, Vectors};
 use row_workers::{Group, GroupSums, four_apart, takes_wide_lanes};
 
@@ -36,20 +36,28 @@ pub fn sum_group(matrix: &Matrix, queries: &[u8], count: usize, from: u32, to: u
     requires room { length sums.old ≡ count * matrix.now.width }
     ensures { AreSums (entry_of queries.now matrix.now) (count * matrix.now.width) from to sums.new }
 {
-    let tables = Tables::new();
+    let multiples = Multiples {
+        tables: Tables::new(),
+    };
     let group = Group {
         matrix,
         queries,
         count,
     };
     if takes_wide_lanes(matrix.width() as usize) {
-        row_workers::sum_group::<Tables, LANES>(&tables, group, from, to, sums);
+        row_workers::sum_group::<Multiples, LANES>(&multiples, group, from, to, sums);
     } else {
-        row_workers::sum_group::<Tables, 16>(&tables, group, from, to, sums);
+        row_workers::sum_group::<Multiples, 16>(&multiples, group, from, to, sums);
     }
 }
 
-impl<const N: usize> GroupSums<N> for Tables
+/// What rows give to the sums of a group: their multiples by the bytes of its queries.
+#[derive(Drop)]
+struct Multiples {
+    tables: Tables,
+}
+
+impl<const N: usize> GroupSums<N> for Multiples
 where
     Vectors: LookUp<N>,
 {
@@ -68,7 +76,7 @@ where
         let _width = matrix.width();
         let factors = factors_of(queries, rows, count, j as usize, apart as usize);
         let four = four_apart(matrix, j, apart);
-        add_four_rows::<N>(blocks, four, &factors, count, self);
+        add_four_rows::<N>(blocks, four, &factors, count, &self.tables);
     }
 
     fn add_few(&self, group: Group, v: usize, from: u32, to: u32, sums: &mut [u8]) {

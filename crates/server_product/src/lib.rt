@@ -22,7 +22,6 @@ mod rows;
 mod runs;
 mod six_rows;
 mod sixths;
-mod tables;
 mod trios;
 mod whole;
 

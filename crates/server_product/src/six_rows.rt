@@ -9,6 +9,7 @@ ghost use Rattle.server_product.specs.SixRows.{scaled_at, six_at, AreProductsOf}
 use crate::rows::Scaled;
 use gf256::mul;
 use gf256::rows::Products;
+use gf256::tables::Tables;
 use gf256::vectors::{LANES, LookUp, Vectors};
 use row_workers::lanes_of;
 use std::simd::prelude::*;
@@ -35,18 +36,29 @@ pub struct SixProducts {
     f: Products,
 }
 
+/// The products with the factor, from the tables where there are such.
+#[inline(always)]
+fn products_with(factor: u8, tables: Option<&Tables>) -> Products
+    ensures { result ≡ factor }
+{
+    match tables {
+        Some(tables) => tables.products(factor),
+        None => Products::of(factor),
+    }
+}
+
 /// Those of these rows.
 #[inline(always)]
-fn products_of(six: SixRows) -> SixProducts
+fn products_of(six: SixRows, tables: Option<&Tables>) -> SixProducts
     ensures { AreProductsOf result six.entry }
 {
     SixProducts {
-        a: Products::of(six.a.factor),
-        b: Products::of(six.b.factor),
-        c: Products::of(six.c.factor),
-        d: Products::of(six.d.factor),
-        e: Products::of(six.e.factor),
-        f: Products::of(six.f.factor),
+        a: products_with(six.a.factor, tables),
+        b: products_with(six.b.factor, tables),
+        c: products_with(six.c.factor, tables),
+        d: products_with(six.d.factor, tables),
+        e: products_with(six.e.factor, tables),
+        f: products_with(six.f.factor, tables),
     }
 }
 
@@ -132,8 +144,9 @@ fn add_in_lanes(acc: &mut [u8], six: SixRows, products: &SixProducts) -> usize
 
 /// Adds the six rows, each times its factor, to `acc`: each is as long. Where the last places are
 /// fewer than 16, the last 16 are added at once: some of them are done before, so their sums are
-/// taken from what stood there at first.
-pub fn add_six_rows(acc: &mut [u8], six: SixRows)
+/// taken from what stood there at first. The products of the factors come from the tables where there
+/// are such.
+pub fn add_six_rows(acc: &mut [u8], six: SixRows, tables: Option<&Tables>)
     requires a { length six.a.row.now ≡ length acc.old }
     requires b { length six.b.row.now ≡ length acc.old }
     requires c { length six.c.row.now ≡ length acc.old }
@@ -145,7 +158,7 @@ pub fn add_six_rows(acc: &mut [u8], six: SixRows)
     if acc.len() < 16 {
         return add_six_short(acc, six);
     }
-    let products = products_of(six);
+    let products = products_of(six, tables);
     let last = acc.len() - 16;
     let end = lanes_of::<16>(acc, last);
     let at = add_in_lanes(acc, six, &products);

@@ -2,7 +2,7 @@ use Rattle.std.proofs.Common.{◌*◌, ◌∙◌, slice_index, sym, ap, arith}
 use Rattle.std.specs.Int.{div_ceil}
 use Rattle.gf256.specs.Field.{◌⊕◌}
 use Rattle.server_product.proofs.BlockSums.{four-entries}
-use Rattle.server_product.proofs.group.TablesGroupSums.add_four.Goals as goal
+use Rattle.server_product.proofs.group.MultiplesGroupSums.add_four.Goals as goal
 
 pub returns : goal.returns
 returns g c = λ p l.

@@ -5,7 +5,7 @@ use Rattle.server_product.specs.Queries.{entry}
 use Rattle.row_workers.proofs.RunSums.{run-same}
 use Rattle.row_workers.proofs.PieceSums.{part_fits}
 use Rattle.server_product.proofs.QuerySums.{term-is}
-use Rattle.server_product.proofs.group.TablesGroupSums.add_few.Goals as goal
+use Rattle.server_product.proofs.group.MultiplesGroupSums.add_few.Goals as goal
 
 pub returns : goal.returns
 returns g c = λ k l.
