@@ -12,6 +12,7 @@
 
 mod close;
 mod columns;
+mod halves;
 mod lagrange;
 pub mod one_polynomial;
 pub mod plain;

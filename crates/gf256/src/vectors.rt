@@ -1,4 +1,4 @@
-//! Vectors of 16 bytes and of 32, and what both can do beyond what the library has for each length.
+//! Vectors of 16 bytes, of 32 and of 64, and what all can do beyond what the library has for each length.
 
 ghost use Rattle.std.specs.Prelude.{◌≡◌, ◌<◌, length, map, slice_index};
 ghost use Rattle.std.specs.Simd.Lanes.{Each1};
@@ -18,7 +18,7 @@ pub trait LookUp<const N: usize> {
         ensures { result ≡ map (slice_index table) places.entry };
 }
 
-/// Vectors of 16 bytes, and of 32.
+/// Vectors of 16 bytes, of 32 and of 64.
 #[derive(Drop)]
 pub struct Vectors;
 
@@ -45,5 +45,21 @@ impl LookUp<32> for Vectors {
             11, 12, 13, 14, 15,
         ]);
         twice.swizzle_dyn_within::<16>(places)
+    }
+}
+
+impl LookUp<64> for Vectors {
+    #[inline(always)]
+    fn look_up(table: u8x16, places: u8x64) -> u8x64
+        requires table { length table ≡ 16 }
+        requires places { Each1 (λ j. j < 16) places }
+        ensures { result ≡ map (slice_index table) places }
+    {
+        let four_times: u8x64 = table.swizzle([
+            0, 1, 2, 3, 4, 5, 6, 7, 8, 9, 10, 11, 12, 13, 14, 15, 0, 1, 2, 3, 4, 5, 6, 7, 8, 9, 10,
+            11, 12, 13, 14, 15, 0, 1, 2, 3, 4, 5, 6, 7, 8, 9, 10, 11, 12, 13, 14, 15, 0, 1, 2, 3, 4,
+            5, 6, 7, 8, 9, 10, 11, 12, 13, 14, 15,
+        ]);
+        four_times.swizzle_dyn_within::<16>(places)
     }
 }
