@@ -7,6 +7,7 @@ pub mod Weights
 pub mod Pushed
 pub mod SameLanes
 pub mod Together
+pub mod MadeSums
 pub mod DifferenceRows
 pub mod Agreed
 pub mod TileColumns

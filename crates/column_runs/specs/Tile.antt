@@ -13,6 +13,10 @@ unfoldable pub with_differences : List ℕ → List (List ℕ) → ℕ → ℕ �
 with_differences factors differences first c =
     first ⊕ sum_to (λ i. slice_index factors i ⊗ cell differences c i) (length factors)
 
+-- what the factors give in place c, by the bytes of a first row and the rows of differences
+abbrev pub given : List ℕ → List (List ℕ) → List ℕ → ℕ → ℕ
+given first differences factors c = with_differences factors differences (slice_index first c) c
+
 -- these rows are as long as those
 abbrev pub AreAsLong : List (List ℕ) → List (List ℕ) → Type 0
 AreAsLong these those = (i : ℕ) → length (slice_index_or these i []) ≡ length (slice_index_or those i [])

@@ -10,6 +10,7 @@
 //! and memory for `t + 1` rows of 1024 columns; a column of p points that has no close polynomial some `p * p` products.
 #![tactic(auto)]
 
+mod agreement;
 mod close;
 mod columns;
 mod halves;
@@ -18,6 +19,7 @@ pub mod one_polynomial;
 pub mod plain;
 mod rows;
 mod run;
+mod sums;
 mod tile;
 
 pub use close::{close_polynomial, least_misses};

@@ -1,0 +1,119 @@
+//! The bytes that factors give in the columns of a tile, 64 or 16 at once.
+
+ghost use Rattle.std.specs.Prelude.{◌≡◌, ℕ, ◌+◌, ◌<◌, ◌≤◌, length, slice_index, All};
+ghost use Rattle.gf256.specs.Rows.{AreLanes};
+ghost use Rattle.column_runs.specs.Tile.{given};
+
+use crate::halves::HalvedRow;
+use gf256::rows::Products;
+use gf256::vectors::{LookUp, Vectors};
+use gf256::{add, mul};
+use std::simd::prelude::*;
+
+/// As many columns as are held in registers at once, while the factors pass.
+pub(crate) const BLOCK: usize = 64;
+
+/// The byte of `first` in column `c`, plus each factor times that byte of its row of `differences`.
+pub(crate) fn byte_at(first: &[u8], differences: &[HalvedRow], factors: &[Products], c: usize) -> u8
+    requires within { c < length first.now }
+    requires count { length factors.now ≡ length differences.now }
+    requires room { All (λ d. length first.now ≤ length d) differences.now }
+    ensures { result ≡ given first.now differences.now factors.now c }
+{
+    let mut sum = first[c];
+    for i in 0..factors.len() {
+        sum = add(sum, mul(factors[i].factor(), differences[i].byte(c)));
+    }
+    sum
+}
+
+/// The same in N columns, from `at` on.
+#[inline(always)]
+pub(crate) fn bytes_at<const N: usize>(
+    first: &[u8],
+    differences: &[HalvedRow],
+    factors: &[Products],
+    at: usize,
+) -> Simd<u8, N>
+where
+    Vectors: LookUp<N>,
+    requires within { at + N ≤ length first.now }
+    requires count { length factors.now ≡ length differences.now }
+    requires room { All (λ d. length first.now ≤ length d) differences.now }
+    ensures { AreLanes N result (given first.now differences.now factors.now) at }
+{
+    let mut sums = Simd::<u8, N>::from_slice(&first[at..]);
+    for i in 0..factors.len() {
+        sums = sums ^ differences[i].products::<N>(at, &factors[i]);
+    }
+    sums
+}
+
+/// Makes each of the `sums` that byte of `first`, plus each factor times that byte of its row of `differences`.
+///
+/// Where the last columns are fewer than 16, the last 16 are made at once, some of them once more.
+pub(crate) fn extend(
+    first: &[u8],
+    differences: &[HalvedRow],
+    factors: &[Products],
+    sums: &mut [u8],
+)
+    requires same { length first.now ≡ length sums.old }
+    requires count { length factors.now ≡ length differences.now }
+    requires room { All (λ d. length first.now ≤ length d) differences.now }
+    ensures { (c : ℕ) → c < length first.now
+        → slice_index sums.new c ≡ given first.now differences.now factors.now c }
+{
+    if sums.len() < 16 {
+        return extend_bytes(first, differences, factors, sums);
+    }
+    let blocks = extend_lanes::<BLOCK>(first, differences, factors, sums, 0);
+    let at = extend_lanes::<16>(first, differences, factors, sums, blocks);
+    if at < sums.len() {
+        let last = sums.len() - 16;
+        bytes_at::<16>(first, differences, factors, last).copy_to_slice(&mut sums[last..]);
+    }
+}
+
+/// The same for few columns.
+fn extend_bytes(first: &[u8], differences: &[HalvedRow], factors: &[Products], sums: &mut [u8])
+    requires same { length first.now ≡ length sums.old }
+    requires count { length factors.now ≡ length differences.now }
+    requires room { All (λ d. length first.now ≤ length d) differences.now }
+    ensures { (c : ℕ) → c < length first.now
+        → slice_index sums.new c ≡ given first.now differences.now factors.now c }
+{
+    for c in 0..sums.len() {
+        sums[c] = byte_at(first, differences, factors, c);
+    }
+}
+
+/// Goes on with the `sums`, of which those before `from` are made, N at once, until fewer than N are left. Gives the place of
+/// the first that is left.
+#[inline(always)]
+fn extend_lanes<const N: usize>(
+    first: &[u8],
+    differences: &[HalvedRow],
+    factors: &[Products],
+    sums: &mut [u8],
+    from: usize,
+) -> usize
+where
+    Vectors: LookUp<N>,
+    requires some { 1 ≤ N }
+    requires same { length first.now ≡ length sums.old }
+    requires count { length factors.now ≡ length differences.now }
+    requires room { All (λ d. length first.now ≤ length d) differences.now }
+    requires within { from ≤ length first.now }
+    requires made { (c : ℕ) → c < from → slice_index sums.old c ≡ given first.now differences.now factors.now c }
+    ensures within { result ≤ length first.now }
+    ensures few { length first.now < result + N }
+    ensures made { (c : ℕ) → c < result → slice_index sums.new c ≡ given first.now differences.now factors.now c }
+{
+    let mut at = from;
+    'lanes: while sums.len() - at >= N {
+        bytes_at::<N>(first, differences, factors, at).copy_to_slice(&mut sums[at..]);
+        at += N;
+    }
+    at
+}
