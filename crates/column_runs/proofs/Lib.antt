@@ -8,6 +8,7 @@ pub mod Pushed
 pub mod SameLanes
 pub mod Together
 pub mod MadeSums
+pub mod SameColumns
 pub mod DifferenceRows
 pub mod Agreed
 pub mod TileColumns
