@@ -4,8 +4,8 @@ ghost use Rattle.std.specs.Prelude.{◌≡◌, ◌≢◌, ℕ, ◌+◌, ◌<◌,
 ghost use Rattle.std.specs.Simd.Lanes.{chunk};
 ghost use Rattle.column_runs.specs.Tile.{given};
 
-use crate::sums::{BLOCK, byte_at, bytes_at};
 use crate::halves::HalvedRow;
+use crate::sums::{BLOCK, byte_at, bytes_at};
 use gf256::rows::Products;
 use gf256::vectors::{LookUp, Vectors};
 use std::simd::prelude::*;

@@ -89,10 +89,7 @@ where
     requires within { at + N ≤ length low.now }
     ensures { AreLanes N result (multiple (together low.now high.now) factor.now) at }
 {
-    factor.times_halves(
-        Simd::from_slice(&low[at..]),
-        Simd::from_slice(&high[at..]),
-    )
+    factor.times_halves(Simd::from_slice(&low[at..]), Simd::from_slice(&high[at..]))
 }
 
 /// Makes the first of `low` and `high` the low four bits and the high four of the bytes of the row less those of `first`.

@@ -6,16 +6,17 @@ ghost use Rattle.gf256.specs.Polynomial.{val};
 ghost use Rattle.uni_poly.specs.Product.{vanishing};
 ghost use Rattle.column_runs.specs.Lagrange.{basis_polynomial, weight, AreFactors, AreWeights, Extends};
 
+use gf256::rows::Products;
 use gf256::{add, inv, mul};
 use std::alloc::{AllocError, Global};
 
-/// The factors by which values at the first of some places give those at the others, and at 0.
+/// The factors by which values at the first of some places give those at the others, and at 0, ready to be multiplied with.
 #[derive(Drop)]
 pub struct Factors {
     /// Those for each of the other places.
-    pub others: Vec<Vec<u8>>,
+    pub others: Vec<Vec<Products>>,
     /// Those for 0.
-    pub zero: Vec<u8>,
+    pub zero: Vec<Products>,
 }
 
 /// The factors by which the values of a polynomial of degree at most `t` at the first `t + 1` of the `xs` give those at the
@@ -60,14 +61,25 @@ fn weight(xs: &[u8], place: usize) -> u8
 
 /// The factors for the value at `x`: for each of the `xs` but the first the factor of the difference of the value there
 /// from that at the first (Lagrange 1795).
-fn factors_for(alloc: Global, xs: &[u8], weights: &[u8], x: u8) -> Result<Vec<u8>, AllocError>
+fn factors_for(alloc: Global, xs: &[u8], weights: &[u8], x: u8) -> Result<Vec<Products>, AllocError>
     requires distinct { AllPairs (λ x y. x ≢ y) xs.now }
     requires weights { AreWeights xs.now weights.now }
     ensures { IfOk result (λ v. Extends xs.now x v.items) }
 {
     let mut factors = times_those_before(alloc, xs, weights, x)?;
     multiply_by_those_behind(xs, x, &mut factors);
-    Ok(factors)
+    products_of(alloc, &factors)
+}
+
+/// The products with each of the factors.
+fn products_of(alloc: Global, factors: &[u8]) -> Result<Vec<Products>, AllocError>
+    ensures { IfOk result (λ v. v.items ≡ factors.now) }
+{
+    let mut made = Vec::with_capacity(alloc, factors.len())?;
+    for &factor in factors {
+        made.push(Products::of(factor))?;
+    }
+    Ok(made)
 }
 
 /// Each of the weights of the `xs` but the first, times the product of `x - a` over those before its own.

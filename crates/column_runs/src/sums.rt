@@ -52,12 +52,7 @@ where
 /// Makes each of the `sums` that byte of `first`, plus each factor times that byte of its row of `differences`.
 ///
 /// Where the last columns are fewer than 16, the last 16 are made at once, some of them once more.
-pub(crate) fn extend(
-    first: &[u8],
-    differences: &[HalvedRow],
-    factors: &[Products],
-    sums: &mut [u8],
-)
+pub(crate) fn extend(first: &[u8], differences: &[HalvedRow], factors: &[Products], sums: &mut [u8])
     requires same { length first.now ≡ length sums.old }
     requires count { length factors.now ≡ length differences.now }
     requires room { All (λ d. length first.now ≤ length d) differences.now }

@@ -1,4 +1,5 @@
 use Rattle.std.proofs.Common.{◌≡◌, ◌+◌, ◌<◌, length, get_or, drop, take, sym, ap, subst, ◌∙◌, arith}
+use Rattle.std.proofs.lemmas.Result.{IfOk-weaker}
 use Rattle.gf256.specs.Field.{◌⊗◌}
 use Rattle.gf256.specs.Polynomial.{val}
 use Rattle.uni_poly.specs.Product.{vanishing}
@@ -20,7 +21,8 @@ returns c =
     let same : length new ≡ length made.items = c.multiply_by_those_behind.auto.factors ∙ ap length value in
     let count = c.in_ok-factors.ensures.size in
     let size = c.requires.weights.size in
-    subst (Extends xs x) (sym (items-with made new same))
+    IfOk-weaker c.products_of.result (λ v. v.items ≡ c.deref.result.now) (λ v. Extends xs x v.items)
+    (λ v is. subst (Extends xs x) (sym (is ∙ c.deref.ensures.value ∙ items-with made new same))
     (extends xs new x (bytes_from_get_or xs (λ k. (c.type_inv.xs k).fits)) c.requires.distinct (omega (arith, size, count, same))
     (λ i l.
     let within : i < length weights = omega (arith, l, same, count) in
@@ -30,4 +32,5 @@ returns c =
     (ap (λ fs. get_or fs i 0) value ∙ c.in_ok-factors.ensures.each i within
     ∙ ap (λ w. w ⊗ val (vanishing (take (i + 1) xs)) x) (c.requires.weights.each i within))
     ∙ ap (λ n. (weight xs (i + 1) ⊗ val (vanishing (take (i + 1) xs)) x) ⊗ val (vanishing (drop n xs)) x) two
-    ∙ factor-by_weight xs (i + 1) x))
+    ∙ factor-by_weight xs (i + 1) x)))
+    c.products_of.ensures

@@ -10,8 +10,7 @@ products_of_halves-requires g c =
     let high = c.deref-2.ensures.value in
     let size = length-together c.self.inside.low.items c.self.inside.high.items c.self.invariant.same in
     let bytes = ap length c.self.view_is in
-    let lows = ap length low in
-    (
+    let lows = ap length low in (
       omega (arith, g.N.fits),
       (
         subst (λ h. AreHalves c.deref.result.now h) (sym high) (subst (λ l. AreHalves l c.self.inside.high.items) (sym low) c.self.invariant),
