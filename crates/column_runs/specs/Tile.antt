@@ -17,6 +17,11 @@ with_differences factors differences first c =
 abbrev pub given : List ℕ → List (List ℕ) → List ℕ → ℕ → ℕ
 given first differences factors c = with_differences factors differences (slice_index first c) c
 
+-- the same by the first n of the factors alone
+abbrev pub given_by : List ℕ → List (List ℕ) → List ℕ → ℕ → ℕ → ℕ
+given_by first differences factors n c =
+    slice_index first c ⊕ sum_to (λ i. slice_index factors i ⊗ cell differences c i) n
+
 -- these rows are as long as those
 abbrev pub AreAsLong : List (List ℕ) → List (List ℕ) → Type 0
 AreAsLong these those = (i : ℕ) → length (slice_index_or these i []) ≡ length (slice_index_or those i [])

@@ -1,13 +1,13 @@
-//! How far a row agrees with what its factors give, 64 or 16 columns at once.
+//! How far a row agrees with what its factors give, 128 columns at once, then 32 or 16.
 
 ghost use Rattle.std.specs.Prelude.{◌≡◌, ◌≢◌, ℕ, ◌+◌, ◌<◌, ◌≤◌, length, slice_index, true, All};
 ghost use Rattle.std.specs.Simd.Lanes.{chunk};
 ghost use Rattle.column_runs.specs.Tile.{given};
 
 use crate::halves::HalvedRow;
-use crate::sums::{BLOCK, byte_at, bytes_at};
+use crate::sums::{BLOCK, block_at, byte_at, bytes_at};
 use gf256::rows::Products;
-use gf256::vectors::{LookUp, Vectors};
+use gf256::vectors::{LANES, LookUp, Vectors};
 use std::simd::prelude::*;
 
 /// In how many columns from the first on the row has the byte of `first`, plus each factor times that of its row of
@@ -29,7 +29,8 @@ pub(crate) fn agreed_length(
     if row.len() < 16 {
         return agreed_bytes(first, differences, factors, row);
     }
-    let mut at = agreeing_blocks::<BLOCK>(first, differences, factors, row);
+    let blocks = agreeing_blocks(first, differences, factors, row);
+    let mut at = agreeing_lanes::<LANES>(first, differences, factors, row, blocks);
     'lanes: while row.len() - at >= 16 {
         let agreed = agreed_lanes(first, differences, factors, row, at);
         at += agreed;
@@ -62,17 +63,14 @@ fn agreed_bytes(first: &[u8], differences: &[HalvedRow], factors: &[Products], r
     row.len()
 }
 
-/// The same, N columns at once: where the row differs, or fewer than N are left, it may stop up to N columns early.
+/// The same, a block at once: where the row differs, or fewer columns are left, it may stop up to a block early.
 #[inline(always)]
-fn agreeing_blocks<const N: usize>(
+fn agreeing_blocks(
     first: &[u8],
     differences: &[HalvedRow],
     factors: &[Products],
     row: &[u8],
 ) -> usize
-where
-    Vectors: LookUp<N>,
-    requires some { 1 ≤ N }
     requires width { length row.now ≡ length first.now }
     requires count { length factors.now ≡ length differences.now }
     requires room { All (λ d. length first.now ≤ length d) differences.now }
@@ -80,6 +78,38 @@ where
     ensures same { (c : ℕ) → c < result → slice_index row.now c ≡ given first.now differences.now factors.now c }
 {
     let mut at = 0;
+    'whole: while row.len() - at >= BLOCK {
+        let (front, back) = block_at(first, differences, factors, at);
+        if !are_lanes::<64>(row, at, front) || !are_lanes::<64>(row, at + 64, back) {
+            return at;
+        }
+        at += BLOCK;
+    }
+    at
+}
+
+/// The same of a row that agrees in the columns before `from`, N columns at once: where the row differs, or fewer than N are
+/// left, it may stop up to N columns early.
+#[inline(always)]
+fn agreeing_lanes<const N: usize>(
+    first: &[u8],
+    differences: &[HalvedRow],
+    factors: &[Products],
+    row: &[u8],
+    from: usize,
+) -> usize
+where
+    Vectors: LookUp<N>,
+    requires some { 1 ≤ N }
+    requires width { length row.now ≡ length first.now }
+    requires count { length factors.now ≡ length differences.now }
+    requires room { All (λ d. length first.now ≤ length d) differences.now }
+    requires within { from ≤ length first.now }
+    requires same { (c : ℕ) → c < from → slice_index row.now c ≡ given first.now differences.now factors.now c }
+    ensures within { result ≤ length first.now }
+    ensures same { (c : ℕ) → c < result → slice_index row.now c ≡ given first.now differences.now factors.now c }
+{
+    let mut at = from;
     'lanes: while row.len() - at >= N
         && are_lanes::<N>(row, at, bytes_at::<N>(first, differences, factors, at))
     {

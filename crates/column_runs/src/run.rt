@@ -67,7 +67,7 @@ fn tile_width(t: usize) -> usize
     ensures { 0 < result }
 {
     let fitting = TILE_BYTES / 2 / t.max(1) / BLOCK * BLOCK;
-    fitting.clamp(2 * BLOCK, MOST_COLUMNS)
+    fitting.clamp(BLOCK, MOST_COLUMNS)
 }
 
 /// So many rows of zeros, of so many columns each.

@@ -1,4 +1,4 @@
-//! The bytes that factors give in the columns of a tile, 64 or 16 at once.
+//! The bytes that factors give in the columns of a tile, 128 at once, then 32 or 16.
 
 ghost use Rattle.std.specs.Prelude.{◌≡◌, ℕ, ◌+◌, ◌<◌, ◌≤◌, length, slice_index, All};
 ghost use Rattle.gf256.specs.Rows.{AreLanes};
@@ -6,12 +6,12 @@ ghost use Rattle.column_runs.specs.Tile.{given};
 
 use crate::halves::HalvedRow;
 use gf256::rows::Products;
-use gf256::vectors::{LookUp, Vectors};
+use gf256::vectors::{LANES, LookUp, Vectors};
 use gf256::{add, mul};
 use std::simd::prelude::*;
 
 /// As many columns as are held in registers at once, while the factors pass.
-pub(crate) const BLOCK: usize = 64;
+pub(crate) const BLOCK: usize = 128;
 
 /// The byte of `first` in column `c`, plus each factor times that byte of its row of `differences`.
 pub(crate) fn byte_at(first: &[u8], differences: &[HalvedRow], factors: &[Products], c: usize) -> u8
@@ -49,6 +49,29 @@ where
     sums
 }
 
+/// The same in a block of columns, from `at` on, of which each vector has a half.
+#[inline(always)]
+pub(crate) fn block_at(
+    first: &[u8],
+    differences: &[HalvedRow],
+    factors: &[Products],
+    at: usize,
+) -> (u8x64, u8x64)
+    requires within { at + BLOCK ≤ length first.now }
+    requires count { length factors.now ≡ length differences.now }
+    requires room { All (λ d. length first.now ≤ length d) differences.now }
+    ensures front { AreLanes 64 result.0 (given first.now differences.now factors.now) at }
+    ensures back { AreLanes 64 result.1 (given first.now differences.now factors.now) (at + 64) }
+{
+    let mut front = u8x64::from_slice(&first[at..]);
+    let mut back = u8x64::from_slice(&first[at + 64..]);
+    for i in 0..factors.len() {
+        front = front ^ differences[i].products::<64>(at, &factors[i]);
+        back = back ^ differences[i].products::<64>(at + 64, &factors[i]);
+    }
+    (front, back)
+}
+
 /// Makes each of the `sums` that byte of `first`, plus each factor times that byte of its row of `differences`.
 ///
 /// Where the last columns are fewer than 16, the last 16 are made at once, some of them once more.
@@ -62,8 +85,9 @@ pub(crate) fn extend(first: &[u8], differences: &[HalvedRow], factors: &[Product
     if sums.len() < 16 {
         return extend_bytes(first, differences, factors, sums);
     }
-    let blocks = extend_lanes::<BLOCK>(first, differences, factors, sums, 0);
-    let at = extend_lanes::<16>(first, differences, factors, sums, blocks);
+    let blocks = extend_blocks(first, differences, factors, sums);
+    let wide = extend_lanes::<LANES>(first, differences, factors, sums, blocks);
+    let at = extend_lanes::<16>(first, differences, factors, sums, wide);
     if at < sums.len() {
         let last = sums.len() - 16;
         bytes_at::<16>(first, differences, factors, last).copy_to_slice(&mut sums[last..]);
@@ -81,6 +105,30 @@ fn extend_bytes(first: &[u8], differences: &[HalvedRow], factors: &[Products], s
     for c in 0..sums.len() {
         sums[c] = byte_at(first, differences, factors, c);
     }
+}
+
+/// Makes the `sums` a block at once, until fewer are left. Gives the place of the first that is left.
+#[inline(always)]
+fn extend_blocks(
+    first: &[u8],
+    differences: &[HalvedRow],
+    factors: &[Products],
+    sums: &mut [u8],
+) -> usize
+    requires same { length first.now ≡ length sums.old }
+    requires count { length factors.now ≡ length differences.now }
+    requires room { All (λ d. length first.now ≤ length d) differences.now }
+    ensures within { result ≤ length first.now }
+    ensures made { (c : ℕ) → c < result → slice_index sums.new c ≡ given first.now differences.now factors.now c }
+{
+    let mut at = 0;
+    'whole: while sums.len() - at >= BLOCK {
+        let (front, back) = block_at(first, differences, factors, at);
+        front.copy_to_slice(&mut sums[at..]);
+        back.copy_to_slice(&mut sums[at + 64..]);
+        at += BLOCK;
+    }
+    at
 }
 
 /// Goes on with the `sums`, of which those before `from` are made, N at once, until fewer than N are left. Gives the place of

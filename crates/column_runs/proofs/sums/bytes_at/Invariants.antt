@@ -1,11 +1,7 @@
-use Rattle.std.proofs.Common.{ℕ, get_or}
-use Rattle.gf256.specs.Field.{◌⊕◌, ◌⊗◌}
 use Rattle.gf256.specs.Rows.{AreLanes}
-use Rattle.gf256.specs.Sums.{sum_to}
-use Rattle.column_runs.specs.Tile.{cell}
+use Rattle.column_runs.specs.Tile.{given_by}
 use Rattle.column_runs.proofs.sums.bytes_at.Given as goal
 
 -- the products with the factors so far are added
 abbrev pub invariant-loop-i : goal.invariant-loop-i
-invariant-loop-i g l =
-    AreLanes g.row.N l.sums (λ c. get_or l.first c 0 ⊕ sum_to (λ j. get_or l.factors j 0 ⊗ cell l.differences c j) l.i) l.at
+invariant-loop-i g l = AreLanes g.row.N l.sums (given_by l.first l.differences l.factors l.i) l.at
