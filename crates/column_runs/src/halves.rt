@@ -4,10 +4,10 @@ ghost use Rattle.std.specs.Prelude.{◌≡◌, ℕ, ◌+◌, ◌*◌, ◌/◌, �
 ghost use Rattle.std.specs.Simd.Lanes.{Each1};
 ghost use Rattle.gf256.specs.Field.{◌⊕◌, ◌⊗◌};
 ghost use Rattle.gf256.specs.Rows.{multiple, AreLanes};
-ghost use Rattle.column_runs.specs.Halves.{together, AreHalves};
+ghost use Rattle.column_runs.specs.Halves.{difference, together, AreHalves, AreParts};
 
 use gf256::rows::Products;
-use gf256::vectors::{LookUp, Vectors};
+use gf256::vectors::{LANES, LookUp, Vectors};
 use std::alloc::{AllocError, Global};
 use std::marker::Model;
 use std::simd::prelude::*;
@@ -42,14 +42,15 @@ impl HalvedRow {
         Ok(HalvedRow { low, high })
     }
 
-    /// The byte at a place.
-    pub(crate) fn byte(&self, place: usize) -> u8
+    /// The product of the byte at a place with a factor.
+    #[inline(always)]
+    pub(crate) fn product(&self, place: usize, factor: &Products) -> u8
         requires { place < length self.now }
-        ensures { result ≡ slice_index self.now place }
+        ensures { result ≡ multiple self.now factor.now place }
     {
         let low: &[u8] = &self.low;
         let high: &[u8] = &self.high;
-        high[place] * 16 + low[place]
+        factor.times_half_bytes(low[place], high[place])
     }
 
     /// The products of N bytes, from place `at` on, with a factor.
@@ -93,21 +94,78 @@ where
 }
 
 /// Makes the first of `low` and `high` the low four bits and the high four of the bytes of the row less those of `first`.
-/// A plain loop, which the compiler turns into one over vectors.
+///
+/// Where the last of these are fewer than 16, the last 16 are made at once, some of them once more.
 fn part_difference(row: &[u8], first: &[u8], low: &mut [u8], high: &mut [u8])
-    requires same { length row.now ≡ length first.now }
-    requires room_low { length first.now ≤ length low.old }
-    requires room_high { length first.now ≤ length high.old }
-    requires small_low { Each1 (λ l. l < 16) low.old }
-    requires small_high { Each1 (λ h. h < 16) high.old }
-    ensures small_low { Each1 (λ l. l < 16) low.new }
-    ensures small_high { Each1 (λ h. h < 16) high.new }
-    ensures each { (c : ℕ) → c < length first.now
-        → slice_index high.new c * 16 + slice_index low.new c ≡ slice_index row.now c ⊕ slice_index first.now c }
+    requires width { length row.now ≡ length first.now }
+    requires same { length low.old ≡ length high.old }
+    requires room { length first.now ≤ length low.old }
+    requires parts { AreParts low.old high.old (difference row.now first.now) 0 }
+    ensures { AreParts low.new high.new (difference row.now first.now) (length first.now) }
+{
+    if first.len() < 16 {
+        return part_bytes(row, first, low, high);
+    }
+    let wide = part_in_lanes::<LANES>(row, first, low, high, 0);
+    let at = part_in_lanes::<16>(row, first, low, high, wide);
+    if at < first.len() {
+        part_lanes::<16>(row, first, low, high, first.len() - 16);
+    }
+}
+
+/// The same for short rows.
+fn part_bytes(row: &[u8], first: &[u8], low: &mut [u8], high: &mut [u8])
+    requires width { length row.now ≡ length first.now }
+    requires same { length low.old ≡ length high.old }
+    requires room { length first.now ≤ length low.old }
+    requires parts { AreParts low.old high.old (difference row.now first.now) 0 }
+    ensures { AreParts low.new high.new (difference row.now first.now) (length first.now) }
 {
     for c in 0..first.len() {
-        let difference = row[c] ^ first[c];
-        low[c] = difference & 15;
-        high[c] = difference >> 4;
+        let byte = row[c] ^ first[c];
+        low[c] = byte & 15;
+        high[c] = byte >> 4;
     }
+}
+
+/// Goes on from place `from` on, N bytes at once, until fewer than N are left. Gives the place of the first that is left.
+#[inline(always)]
+fn part_in_lanes<const N: usize>(
+    row: &[u8],
+    first: &[u8],
+    low: &mut [u8],
+    high: &mut [u8],
+    from: usize,
+) -> usize
+    requires some { 1 ≤ N }
+    requires width { length row.now ≡ length first.now }
+    requires same { length low.old ≡ length high.old }
+    requires room { length first.now ≤ length low.old }
+    requires within { from ≤ length first.now }
+    requires parts { AreParts low.old high.old (difference row.now first.now) from }
+    ensures within { result ≤ length first.now }
+    ensures few { length first.now < result + N }
+    ensures parts { AreParts low.new high.new (difference row.now first.now) result }
+{
+    let mut at = from;
+    'lanes: while first.len() - at >= N {
+        part_lanes::<N>(row, first, low, high, at);
+        at += N;
+    }
+    at
+}
+
+/// Makes N bytes, from place `at` on.
+#[inline(always)]
+fn part_lanes<const N: usize>(row: &[u8], first: &[u8], low: &mut [u8], high: &mut [u8], at: usize)
+    requires width { length row.now ≡ length first.now }
+    requires same { length low.old ≡ length high.old }
+    requires room { length first.now ≤ length low.old }
+    requires within { at + N ≤ length first.now }
+    ensures { (n : ℕ) → at ≤ n → AreParts low.old high.old (difference row.now first.now) n
+        → AreParts low.new high.new (difference row.now first.now) (at + N) }
+{
+    let bytes = Simd::<u8, N>::from_slice(&row[at..]) ^ Simd::from_slice(&first[at..]);
+    (bytes & Simd::splat(15)).copy_to_slice(&mut low[at..]);
+    (bytes >> Simd::splat(4)).copy_to_slice(&mut high[at..]);
 }

@@ -5,9 +5,9 @@ ghost use Rattle.gf256.specs.Rows.{AreLanes};
 ghost use Rattle.column_runs.specs.Tile.{given};
 
 use crate::halves::HalvedRow;
+use gf256::add;
 use gf256::rows::Products;
 use gf256::vectors::{LANES, LookUp, Vectors};
-use gf256::{add, mul};
 use std::simd::prelude::*;
 
 /// As many columns as are held in registers at once, while the factors pass.
@@ -22,7 +22,7 @@ pub(crate) fn byte_at(first: &[u8], differences: &[HalvedRow], factors: &[Produc
 {
     let mut sum = first[c];
     for i in 0..factors.len() {
-        sum = add(sum, mul(factors[i].factor(), differences[i].byte(c)));
+        sum = add(sum, differences[i].product(c, &factors[i]));
     }
     sum
 }

@@ -44,7 +44,7 @@ high_places (x ∷ xs) zero e bytes = absurd (omega arith)
 high_places (x ∷ xs) (suc n) e bytes = (let b = bytes.0 in omega arith, high_places xs n (omega arith) bytes.1)
 
 -- the product of one byte, from what the two tables have
-at_halves : (f l h : ℕ) → l < 16 → h < 16
+pub at_halves : (f l h : ℕ) → l < 16 → h < 16
     → bit_xor (get_or (low_of f) l 0) (get_or (high_of f) h 0) ≡ f ⊗ (h * 16 + l)
 unfolding ◌⊕◌
 at_halves f l h low high =

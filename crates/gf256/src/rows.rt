@@ -90,6 +90,16 @@ impl Products {
         let of_high = Vectors::look_up(self.high, high);
         of_low ^ of_high
     }
+
+    /// The same for one byte.
+    #[inline(always)]
+    pub fn times_half_bytes(&self, low: u8, high: u8) -> u8
+        requires low { low < 16 }
+        requires high { high < 16 }
+        ensures { result ≡ self.now ⊗ (high * 16 + low) }
+    {
+        self.low[low as usize] ^ self.high[high as usize]
+    }
 }
 
 /// Row j, of 16 bytes, has the products of j with 0 to 15.

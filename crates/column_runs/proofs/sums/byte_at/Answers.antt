@@ -16,7 +16,7 @@ loop-i-preserved c =
     let row = c.index-differences-i.is ∙ get_or_default ds i _ [] (omega (arith, c.loop-i-test.true, c.requires.count)) in
     c.add-sum.ensures
     ∙ ap₂ ◌⊕◌ c.loop-i.invariant
-    (c.mul.ensures ∙ ap₂ ◌⊗◌ (c.factor.ensures ∙ factor) (c.byte.ensures ∙ ap (λ row. get_or row c.args.c 0) row))
+    (c.product.ensures ∙ ap₂ (λ f row. f ⊗ get_or row c.args.c 0) factor row)
     ∙ given-more c.args.first.now ds factors i c.args.c
 
 pub returns : goal.returns

@@ -5,19 +5,12 @@ use Rattle.column_runs.proofs.DifferenceRows.{items-with}
 use Rattle.column_runs.proofs.Together.{length-together, get_or-together}
 use Rattle.column_runs.proofs.halves.HalvedRow.set_difference.Goals as goal
 
-pub part_difference-requires-clause-room_low : goal.part_difference-requires-clause-room_low
-part_difference-requires-clause-room_low c =
+pub part_difference-requires-clause-room : goal.part_difference-requires-clause-room
+part_difference-requires-clause-room c =
     let size = length-together c.self.inside.low.items c.self.inside.high.items c.self.invariant.same in
     let bytes = ap length c.self.view_is in
     let low = ap length c.deref_mut.ensures.value in
     omega (arith, size, bytes, low, c.requires.room)
-
-pub part_difference-requires-clause-room_high : goal.part_difference-requires-clause-room_high
-part_difference-requires-clause-room_high c =
-    let size = length-together c.self.inside.low.items c.self.inside.high.items c.self.invariant.same in
-    let bytes = ap length c.self.view_is in
-    let high = ap length c.deref_mut-2.ensures.value in
-    omega (arith, size, bytes, high, c.requires.room, c.self.invariant.same)
 
 pub returns-clause-size : goal.returns-clause-size
 returns-clause-size c =
@@ -45,4 +38,4 @@ returns-clause-each c = λ k l.
     let bytes = ap length c.self.view_is in
     ap₂ (λ l h. get_or (together l h) k 0) (items-with low lows size_low) (items-with high highs size_high)
     ∙ get_or-together lows highs same k (omega (arith, l, c.requires.room, size, bytes))
-    ∙ c.part_difference.ensures.each k l
+    ∙ c.part_difference.ensures.each k (omega (arith, l))

@@ -3,7 +3,7 @@ use Rattle.std.proofs.lemmas.List.{get_or-set_same, get_or-set_other}
 use Rattle.gf256.specs.Field.{◌⊕◌}
 use Rattle.gf256.proofs.Xor.{add_lt}
 use Rattle.column_runs.proofs.Together.{byte-together, low-small, Each1-set}
-use Rattle.column_runs.proofs.halves.part_difference.Goals as goal
+use Rattle.column_runs.proofs.halves.part_bytes.Goals as goal
 
 -- one byte more
 each-more : (lows highs : List ℕ) (g : ℕ → ℕ) (c l h : ℕ) → c < length lows → c < length highs → h * 16 + l ≡ g c
@@ -26,12 +26,14 @@ loop-c-preserved c =
     let highs = c.loop-c.high in
     let x = bit_xor (get_or row place 0) (get_or first place 0) in
     let byte : x < 256 = add_lt (get_or row place 0) (get_or first place 0) (c.type_inv.row place).fits (c.type_inv.first place).fits in
-    let parts = byte-together x in
+    let room = c.requires.room in
+    let size_low = c.loop-c.auto.low in
+    let size_high = c.loop-c.auto.high in
     record {
-      small_low = Each1-set (λ l. l < 16) lows place (bit_and x 15) c.loop-c.invariant.small_low (low-small x);
-      small_high = Each1-set (λ h. h < 16) highs place (x / 16) c.loop-c.invariant.small_high (omega (arith, byte));
+      low = Each1-set (λ l. l < 16) lows place (bit_and x 15) c.loop-c.invariant.low (low-small x);
+      high = Each1-set (λ h. h < 16) highs place (x / 16) c.loop-c.invariant.high (omega (arith, byte));
       each =
           each-more lows highs (λ k. bit_xor (get_or row k 0) (get_or first k 0)) place (bit_and x 15) (x / 16)
-          (omega (arith, c.requires.room_low, c.loop-c.auto.low, c.loop-c-test.true)) (omega (arith, c.requires.room_high, c.loop-c.auto.high, c.loop-c-test.true))
-          parts c.loop-c.invariant.each;
+          (omega (arith, room, size_low, c.loop-c-test.true)) (omega (arith, room, size_high, c.requires.same, c.loop-c-test.true))
+          (byte-together x) c.loop-c.invariant.each;
     }
