@@ -19,6 +19,9 @@ use uni_poly::steps::Steps;
 /// The most columns that are decoded at once.
 const MOST_COLUMNS: usize = 2048;
 
+/// The most of the first tile. The others have no more than stand before them, so that a short run costs little.
+const FIRST_COLUMNS: usize = 256;
+
 /// As many bytes as the rows of differences of a tile take at most, if not more than the least tile: a half of the nearest
 /// cache has room for them.
 const TILE_BYTES: usize = 16384;
@@ -53,7 +56,7 @@ pub fn decode_run<C: Ledger>(
     ensures cols { MatchResult result (λ n. cols.new ≡ cols.old + n) (λ _. cols.new ≡ cols.old) }
 {
     let factors = factors_by_first(alloc, columns.xs, columns.t)?;
-    let width = tile_width(columns.t as usize).min(out.len().max(1));
+    let width = tile_width(columns.t as usize, out.len());
     let mut differences = rows_of_zeros(alloc, columns.t as usize, width)?;
     are_bytes(columns.xs);
     rows_are_bytes(columns.rows);
@@ -62,12 +65,15 @@ pub fn decode_run<C: Ledger>(
     Ok(done)
 }
 
-/// How many columns are decoded at once where there are `t` rows of differences.
-fn tile_width(t: usize) -> usize
+/// How many of so many columns are decoded at once where there are `t` rows of differences.
+fn tile_width(t: usize, columns: usize) -> usize
     ensures { 0 < result }
 {
+    if columns <= BLOCK {
+        return columns.max(1);
+    }
     let fitting = TILE_BYTES / 2 / t.max(1) / BLOCK * BLOCK;
-    fitting.clamp(BLOCK, MOST_COLUMNS)
+    fitting.clamp(BLOCK, MOST_COLUMNS).min(columns)
 }
 
 /// So many rows of zeros, of so many columns each.
@@ -105,7 +111,7 @@ fn decode_tiles(
 {
     let mut done = 0;
     'tiles: while done < out.len() {
-        let size = width.min(out.len() - done);
+        let size = done.max(FIRST_COLUMNS).min(width).min(out.len() - done);
         let tile = &mut out[done..done + size];
         let columns = decode_tile(rows, from + done, factors, differences, tile);
         done += columns;

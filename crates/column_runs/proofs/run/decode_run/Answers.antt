@@ -50,11 +50,11 @@ decode_tiles-done-requires-clause-rows g c =
     omega (arith, c.in_ok-factors.ensures.count, length-items lists, zero, c.requires.rows)
 
 pub decode_tiles-done-requires-clause-some : goal.decode_tiles-done-requires-clause-some
-decode_tiles-done-requires-clause-some g c = omega (arith, c.tile_width.ensures, c.max.ensures, c.min-width.ensures)
+decode_tiles-done-requires-clause-some g c = c.tile_width-width.ensures
 
 pub decode_tiles-done-requires-clause-room : goal.decode_tiles-done-requires-clause-room
 decode_tiles-done-requires-clause-room g c =
-    subst (All (λ (d : List ℕ). c.min-width.result ≤ length d)) (sym c.deref_mut.ensures.value)
+    subst (All (λ (d : List ℕ). c.tile_width-width.result ≤ length d)) (sym c.deref_mut.ensures.value)
     (λ k d l. let wide = c.in_ok-differences.ensures.columns k d l in omega (arith, wide))
 
 pub decode_tiles-done-requires-clause-widths : goal.decode_tiles-done-requires-clause-widths
