@@ -17,7 +17,12 @@ with_differences factors differences first c =
 abbrev pub given : List ℕ → List (List ℕ) → List ℕ → ℕ → ℕ
 given first differences factors c = with_differences factors differences (slice_index first c) c
 
--- the same by the first n of the factors alone
+-- the first n bytes of a row are those
+abbrev pub AreGiven : List ℕ → List (List ℕ) → List ℕ → List ℕ → ℕ → Type 0
+AreGiven first differences factors row n =
+    (c : ℕ) → c < n → slice_index row c ≡ given first differences factors c
+
+-- what the first n of the factors give there
 abbrev pub given_by : List ℕ → List (List ℕ) → List ℕ → ℕ → ℕ → ℕ
 given_by first differences factors n c =
     slice_index first c ⊕ sum_to (λ i. slice_index factors i ⊗ cell differences c i) n

@@ -2,7 +2,7 @@
 
 ghost use Rattle.std.specs.Prelude.{◌≡◌, ◌≢◌, ℕ, ◌+◌, ◌<◌, ◌≤◌, length, slice_index, true, All};
 ghost use Rattle.std.specs.Simd.Lanes.{chunk};
-ghost use Rattle.column_runs.specs.Tile.{given};
+ghost use Rattle.column_runs.specs.Tile.{given, AreGiven};
 
 use crate::halves::HalvedRow;
 use crate::sums::{BLOCK, block_at, byte_at, bytes_at};
@@ -22,7 +22,7 @@ pub(crate) fn agreed_length(
     requires count { length factors.now ≡ length differences.now }
     requires room { All (λ d. length first.now ≤ length d) differences.now }
     ensures within { result ≤ length first.now }
-    ensures same { (c : ℕ) → c < result → slice_index row.now c ≡ given first.now differences.now factors.now c }
+    ensures same { AreGiven first.now differences.now factors.now row.now result }
     ensures differ { result < length first.now
         → slice_index row.now result ≢ given first.now differences.now factors.now result }
 {
@@ -51,7 +51,7 @@ fn agreed_bytes(first: &[u8], differences: &[HalvedRow], factors: &[Products], r
     requires count { length factors.now ≡ length differences.now }
     requires room { All (λ d. length first.now ≤ length d) differences.now }
     ensures within { result ≤ length first.now }
-    ensures same { (c : ℕ) → c < result → slice_index row.now c ≡ given first.now differences.now factors.now c }
+    ensures same { AreGiven first.now differences.now factors.now row.now result }
     ensures differ { result < length first.now
         → slice_index row.now result ≢ given first.now differences.now factors.now result }
 {
@@ -75,7 +75,7 @@ fn agreeing_blocks(
     requires count { length factors.now ≡ length differences.now }
     requires room { All (λ d. length first.now ≤ length d) differences.now }
     ensures within { result ≤ length first.now }
-    ensures same { (c : ℕ) → c < result → slice_index row.now c ≡ given first.now differences.now factors.now c }
+    ensures same { AreGiven first.now differences.now factors.now row.now result }
 {
     let mut at = 0;
     'whole: while row.len() - at >= BLOCK {
@@ -105,9 +105,9 @@ where
     requires count { length factors.now ≡ length differences.now }
     requires room { All (λ d. length first.now ≤ length d) differences.now }
     requires within { from ≤ length first.now }
-    requires same { (c : ℕ) → c < from → slice_index row.now c ≡ given first.now differences.now factors.now c }
+    requires same { AreGiven first.now differences.now factors.now row.now from }
     ensures within { result ≤ length first.now }
-    ensures same { (c : ℕ) → c < result → slice_index row.now c ≡ given first.now differences.now factors.now c }
+    ensures same { AreGiven first.now differences.now factors.now row.now result }
 {
     let mut at = from;
     'lanes: while row.len() - at >= N

@@ -1,8 +1,7 @@
 //! Rows of bytes whose low four bits and high four lie apart, as products with many factors take them.
 
-ghost use Rattle.std.specs.Prelude.{◌≡◌, ℕ, ◌+◌, ◌*◌, ◌/◌, ◌%◌, ◌<◌, ◌≤◌, length, slice_index, IfOk};
-ghost use Rattle.std.specs.Simd.Lanes.{Each1};
-ghost use Rattle.gf256.specs.Field.{◌⊕◌, ◌⊗◌};
+ghost use Rattle.std.specs.Prelude.{◌≡◌, ℕ, ◌+◌, ◌<◌, ◌≤◌, length, slice_index, IfOk};
+ghost use Rattle.gf256.specs.Field.{◌⊕◌};
 ghost use Rattle.gf256.specs.Rows.{multiple, AreLanes};
 ghost use Rattle.column_runs.specs.Halves.{difference, together, AreHalves, AreParts};
 

@@ -19,11 +19,11 @@ use uni_poly::steps::Steps;
 /// The most columns that are decoded at once.
 const MOST_COLUMNS: usize = 2048;
 
-/// The most of the first tile. The others have no more than stand before them, so that a short run costs little.
+/// The most of the first tile. Each later one has no more than are done, so that a short run costs little.
 const FIRST_COLUMNS: usize = 256;
 
-/// As many bytes as the rows of differences of a tile take at most, if not more than the least tile: a half of the nearest
-/// cache has room for them.
+/// As many bytes as the halves of the differences of a tile fill at most, unless it has but a block of columns. The nearest
+/// cache has room for twice as many.
 const TILE_BYTES: usize = 16384;
 
 /// The longest run of columns, from column `from` on, in each of which the points lie on one polynomial of degree at most

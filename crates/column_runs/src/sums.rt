@@ -1,8 +1,8 @@
 //! The bytes that factors give in the columns of a tile, 128 at once, then 32 or 16.
 
-ghost use Rattle.std.specs.Prelude.{◌≡◌, ℕ, ◌+◌, ◌<◌, ◌≤◌, length, slice_index, All};
+ghost use Rattle.std.specs.Prelude.{◌≡◌, ◌+◌, ◌<◌, ◌≤◌, length, All};
 ghost use Rattle.gf256.specs.Rows.{AreLanes};
-ghost use Rattle.column_runs.specs.Tile.{given};
+ghost use Rattle.column_runs.specs.Tile.{given, AreGiven};
 
 use crate::halves::HalvedRow;
 use gf256::add;
@@ -79,8 +79,7 @@ pub(crate) fn extend(first: &[u8], differences: &[HalvedRow], factors: &[Product
     requires same { length first.now ≡ length sums.old }
     requires count { length factors.now ≡ length differences.now }
     requires room { All (λ d. length first.now ≤ length d) differences.now }
-    ensures { (c : ℕ) → c < length first.now
-        → slice_index sums.new c ≡ given first.now differences.now factors.now c }
+    ensures { AreGiven first.now differences.now factors.now sums.new (length first.now) }
 {
     if sums.len() < 16 {
         return extend_bytes(first, differences, factors, sums);
@@ -99,8 +98,7 @@ fn extend_bytes(first: &[u8], differences: &[HalvedRow], factors: &[Products], s
     requires same { length first.now ≡ length sums.old }
     requires count { length factors.now ≡ length differences.now }
     requires room { All (λ d. length first.now ≤ length d) differences.now }
-    ensures { (c : ℕ) → c < length first.now
-        → slice_index sums.new c ≡ given first.now differences.now factors.now c }
+    ensures { AreGiven first.now differences.now factors.now sums.new (length first.now) }
 {
     for c in 0..sums.len() {
         sums[c] = byte_at(first, differences, factors, c);
@@ -119,7 +117,7 @@ fn extend_blocks(
     requires count { length factors.now ≡ length differences.now }
     requires room { All (λ d. length first.now ≤ length d) differences.now }
     ensures within { result ≤ length first.now }
-    ensures made { (c : ℕ) → c < result → slice_index sums.new c ≡ given first.now differences.now factors.now c }
+    ensures made { AreGiven first.now differences.now factors.now sums.new result }
 {
     let mut at = 0;
     'whole: while sums.len() - at >= BLOCK {
@@ -148,10 +146,10 @@ where
     requires count { length factors.now ≡ length differences.now }
     requires room { All (λ d. length first.now ≤ length d) differences.now }
     requires within { from ≤ length first.now }
-    requires made { (c : ℕ) → c < from → slice_index sums.old c ≡ given first.now differences.now factors.now c }
+    requires made { AreGiven first.now differences.now factors.now sums.old from }
     ensures within { result ≤ length first.now }
     ensures few { length first.now < result + N }
-    ensures made { (c : ℕ) → c < result → slice_index sums.new c ≡ given first.now differences.now factors.now c }
+    ensures made { AreGiven first.now differences.now factors.now sums.new result }
 {
     let mut at = from;
     'lanes: while sums.len() - at >= N {

@@ -1,4 +1,3 @@
-use Rattle.std.proofs.Common.{◌+◌, arith}
 use Rattle.column_runs.specs.Tile.{given}
 use Rattle.column_runs.proofs.SameColumns.{has-lanes}
 use Rattle.column_runs.proofs.agreement.agreed_lanes.Goals as goal

@@ -1,4 +1,4 @@
-use Rattle.std.proofs.Common.{◌≡◌, ◌+◌, ◌-◌, length, get_or, arith}
+use Rattle.std.proofs.Common.{◌≡◌, ◌-◌, length, get_or, arith}
 use Rattle.column_runs.specs.Tile.{given}
 use Rattle.column_runs.proofs.SameColumns.{each-on}
 use Rattle.column_runs.proofs.agreement.agreed_length.Goals as goal

@@ -1,12 +1,12 @@
-use Rattle.std.proofs.Common.{◌≡◌, ◌-◌, ℕ, ◌<◌, ◌≤◌, length, get_or}
-use Rattle.column_runs.specs.Tile.{given}
+use Rattle.std.proofs.Common.{◌-◌, ◌≤◌, length}
+use Rattle.column_runs.specs.Tile.{AreGiven}
 use Rattle.column_runs.proofs.agreement.agreed_length.Given as goal
 
 -- the columns so far agree
 abbrev pub invariant-lanes : goal.invariant-lanes
 invariant-lanes l = record {
   within : l.at ≤ length l.first;
-  same : (k : ℕ) → k < l.at → get_or l.row k 0 ≡ given l.first l.differences l.factors k;
+  same : AreGiven l.first l.differences l.factors l.row l.at;
 }
 
 abbrev pub decreases-lanes : goal.decreases-lanes

@@ -1,4 +1,4 @@
-use Rattle.std.proofs.Common.{◌≡◌, ◌+◌, length, get_or, arith}
+use Rattle.std.proofs.Common.{◌≡◌, get_or, arith}
 use Rattle.column_runs.specs.Tile.{given}
 use Rattle.column_runs.proofs.SameColumns.{has-lanes, each-on}
 use Rattle.column_runs.proofs.agreement.agreeing_lanes.Goals as goal

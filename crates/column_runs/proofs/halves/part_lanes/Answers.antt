@@ -1,5 +1,4 @@
-use Rattle.std.proofs.Common.{◌≡◌, ◌+◌, ◌≤◌, length, get_or, ◌∙◌, sym, arith, subst}
-use Rattle.std.specs.Simd.Lanes.{zip2, chunk}
+use Rattle.std.proofs.Common.{◌+◌, ◌≤◌, length, get_or, arith}
 use Rattle.std.proofs.lemmas.Simd.{shifts_fit_splat}
 use Rattle.gf256.proofs.LaneSums.{lanes-of, lanes-sum}
 use Rattle.gf256.proofs.Xor.{add_lt}

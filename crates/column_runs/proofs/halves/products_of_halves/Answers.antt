@@ -1,6 +1,4 @@
-use Rattle.std.proofs.Common.{◌≡◌, ◌∙◌, sym, subst, arith}
-use Rattle.std.specs.Simd.Lanes.{chunk, Each1}
-use Rattle.std.proofs.lemmas.Simd.{Each1-chunk}
+use Rattle.std.proofs.Common.{sym, subst}
 use Rattle.gf256.specs.Rows.{multiple, AreLanes}
 use Rattle.column_runs.specs.Halves.{together}
 use Rattle.column_runs.proofs.Together.{products-together}

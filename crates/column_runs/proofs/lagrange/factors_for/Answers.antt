@@ -1,11 +1,10 @@
-use Rattle.std.proofs.Common.{◌≡◌, ◌+◌, ◌<◌, length, get_or, drop, take, sym, ap, subst, ◌∙◌, arith}
+use Rattle.std.proofs.Common.{◌≡◌, ◌+◌, ◌<◌, length, drop, take, sym, ap, subst, ◌∙◌, arith}
 use Rattle.std.proofs.lemmas.Result.{IfOk-weaker}
 use Rattle.gf256.specs.Field.{◌⊗◌}
 use Rattle.gf256.specs.Polynomial.{val}
 use Rattle.uni_poly.specs.Product.{vanishing}
 use Rattle.uni_poly.proofs.Coefficients.{bytes_from_get_or}
 use Rattle.column_runs.specs.Lagrange.{weight, Extends}
-use Rattle.column_runs.proofs.DifferenceRows.{items-with}
 use Rattle.column_runs.proofs.Extension.{extends}
 use Rattle.column_runs.proofs.Weights.{factor-by_weight}
 use Rattle.column_runs.proofs.lagrange.factors_for.Goals as goal

@@ -1,4 +1,4 @@
-use Rattle.std.proofs.Common.{◌≡◌, ◌+◌, ◌<◌, ℕ, length, get_or, take}
+use Rattle.std.proofs.Common.{◌≡◌, ◌+◌, ◌<◌, ℕ, get_or, take}
 use Rattle.gf256.specs.Field.{◌⊗◌}
 use Rattle.gf256.specs.Polynomial.{val}
 use Rattle.uni_poly.specs.Product.{vanishing}

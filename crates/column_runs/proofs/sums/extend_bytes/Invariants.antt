@@ -1,7 +1,6 @@
-use Rattle.std.proofs.Common.{◌≡◌, ℕ, ◌<◌, get_or}
-use Rattle.column_runs.specs.Tile.{given}
+use Rattle.column_runs.specs.Tile.{AreGiven}
 use Rattle.column_runs.proofs.sums.extend_bytes.Given as goal
 
 -- the columns so far
 abbrev pub invariant-loop-c : goal.invariant-loop-c
-invariant-loop-c l = (k : ℕ) → k < l.c → get_or l.sums k 0 ≡ given l.first l.differences l.factors k
+invariant-loop-c l = AreGiven l.first l.differences l.factors l.sums l.c

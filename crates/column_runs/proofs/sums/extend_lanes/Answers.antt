@@ -1,4 +1,4 @@
-use Rattle.std.proofs.Common.{◌≡◌, ◌+◌, length, ◌∙◌, arith}
+use Rattle.std.proofs.Common.{arith}
 use Rattle.column_runs.specs.Tile.{given}
 use Rattle.column_runs.proofs.MadeSums.{made-put}
 use Rattle.column_runs.proofs.sums.extend_lanes.Goals as goal

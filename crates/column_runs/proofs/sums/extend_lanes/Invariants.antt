@@ -1,12 +1,12 @@
-use Rattle.std.proofs.Common.{◌≡◌, ◌-◌, ℕ, ◌<◌, ◌≤◌, length, get_or}
-use Rattle.column_runs.specs.Tile.{given}
+use Rattle.std.proofs.Common.{◌-◌, ◌≤◌, length}
+use Rattle.column_runs.specs.Tile.{AreGiven}
 use Rattle.column_runs.proofs.sums.extend_lanes.Given as goal
 
 -- the columns so far
 abbrev pub invariant-lanes : goal.invariant-lanes
 invariant-lanes g l = record {
   within : l.at ≤ length l.first;
-  made : (k : ℕ) → k < l.at → get_or l.sums k 0 ≡ given l.first l.differences l.factors k;
+  made : AreGiven l.first l.differences l.factors l.sums l.at;
 }
 
 abbrev pub decreases-lanes : goal.decreases-lanes

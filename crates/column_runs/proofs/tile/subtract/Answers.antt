@@ -1,4 +1,4 @@
-use Rattle.std.proofs.Common.{◌≡◌, ◌+◌, ◌<◌, ◌≤◌, ℕ, List, [], Bor, All, refl, drop, length-drop, length, map, get_or, take, set, sym, ap, ◌∙◌, arith, get_or-take, get_or-drop}
+use Rattle.std.proofs.Common.{◌≡◌, ◌+◌, ◌<◌, ◌≤◌, ℕ, List, [], Bor, All, refl, drop, length-drop, length, map, get_or, take, sym, ap, ◌∙◌, arith, get_or-take, get_or-drop}
 use Rattle.std.proofs.lemmas.List.{length-take-le, get_or_default}
 use Rattle.gf256.specs.Field.{◌⊕◌}
 use Rattle.column_runs.specs.Tile.{cell}

@@ -1,4 +1,4 @@
-use Rattle.std.proofs.Common.{◌≡◌, ◌+◌, ◌*◌, ◌<◌, length, get_or, sym, ap, ap₂, ◌∙◌, arith}
+use Rattle.std.proofs.Common.{◌+◌, ◌*◌, length, get_or, sym, ap, ap₂, ◌∙◌, arith}
 use Rattle.gf256.specs.Field.{◌⊗◌}
 use Rattle.column_runs.proofs.Together.{length-together, get_or-together}
 use Rattle.column_runs.proofs.halves.HalvedRow.product.Goals as goal

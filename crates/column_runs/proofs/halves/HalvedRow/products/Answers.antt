@@ -1,4 +1,4 @@
-use Rattle.std.proofs.Common.{◌≡◌, ◌+◌, ◌≤◌, length, sym, ap, ap₂, subst, ◌∙◌, arith}
+use Rattle.std.proofs.Common.{length, sym, ap, ap₂, subst, ◌∙◌, arith}
 use Rattle.gf256.specs.Rows.{multiple, AreLanes}
 use Rattle.column_runs.specs.Halves.{together, AreHalves}
 use Rattle.column_runs.proofs.Together.{length-together}

@@ -1,5 +1,4 @@
-use Rattle.std.proofs.Common.{◌≡◌, ◌+◌, ◌*◌, ◌≤◌, ◌<◌, length, get_or, sym, ap, ap₂, ◌∙◌, arith}
-use Rattle.std.specs.Vec.{with_items}
+use Rattle.std.proofs.Common.{length, get_or, sym, ap, ap₂, ◌∙◌, arith}
 use Rattle.column_runs.specs.Halves.{together}
 use Rattle.column_runs.proofs.DifferenceRows.{items-with}
 use Rattle.column_runs.proofs.Together.{length-together, get_or-together}
