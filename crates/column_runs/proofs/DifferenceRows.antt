@@ -3,7 +3,7 @@ use Rattle.std.proofs.Common.{◌≡◌, ℕ, ◌+◌, ◌<◌, ◌≤◌, List,
 use Rattle.std.proofs.lemmas.Bool.{cases_eq}
 use Rattle.std.specs.Vec.{with_items}
 use Rattle.std.proofs.Math.Seq.{take-append_seam}
-use Rattle.std.proofs.lemmas.List.{get_or-map, get_or-set_same, get_or-set_other, length-map}
+use Rattle.std.proofs.lemmas.List.{get_or-map, get_or-set_same, get_or-set_other, length-map, get_or_default}
 
 -- the bytes of a vector in a list of them
 pub items_at : (ds : List (Vec ℕ Global)) (i : ℕ) (d : Vec ℕ Global) → i < length ds
@@ -40,13 +40,12 @@ items-with v row same =
     ap (λ n. take n (row ++ drop (length row) v.items)) size ∙ take-append_seam row (drop (length row) v.items)
 
 -- where their sizes stay, they keep their room
-pub room_kept : (old new : List (Vec ℕ Global)) (n : ℕ) → length new ≡ length old
-    → ((i : ℕ) → length (get_or (map (λ (d : Vec ℕ Global). d.items) new) i []) ≡ length (get_or (map (λ (d : Vec ℕ Global). d.items) old) i []))
-    → All (λ d. n ≤ length d.items) old → All (λ d. n ≤ length d.items) new
+pub room_kept : (old new : List (List ℕ)) (n : ℕ) → length new ≡ length old
+    → ((i : ℕ) → length (get_or new i []) ≡ length (get_or old i []))
+    → All (λ d. n ≤ length d) old → All (λ d. n ≤ length d) new
 room_kept old new n count sizes room = λ k d l.
     let m : k < length old = omega (arith, l, count) in
-    let here = ap length (items_at new k d l) in
-    let there = ap length (items_at old k d m) in
-    let enough = room k d m in
+    let here = ap length (get_or_default new k d [] l) in
+    let enough = room k [] m in
     let same = sizes k in
-    omega (arith, here, there, enough, same)
+    omega (arith, here, enough, same)

@@ -6,6 +6,9 @@ pub mod Extension
 pub mod Weights
 pub mod Pushed
 pub mod SameLanes
+pub mod Together
+pub mod MadeSums
+pub mod SameColumns
 pub mod DifferenceRows
 pub mod Agreed
 pub mod TileColumns

@@ -30,12 +30,12 @@ module _ (rows : List (List ℕ)) (from : ℕ) (first : List ℕ) (ds : List (Li
     pub is_tile : (zero bytes : List ℕ) (n : ℕ) → length zero ≡ length ds → length bytes ≡ length first → n ≤ length first
         → ((c : ℕ) → c < n → Agree rows (tile from first ds) others c (length others))
         → (n < length first → ¬ Agree rows (tile from first ds) others n (length others))
-        → ((c : ℕ) → c < length first → get_or bytes c 0 ≡ with_differences zero ds (get_or first c 0) c)
+        → ((c : ℕ) → c < n → get_or bytes c 0 ≡ with_differences zero ds (get_or first c 0) c)
         → IsTile rows from others zero bytes n
     is_tile zero bytes n size same within agree differ made = record {
       within = omega (arith, within, same);
       follow = λ c l. subst (λ t. Follow rows t others (from + c)) (sym size) (follow c (omega (arith, l, within)) (agree c l));
-      constants = λ c l. made c (omega (arith, l, within)) ∙ by_differences zero c size (omega (arith, l, within));
+      constants = λ c l. made c l ∙ by_differences zero c size (omega (arith, l, within));
       longest = λ l follows.
           differ (omega (arith, l, same))
           (agree_from_follow n (omega (arith, l, same)) (subst (λ t. Follow rows t others (from + n)) size follows));

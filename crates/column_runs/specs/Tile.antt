@@ -13,6 +13,20 @@ unfoldable pub with_differences : List ℕ → List (List ℕ) → ℕ → ℕ �
 with_differences factors differences first c =
     first ⊕ sum_to (λ i. slice_index factors i ⊗ cell differences c i) (length factors)
 
+-- what the factors give in place c, by the bytes of a first row and the rows of differences
+abbrev pub given : List ℕ → List (List ℕ) → List ℕ → ℕ → ℕ
+given first differences factors c = with_differences factors differences (slice_index first c) c
+
+-- the first n bytes of a row are those
+abbrev pub AreGiven : List ℕ → List (List ℕ) → List ℕ → List ℕ → ℕ → Type 0
+AreGiven first differences factors row n =
+    (c : ℕ) → c < n → slice_index row c ≡ given first differences factors c
+
+-- what the first n of the factors give there
+abbrev pub given_by : List ℕ → List (List ℕ) → List ℕ → ℕ → ℕ → ℕ
+given_by first differences factors n c =
+    slice_index first c ⊕ sum_to (λ i. slice_index factors i ⊗ cell differences c i) n
+
 -- these rows are as long as those
 abbrev pub AreAsLong : List (List ℕ) → List (List ℕ) → Type 0
 AreAsLong these those = (i : ℕ) → length (slice_index_or these i []) ≡ length (slice_index_or those i [])

@@ -6,16 +6,17 @@ ghost use Rattle.gf256.specs.Polynomial.{val};
 ghost use Rattle.uni_poly.specs.Product.{vanishing};
 ghost use Rattle.column_runs.specs.Lagrange.{basis_polynomial, weight, AreFactors, AreWeights, Extends};
 
+use gf256::rows::Products;
 use gf256::{add, inv, mul};
 use std::alloc::{AllocError, Global};
 
-/// The factors by which values at the first of some places give those at the others, and at 0.
+/// The factors by which values at the first of some places give those at the others, and at 0, ready to be multiplied with.
 #[derive(Drop)]
 pub struct Factors {
     /// Those for each of the other places.
-    pub others: Vec<Vec<u8>>,
+    pub others: Vec<Vec<Products>>,
     /// Those for 0.
-    pub zero: Vec<u8>,
+    pub zero: Vec<Products>,
 }
 
 /// The factors by which the values of a polynomial of degree at most `t` at the first `t + 1` of the `xs` give those at the
@@ -28,11 +29,13 @@ pub(crate) fn factors_by_first(alloc: Global, xs: &[u8], t: u32) -> Result<Facto
 {
     let base = &xs[..t as usize + 1];
     let weights = weights_of(alloc, base)?;
+    let mut factors = vec![in alloc; 0; weights.len()]?;
     let mut others = Vec::with_capacity(alloc, xs.len() - base.len())?;
     for place in base.len()..xs.len() {
-        others.push(factors_for(alloc, base, &weights, xs[place])?)?;
+        let own = factors_for(alloc, base, &weights, xs[place], &mut factors)?;
+        others.push(own)?;
     }
-    let zero = factors_for(alloc, base, &weights, 0)?;
+    let zero = factors_for(alloc, base, &weights, 0, &mut factors)?;
     Ok(Factors { others, zero })
 }
 
@@ -59,36 +62,47 @@ fn weight(xs: &[u8], place: usize) -> u8
 }
 
 /// The factors for the value at `x`: for each of the `xs` but the first the factor of the difference of the value there
-/// from that at the first (Lagrange 1795).
-fn factors_for(alloc: Global, xs: &[u8], weights: &[u8], x: u8) -> Result<Vec<u8>, AllocError>
-    requires distinct { AllPairs (λ x y. x ≢ y) xs.now }
-    requires weights { AreWeights xs.now weights.now }
-    ensures { IfOk result (λ v. Extends xs.now x v.items) }
-{
-    let mut factors = times_those_before(alloc, xs, weights, x)?;
-    multiply_by_those_behind(xs, x, &mut factors);
-    Ok(factors)
-}
-
-/// Each of the weights of the `xs` but the first, times the product of `x - a` over those before its own.
-fn times_those_before(
+/// from that at the first (Lagrange 1795). They are made in `factors`, which has a place for each.
+fn factors_for(
     alloc: Global,
     xs: &[u8],
     weights: &[u8],
     x: u8,
-) -> Result<Vec<u8>, AllocError>
-    requires { length xs.now ≡ length weights.now + 1 }
-    ensures size { IfOk result (λ v. length v.items ≡ length weights.now) }
-    ensures each { IfOk result (λ v. (i : ℕ) → i < length weights.now
-        → slice_index v.items i ≡ slice_index weights.now i ⊗ val (vanishing (take (i + 1) xs.now)) x) }
+    factors: &mut [u8],
+) -> Result<Vec<Products>, AllocError>
+    requires distinct { AllPairs (λ x y. x ≢ y) xs.now }
+    requires weights { AreWeights xs.now weights.now }
+    requires room { length factors.old ≡ length weights.now }
+    ensures { IfOk result (λ v. Extends xs.now x v.items) }
 {
-    let mut made = Vec::with_capacity(alloc, weights.len())?;
+    set_times_those_before(xs, weights, x, factors);
+    multiply_by_those_behind(xs, x, factors);
+    products_of(alloc, factors)
+}
+
+/// The products with each of the factors.
+fn products_of(alloc: Global, factors: &[u8]) -> Result<Vec<Products>, AllocError>
+    ensures { IfOk result (λ v. v.items ≡ factors.now) }
+{
+    let mut made = Vec::with_capacity(alloc, factors.len())?;
+    for &factor in factors {
+        made.push(Products::of(factor))?;
+    }
+    Ok(made)
+}
+
+/// Makes the factors each of the weights of the `xs` but the first, times the product of `x - a` over those before its own.
+fn set_times_those_before(xs: &[u8], weights: &[u8], x: u8, factors: &mut [u8])
+    requires weights { length xs.now ≡ length weights.now + 1 }
+    requires room { length factors.old ≡ length weights.now }
+    ensures { (i : ℕ) → i < length weights.now
+        → slice_index factors.new i ≡ slice_index weights.now i ⊗ val (vanishing (take (i + 1) xs.now)) x }
+{
     let mut product = 1;
     for i in 0..weights.len() {
         product = mul(add(x, xs[i]), product);
-        made.push(mul(weights[i], product))?;
+        factors[i] = mul(weights[i], product);
     }
-    Ok(made)
 }
 
 /// Multiplies what there is for each of the `xs` but the first by the product of `x - a` over those behind its own.

@@ -7,15 +7,24 @@ ghost use Rattle.column_runs.specs.Run.{IsRun};
 ghost use Rattle.column_runs.specs.Tile.{IsTile};
 
 use crate::columns::Columns;
+use crate::halves::HalvedRow;
 use crate::lagrange::{Factors, factors_by_first};
 use crate::rows::{are_bytes, rows_are_bytes};
+use crate::sums::BLOCK;
 use crate::tile::decode_tile;
 use std::alloc::{AllocError, Global};
 use std::sync::ledger::Ledger;
 use uni_poly::steps::Steps;
 
 /// The most columns that are decoded at once.
-const TILE: usize = 1024;
+const MOST_COLUMNS: usize = 2048;
+
+/// The most of the first tile. Each later one has no more than are done, so that a short run costs little.
+const FIRST_COLUMNS: usize = 256;
+
+/// As many bytes as the halves of the differences of a tile fill at most, unless it has but a block of columns. The nearest
+/// cache has room for twice as many.
+const TILE_BYTES: usize = 16384;
 
 /// The longest run of columns, from column `from` on, in each of which the points lie on one polynomial of degree at most
 /// `t`. The constants of these polynomials go into `out`, and their number is returned; there are no more of them than `out`
@@ -47,43 +56,47 @@ pub fn decode_run<C: Ledger>(
     ensures cols { MatchResult result (λ n. cols.new ≡ cols.old + n) (λ _. cols.new ≡ cols.old) }
 {
     let factors = factors_by_first(alloc, columns.xs, columns.t)?;
-    let mut differences = rows_of_zeros(alloc, columns.t as usize, TILE)?;
-    let mut sums = vec![in alloc; 0; TILE]?;
+    let width = tile_width(columns.t as usize, out.len());
+    let mut differences = rows_of_zeros(alloc, columns.t as usize, width)?;
     are_bytes(columns.xs);
     rows_are_bytes(columns.rows);
-    let done = decode_tiles(
-        columns.rows,
-        from,
-        &factors,
-        &mut differences,
-        &mut sums,
-        out,
-    );
+    let done = decode_tiles(columns.rows, from, &factors, &mut differences, width, out);
     count(done, cols);
     Ok(done)
 }
 
+/// How many of so many columns are decoded at once where there are `t` rows of differences.
+fn tile_width(t: usize, columns: usize) -> usize
+    ensures { 0 < result }
+{
+    if columns <= BLOCK {
+        return columns.max(1);
+    }
+    let fitting = TILE_BYTES / 2 / t.max(1) / BLOCK * BLOCK;
+    fitting.clamp(BLOCK, MOST_COLUMNS).min(columns)
+}
+
 /// So many rows of zeros, of so many columns each.
-fn rows_of_zeros(alloc: Global, count: usize, columns: usize) -> Result<Vec<Vec<u8>>, AllocError>
+fn rows_of_zeros(alloc: Global, count: usize, columns: usize) -> Result<Vec<HalvedRow>, AllocError>
     ensures count { IfOk result (λ v. length v.items ≡ count) }
-    ensures columns { IfOk result (λ v. All (λ row. length row.items ≡ columns) v.items) }
+    ensures columns { IfOk result (λ v. All (λ row. length row ≡ columns) v.items) }
 {
     let mut rows = Vec::with_capacity(alloc, count)?;
     for _row in 0..count {
-        rows.push(vec![in alloc; 0; columns]?)?;
+        rows.push(HalvedRow::zeros(alloc, columns)?)?;
     }
     Ok(rows)
 }
 
 /// The columns from `from` on in which each row past those that the factors go by has the byte that its factors give, tile
-/// by tile, each as long as `sums`. There are as many as before the first other one, and `out` has a place for each that may
+/// by tile, each of so many columns. There are as many as before the first other one, and `out` has a place for each that may
 /// be taken; there go the bytes that the factors for 0 give.
 fn decode_tiles(
     rows: &[&[u8]],
     from: usize,
     factors: &Factors,
-    differences: &mut [Vec<u8>],
-    sums: &mut [u8],
+    differences: &mut [HalvedRow],
+    width: usize,
     out: &mut [u8],
 ) -> usize
     requires rows { length rows.now ≡ place_count factors.now }
@@ -91,16 +104,16 @@ fn decode_tiles(
     requires widths { All (λ row. from + length out.old ≤ length row) (rows_of rows.now) }
     requires memory { from + length out.old < 2 ^ 64 }
     requires count { length differences.old ≡ length factors.now.zero.items }
-    requires some { 0 < length sums.old }
-    requires room { All (λ d. length sums.old ≤ length d.items) differences.old }
+    requires some { 0 < width }
+    requires room { All (λ d. width ≤ length d) differences.old }
     ensures { IsTile (rows_of rows.now) from (lists_of factors.now.others.items)
         factors.now.zero.items out.new result }
 {
     let mut done = 0;
     'tiles: while done < out.len() {
-        let size = sums.len().min(out.len() - done);
+        let size = done.max(FIRST_COLUMNS).min(width).min(out.len() - done);
         let tile = &mut out[done..done + size];
-        let columns = decode_tile(rows, from + done, factors, differences, sums, tile);
+        let columns = decode_tile(rows, from + done, factors, differences, tile);
         done += columns;
         if columns < size {
             return done;

@@ -64,10 +64,10 @@ loop-place-preserved c =
     let more = ap length c.in_ok-push.ensures.items ∙ length-append before _ in
     let xs = c.args.xs.now in
     let base = take (c.args.t + 1) xs in
-    let last = subst (λ (place : ℕ). Extends base (get_or xs place 0) c.in_ok-factors_for.field-0.items) size c.in_ok-factors_for.ensures in
+    let last = subst (λ (place : ℕ). Extends base (get_or xs place 0) c.in_ok-own.own.items) size c.in_ok-own.ensures in
     record {
       size = omega (arith, size, more);
-      each = each_more base xs (c.args.t + 1) before _ c.in_ok-factors_for.field-0 c.in_ok-push.ensures.items last c.loop-place.invariant.each;
+      each = each_more base xs (c.args.t + 1) before _ c.in_ok-own.own c.in_ok-push.ensures.items last c.loop-place.invariant.each;
     }
 
 pub factors_for-requires-clause-distinct : goal.factors_for-requires-clause-distinct
@@ -78,8 +78,8 @@ pub factors_for-requires-2-clause-distinct : goal.factors_for-requires-2-clause-
 factors_for-requires-2-clause-distinct c =
     distinct-take (c.args.t + 1) c.args.xs.now c.requires.distinct
 
-pub returns-in_err-factors_for : goal.returns-in_err-factors_for
-returns-in_err-factors_for c = IfOk-from_err c.from_residual-in_err-factors_for.result _ c.from_residual-in_err-factors_for.ensures.0
+pub returns-in_err-own : goal.returns-in_err-own
+returns-in_err-own c = IfOk-from_err c.from_residual-in_err-own.result _ c.from_residual-in_err-own.ensures.0
 
 pub returns-in_err-push : goal.returns-in_err-push
 returns-in_err-push c = IfOk-from_err c.from_residual-in_err-push.result _ c.from_residual-in_err-push.ensures.0

@@ -50,15 +50,12 @@ decode_tiles-done-requires-clause-rows g c =
     omega (arith, c.in_ok-factors.ensures.count, length-items lists, zero, c.requires.rows)
 
 pub decode_tiles-done-requires-clause-some : goal.decode_tiles-done-requires-clause-some
-decode_tiles-done-requires-clause-some g c =
-    let sums = c.deref_mut-2.ensures.len ∙ c.in_ok-sums.ensures.len in
-    omega (arith, sums)
+decode_tiles-done-requires-clause-some g c = c.tile_width-width.ensures
 
 pub decode_tiles-done-requires-clause-room : goal.decode_tiles-done-requires-clause-room
 decode_tiles-done-requires-clause-room g c =
-    let sums = c.deref_mut-2.ensures.len ∙ c.in_ok-sums.ensures.len in
-    subst (All (λ (d : Vec ℕ Global). length c.deref_mut-2.result.now ≤ length d.items)) (sym c.deref_mut.ensures.value)
-    (λ k d l. let wide = c.in_ok-differences.ensures.columns k d l in omega (arith, sums, wide))
+    subst (All (λ (d : List ℕ). c.tile_width-width.result ≤ length d)) (sym c.deref_mut.ensures.value)
+    (λ k d l. let wide = c.in_ok-differences.ensures.columns k d l in omega (arith, wide))
 
 pub decode_tiles-done-requires-clause-widths : goal.decode_tiles-done-requires-clause-widths
 decode_tiles-done-requires-clause-widths g c =
@@ -74,17 +71,11 @@ returns-in_err-factors-clause-run g c = IfOk-from_err c.from_residual.result _ c
 pub returns-in_err-differences-clause-run : goal.returns-in_err-differences-clause-run
 returns-in_err-differences-clause-run g c = IfOk-from_err c.from_residual-in_err-differences.result _ c.from_residual-in_err-differences.ensures.0
 
-pub returns-in_err-sums-clause-run : goal.returns-in_err-sums-clause-run
-returns-in_err-sums-clause-run g c = IfOk-from_err c.from_residual-in_err-sums.result _ c.from_residual-in_err-sums.ensures.0
-
 pub returns-in_err-factors-clause-cols : goal.returns-in_err-factors-clause-cols
 returns-in_err-factors-clause-cols g c = MatchResult-from_err c.from_residual.result _ _ c.from_residual.ensures.0 (λ _. refl)
 
 pub returns-in_err-differences-clause-cols : goal.returns-in_err-differences-clause-cols
 returns-in_err-differences-clause-cols g c = MatchResult-from_err c.from_residual-in_err-differences.result _ _ c.from_residual-in_err-differences.ensures.0 (λ _. refl)
-
-pub returns-in_err-sums-clause-cols : goal.returns-in_err-sums-clause-cols
-returns-in_err-sums-clause-cols g c = MatchResult-from_err c.from_residual-in_err-sums.result _ _ c.from_residual-in_err-sums.ensures.0 (λ _. refl)
 
 pub factors_by_first-requires-clause-enough : goal.factors_by_first-requires-clause-enough
 factors_by_first-requires-clause-enough g c = c.requires.enough

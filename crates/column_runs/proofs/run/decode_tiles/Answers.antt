@@ -15,10 +15,9 @@ decode_tile-columns-requires-clause-room c =
     let least = c.min-size.ensures in
     let within = c.tiles.invariant.within in
     let long = c.tiles.auto.out in
-    let sums = c.tiles.auto.sums in
     let size = length-part c.tiles.out done part (omega (arith, least, within, long)) in
     room_kept c.args.differences.now c.tiles.differences (length (take part (drop done c.tiles.out))) c.tiles.auto.differences c.tiles.invariant.sizes
-    (λ k d l. let room = c.requires.room k d l in omega (arith, room, size, least, sums))
+    (λ k d l. let room = c.requires.room k d l in omega (arith, room, size, least))
 
 pub tiles-preserved : goal.tiles-preserved
 tiles-preserved c =
@@ -85,13 +84,6 @@ decode_tile-columns-requires-clause-widths c =
     let wide = c.requires.widths k d l in
     omega (arith, wide, size, c.min-size.ensures, c.tiles.invariant.within, c.tiles.auto.out)
 
-pub decode_tile-columns-requires-clause-sums : goal.decode_tile-columns-requires-clause-sums
-decode_tile-columns-requires-clause-sums c =
-    let done = c.tiles.done in
-    let part = done + c.min-size.result - done in
-    let size = length-part c.tiles.out done part (omega (arith, c.min-size.ensures, c.tiles.invariant.within, c.tiles.auto.out)) in
-    omega (arith, size, c.min-size.ensures, c.tiles.auto.sums)
-
 pub decode_tile-columns-requires-clause-rows : goal.decode_tile-columns-requires-clause-rows
 decode_tile-columns-requires-clause-rows c = c.requires.rows
 
@@ -102,7 +94,7 @@ pub decode_tile-columns-requires-clause-count : goal.decode_tile-columns-require
 decode_tile-columns-requires-clause-count c = c.tiles.auto.differences ∙ c.requires.count
 
 pub tiles-smaller : goal.tiles-smaller
-tiles-smaller c = omega (arith, c.if-columns-size.false, c.min-size.ensures, c.requires.some, c.tiles.auto.sums, c.tiles.auto.out, c.tiles-test.true)
+tiles-smaller c = omega (arith, c.if-columns-size.false, c.min-size.ensures, c.requires.some, c.tiles.auto.out, c.tiles-test.true)
 
 pub overflow_sub-out : goal.overflow_sub-out
 overflow_sub-out c = omega (arith, c.tiles-test.true)

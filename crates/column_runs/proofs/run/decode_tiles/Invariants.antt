@@ -11,7 +11,7 @@ invariant-tiles l = record {
   follow : (c : ℕ) → c < l.done
       → Follow (rows_of l.rows) (length l.factors.zero.items) (lists_of l.factors.others.items) (l.from + c);
   constants : (c : ℕ) → c < l.done → get_or l.out c 0 ≡ extended l.factors.zero.items (cell (rows_of l.rows) (l.from + c));
-  sizes : AreAsLong (lists_of l.differences) (lists_of l.initial.differences);
+  sizes : AreAsLong l.differences l.initial.differences;
 }
 
 abbrev pub decreases-tiles : goal.decreases-tiles

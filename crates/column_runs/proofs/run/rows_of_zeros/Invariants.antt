@@ -5,5 +5,5 @@ use Rattle.column_runs.proofs.run.rows_of_zeros.Given as goal
 abbrev pub invariant-loop-row : goal.invariant-loop-row
 invariant-loop-row l = record {
   count : length l.rows.items ≡ l._row;
-  sizes : All (λ row. length row.items ≡ l.columns) l.rows.items;
+  sizes : All (λ row. length row ≡ l.columns) l.rows.items;
 }

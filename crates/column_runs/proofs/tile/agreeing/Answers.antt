@@ -1,8 +1,8 @@
 use Rattle.std.proofs.Common.{◌≡◌, ◌+◌, ◌≤◌, ◌<◌, ℕ, List, [], Bor, Vec, Global, All, drop, length-drop, length, map, get_or, take, sym, ap, ap₂, ◌∙◌, arith, get_or-take, get_or-drop}
 use Rattle.std.proofs.lemmas.List.{length-take-le}
-use Rattle.column_runs.specs.Tile.{cell, with_differences}
+use Rattle.column_runs.specs.Tile.{cell, with_differences, given}
 use Rattle.column_runs.proofs.ColumnPoints.{length-rows}
-use Rattle.column_runs.proofs.DifferenceRows.{items_at, length-items}
+use Rattle.column_runs.proofs.DifferenceRows.{items_at}
 use Rattle.column_runs.proofs.Agreed.{agree_next, differ_next}
 use Rattle.column_runs.proofs.tile.agreeing.Goals as goal
 
@@ -18,37 +18,32 @@ loop-k-preserved c =
     let rows = map (λ row. row.now) c.args.rows.now in
     let from = c.args.from in
     let first = c.args.first.now in
-    let ds = map (λ (d : Vec ℕ Global). d.items) c.args.differences.now in
+    let ds = c.args.differences.now in
     let fs = map (λ (f : Vec ℕ Global). f.items) c.args.others.now in
     let k = c.loop-k.k in
     let columns = c.loop-k.columns in
     let room = c.loop-k.invariant.within in
-    let front = take columns first in
-    let n = length-items c.args.differences.now in
     let size = length-take-le columns first room in
+    let row = take columns c.row_from.result.now in
     let factors = c.deref.ensures.value ∙ ap (λ (f : Vec ℕ Global). f.items) c.index-others-k.is ∙ items_at c.args.others.now k _ c.loop-k-test.true in
-    let given : (i : ℕ) → i < columns → get_or c.extend.new.sums i 0 ≡ with_differences (get_or fs k []) ds (get_or first i 0) i =
-    λ i l.
-    c.extend.ensures i (omega (arith, l, size))
-    ∙ ap₂ (λ f x. with_differences f ds x i) factors (get_or-take columns first i 0 l) in
-    let has : (i : ℕ) → i < columns → get_or (take columns c.row_from.result.now) i 0 ≡ cell rows (from + i) (length ds + 1 + k) =
+    let wanted : (i : ℕ) → i < columns → given (take columns first) ds c.deref.result.now i ≡ given first ds (get_or fs k []) i =
+    λ i l. ap₂ (λ f x. with_differences f ds x i) factors (get_or-take columns first i 0 l) in
+    let has : (i : ℕ) → i < columns → get_or row i 0 ≡ cell rows (from + i) (length ds + 1 + k) =
     λ i l.
     get_or-take columns c.row_from.result.now i 0 l ∙ ap (λ r. get_or r i 0) c.row_from.ensures
-    ∙ get_or-drop from (get_or rows (length c.args.differences.now + 1 + k) []) i 0
-    ∙ ap (λ n. cell rows (from + i) (n + 1 + k)) (sym n) in
-    let lengths = c.extend.auto.sums in
-    let places = length-take-le columns c.loop-k.sums (let same = c.loop-k.auto.sums in let enough = c.requires.sums in omega (arith, same, enough, room)) in
-    let whole : length c.extend.new.sums ≡ columns = omega (arith, lengths, places) in
-    let within = c.common_length-columns.ensures.within in
-    let less : c.common_length-columns.result ≤ columns = omega (arith, within, whole) in
+    ∙ get_or-drop from (get_or rows (length ds + 1 + k) []) i 0 in
+    let n = c.agreed_length-columns.result in
+    let within = c.agreed_length-columns.ensures.within in
+    let less : n ≤ columns = omega (arith, within, size) in
     record {
       within = omega (arith, less, room);
       agree = λ i l.
-          agree_next rows from first ds fs k columns (λ i. get_or c.extend.new.sums i 0) (λ i. get_or (take columns c.row_from.result.now) i 0) given has
-          i (omega (arith, l, less)) (c.loop-k.invariant.agree i (omega (arith, l, less))) (c.common_length-columns.ensures.same i l);
+          agree_next rows from first ds fs k columns (λ i. get_or row i 0) has i (omega (arith, l, less))
+          (c.loop-k.invariant.agree i (omega (arith, l, less)))
+          (c.agreed_length-columns.ensures.same i l ∙ wanted i (omega (arith, l, less)));
       differ = λ l.
-          differ_next rows from first ds fs k columns (λ i. get_or c.extend.new.sums i 0) (λ i. get_or (take columns c.row_from.result.now) i 0) given has
-          c.common_length-columns.result less room (λ m. c.common_length-columns.ensures.differ (omega (arith, m, whole))) c.loop-k.invariant.differ l;
+          differ_next rows from first ds fs k columns (λ i. get_or row i 0) has n less room
+          (λ m same. c.agreed_length-columns.ensures.differ (omega (arith, m, size)) (same ∙ sym (wanted n m))) c.loop-k.invariant.differ l;
     }
 
 pub loop-k-init : goal.loop-k-init
@@ -59,20 +54,15 @@ loop-k-init c =
       differ = λ l. absurd (omega (arith, l));
     }
 
-pub extend-requires-clause-room : goal.extend-requires-clause-room
-extend-requires-clause-room c =
+pub agreed_length-columns-requires-clause-room : goal.agreed_length-columns-requires-clause-room
+agreed_length-columns-requires-clause-room c =
     λ k d l.
     let size = length-take-le c.loop-k.columns c.args.first.now c.loop-k.invariant.within in
     let room = c.requires.room k d l in
     omega (arith, size, room, c.loop-k.invariant.within)
 
-pub extend-requires-clause-same : goal.extend-requires-clause-same
-extend-requires-clause-same c =
-    length-take-le c.loop-k.columns c.args.first.now c.loop-k.invariant.within
-    ∙ sym (length-take-le c.loop-k.columns c.loop-k.sums (omega (arith, c.loop-k.auto.sums, c.requires.sums, c.loop-k.invariant.within)))
-
-pub extend-requires-clause-count : goal.extend-requires-clause-count
-extend-requires-clause-count c =
+pub agreed_length-columns-requires-clause-count : goal.agreed_length-columns-requires-clause-count
+agreed_length-columns-requires-clause-count c =
     ap length (c.deref.ensures.value ∙ ap (λ (f : Vec ℕ Global). f.items) c.index-others-k.is) ∙ c.requires.factors c.loop-k.k _ c.loop-k-test.true
 
 pub row_from-requires-clause-within : goal.row_from-requires-clause-within
@@ -92,12 +82,11 @@ slice_bounds-row-end c =
     let size = length-take-le c.loop-k.columns c.row_from.result.now (omega (arith, wide, c.loop-k.invariant.within)) in
     sym size
 
-pub common_length-columns-requires : goal.common_length-columns-requires
-common_length-columns-requires c =
+pub agreed_length-columns-requires-clause-width : goal.agreed_length-columns-requires-clause-width
+agreed_length-columns-requires-clause-width c =
     let rows = map (λ (row : Bor (List ℕ)). row.now) c.args.rows.now in
     let place = length c.args.differences.now + 1 + c.loop-k.k in
     let there : place < length rows = omega (arith, length-rows c.args.rows.now, c.requires.rows, c.loop-k-test.true) in
     let wide = length-part rows place c.args.from (length c.args.first.now) c.row_from.result.now there c.requires.widths c.row_from.ensures in
-    let size = length-take-le c.loop-k.columns c.row_from.result.now (omega (arith, wide, c.loop-k.invariant.within)) in
-    let places = length-take-le c.loop-k.columns c.loop-k.sums (omega (arith, c.loop-k.auto.sums, c.requires.sums, c.loop-k.invariant.within)) in
-    c.extend.auto.sums ∙ places ∙ sym size
+    length-take-le c.loop-k.columns c.row_from.result.now (omega (arith, wide, c.loop-k.invariant.within))
+    ∙ sym (length-take-le c.loop-k.columns c.args.first.now c.loop-k.invariant.within)

@@ -8,7 +8,7 @@ abbrev pub invariant-loop-k : goal.invariant-loop-k
 invariant-loop-k l = record {
   within : l.columns ≤ length l.first;
   agree : (c : ℕ) → c < l.columns
-      → Agree (rows_of l.rows) (tile l.from l.first (lists_of l.differences)) (lists_of l.others) c l.k;
+      → Agree (rows_of l.rows) (tile l.from l.first l.differences) (lists_of l.others) c l.k;
   differ : l.columns < length l.first
-      → ¬ Agree (rows_of l.rows) (tile l.from l.first (lists_of l.differences)) (lists_of l.others) l.columns l.k;
+      → ¬ Agree (rows_of l.rows) (tile l.from l.first l.differences) (lists_of l.others) l.columns l.k;
 }

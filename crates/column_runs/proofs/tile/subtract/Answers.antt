@@ -1,10 +1,9 @@
-use Rattle.std.proofs.Common.{◌≡◌, ◌+◌, ◌<◌, ◌≤◌, ℕ, List, [], Bor, Vec, Global, All, refl, drop, length-drop, length, map, get_or, take, set, sym, ap, ◌∙◌, arith, get_or-take, get_or-drop}
-use Rattle.std.proofs.lemmas.List.{length-take-le, map-set}
-use Rattle.std.specs.Vec.{with_items}
+use Rattle.std.proofs.Common.{◌≡◌, ◌+◌, ◌<◌, ◌≤◌, ℕ, List, [], Bor, All, refl, drop, length-drop, length, map, get_or, take, sym, ap, ◌∙◌, arith, get_or-take, get_or-drop}
+use Rattle.std.proofs.lemmas.List.{length-take-le, get_or_default}
 use Rattle.gf256.specs.Field.{◌⊕◌}
 use Rattle.column_runs.specs.Tile.{cell}
 use Rattle.column_runs.proofs.ColumnPoints.{length-rows}
-use Rattle.column_runs.proofs.DifferenceRows.{items_at, length-items, items-with, sizes-set, each-set}
+use Rattle.column_runs.proofs.DifferenceRows.{sizes-set, each-set}
 use Rattle.column_runs.proofs.tile.subtract.Goals as goal
 
 -- a row of which a part begins at a column, and how much of that there is
@@ -14,54 +13,33 @@ length-part rows place from n row there widths is =
     let size = ap length is ∙ length-drop from (get_or rows place []) in
     omega (arith, wide, size)
 
-pub set_difference-requires-clause-room : goal.set_difference-requires-clause-room
-set_difference-requires-clause-room c =
-    let i = c.loop-i.i in
-    let old = c.args.differences.now in
-    let known : i < length c.loop-i.differences = omega arith in
-    let count = c.loop-i.auto.differences in
-    let here = ap length (c.deref_mut.ensures.value ∙ items_at c.loop-i.differences i _ known) in
-    let same = c.loop-i.invariant.sizes i in
-    let room = c.requires.room i c.index-differences-i.result (omega (arith, known, count)) in
-    let first = ap length (items_at old i c.index-differences-i.result (omega (arith, known, count))) in
-    omega (arith, here, same, room, first)
-
 pub loop-i-preserved : goal.loop-i-preserved
 loop-i-preserved c =
-    let f = λ (d : Vec ℕ Global). d.items in
     let i = c.loop-i.i in
-    let ds = map f c.loop-i.differences in
-    let rows = map (λ row. row.now) c.args.rows.now in
+    let ds = c.loop-i.differences in
+    let rows = map (λ (row : Bor (List ℕ)). row.now) c.args.rows.now in
     let first = c.args.first.now in
     let from = c.args.from in
-    let v = c.set_difference.new.difference in
-    let n = length-items c.loop-i.differences in
-    let known : i < length c.loop-i.differences = omega arith in
-    let within : i < length ds = omega (arith, n, known) in
-    let here = ap length (c.deref_mut.ensures.value ∙ items_at c.loop-i.differences i _ known) in
-    let same : length v ≡ length (get_or ds i []) = c.set_difference.auto.difference ∙ here in
-    let written = get_or c.loop-i.differences i c.index-differences-i.result in
-    let parts =
-    map-set f c.loop-i.differences i (with_items written v)
-    ∙ ap (set ds i) (items-with written v (same ∙ ap length (sym (items_at c.loop-i.differences i c.index-differences-i.result known)))) in
+    let v = c.set_difference.new.self in
+    let known : i < length ds = omega arith in
+    let here = ap length (get_or_default ds i c.index-differences-i.result [] known) in
+    let same : length v ≡ length (get_or ds i []) = c.set_difference.ensures.size ∙ here in
     let row : (k : ℕ) → k < length first → get_or (take (length first) c.row_from.result.now) k 0 ≡ cell rows (from + k) (i + 1) =
     λ k l. get_or-take (length first) c.row_from.result.now k 0 l ∙ ap (λ r. get_or r k 0) c.row_from.ensures ∙ get_or-drop from (get_or rows (i + 1) []) k 0 in
     record {
-      sizes = λ j. ap (λ ds. length (get_or ds j [])) parts ∙ sizes-set ds i v within same j ∙ c.loop-i.invariant.sizes j;
+      sizes = λ j. sizes-set ds i v known same j ∙ c.loop-i.invariant.sizes j;
       each = λ j k l m.
-          ap (λ ds. get_or (get_or ds j []) k 0) parts
-          ∙ each-set ds i v within (λ j d. (k : ℕ) → k < length first → get_or d k 0 ≡ cell rows (from + k) (j + 1) ⊕ get_or first k 0)
-          (λ k m. c.set_difference.ensures k m ∙ ap (λ x. x ⊕ get_or first k 0) (row k m))
+          each-set ds i v known (λ j d. (k : ℕ) → k < length first → get_or d k 0 ≡ cell rows (from + k) (j + 1) ⊕ get_or first k 0)
+          (λ k m. c.set_difference.ensures.each k m ∙ ap (λ x. x ⊕ get_or first k 0) (row k m))
           (λ j l k m. c.loop-i.invariant.each j k l m) j l k m;
     }
 
 pub returns : goal.returns
 returns c =
-    let n = length-items c.loop-i.differences in
     let count = c.loop-i.auto.differences in
     record {
       sizes = c.loop-i.invariant.sizes;
-      each = λ j k l m. c.loop-i.invariant.each j k (omega (arith, l, n, count)) m;
+      each = λ j k l m. c.loop-i.invariant.each j k (omega (arith, l, count)) m;
     }
 
 pub loop-i-init : goal.loop-i-init
@@ -77,14 +55,6 @@ row_from-requires-clause-within c =
     let there : c.loop-i.i + 1 < length rows = omega (arith, length-rows c.args.rows.now, c.requires.rows, c.loop-i.auto.differences, c.loop-i-test.true) in
     let wide = c.requires.widths (c.loop-i.i + 1) [] there in
     omega (arith, wide)
-
-pub set_difference-requires-clause-same : goal.set_difference-requires-clause-same
-set_difference-requires-clause-same c =
-    let rows = map (λ (row : Bor (List ℕ)). row.now) c.args.rows.now in
-    let there : c.loop-i.i + 1 < length rows = omega (arith, length-rows c.args.rows.now, c.requires.rows, c.loop-i.auto.differences, c.loop-i-test.true) in
-    let size = length-take-le (length c.args.first.now) c.row_from.result.now
-    (length-part rows (c.loop-i.i + 1) c.args.from (length c.args.first.now) c.row_from.result.now there c.requires.widths c.row_from.ensures) in
-    size
 
 pub slice_bounds-row-end : goal.slice_bounds-row-end
 slice_bounds-row-end c =

@@ -6,7 +6,7 @@ use Rattle.column_runs.proofs.tile.subtract.Given as goal
 -- the rows of differences so far
 abbrev pub invariant-loop-i : goal.invariant-loop-i
 invariant-loop-i l = record {
-  sizes : (j : ℕ) → length (get_or (map (λ d. d.items) l.differences) j []) ≡ length (get_or (map (λ d. d.items) l.initial.differences) j []);
+  sizes : (j : ℕ) → length (get_or l.differences j []) ≡ length (get_or l.initial.differences j []);
   each : (j c : ℕ) → j < l.i → c < length l.first
-      → cell (map (λ d. d.items) l.differences) c j ≡ cell (map (λ row. row.now) l.rows) (l.from + c) (j + 1) ⊕ get_or l.first c 0;
+      → cell l.differences c j ≡ cell (map (λ row. row.now) l.rows) (l.from + c) (j + 1) ⊕ get_or l.first c 0;
 }

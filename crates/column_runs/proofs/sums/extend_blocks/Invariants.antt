@@ -1,0 +1,13 @@
+use Rattle.std.proofs.Common.{◌-◌, ◌≤◌, length}
+use Rattle.column_runs.specs.Tile.{AreGiven}
+use Rattle.column_runs.proofs.sums.extend_blocks.Given as goal
+
+-- the columns so far
+abbrev pub invariant-whole : goal.invariant-whole
+invariant-whole l = record {
+  within : l.at ≤ length l.first;
+  made : AreGiven l.first l.differences l.factors l.sums l.at;
+}
+
+abbrev pub decreases-whole : goal.decreases-whole
+decreases-whole l = length l.first - l.at
