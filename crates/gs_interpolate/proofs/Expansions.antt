@@ -3,7 +3,7 @@ use Rattle.std.proofs.Common.{◌≡◌, ℕ, zero, suc, ◌+◌, ◌-◌, ◌*�
 use Rattle.std.proofs.Math.Nat.{mul-le-mul_right, mul-add}
 use Rattle.std.proofs.Math.Seq.{take-add}
 use Rattle.std.proofs.lemmas.Bool.{cases_lt}
-use Rattle.std.proofs.lemmas.List.{drop-drop, take_all, get_or_past, get_or-drop, get_or_append_left, get_or-append_right}
+use Rattle.std.proofs.lemmas.List.{drop-drop, take_all, length-take-le, get_or-take, get_or_past, get_or-drop, get_or_append_left, get_or-append_right}
 use Rattle.std.proofs.lemmas.List.FromFn.{length-map-range_with_len}
 use Rattle.std.specs.Int.{IsPowerOfTwo}
 use Rattle.gf256.specs.Field.{◌⊕◌, ◌⊗◌, power}
@@ -396,3 +396,58 @@ halved-all n terms a pairs size factor cells now long none done u g l inside =
     let part : piece n done.half cells 0 ≡ cells = ap (λ k. take (done.half * n) (drop k cells)) (let e : 0 * (done.half * n) ≡ 0 = omega arith in e) ∙ take_all (done.half * n) cells (omega (arith, size)) in
     ap (λ k. get_or now k 0) place ∙ done.each 0 u g (omega (arith, one)) (omega (arith, all, l)) inside
     ∙ ap (λ r. taylor (lane n g r) a u) part
+
+-- a row that is no longer than one piece is what it folds to
+folded-short : (n p k : ℕ) (row : List ℕ) → 1 ≤ n → ((k : ℕ) → get_or row k 0 < 256) → length row ≤ n → folded n p row k ≡ get_or row k 0
+folded-short n p k row some bytes short =
+    let none = folded-none n p k (drop n row) (omega (arith, length-drop n row, short)) in
+    folded-next n p k row some bytes ∙ ap (λ x. get_or row k 0 ⊕ p ⊗ x) none ∙ ap (◌⊕◌ (get_or row k 0)) (mul_zero p) ∙ add_zero (get_or row k 0)
+
+-- What a row folds to, where only its first d coefficients are made those about a: the row has no more, or they are all.
+module _ (s e d a : ℕ) (row sums made : List ℕ) (some : 1 ≤ s) (two : IsPowerOfTwo e) (few : d ≤ e) (enough : d < e → length row ≤ d * s) (bytes : (k : ℕ) → get_or row k 0 < 256)
+    (size : length sums ≡ e * s) (long : length made ≡ d * s) (is : (k : ℕ) → k < e * s → get_or sums k 0 ≡ folded (e * s) (power a e) row k)
+    (done : AreExpanded s d a made (λ g. lane s g (take (d * s) sums))) where
+  -- where the row has no more, it is what it folds to
+  same_row : d < e → (k : ℕ) → k < e * s → get_or sums k 0 ≡ get_or row k 0
+  same_row less k l =
+      let wide = mul-le-mul_right s few in
+      let one : 1 ≤ e = omega (arith, less) in
+      let most = mul-le-mul_right s one in
+      is k l ∙ folded-short (e * s) (power a e) k row (omega (arith, most, some)) bytes (omega (arith, enough less, wide))
+
+  -- so it is about a
+  used-series : d < e → (u g : ℕ) → g < s → taylor (lane s g row) a u ≡ sum_to (λ i. term a u i (get_or row (i * s + g) 0)) d
+  used-series less u g h = taylor-terms s g a u d row some (enough less)
+
+  pub expanded-used : AreExpanded s e a (made ++ drop (d * s) sums) (λ g. lane s g row)
+  expanded-used u g l h =
+      let part = take (d * s) sums in
+      let wide = mul-le-mul_right s few in
+      let size-part : length part ≡ d * s = length-take-le (d * s) sums (omega (arith, size, wide)) in
+      elim (cases_lt d e) [
+        | inl less ↦ elim (cases_lt u d) [
+          | inl low ↦
+              let fit = row_within u d s low in
+              get_or_append_left made (drop (d * s) sums) 0 (u * s + g) (omega (arith, fit, h, long)) ∙ done u g low h
+              ∙ taylor-terms s g a u d part some (omega (arith, size-part))
+              ∙ sum_to-same (λ i. term a u i (get_or part (i * s + g) 0)) (λ i. term a u i (get_or row (i * s + g) 0)) d (λ i m.
+              let within = row_within i d s m in
+              ap (term a u i) (get_or-take (d * s) sums (i * s + g) 0 (omega (arith, within, h)) ∙ same_row less (i * s + g) (omega (arith, within, h, wide))))
+              ∙ sym (used-series less u g h)
+          | inr high ↦
+              let past = mul-le-mul_right s high in
+              let fit = row_within u e s l in
+              let back : d * s + (u * s + g - d * s) ≡ u * s + g = omega (arith, past) in
+              get_or-append_right made (drop (d * s) sums) (d * s) (u * s + g) 0 long (omega (arith, past))
+              ∙ get_or-drop (d * s) sums (u * s + g - d * s) 0 ∙ ap (λ k. get_or sums k 0) back
+              ∙ same_row less (u * s + g) (omega (arith, fit, h)) ∙ get_or_past row (u * s + g) 0 (omega (arith, enough less, past))
+              ∙ sym (used-series less u g h ∙ sum_to-zero (λ i. term a u i (get_or row (i * s + g) 0)) d (λ i m. term-before a u i (get_or row (i * s + g) 0) (omega (arith, m, high))))
+        ]
+        | inr all ↦
+            let whole : d ≡ e = omega (arith, all, few) in
+            let low : u < d = omega (arith, l, whole) in
+            let fit = row_within u d s low in
+            let same : part ≡ sums = take_all (d * s) sums (let e : length sums ≡ d * s = size ∙ ap (λ k. k * s) (sym whole) in omega (arith, e)) in
+            get_or_append_left made (drop (d * s) sums) 0 (u * s + g) (omega (arith, fit, h, long)) ∙ done u g low h
+            ∙ ap (λ r. taylor (lane s g r) a u) same ∙ taylor-folded s e a u g row sums some (steps_of e two) l h size is
+      ]

@@ -162,7 +162,23 @@ pub(crate) fn expand(cells: &mut [u8], lanes: usize, terms: usize, a: u8)
     }
 }
 
-/// Makes `made` the first `terms` coefficients about a of each of the polynomials in one row.
+/// How many of the first `terms` coefficients of a row of `len` bytes may differ from 0, or more: a power of two.
+fn terms_used(len: usize, lanes: usize, terms: usize) -> usize
+    requires power { IsPowerOfTwo terms }
+    requires small { terms * lanes < usize.MAX }
+    ensures power { IsPowerOfTwo result }
+    ensures few { result ≤ terms }
+    ensures enough { result < terms → len ≤ result * lanes }
+{
+    let mut used = terms;
+    'halves: while used > 1 && len <= used / 2 * lanes {
+        used /= 2;
+    }
+    used
+}
+
+/// Makes `made` the first `terms` coefficients about a of each of the polynomials in one row. Those of a short row have no
+/// more about a than it has.
 pub(crate) fn expand_row(made: &mut [u8], row: &[u8], lanes: usize, terms: usize, a: u8)
     requires some { 1 ≤ lanes }
     requires power { IsPowerOfTwo terms }
@@ -171,5 +187,6 @@ pub(crate) fn expand_row(made: &mut [u8], row: &[u8], lanes: usize, terms: usize
     ensures { AreExpanded lanes terms a made.new (λ g. lane lanes g row.now) }
 {
     fold(made, row, &Products::of(gf256::pow(a, terms as u32)));
-    expand(made, lanes, terms, a);
+    let used = terms_used(row.len(), lanes, terms);
+    expand(&mut made[..used * lanes], lanes, used, a);
 }

@@ -88,6 +88,10 @@ pub(crate) fn values_at_bytes(q: &BiPoly, powers: &[Vec<u8>]) -> [u8; 256]
     let mut sums = [0; 256];
     for e in 0..rows.len() {
         let constant = rows[e].get(0).copied().unwrap_or(0);
+        // So it is in most rows of a child's polynomial.
+        if constant == 0 {
+            continue;
+        }
         add_scaled_row(&mut sums, &powers[e], constant);
     }
     sums
