@@ -1,8 +1,9 @@
 -- Polynomials about another point, by remainders.
-use Rattle.std.proofs.Common.{◌≡◌, ℕ, zero, suc, ◌+◌, ◌-◌, ◌*◌, ◌/◌, ◌^◌, ◌≢◌, ◌<◌, ◌≤◌, List, ◌++◌, length, get_or, sym, ap, ap₂, subst, ◌∙◌, arith, inl, inr, lit≤, length-append, length-drop, drop, add-mul, mul_assoc, mul_comm, pow-suc}
-use Rattle.std.proofs.Math.Nat.{mul-le-mul_right}
+use Rattle.std.proofs.Common.{◌≡◌, ℕ, zero, suc, ◌+◌, ◌-◌, ◌*◌, ◌/◌, ◌^◌, ◌≢◌, ◌<◌, ◌≤◌, List, ◌++◌, length, get_or, sym, ap, ap₂, subst, ◌∙◌, arith, inl, inr, lit≤, lit<, length-append, length-drop, drop, add-mul, mul_assoc, mul_comm, pow-suc, refl, take}
+use Rattle.std.proofs.Math.Nat.{mul-le-mul_right, mul-add}
+use Rattle.std.proofs.Math.Seq.{take-add}
 use Rattle.std.proofs.lemmas.Bool.{cases_lt}
-use Rattle.std.proofs.lemmas.List.{get_or_past, get_or-drop, get_or_append_left, get_or-append_right}
+use Rattle.std.proofs.lemmas.List.{drop-drop, take_all, length-take-le, get_or-take, get_or_past, get_or-drop, get_or_append_left, get_or-append_right}
 use Rattle.std.proofs.lemmas.List.FromFn.{length-map-range_with_len}
 use Rattle.std.specs.Int.{IsPowerOfTwo}
 use Rattle.gf256.specs.Field.{◌⊕◌, ◌⊗◌, power}
@@ -10,7 +11,7 @@ use Rattle.gf256.specs.Sums.{sum_to}
 use Rattle.gf256.specs.Polynomial.{coef}
 use Rattle.gf256.proofs.Xor.{add_zero, zero_add}
 use Rattle.gf256.proofs.FieldLaws.{ring, add_mul, mul_add, mul_zero, zero_mul, one_mul, mul_one}
-use Rattle.gf256.proofs.Powers.{power-add, power_lt}
+use Rattle.gf256.proofs.Powers.{power-add}
 use Rattle.gf256.proofs.Sums.{sum_to-same, sum_to-zero, sum_to-longer, sum_to-append, sum_to-first, sum_to-swap, sum_to-mul, mul-sum_to}
 use Rattle.gf256.proofs.FlatRows.{row_within}
 use Rattle.uni_poly.specs.Taylor.{taylor}
@@ -18,8 +19,8 @@ use Rattle.bi_poly.specs.Hasse.{binomial_parity}
 use Rattle.bi_poly.proofs.Binomials.{HasPascalSteps, pascal_steps-power, binomial_parity-none, binomial_parity-small}
 use Rattle.bi_poly.proofs.Derivatives.{taylor-derivative, derivative_to, derivative_to-all}
 use Rattle.gs_interpolate.specs.Family.{lane}
-use Rattle.gs_interpolate.specs.Expansion.{folded, AreExpanded}
-use Rattle.gs_interpolate.proofs.Places.{coef-lane}
+use Rattle.gs_interpolate.specs.Expansion.{folded, AreExpanded, AreHalvesAdded}
+use Rattle.gs_interpolate.proofs.Places.{coef-lane, part_before, length-part, part_bytes}
 
 -- what a coefficient c at x ^ i adds to the coefficient at x ^ u about a
 abbrev pub term : ℕ → ℕ → ℕ → ℕ → ℕ
@@ -160,13 +161,10 @@ two_halves : (k e : ℕ) → e ≡ 2 ^ k → e ≢ 1 → e / 2 + e / 2 ≡ e
 two_halves zero e is more = absurd (more is)
 two_halves (suc k) e is more = omega (arith, is, pow-suc 2 k)
 
--- and is less
+-- and it is not 0
 power_some : (k : ℕ) → 1 ≤ 2 ^ k
 power_some zero = lit≤ tt
 power_some (suc k) = omega (arith, power_some k, pow-suc 2 k)
-
-pub half_less : (e : ℕ) → IsPowerOfTwo e → e / 2 < e
-half_less e power = let some = power_some power.0 in omega (arith, some, power.1)
 
 pub halves-IsPowerOfTwo : (e : ℕ) → IsPowerOfTwo e → e ≢ 1 → e / 2 + e / 2 ≡ e
 halves-IsPowerOfTwo e power more = two_halves power.0 e power.1 more
@@ -214,51 +212,242 @@ folded-next n p k row some byte =
     let wide = mul-le-mul_right b some in
     ap (◌⊗◌ (power p b)) (get_or_past back (b * n + k) 0 (omega (arith, wide, l, mul_comm b n))) ∙ mul_zero (power p b))))
 
--- two pieces folded
-folded-two : (n p : ℕ) (low high : List ℕ) (k : ℕ) → length low ≡ n → length high ≡ n → k < n → p < 256
-    → folded n p (low ++ high) k ≡ 1 ⊗ get_or low k 0 ⊕ p ⊗ get_or high k 0
-unfolding sum_to power
-folded-two n p low high k size long l byte =
+-- the coefficients about a of the first half, where the second times a ^ h is added, are those of the whole
+pub taylor-low : (s h a u g : ℕ) (low high : List ℕ) → 1 ≤ s → HasPascalSteps h → u < h → g < s → length low ≡ h * s → length high ≡ h * s
+    → taylor (lane s g (low ++ high)) a u ≡ taylor (lane s g low) a u ⊕ power a h ⊗ taylor (lane s g high) a u
+taylor-low s h a u g low high some step l inside size long =
     let xs = low ++ high in
-    let F = λ (b : ℕ). power p b ⊗ get_or xs (b * n + k) 0 in
-    let all = length-append low high in
-    let first : 0 * n + k ≡ k = omega arith in
-    let second : 1 * n + k ≡ n + k = omega arith in
-    let back : n + k - n ≡ k = omega arith in
-    sum_to-longer F 2 (length xs) (omega (arith, all, size, long, l)) (λ b m.
-    let past = mul-le-mul_right n m in
-    ap (◌⊗◌ (power p b)) (get_or_past xs (b * n + k) 0 (omega (arith, past, all, size, long))) ∙ mul_zero (power p b))
-    ∙ ap₂ ◌⊕◌ (zero_add (F 0) ∙ ap (λ j. 1 ⊗ get_or xs j 0) first ∙ ap (◌⊗◌ 1) (get_or_append_left low high 0 k (omega (arith, l, size))))
-    (ap₂ (λ q j. q ⊗ get_or xs j 0) (mul_one p byte) second
-    ∙ ap (◌⊗◌ p) (get_or-append_right low high n (n + k) 0 size (omega arith) ∙ ap (λ j. get_or high j 0) back))
+    let p = power a h in
+    let F = λ (i : ℕ). term a u i (get_or xs (i * s + g) 0) in
+    let H = λ (r : ℕ). term a u r (get_or high (r * s + g) 0) in
+    taylor-terms s g a u (h + h) xs some (omega (arith, length-append low high, size, long, add-mul h h s))
+    ∙ sum_to-append F h h
+    ∙ ap₂ ◌⊕◌
+    (sum_to-same F (λ r. term a u r (get_or low (r * s + g) 0)) h (λ r k.
+    let fit = row_within r h s k in
+    ap (term a u r) (get_or_append_left low high 0 (r * s + g) (omega (arith, fit, inside, size))))
+    ∙ sym (taylor-terms s g a u h low some (omega (arith, size))))
+    (sum_to-same (λ r. F (h + r)) (λ r. p ⊗ H r) h (λ r k.
+    let c = get_or high (r * s + g) 0 in
+    let q = power a (r - u) in
+    let place : (h + r) * s + g ≡ h * s + (r * s + g) = omega (arith, add-mul h r s) in
+    let back : h * s + (r * s + g) - h * s ≡ r * s + g = omega arith in
+    ap (term a u (h + r)) (ap (λ k. get_or xs k 0) place ∙ get_or-append_right low high (h * s) (h * s + (r * s + g)) 0 size (omega arith) ∙ ap (λ k. get_or high k 0) back)
+    ∙ term-further h a u r c step l
+    ∙ (let order : binomial_parity r u ⊗ ((p ⊗ c) ⊗ q) ≡ p ⊗ (binomial_parity r u ⊗ (c ⊗ q)) = simp ring in order))
+    ∙ sym (mul-sum_to p H h) ∙ ap (◌⊗◌ p) (sym (taylor-terms s g a u h high some (omega (arith, long)))))
 
--- two remainders of half the length
-pub expanded-halves : (s h a : ℕ) (low high sum made rest : List ℕ) → 1 ≤ s → IsPowerOfTwo h → length low ≡ h * s → length high ≡ h * s → length sum ≡ h * s → length made ≡ h * s
-    → ((k : ℕ) → get_or sum k 0 ≡ get_or low k 0 ⊕ power a h ⊗ get_or high k 0)
-    → AreExpanded s h a made (λ g. lane s g sum) → AreExpanded s h a rest (λ g. lane s g high)
-    → AreExpanded s (h + h) a (made ++ rest) (λ g. lane s g (low ++ high))
-expanded-halves s h a low high sum made rest some two size long size-sum size-made is done there u g l k =
-    let steps = steps_of h two in
-    elim (cases_lt u h) [
-      | inl before ↦
-          let fit = row_within u h s before in
-          get_or_append_left made rest 0 (u * s + g) (omega (arith, fit, k, size-made)) ∙ done u g before k
-          ∙ taylor-left s h a u g (low ++ high) sum some steps before k size-sum (λ r m.
-          let j = r * s + g in
-          let inside = row_within r h s m in
-          let x = get_or low j 0 in
-          let y = power a h ⊗ get_or high j 0 in
-          ap (term a u r) (is j) ∙ term-add a u r x y ∙ ap (λ z. z ⊕ term a u r y) (sym (term-one a u r x)) ∙ sym (term-add a u r (1 ⊗ x) y)
-          ∙ ap (term a u r) (sym (folded-two (h * s) (power a h) low high j size long (omega (arith, inside, k)) (power_lt a h))))
-      | inr past ↦
-          let w = u - h in
-          let order : h + w ≡ u = omega (arith, past) in
-          let inside : w < h = omega (arith, past, l) in
-          let place : u * s + g ≡ h * s + (w * s + g) = ap (λ x. x * s + g) (sym order) ∙ (let e : (h + w) * s + g ≡ h * s + (w * s + g) = omega (arith, add-mul h w s) in e) in
-          let back : h * s + (w * s + g) - h * s ≡ w * s + g = omega arith in
-          ap (λ j. get_or (made ++ rest) j 0) place
-          ∙ get_or-append_right made rest (h * s) (h * s + (w * s + g)) 0 size-made (omega arith) ∙ ap (λ j. get_or rest j 0) back
-          ∙ there w g inside k
-          ∙ sym (taylor-high s h a w g low high some steps inside k size long)
-          ∙ ap (taylor (lane s g (low ++ high)) a) order
-    ]
+-- so many coefficients of polynomials side by side, the piece at place b
+abbrev pub piece : ℕ → ℕ → List ℕ → ℕ → List ℕ
+piece n h cells b = take (h * n) (drop (b * (h * n)) cells)
+
+-- Each piece is about a, and there are twice as many as pairs, or one.
+pub record AreHalved (n terms a : ℕ) (cells now : List ℕ) (pairs size factor : ℕ) : Type 0 where
+  pub pieces : ℕ
+  pub half : ℕ
+  pub many : IsPowerOfTwo pieces
+  pub two : IsPowerOfTwo half
+  pub whole : pieces * half ≡ terms
+  pub pairs_are : pairs ≡ pieces / 2
+  pub size_is : size ≡ half * n
+  pub factor_is : factor ≡ power a half
+  pub long : length now ≡ terms * n
+  pub each : (b u g : ℕ) → b < pieces → u < half → g < n → get_or now ((b * half + u) * n + g) 0 ≡ taylor (lane n g (piece n half cells b)) a u
+
+-- a single coefficient is
+pub halved-none : (n terms a : ℕ) (cells : List ℕ) → 1 ≤ n → a < 256 → IsPowerOfTwo terms → length cells ≡ terms * n → ((k : ℕ) → get_or cells k 0 < 256)
+    → AreHalved n terms a cells cells (terms / 2) n a
+unfolding power
+halved-none n terms a cells some byte many size bytes = record {
+  pieces = terms;
+  half = 1;
+  many = many;
+  two = (0, refl);
+  whole = omega arith;
+  pairs_are = refl;
+  size_is = omega arith;
+  factor_is = sym (mul_one a byte);
+  long = size;
+  each = λ b u g l h inside.
+      let none : u ≡ 0 = omega (arith, h) in
+      let one : 1 * n ≡ n = omega arith in
+      let place : (b * 1 + u) * n + g ≡ b * (1 * n) + g = ap (λ x. x * n + g) (let e : b * 1 + u ≡ b = omega (arith, none) in e) ∙ ap (λ x. b * x + g) (sym one) in
+      let fit = row_within b terms n l in
+      let room : b * (1 * n) + 1 * n ≤ length cells = subst (λ x. b * x + x ≤ length cells) (sym one) (omega (arith, fit, size)) in
+      let part = piece n 1 cells b in
+      let first : 0 * n + g ≡ g = omega arith in
+      ap (λ k. get_or cells k 0) place
+      ∙ sym (part_before cells (b * (1 * n)) (1 * n) g (omega (arith, one, inside))) ∙ ap (λ k. get_or part k 0) (sym first)
+      ∙ expanded-one n a part some (λ k. part_bytes cells (b * (1 * n)) (1 * n) k bytes) (length-part cells (b * (1 * n)) (1 * n) room ∙ one) 0 g (lit< tt) inside
+      ∙ ap (taylor (lane n g part) a) (sym none);
+}
+
+-- two pieces are one of twice the length
+piece-two : (n h b : ℕ) (cells : List ℕ) → piece n (h + h) cells b ≡ piece n h cells (b + b) ++ piece n h cells (b + b + 1)
+piece-two n h b cells =
+    let s = h * n in
+    let both : (h + h) * n ≡ s + s = add-mul h h n in
+    let at : b * (s + s) ≡ (b + b) * s = omega (arith, add-mul b b s, mul-add b s s) in
+    let next : (b + b) * s + s ≡ (b + b + 1) * s = omega (arith, add-mul (b + b) 1 s) in
+    ap (λ w. take w (drop (b * w) cells)) both ∙ take-add s s (drop (b * (s + s)) cells)
+    ∙ ap₂ ◌++◌ (ap (λ k. take s (drop k cells)) at)
+    (ap (take s) (drop-drop s (b * (s + s)) cells ∙ ap (λ k. drop k cells) (ap (λ k. k + s) at ∙ next)))
+
+-- twice a power of two is one
+twice-IsPowerOfTwo : (h : ℕ) → IsPowerOfTwo h → IsPowerOfTwo (h + h)
+twice-IsPowerOfTwo h two = (suc two.0, (let more : h + h ≡ 2 ^ suc two.0 = omega (arith, two.1, pow-suc 2 two.0) in more))
+
+-- a power of two of which the half is not 0 is not 1
+some_halves : (k pairs : ℕ) → pairs ≡ k / 2 → 0 < pairs → k ≢ 1
+some_halves k pairs are some one = absurd (omega (arith, are, some, one))
+
+-- where there are no pairs, there is one piece
+one_piece : (k : ℕ) → IsPowerOfTwo k → 0 ≡ k / 2 → k ≡ 1
+one_piece k many none = let some = power_some many.0 in omega (arith, none, many.1, some)
+
+-- a place in one of two pieces
+place-low : (n h b u g : ℕ) → (b * (h + h) + u) * n + g ≡ b * (h * n + h * n) + (u * n + g)
+place-low n h b u g = omega (arith, add-mul (b * (h + h)) u n, mul_assoc b (h + h) n, ap (λ x. b * x) (add-mul h h n))
+
+-- in pieces of half the length
+place-first : (n h b u g : ℕ) → ((b + b) * h + u) * n + g ≡ b * (h * n + h * n) + (u * n + g)
+place-first n h b u g = omega (arith, add-mul ((b + b) * h) u n, mul_assoc (b + b) h n, add-mul b b (h * n), mul-add b (h * n) (h * n))
+
+place-second : (n h b u g : ℕ) → ((b + b + 1) * h + u) * n + g ≡ b * (h * n + h * n) + (h * n + (u * n + g))
+place-second n h b u g =
+    omega (arith, add-mul ((b + b + 1) * h) u n, mul_assoc (b + b + 1) h n, add-mul (b + b) 1 (h * n), add-mul b b (h * n), mul-add b (h * n) (h * n))
+
+-- two pieces become one of twice the length
+module _ (n terms a pairs size factor : ℕ) (cells now made : List ℕ) (some : 1 ≤ n) (size-cells : length cells ≡ terms * n) (more : 0 < pairs) (old : AreHalved n terms a cells now pairs size factor)
+    (added : AreHalvesAdded factor size pairs made now) where
+  pub halved-next : AreHalved n terms a cells made (pairs / 2) (size * 2) (factor ⊗ factor)
+  halved-next =
+      let k = old.pieces in
+      let h = old.half in
+      let s = h * n in
+      let single = some_halves k pairs old.pairs_are more in
+      let twice = halves-IsPowerOfTwo k old.many single in
+      let steps = steps_of h old.two in
+      let sums = subst (λ f. AreHalvesAdded f s pairs made now) old.factor_is (subst (λ s. AreHalvesAdded factor s pairs made now) old.size_is added) in
+      let room : (b : ℕ) → b < k → b * s + s ≤ length cells = λ b l.
+      let fit = row_within b k s l in
+      omega (arith, fit, size-cells, mul_assoc k h n, ap (λ x. x * n) old.whole) in
+      record {
+        pieces = k / 2;
+        half = h + h;
+        many = half-IsPowerOfTwo k old.many single;
+        two = twice-IsPowerOfTwo h old.two;
+        whole = mul-add (k / 2) h h ∙ sym (add-mul (k / 2) (k / 2) h) ∙ ap (λ x. x * h) twice ∙ old.whole;
+        pairs_are = ap (λ x. x / 2) old.pairs_are;
+        size_is = ap (λ x. x * 2) old.size_is ∙ (let e : s * 2 ≡ (h + h) * n = omega (arith, add-mul h h n) in e);
+        factor_is = ap₂ ◌⊗◌ old.factor_is old.factor_is ∙ sym (power-add a h h);
+        long = sums.size ∙ old.long;
+        each = λ b u g l m inside.
+            let pair : b < pairs = omega (arith, l, old.pairs_are) in
+            let one : b + b < k = omega (arith, l, twice) in
+            let other : b + b + 1 < k = omega (arith, l, twice) in
+            let low = piece n h cells (b + b) in
+            let high = piece n h cells (b + b + 1) in
+            let long-low = length-part cells ((b + b) * s) s (room (b + b) one) in
+            let long-high = length-part cells ((b + b + 1) * s) s (room (b + b + 1) other) in
+            ap (λ i. get_or made i 0) (place-low n h b u g)
+            ∙ elim (cases_lt u h) [
+              | inl before ↦
+                  let fit = row_within u h n before in
+                  sums.first b (u * n + g) pair (omega (arith, fit, inside))
+                  ∙ ap₂ (λ i j. get_or now i 0 ⊕ power a h ⊗ get_or now j 0) (sym (place-first n h b u g)) (sym (place-second n h b u g))
+                  ∙ ap₂ (λ x y. x ⊕ power a h ⊗ y) (old.each (b + b) u g one before inside) (old.each (b + b + 1) u g other before inside)
+                  ∙ sym (taylor-low n h a u g low high some steps before inside long-low long-high)
+              | inr past ↦
+                  let w = u - h in
+                  let order : h + w ≡ u = omega (arith, past) in
+                  let within : w < h = omega (arith, past, m) in
+                  let fit = row_within w h n within in
+                  let there : b * (s + s) + (u * n + g) ≡ b * (s + s) + (s + (w * n + g)) =
+                  ap (λ x. b * (s + s) + (x * n + g)) (sym order) ∙ (let e : b * (s + s) + ((h + w) * n + g) ≡ b * (s + s) + (s + (w * n + g)) = omega (arith, add-mul h w n) in e) in
+                  ap (λ i. get_or made i 0) there
+                  ∙ sums.second b (w * n + g) pair (omega (arith, fit, inside))
+                  ∙ ap (λ i. get_or now i 0) (sym (place-second n h b w g))
+                  ∙ old.each (b + b + 1) w g other within inside
+                  ∙ sym (taylor-high n h a w g low high some steps within inside long-low long-high)
+                  ∙ ap (taylor (lane n g (low ++ high)) a) order
+            ]
+            ∙ sym (ap (λ r. taylor (lane n g r) a u) (piece-two n h b cells));
+      }
+
+-- the pairs are all of the cells
+pub halved-room : (n terms a pairs size factor : ℕ) (cells now : List ℕ) → 0 < pairs → AreHalved n terms a cells now pairs size factor
+    → pairs * (size + size) ≡ length now
+halved-room n terms a pairs size factor cells now more done =
+    let k = done.pieces in
+    let s = done.half * n in
+    let twice = halves-IsPowerOfTwo k done.many (some_halves k pairs done.pairs_are more) in
+    ap₂ (λ p s. p * (s + s)) done.pairs_are done.size_is ∙ mul-add (k / 2) s s ∙ sym (add-mul (k / 2) (k / 2) s) ∙ ap (λ p. p * s) twice
+    ∙ sym (mul_assoc k done.half n) ∙ ap (λ x. x * n) done.whole ∙ sym done.long
+
+-- and in the end there is one, the whole
+pub halved-all : (n terms a pairs size factor : ℕ) (cells now : List ℕ) → length cells ≡ terms * n → pairs ≡ 0 → AreHalved n terms a cells now pairs size factor
+    → AreExpanded n terms a now (λ g. lane n g cells)
+halved-all n terms a pairs size factor cells now long none done u g l inside =
+    let one = one_piece done.pieces done.many (sym none ∙ done.pairs_are) in
+    let all : done.half ≡ terms = omega (arith, done.whole, ap (λ k. k * done.half) one) in
+    let place : u * n + g ≡ (0 * done.half + u) * n + g = omega arith in
+    let size : done.half * n ≡ length cells = ap (λ h. h * n) all ∙ sym long in
+    let part : piece n done.half cells 0 ≡ cells = ap (λ k. take (done.half * n) (drop k cells)) (let e : 0 * (done.half * n) ≡ 0 = omega arith in e) ∙ take_all (done.half * n) cells (omega (arith, size)) in
+    ap (λ k. get_or now k 0) place ∙ done.each 0 u g (omega (arith, one)) (omega (arith, all, l)) inside
+    ∙ ap (λ r. taylor (lane n g r) a u) part
+
+-- a row that is no longer than one piece is what it folds to
+folded-short : (n p k : ℕ) (row : List ℕ) → 1 ≤ n → ((k : ℕ) → get_or row k 0 < 256) → length row ≤ n → folded n p row k ≡ get_or row k 0
+folded-short n p k row some bytes short =
+    let none = folded-none n p k (drop n row) (omega (arith, length-drop n row, short)) in
+    folded-next n p k row some bytes ∙ ap (λ x. get_or row k 0 ⊕ p ⊗ x) none ∙ ap (◌⊕◌ (get_or row k 0)) (mul_zero p) ∙ add_zero (get_or row k 0)
+
+-- What a row folds to, where only its first d coefficients are made those about a: the row has no more, or they are all.
+module _ (s e d a : ℕ) (row sums made : List ℕ) (some : 1 ≤ s) (two : IsPowerOfTwo e) (few : d ≤ e) (enough : d < e → length row ≤ d * s) (bytes : (k : ℕ) → get_or row k 0 < 256)
+    (size : length sums ≡ e * s) (long : length made ≡ d * s) (is : (k : ℕ) → k < e * s → get_or sums k 0 ≡ folded (e * s) (power a e) row k)
+    (done : AreExpanded s d a made (λ g. lane s g (take (d * s) sums))) where
+  -- where the row has no more, it is what it folds to
+  same_row : d < e → (k : ℕ) → k < e * s → get_or sums k 0 ≡ get_or row k 0
+  same_row less k l =
+      let wide = mul-le-mul_right s few in
+      let one : 1 ≤ e = omega (arith, less) in
+      let most = mul-le-mul_right s one in
+      is k l ∙ folded-short (e * s) (power a e) k row (omega (arith, most, some)) bytes (omega (arith, enough less, wide))
+
+  -- so it is about a
+  used-series : d < e → (u g : ℕ) → g < s → taylor (lane s g row) a u ≡ sum_to (λ i. term a u i (get_or row (i * s + g) 0)) d
+  used-series less u g h = taylor-terms s g a u d row some (enough less)
+
+  pub expanded-used : AreExpanded s e a (made ++ drop (d * s) sums) (λ g. lane s g row)
+  expanded-used u g l h =
+      let part = take (d * s) sums in
+      let wide = mul-le-mul_right s few in
+      let size-part : length part ≡ d * s = length-take-le (d * s) sums (omega (arith, size, wide)) in
+      elim (cases_lt d e) [
+        | inl less ↦ elim (cases_lt u d) [
+          | inl low ↦
+              let fit = row_within u d s low in
+              get_or_append_left made (drop (d * s) sums) 0 (u * s + g) (omega (arith, fit, h, long)) ∙ done u g low h
+              ∙ taylor-terms s g a u d part some (omega (arith, size-part))
+              ∙ sum_to-same (λ i. term a u i (get_or part (i * s + g) 0)) (λ i. term a u i (get_or row (i * s + g) 0)) d (λ i m.
+              let within = row_within i d s m in
+              ap (term a u i) (get_or-take (d * s) sums (i * s + g) 0 (omega (arith, within, h)) ∙ same_row less (i * s + g) (omega (arith, within, h, wide))))
+              ∙ sym (used-series less u g h)
+          | inr high ↦
+              let past = mul-le-mul_right s high in
+              let fit = row_within u e s l in
+              let back : d * s + (u * s + g - d * s) ≡ u * s + g = omega (arith, past) in
+              get_or-append_right made (drop (d * s) sums) (d * s) (u * s + g) 0 long (omega (arith, past))
+              ∙ get_or-drop (d * s) sums (u * s + g - d * s) 0 ∙ ap (λ k. get_or sums k 0) back
+              ∙ same_row less (u * s + g) (omega (arith, fit, h)) ∙ get_or_past row (u * s + g) 0 (omega (arith, enough less, past))
+              ∙ sym (used-series less u g h ∙ sum_to-zero (λ i. term a u i (get_or row (i * s + g) 0)) d (λ i m. term-before a u i (get_or row (i * s + g) 0) (omega (arith, m, high))))
+        ]
+        | inr all ↦
+            let whole : d ≡ e = omega (arith, all, few) in
+            let low : u < d = omega (arith, l, whole) in
+            let fit = row_within u d s low in
+            let same : part ≡ sums = take_all (d * s) sums (let e : length sums ≡ d * s = size ∙ ap (λ k. k * s) (sym whole) in omega (arith, e)) in
+            get_or_append_left made (drop (d * s) sums) 0 (u * s + g) (omega (arith, fit, h, long)) ∙ done u g low h
+            ∙ ap (λ r. taylor (lane s g r) a u) same ∙ taylor-folded s e a u g row sums some (steps_of e two) l h size is
+      ]

@@ -1,8 +1,8 @@
 -- Places of polynomials side by side, and parts of a list that are written anew.
-use Rattle.std.proofs.Common.{◌≡◌, ◌⊎◌, ℕ, ◌+◌, ◌-◌, ◌*◌, ◌<◌, ◌≤◌, List, [], ◌++◌, length, get_or, take, drop, sym, ap, ◌∙◌, arith, inl, inr, length-drop, length-append}
+use Rattle.std.proofs.Common.{◌≡◌, ◌⊎◌, ℕ, ◌+◌, ◌-◌, ◌*◌, ◌<◌, ◌≤◌, List, [], ◌++◌, length, get_or, take, drop, sym, ap, subst, ◌∙◌, arith, inl, inr, lit<, length-drop, length-append}
 use Rattle.std.proofs.Math.Nat.{mul-le-mul_right}
 use Rattle.std.proofs.lemmas.Bool.{cases_lt}
-use Rattle.std.proofs.lemmas.List.{ext_get_or, get_or-drop, get_or-take, get_or-map, get_or_past, get_or_append_left, get_or-append_right, length-take-le, length-map}
+use Rattle.std.proofs.lemmas.List.{ext_get_or, get_or-drop, get_or-take, get_or-map, get_or_past, get_or_append_left, get_or-append_right, length-take, length-take-le, length-map}
 use Rattle.std.proofs.lemmas.List.FromFn.{get_or-map-range_with_len, length-map-range_with_len}
 use borrow.Rule.Slice.PartMut.{put_mid}
 use Rattle.gf256.specs.Polynomial.{coef}
@@ -46,6 +46,14 @@ part_size xs ys a n room size =
 -- a part before it is written
 pub part_before : (xs : List ℕ) (a n g : ℕ) → g < n → get_or (take n (drop a xs)) g 0 ≡ get_or xs (a + g) 0
 part_before xs a n g l = get_or-take n (drop a xs) g 0 l ∙ get_or-drop a xs g 0
+
+-- a part of bytes has bytes
+pub part_bytes : (xs : List ℕ) (a n k : ℕ) → ((k : ℕ) → get_or xs k 0 < 256) → get_or (take n (drop a xs)) k 0 < 256
+part_bytes xs a n k bytes =
+    elim (cases_lt k n) [
+      | inl l ↦ subst (λ x. x < 256) (sym (part_before xs a n k l)) (bytes (a + k))
+      | inr l ↦ subst (λ x. x < 256) (sym (get_or_past (take n (drop a xs)) k 0 (omega (arith, l, length-take n (drop a xs))))) (lit< tt)
+    ]
 
 -- and as long as it is wanted
 pub length-part : (xs : List ℕ) (a n : ℕ) → a + n ≤ length xs → length (take n (drop a xs)) ≡ n

@@ -1,13 +1,13 @@
 -- A step of the iteration in a row of polynomials side by side.
-use Rattle.std.proofs.Common.{◌≡◌, ◌≢◌, ℕ, zero, suc, ◌+◌, ◌-◌, ◌*◌, ◌<◌, ◌≤◌, List, ◌++◌, length, get_or, take, drop, replicate, refl, sym, ap, ap₂, subst, ◌∙◌, arith, inl, inr, add-one, add-mul}
-use Rattle.std.proofs.Math.Nat.{mul-le-mul_right}
+use Rattle.std.proofs.Common.{◌≡◌, ◌≢◌, ℕ, zero, suc, ◌+◌, ◌-◌, ◌*◌, ◌<◌, ◌≤◌, List, ◌++◌, length, get_or, set, take, drop, replicate, refl, sym, ap, ap₂, subst, ◌∙◌, arith, inl, inr, add-one, add-mul}
 use Rattle.std.proofs.lemmas.Bool.{cases_lt}
-use Rattle.std.proofs.lemmas.List.{take_all, get_or_past, get_or_append_left, get_or-append_right, get_or-replicate, length-replicate}
+use Rattle.std.proofs.lemmas.Grind.{get_or-set_at}
+use Rattle.std.proofs.lemmas.List.{get_or-set_other, take_all, get_or_past, get_or_append_left, get_or-append_right, get_or-replicate, length-replicate}
 use borrow.Rule.Slice.PartMut.{put_mid}
 use Rattle.gf256.specs.Field.{◌⊕◌, ◌⊗◌}
 use Rattle.gf256.proofs.Xor.{add_comm, add_zero}
 use Rattle.gf256.proofs.FieldLaws.{mul_add, mul_one, zero_mul}
-use Rattle.gs_interpolate.specs.Family.{multiplier, preceding, AreMultiplesAdded, IsCellStep, IsRowStep, IsStepCount}
+use Rattle.gs_interpolate.specs.Family.{multiplier, preceding, AreMultiplesAdded, IsCellStep, IsRowStep, IsReach}
 use Rattle.gf256.proofs.FlatRows.{row_within}
 use Rattle.gs_interpolate.proofs.Places.{part_here, part_elsewhere, part_before}
 
@@ -36,31 +36,88 @@ row_step-none factors row p = record {
 no_multiple : (x y f : ℕ) → y ≡ 0 → x ⊕ y ⊗ f ≡ x
 no_multiple x y f none = ap (λ z. x ⊕ z ⊗ f) none ∙ ap (◌⊕◌ x) (zero_mul f) ∙ add_zero x
 
--- a step at the powers at which it changes something is one at all
-pub row_step-all : {factors now before : List ℕ} {p count powers : ℕ} → IsStepCount (length factors) p before count powers
-    → IsRowStep factors p now before powers → IsRowStep factors p now before count
-row_step-all {factors = factors} {now = now} {before = before} {p = p} {count = count} {powers = powers} enough step =
-    let n = length factors in
-    let past = λ (i g : ℕ) (l : powers ≤ i). step.rest (i * n + g) (let e = mul-le-mul_right n l in omega (arith, e)) in
-    record {
-      pivot = λ i l. elim (cases_lt i powers) [
-        | inl low ↦ step.pivot i low
-        | inr high ↦
-            past i p high ∙ enough.own i high l
-            ∙ sym (ap (λ x. x ⊕ get_or before (i * n + p) 0 ⊗ multiplier factors p) (enough.before i high l)
-            ∙ no_multiple 0 (get_or before (i * n + p) 0) (multiplier factors p) (enough.own i high l))
-      ];
-      others = λ i g l m o. elim (cases_lt i powers) [
-        | inl low ↦ step.others i g low m o
-        | inr high ↦ past i g high ∙ sym (no_multiple (get_or before (i * n + g) 0) (get_or before (i * n + p) 0) (get_or factors g 0) (enough.own i high l))
-      ];
-      rest = λ k l. step.rest k (let e = mul-le-mul_right n enough.few in omega (arith, e, l));
-    }
-
 -- the coefficient before the next one
 pub preceding-next : (n p : ℕ) (row : List ℕ) (i : ℕ) → preceding n p row (i + 1) ≡ get_or row (i * n + p) 0
 unfolding preceding
 preceding-next n p row i = ap (preceding n p row) (add-one i)
+
+-- where the pivot has none before, nothing is carried on
+nothing_before : (n p : ℕ) (row : List ℕ) (i : ℕ) → ((k : ℕ) → k < i → get_or row (k * n + p) 0 ≡ 0) → preceding n p row i ≡ 0
+unfolding preceding
+nothing_before n p row zero none = refl
+nothing_before n p row (suc i) none = none i (omega arith)
+
+-- past the powers that the pivot reaches a step changes no other
+past_reach : (factors before : List ℕ) (p count powers i g : ℕ) → IsReach (length factors) p before count powers → powers ≤ i → i < count
+    → get_or before (i * length factors + g) 0 ≡ get_or before (i * length factors + g) 0 ⊕ get_or before (i * length factors + p) 0 ⊗ get_or factors g 0
+past_reach factors before p count powers i g reach high l =
+    let n = length factors in
+    sym (no_multiple (get_or before (i * n + g) 0) (get_or before (i * n + p) 0) (get_or factors g 0) (reach.own i high l))
+
+-- where the pivot reaches none, a step changes nothing
+pub row_step-idle : {factors before : List ℕ} {p count powers : ℕ} → IsReach (length factors) p before count powers → powers ≡ 0
+    → IsRowStep factors p before before count
+unfolding preceding
+row_step-idle {factors = factors} {before = before} {p = p} {count = count} {powers = powers} reach none =
+    let n = length factors in
+    let zero : (i : ℕ) → i < count → get_or before (i * n + p) 0 ≡ 0 = λ i l. reach.own i (omega (arith, none)) l in
+    record {
+      pivot = λ i l.
+          zero i l ∙ sym (no_multiple (preceding n p before i) (get_or before (i * n + p) 0) (multiplier factors p) (zero i l) ∙ nothing_before n p before i (λ k h. zero k (omega (arith, h, l))));
+      others = λ i g l m o. past_reach factors before p count powers i g reach (omega (arith, none)) l;
+      rest = λ k l. refl;
+    }
+
+-- a step at the powers that the pivot reaches, and its last coefficient at the power behind, is one at all
+pub row_step-all : {factors mid before : List ℕ} {p count powers : ℕ} → p < length factors → IsReach (length factors) p before count powers → powers ≢ 0 → powers < count
+    → count * length factors ≤ length mid → IsRowStep factors p mid before powers
+    → IsRowStep factors p (set mid (powers * length factors + p) (get_or before ((powers - 1) * length factors + p) 0)) before count
+row_step-all {factors = factors} {mid = mid} {before = before} {p = p} {count = count} {powers = powers} inside reach some more room step =
+    let n = length factors in
+    let at = powers * n + p in
+    let last = get_or before ((powers - 1) * n + p) 0 in
+    let now = set mid at last in
+    let fit = row_within powers count n more in
+    let up : powers - 1 + 1 ≡ powers = omega (arith, some) in
+    let carried : preceding n p before powers ≡ last = subst (λ k. preceding n p before k ≡ last) up (preceding-next n p before (powers - 1)) in
+    let early : (i g : ℕ) → i < powers → g < n → get_or now (i * n + g) 0 ≡ get_or mid (i * n + g) 0 = λ i g l h.
+    let before = row_within i powers n l in
+    get_or-set_other mid at (i * n + g) last 0 (omega (arith, before, h)) in
+    let later : (i g : ℕ) → powers < i → get_or now (i * n + g) 0 ≡ get_or before (i * n + g) 0 = λ i g l.
+    let past = row_within powers i n l in
+    get_or-set_other mid at (i * n + g) last 0 (omega (arith, past, inside)) ∙ step.rest (i * n + g) (omega (arith, past)) in
+    record {
+      pivot = λ i l. elim (cases_lt i powers) [
+        | inl low ↦ early i p low inside ∙ step.pivot i low
+        | inr high ↦ elim (cases_lt powers i) [
+          | inl past ↦
+              let i-1 : i - 1 + 1 ≡ i = omega (arith, past) in
+              let none : preceding n p before i ≡ 0 =
+              subst (λ k. preceding n p before k ≡ 0) i-1 (preceding-next n p before (i - 1) ∙ reach.own (i - 1) (omega (arith, past)) (omega (arith, l, i-1))) in
+              later i p past ∙ reach.own i high l
+              ∙ sym (ap (λ x. x ⊕ get_or before (i * n + p) 0 ⊗ multiplier factors p) none ∙ no_multiple 0 (get_or before (i * n + p) 0) (multiplier factors p) (reach.own i high l))
+          | inr here ↦
+              let same : powers ≡ i = omega (arith, here, high) in
+              subst (λ i. get_or now (i * n + p) 0 ≡ preceding n p before i ⊕ get_or before (i * n + p) 0 ⊗ multiplier factors p) same
+              (get_or-set_at mid at at last 0 refl (omega (arith, fit, inside, room)) ∙ sym carried
+              ∙ sym (no_multiple (preceding n p before powers) (get_or before at 0) (multiplier factors p) (reach.own powers (omega arith) more)))
+        ]
+      ];
+      others = λ i g l m o. elim (cases_lt i powers) [
+        | inl low ↦ early i g low m ∙ step.others i g low m o
+        | inr high ↦ elim (cases_lt powers i) [
+          | inl past ↦ later i g past ∙ past_reach factors before p count powers i g reach high l
+          | inr here ↦
+              let same : powers ≡ i = omega (arith, here, high) in
+              let apart : i * n + g ≢ at = let places = ap (λ k. k * n) same in omega (arith, places, o) in
+              get_or-set_other mid at (i * n + g) last 0 apart
+              ∙ step.rest (i * n + g) (let places = ap (λ k. k * n) same in omega (arith, places))
+              ∙ past_reach factors before p count powers i g reach high l
+        ]
+      ];
+      rest = λ k l.
+          get_or-set_other mid at k last 0 (omega (arith, fit, inside, l)) ∙ step.rest k (omega (arith, fit, l));
+    }
 
 -- The part of a row with one power of x, in n lanes.
 abbrev pub power_part : ℕ → ℕ → List ℕ → List ℕ

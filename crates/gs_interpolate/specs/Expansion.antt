@@ -26,6 +26,15 @@ pub record IsPieceAdded (factor at : ℕ) (values now before : List ℕ) : Type 
   pub others : (k : ℕ) → (k < at * length values) ⊎ (at * length values + length values ≤ k)
       → slice_index now k ≡ slice_index before k
 
+-- of so many pairs of pieces of n bytes, to each first one its second was added, times a factor, and the rest stayed
+pub record AreHalvesAdded (factor n pairs : ℕ) (now before : List ℕ) : Type 0 where
+  pub size : length now ≡ length before
+  pub first : (p k : ℕ) → p < pairs → k < n → slice_index now (p * (n + n) + k)
+      ≡ slice_index before (p * (n + n) + k) ⊕ factor ⊗ slice_index before (p * (n + n) + (n + k))
+  pub second : (p k : ℕ) → p < pairs → k < n
+      → slice_index now (p * (n + n) + (n + k)) ≡ slice_index before (p * (n + n) + (n + k))
+  pub rest : (k : ℕ) → pairs * (n + n) ≤ k → slice_index now k ≡ slice_index before k
+
 -- the first m coefficients about a of the polynomials f 0, .., f (n - 1), side by side
 abbrev pub AreExpanded : ℕ → ℕ → ℕ → List ℕ → (ℕ → List ℕ) → Type 0
 AreExpanded n m a made f = (u g : ℕ) → u < m → g < n → slice_index made (u * n + g) ≡ taylor (f g) a u

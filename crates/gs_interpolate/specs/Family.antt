@@ -68,13 +68,12 @@ pub record IsRowStep (factors : List ℕ) (p : ℕ) (now before : List ℕ) (cou
       (slice_index before (i * length factors + p)) (slice_index factors g)
   pub rest : (k : ℕ) → count * length factors ≤ k → slice_index now k ≡ slice_index before k
 
--- of the first powers of x, so many, a step changes something at most at the first of them, so many: past these the polynomial at
--- place p has no coefficient, nor at the power before. Where they are several, it has one at the last of them or at the one before
-pub record IsStepCount (n p : ℕ) (r : List ℕ) (count powers : ℕ) : Type 0 where
+-- of the first powers of x, so many, the polynomial at place p has a coefficient at none past the first of them, so many, and
+-- where there is a last of these, it has one there
+pub record IsReach (n p : ℕ) (r : List ℕ) (count powers : ℕ) : Type 0 where
   pub few : powers ≤ count
   pub own : (i : ℕ) → powers ≤ i → i < count → slice_index r (i * n + p) ≡ 0
-  pub before : (i : ℕ) → powers ≤ i → i < count → preceding n p r i ≡ 0
-  pub least : (i : ℕ) → powers ≡ i + 2 → (slice_index r ((i + 1) * n + p) ≢ 0) ⊎ (slice_index r (i * n + p) ≢ 0)
+  pub least : (i : ℕ) → powers ≡ i + 1 → slice_index r (i * n + p) ≢ 0
 
 -- whole lanes stay whole lanes
 abbrev pub StaysWhole : ℕ → List ℕ → List ℕ → Type 0

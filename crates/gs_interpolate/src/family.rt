@@ -5,7 +5,7 @@
 ghost use Rattle.std.specs.Prelude.{ℕ, ◌≡◌, ◌≢◌, ◌+◌, ◌-◌, ◌*◌, ◌<◌, ◌≤◌, length, slice_index, IfOk};
 ghost use Rattle.std.specs.Simd.Lanes.{chunk};
 ghost use Rattle.gf256.specs.Field.{◌⊕◌};
-ghost use Rattle.gs_interpolate.specs.Family.{bytes_of, AreCoefficients, AreMultiplesAdded, IsCellStep, IsFamilyStep, IsRowStep, AreVectors, FillsVectors, IsStepCount, StaysWhole};
+ghost use Rattle.gs_interpolate.specs.Family.{bytes_of, AreCoefficients, AreMultiplesAdded, IsCellStep, IsFamilyStep, IsRowStep, AreVectors, FillsVectors, IsReach, StaysWhole};
 
 use crate::basis::MOST_PLACES;
 use gf256::rows::{Products, add_scaled_row};
@@ -210,18 +210,38 @@ pub(crate) fn step_row(row: &mut [u8], factors: &[u8], p: usize, count: usize, t
     }
 }
 
-/// How many of the first `count` powers of x a step is taken at: past the last at which the polynomial at place `p` has a
-/// coefficient, and the power behind that, there is nothing to do.
-fn powers_to_step(row: &[u8], lanes: usize, p: usize, count: usize) -> usize
+/// How many of the first `count` powers of x the polynomial at place `p` reaches: at none past these has it a coefficient, and
+/// at the last of them it has one.
+fn powers_reached(row: &[u8], lanes: usize, p: usize, count: usize) -> usize
     requires inside { p < lanes }
     requires room { count * lanes ≤ length row.now }
-    ensures { IsStepCount lanes p row.now count result }
+    ensures { IsReach lanes p row.now count result }
 {
     let mut powers = count;
     'zeros: while powers > 0 && row[(powers - 1) * lanes + p] == 0 {
         powers -= 1;
     }
-    count.min(powers + 1)
+    powers
+}
+
+/// Takes a step in one row, as `step_row` does, where there is something to do: at the power behind the last at which the
+/// pivot has a coefficient only that moves up, and past it nothing changes.
+fn step_reached(row: &mut [u8], factors: &[u8], p: usize, count: usize, tables: &Tables)
+    requires inside { p < length factors.now }
+    requires room { count * length factors.now ≤ length row.old }
+    ensures { IsRowStep factors.now p row.new row.old count }
+{
+    let lanes = factors.len();
+    let powers = powers_reached(row, lanes, p, count);
+    if powers == 0 {
+        return;
+    }
+    let last = row[(powers - 1) * lanes + p];
+    step_row(row, factors, p, powers, tables);
+    if powers == count {
+        return;
+    }
+    row[powers * lanes + p] = last;
 }
 
 /// Takes a step in one row, as `step_row` does. A row that has no place for so many coefficients is made longer, by zeros.
@@ -242,8 +262,7 @@ fn step_long_row(
     let room = count * factors.len();
     let missing = room.saturating_sub(row.len());
     row.resize(row.len() + missing, 0)?;
-    let powers = powers_to_step(row, factors.len(), p, count);
-    step_row(row, factors, p, powers, tables);
+    step_reached(row, factors, p, count, tables);
     Ok(())
 }
 

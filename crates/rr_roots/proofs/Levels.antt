@@ -1,5 +1,5 @@
 -- Lists of byte lists in strictly ascending order, gathered by their first bytes.
-use Rattle.std.proofs.Common.{◌≡◌, ◌↔◌, ℕ, ◌+◌, ◌<◌, List, [], ◌∷◌, ◌++◌, length, map, get_or, Contains, refl, sym, ap, ap₂, subst, ◌∙◌, inl, inr, arith, append_assoc, append-nil, nat_cmp}
+use Rattle.std.proofs.Common.{◌≡◌, ◌↔◌, ℕ, ◌+◌, ◌<◌, ◌≤◌, List, [], ◌∷◌, ◌++◌, length, map, get_or, Contains, refl, sym, ap, ap₂, subst, ◌∙◌, inl, inr, arith, append_assoc, append-nil, nat_cmp}
 use Rattle.std.specs.Cmp.Lexicographic.{slice_cmp}
 use Rattle.std.specs.List.Sorted.{IsStrictlySortedBy}
 use Rattle.std.specs.Ordering.{ordering_then}
@@ -74,16 +74,6 @@ from_map g p lists (k, l, e) =
 abbrev pub ListsBelow : (List ℕ → Type 0) → ℕ → List (List ℕ) → Type 0
 ListsBelow P g lists = ListsAll (λ phi. P phi × (coef phi 0 < g)) lists
 
--- no more where P holds of none that begins with g
-below-skip : (P : List ℕ → Type 0) (g : ℕ) (lists : List (List ℕ)) → ListsBelow P g lists → ((phi : List ℕ) → P phi → coef phi 0 ≡ g → ⊥) → ListsBelow P (g + 1) lists
-below-skip P g lists h none = record {
-  ascending = h.ascending;
-  exact = λ phi. (
-    λ c. let (p, l) = (h.exact phi).0 c in (p, omega (arith, l)),
-    λ (p, l). (h.exact phi).1 (p, elim (cases_lt (coef phi 0) g) [ inl m ↦ m | inr m ↦ absurd (none phi p (omega (arith, l, m))) ]),
-  );
-}
-
 -- those that begin with g are g before those of which Sub holds
 below-more : (P Sub : List ℕ → Type 0) (g : ℕ) (lists sub : List (List ℕ)) → ((phi : List ℕ) → P phi → 0 < length phi) → ListsBelow P g lists → ListsAll Sub sub
     → ((psi : List ℕ) → Sub psi ↔ P (g ∷ psi)) → ListsBelow P (g + 1) (lists ++ map (λ psi. g ∷ psi) sub)
@@ -127,11 +117,6 @@ longer_prefix prefix g (psi ∷ lists) = ap₂ ◌∷◌ (append_assoc prefix (g
 abbrev pub HoldsBelow : (List ℕ → Type 0) → ℕ → List ℕ → Type 0
 HoldsBelow P g phi = P phi × (coef phi 0 < g)
 
--- no more where none begins with g
-pub appends-skip : (P : List ℕ → Type 0) (g : ℕ) (prefix : List ℕ) (old new : List (List ℕ)) → Appends (HoldsBelow P g) prefix old new → ((phi : List ℕ) → P phi → coef phi 0 ≡ g → ⊥)
-    → Appends (HoldsBelow P (g + 1)) prefix old new
-appends-skip P g prefix old new h none = record { found = h.found; all = below-skip P g h.found h.all none; appended = h.appended }
-
 -- those that begin with g are appended to the others, with g at the end of the prefix
 pub appends-more : (P Sub : List ℕ → Type 0) (g : ℕ) (prefix : List ℕ) (old before new : List (List ℕ)) → ((phi : List ℕ) → P phi → 0 < length phi) → ((psi : List ℕ) → Sub psi ↔ P (g ∷ psi))
     → Appends (HoldsBelow P g) prefix old before → Appends Sub (prefix ++ g ∷ []) before new → Appends (HoldsBelow P (g + 1)) prefix old new
@@ -155,6 +140,16 @@ appends-same P Q prefix old new same h = record {
   };
   appended = h.appended;
 }
+
+-- no more where none begins with a byte from `from` on and below `to`
+pub appends-skips : (P : List ℕ → Type 0) (from to : ℕ) (prefix : List ℕ) (old new : List (List ℕ)) → from ≤ to → Appends (HoldsBelow P from) prefix old new
+    → ((g : ℕ) → from ≤ g → g < to → (phi : List ℕ) → P phi → coef phi 0 ≡ g → ⊥) → Appends (HoldsBelow P to) prefix old new
+appends-skips P from to prefix old new up h none =
+    appends-same (HoldsBelow P from) (HoldsBelow P to) prefix old new
+    (λ phi. (
+      λ b. (b.0, omega (arith, up, b.1)),
+      λ b. (b.0, elim (cases_lt (coef phi 0) from) [ inl low ↦ low | inr past ↦ absurd (none (coef phi 0) past b.1 phi b.0 refl) ]),
+    )) h
 
 -- nothing is appended where P holds of none
 pub appends-nothing : (P : List ℕ → Type 0) (prefix : List ℕ) (old : List (List ℕ)) → ((phi : List ℕ) → P phi → ⊥) → Appends P prefix old old

@@ -1,5 +1,5 @@
 -- How many nodes are below a node, from its children's counts (Roth and Ruckenstein 2000).
-use Rattle.std.proofs.Common.{◌≡◌, ◌≢◌, ℕ, ◌+◌, ◌-◌, ◌*◌, ◌<◌, ◌≤◌, List, inl, inr, sym, ap, subst, ◌∙◌, arith, mul-le-mul_left}
+use Rattle.std.proofs.Common.{◌≡◌, ◌≢◌, ℕ, zero, suc, ◌+◌, ◌-◌, ◌*◌, ◌<◌, ◌≤◌, List, inl, inr, sym, ap, subst, ◌∙◌, arith, mul-le-mul_left}
 use Rattle.std.proofs.Math.Nat.{mul-add, add-mul}
 use Rattle.std.proofs.lemmas.Bool.{cases_lt}
 use Rattle.gf256.specs.Polynomial.{coef, val}
@@ -33,10 +33,22 @@ module _ {whole q : List (List ℕ)} {r : ℕ} (s : IsStripped whole q r) where
   none_begins n g some other phi h e = other (ap (val (column q 0)) (sym e) ∙ begins_with_root s n phi some h)
 
   -- the nodes below g are at most those below g + 1
-  pub nodes-skip : (left start now g : ℕ) → now ≤ start + left * roots_below (column q 0) g → now ≤ start + left * roots_below (column q 0) (g + 1)
+  nodes-skip : (left start now g : ℕ) → now ≤ start + left * roots_below (column q 0) g → now ≤ start + left * roots_below (column q 0) (g + 1)
   nodes-skip left start now g h =
       let most : left * roots_below (column q 0) g ≤ left * roots_below (column q 0) (g + 1) = mul-le-mul_left left (omega (arith, roots_below-more (column q 0) g)) in
       omega (arith, h, most)
+
+  -- and those below any later byte
+  nodes-further : (left start now from n : ℕ) → now ≤ start + left * roots_below (column q 0) from → now ≤ start + left * roots_below (column q 0) (from + n)
+  nodes-further left start now from zero h = subst (λ g. now ≤ start + left * roots_below (column q 0) g) (let same : from ≡ from + 0 = omega arith in same) h
+  nodes-further left start now from (suc n) h =
+      subst (λ g. now ≤ start + left * roots_below (column q 0) g) (let same : from + n + 1 ≡ from + suc n = omega arith in same)
+      (nodes-skip left start now (from + n) (nodes-further left start now from n h))
+
+  pub nodes-skips : (left start now from to : ℕ) → from ≤ to → now ≤ start + left * roots_below (column q 0) from → now ≤ start + left * roots_below (column q 0) to
+  nodes-skips left start now from to up h =
+      subst (λ g. now ≤ start + left * roots_below (column q 0) g) (let same : from + (to - from) ≡ to = omega (arith, up) in same)
+      (nodes-further left start now from (to - from) h)
 
   -- with a root g and the nodes below it
   pub nodes-more : (left start now child more g : ℕ) → 0 < left → g < 256 → val (column q 0) g ≡ 0 → now ≤ start + left * roots_below (column q 0) g → child ≡ now + 1

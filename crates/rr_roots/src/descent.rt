@@ -8,7 +8,7 @@ ghost use Rattle.std.specs.Prelude.{ℕ, [], ◌∷◌, ◌++◌, ◌≡◌, ◌
 ghost use Rattle.bi_poly.specs.Substitution.{IsShiftedRoot};
 ghost use Rattle.rr_roots.specs.Descent.{AppendsLast, AppendsRoots, HasLowestColumnDegreeAtMost, HasMoreRoots, IsNode, IsOpened};
 
-use crate::values::values_at_bytes;
+use crate::values::{first_zero, values_at_bytes};
 use bi_poly::BiPoly;
 use bi_poly::laws::coefficients_are_bytes;
 use std::alloc::{AllocError, Global};
@@ -102,16 +102,16 @@ pub(crate) fn descend<N: Ledger>(
     ensures rises { nodes.old ≤ nodes.new }
 {
     let node = open(q, powers);
-    for byte in 0..256u16 {
-        if node.values[byte as usize] != 0 {
-            continue;
-        }
+    let mut from = 0;
+    'roots: while let Some(place) = first_zero(&node.values, from) {
+        let gamma = place as u8;
+        from = place + 1;
         nodes.tick();
         if t == 0 {
-            keep_root(alloc, &node.q, byte as u8, walk)?;
+            keep_root(alloc, &node.q, gamma, walk)?;
             continue;
         }
-        let child = child_at(alloc, &node.q, byte as u8, &mut walk.prefix)?;
+        let child = child_at(alloc, &node.q, gamma, &mut walk.prefix)?;
         descend(alloc, child, powers, t - 1, walk, nodes)?;
         walk.prefix.pop();
     }

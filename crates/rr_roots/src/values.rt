@@ -1,13 +1,14 @@
 //! The values of a polynomial at all bytes, 16 of them at once.
 
-ghost use Rattle.std.specs.Prelude.{ℕ, List, ◌≡◌, ◌+◌, ◌<◌, ◌≤◌, length, map, slice_index, IfOk};
+ghost use Rattle.std.specs.Prelude.{ℕ, List, ◌≡◌, ◌+◌, ◌<◌, ◌≤◌, length, map, slice_index, IfOk, MatchOption};
 ghost use Rattle.gf256.specs.Field.{◌⊗◌};
 ghost use Rattle.gf256.specs.Rows.{AreLanes};
 ghost use Rattle.bi_poly.specs.Rows.{column};
-ghost use Rattle.rr_roots.specs.Values.{ArePowers, AreTimesPlaces, AreValues};
+ghost use Rattle.rr_roots.specs.Values.{ArePowers, AreTimesPlaces, AreValues, HaveNoZero, IsFirstZero};
 
 use bi_poly::BiPoly;
 use gf256::rows::{Products, add_scaled_row};
+use gf256::vectors::LANES;
 use std::alloc::{AllocError, Global};
 use std::simd::prelude::*;
 
@@ -87,7 +88,50 @@ pub(crate) fn values_at_bytes(q: &BiPoly, powers: &[Vec<u8>]) -> [u8; 256]
     let mut sums = [0; 256];
     for e in 0..rows.len() {
         let constant = rows[e].get(0).copied().unwrap_or(0);
+        // So it is in most rows of a child's polynomial.
+        if constant == 0 {
+            continue;
+        }
         add_scaled_row(&mut sums, &powers[e], constant);
     }
     sums
+}
+
+/// How many of the values from place `at` on, so many as a vector has, stand before the first that is 0: all of them where none is.
+#[inline(always)]
+fn count_before_zero(values: &[u8], at: usize) -> usize
+    requires { at + LANES ≤ length values.now }
+    ensures few { result ≤ LANES }
+    ensures others { HaveNoZero values.now at (at + result) }
+    ensures zero { result < LANES → slice_index values.now (at + result) ≡ 0 }
+{
+    let zeros = u8x32::from_slice(&values[at..])
+        .simd_eq(u8x32::splat(0))
+        .to_bitmask();
+    if zeros == 0 {
+        return LANES;
+    }
+    zeros.trailing_zeros() as usize
+}
+
+/// The first place from `from` on where the value is 0.
+pub(crate) fn first_zero(values: &[u8; 256], from: usize) -> Option<usize>
+    requires { from ≤ 256 }
+    ensures { MatchOption result (HaveNoZero values.now from 256) (IsFirstZero values.now from) }
+{
+    let mut place = from;
+    'vectors: while place + LANES <= 256 {
+        let others = count_before_zero(values, place);
+        place += others;
+        if others < LANES {
+            return Some(place);
+        }
+    }
+    'rest: while place < 256 {
+        if values[place] == 0 {
+            return Some(place);
+        }
+        place += 1;
+    }
+    None
 }

@@ -3,6 +3,8 @@ use Rattle.std.specs.Option.{unwrap_or}
 use Rattle.std.proofs.lemmas.List.{length-map, get_or-map, get_or-replicate}
 use Rattle.gf256.specs.Field.{◌⊕◌, ◌⊗◌, power}
 use Rattle.gf256.specs.Polynomial.{coef}
+use Rattle.gf256.proofs.Xor.{add_zero}
+use Rattle.gf256.proofs.FieldLaws.{zero_mul}
 use Rattle.bi_poly.specs.Rows.{row, cell, column}
 use Rattle.bi_poly.proofs.Degree.{coef-column}
 use Rattle.rr_roots.proofs.ByteValues.{value_to, value_to-none, value_to-next, value_to-all}
@@ -26,6 +28,27 @@ add_scaled_row-requires c =
     let inside = within e (length rows) (length c.args.q.now) (length c.args.powers.now) c.loop-e-test.true (sym (length-map rows f) ∙ ap length c.rows-rows.ensures) c.requires.enough in
     ap length (c.deref-in-loop-e.ensures.value ∙ ap f c.index-powers-e.is ∙ sym (get_or-map f c.args.powers.now e _ [] inside))
     ∙ c.requires.powers.size e (omega (arith, inside, length-map c.args.powers.now f)) ∙ sym c.loop-e.invariant.size
+
+pub loop-e-preserved-then-constant-eq0 : goal.loop-e-preserved-then-constant-eq0
+unfolding coef cell
+loop-e-preserved-then-constant-eq0 c =
+    let f : Vec ℕ Global → List ℕ = λ r. r.items in
+    let q = c.args.q.now in
+    let p = column q 0 in
+    let e = c.loop-e.e in
+    let rows = c.rows-rows.result.now in
+    let own : c.deref.result.now ≡ row q e =
+    c.deref.ensures.value ∙ ap f c.index-rows-e.is ∙ sym (get_or-map f rows e _ [] c.loop-e-test.true) ∙ ap (λ q. row q e) c.rows-rows.ensures in
+    let first : c.unwrap_or-constant.result ≡ get_or c.deref.result.now 0 0 =
+    c.unwrap_or-constant.ensures ∙ ap (λ o. unwrap_or o 0) c.copied.ensures ∙ (search rules) in
+    let none : coef p e ≡ 0 = coef-column q 0 e ∙ ap (λ r. get_or r 0 0) (sym own) ∙ sym first ∙ c.if-constant-eq0.true in
+    record {
+      size = c.loop-e.invariant.size;
+      sums = λ g l.
+          c.loop-e.invariant.sums g l
+          ∙ sym (value_to-next p g e ∙ ap (λ k. value_to p g e ⊕ k ⊗ power g e) none ∙ ap (◌⊕◌ (value_to p g e)) (zero_mul (power g e))
+          ∙ add_zero (value_to p g e));
+    }
 
 pub loop-e-preserved : goal.loop-e-preserved
 unfolding coef cell

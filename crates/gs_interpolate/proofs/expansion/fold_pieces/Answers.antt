@@ -8,7 +8,7 @@ use Rattle.gf256.proofs.FieldLaws.{mul_zero}
 use Rattle.gs_interpolate.specs.Expansion.{folded}
 use Rattle.gs_interpolate.proofs.Expansions.{folded-none, folded-next}
 use Rattle.gs_interpolate.proofs.Places.{part_before}
-use Rattle.gs_interpolate.proofs.expansion.fold.Goals as goal
+use Rattle.gs_interpolate.proofs.expansion.fold_pieces.Goals as goal
 
 pub loop-b-init : goal.loop-b-init
 loop-b-init c = λ k l.

@@ -1,5 +1,5 @@
 use Rattle.std.proofs.Common.{◌≡◌, ℕ, ◌+◌, ◌*◌, ◌<◌, ◌≤◌, get_or}
-use Rattle.gs_interpolate.proofs.family.powers_to_step.Given as goal
+use Rattle.gs_interpolate.proofs.family.powers_reached.Given as goal
 
 abbrev pub invariant-zeros : goal.invariant-zeros
 invariant-zeros l = record {
