@@ -36,11 +36,11 @@ fn write_agreement<P: Ports>(ports: &mut P, agreement: &Agreement) -> Result<(),
 }
 
 /// The lines of agreements.
-fn write_agreements<P: Ports>(ports: &mut P, agreements: &[Agreement]) -> Result<(), Failed>
-    ensures written { Writes (agree_lines agreements.now) result (P.world ports.old) (P.world ports.new) }
+fn write_agreements<P: Ports>(ports: &mut P, all: &[Agreement]) -> Result<(), Failed>
+    ensures written { Writes (agree_lines all.now) result (P.world ports.old) (P.world ports.new) }
     ensures others { Touches OUTPUT (P.world ports.old) (P.world ports.new) }
 {
-    for agreement in agreements {
+    for agreement in all {
         write_agreement(ports, agreement)?;
     }
     Ok(())

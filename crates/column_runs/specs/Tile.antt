@@ -17,6 +17,14 @@ with_differences factors differences first c =
 abbrev pub given : List ℕ → List (List ℕ) → List ℕ → ℕ → ℕ
 given first differences factors c = with_differences factors differences (slice_index first c) c
 
+-- byte c of a row is the one that is given there
+abbrev pub Fits : List ℕ → List (List ℕ) → List ℕ → List ℕ → ℕ → Type 0
+Fits first differences factors row c = slice_index row c ≡ given first differences factors c
+
+-- where n is before the end of the first row, byte n of a row is another
+abbrev pub Differs : List ℕ → List (List ℕ) → List ℕ → List ℕ → ℕ → Type 0
+Differs first differences factors row n = n < length first → ¬ Fits first differences factors row n
+
 -- the first n bytes of a row are those
 abbrev pub AreGiven : List ℕ → List (List ℕ) → List ℕ → List ℕ → ℕ → Type 0
 AreGiven first differences factors row n =

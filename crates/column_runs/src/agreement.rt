@@ -3,7 +3,7 @@
 ghost use Rattle.std.specs.Prelude.{◌≡◌, ◌≢◌, ℕ, ◌+◌, ◌<◌, ◌≤◌, length, slice_index, true, All};
 ghost use Rattle.std.specs.Simd.Lanes.{chunk};
 ghost use Rattle.column_runs.specs.Blocks.{IsBlock};
-ghost use Rattle.column_runs.specs.Tile.{given, AreGiven};
+ghost use Rattle.column_runs.specs.Tile.{AreGiven, Differs, Fits};
 
 use crate::halves::HalvedRow;
 use crate::sums::{BLOCK, block_at, byte_at, bytes_at};
@@ -24,8 +24,7 @@ pub(crate) fn agreed_length(
     requires room { All (λ d. length first.now ≤ length d) differences.now }
     ensures within { result ≤ length first.now }
     ensures same { AreGiven first.now differences.now factors.now row.now result }
-    ensures differ { result < length first.now
-        → slice_index row.now result ≢ given first.now differences.now factors.now result }
+    ensures differ { Differs first.now differences.now factors.now row.now result }
 {
     if row.len() < 16 {
         return agreed_bytes(first, differences, factors, row);
@@ -53,8 +52,7 @@ fn agreed_bytes(first: &[u8], differences: &[HalvedRow], factors: &[Products], r
     requires room { All (λ d. length first.now ≤ length d) differences.now }
     ensures within { result ≤ length first.now }
     ensures same { AreGiven first.now differences.now factors.now row.now result }
-    ensures differ { result < length first.now
-        → slice_index row.now result ≢ given first.now differences.now factors.now result }
+    ensures differ { Differs first.now differences.now factors.now row.now result }
 {
     for c in 0..row.len() {
         if row[c] != byte_at(first, differences, factors, c) {
@@ -133,9 +131,9 @@ fn agreed_lanes(
     requires within { at + 16 ≤ length first.now }
     ensures within { result ≤ 16 }
     ensures same { (c : ℕ) → c < result
-        → slice_index row.now (at + c) ≡ given first.now differences.now factors.now (at + c) }
+        → Fits first.now differences.now factors.now row.now (at + c) }
     ensures differ { result < 16
-        → slice_index row.now (at + result) ≢ given first.now differences.now factors.now (at + result) }
+        → ¬ Fits first.now differences.now factors.now row.now (at + result) }
 {
     let sums = bytes_at::<16>(first, differences, factors, at);
     if are_lanes::<16>(row, at, sums) {

@@ -70,7 +70,7 @@ impl HalvedRow {
         requires room { length first.now ≤ length self.old }
         ensures size { length self.new ≡ length self.old }
         ensures each { (c : ℕ) → c < length first.now
-            → slice_index self.new c ≡ slice_index row.now c ⊕ slice_index first.now c }
+            → slice_index self.new c ≡ difference row.now first.now c }
     {
         part_difference(row, first, &mut self.low, &mut self.high);
     }

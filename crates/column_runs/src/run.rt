@@ -1,7 +1,7 @@
 //! Runs of columns whose points lie on one polynomial each.
 
 ghost use Rattle.std.specs.Prelude.{◌≡◌, ◌≢◌, ◌+◌, ◌^◌, ◌<◌, ◌≤◌, length, All, AllPairs, IfOk, MatchResult};
-ghost use Rattle.column_runs.specs.Factors.{place_count, AreOfOneSize};
+ghost use Rattle.column_runs.specs.Factors.{place_count, AreOfOneSize, IsTileBy};
 ghost use Rattle.column_runs.specs.Rows.{lists_of, rows_of};
 ghost use Rattle.column_runs.specs.Run.{IsRun};
 ghost use Rattle.column_runs.specs.Tile.{IsTile};
@@ -106,8 +106,7 @@ fn decode_tiles(
     requires count { length differences.old ≡ length factors.now.zero.items }
     requires some { 0 < width }
     requires room { All (λ d. width ≤ length d) differences.old }
-    ensures { IsTile (rows_of rows.now) from (lists_of factors.now.others.items)
-        factors.now.zero.items out.new result }
+    ensures { IsTileBy (rows_of rows.now) from factors.now out.new result }
 {
     let mut done = 0;
     'tiles: while done < out.len() {

@@ -1,7 +1,7 @@
 //! Columns of several rows at once, in tiles that a near cache holds.
 
 ghost use Rattle.std.specs.Prelude.{◌≡◌, ◌+◌, ◌<◌, ◌≤◌, ℕ, length, All};
-ghost use Rattle.column_runs.specs.Factors.{place_count, AreOfOneSize};
+ghost use Rattle.column_runs.specs.Factors.{place_count, AreOfOneSize, IsTileBy};
 ghost use Rattle.column_runs.specs.Rows.{lists_of, rows_of};
 ghost use Rattle.column_runs.specs.Tile.{tile, Agree, AreAsLong, AreDifferences, IsTile};
 
@@ -28,8 +28,7 @@ pub(crate) fn decode_tile(
     requires count { length differences.old ≡ length factors.now.zero.items }
     requires room { All (λ d. length out.old ≤ length d) differences.old }
     ensures sizes { AreAsLong differences.new differences.old }
-    ensures tile { IsTile (rows_of rows.now) from (lists_of factors.now.others.items)
-        factors.now.zero.items out.new result }
+    ensures tile { IsTileBy (rows_of rows.now) from factors.now out.new result }
 {
     let first = &row_from(rows, 0, from)[..out.len()];
     subtract(rows, from, first, differences);

@@ -1,6 +1,6 @@
 //! The servers of a workload, in memory.
 
-ghost use Rattle.std.specs.Prelude.{◌≡◌, ◌+◌, ◌*◌, ◌≤◌, [], ◌∷◌, ◌++◌, length, take, drop, vec_len, IfOk};
+ghost use Rattle.std.specs.Prelude.{◌≡◌, ◌+◌, ◌*◌, ◌≤◌, [], ◌∷◌, ◌++◌, length, take, drop, vec_len, IfOk, OnOk};
 ghost use Rattle.std.specs.List.{range_with_len};
 ghost use Rattle.drawn_workload.specs.Servers.{HasAnswered, IsRoomFor, answers_in, payloads_len, servers_of};
 ghost use Rattle.drawn_workload.specs.Workload.{all_answers, honest_payload, payload};
@@ -177,8 +177,8 @@ fn no_answers(alloc: Global, load: Workload) -> Result<ServerAnswers, AllocError
 
 /// Puts a server's answer behind those of the servers before it.
 fn append_answer(answers: &mut ServerAnswers, index: u8, payload: &[u8]) -> Result<(), AllocError>
-    ensures indices { IfOk result (λ _. answers.new.indices.items ≡ answers.old.indices.items ++ index ∷ []) }
-    ensures payloads { IfOk result (λ _. answers.new.payloads.items ≡ answers.old.payloads.items ++ payload.now) }
+    ensures indices { OnOk result (answers.new.indices.items ≡ answers.old.indices.items ++ index ∷ []) }
+    ensures payloads { OnOk result (answers.new.payloads.items ≡ answers.old.payloads.items ++ payload.now) }
 {
     answers.indices.push(index)?;
     answers.payloads.extend_from_slice(payload)

@@ -2,7 +2,7 @@
 //! they have at one power of x stand together in a row, one in each lane, and then those at the next power. There may be
 //! more lanes than polynomials.
 
-ghost use Rattle.std.specs.Prelude.{ℕ, ◌≡◌, ◌≢◌, ◌+◌, ◌-◌, ◌*◌, ◌<◌, ◌≤◌, length, slice_index, IfOk};
+ghost use Rattle.std.specs.Prelude.{ℕ, ◌≡◌, ◌≢◌, ◌+◌, ◌-◌, ◌*◌, ◌<◌, ◌≤◌, length, slice_index, IfOk, OnOk};
 ghost use Rattle.std.specs.Simd.Lanes.{chunk};
 ghost use Rattle.gf256.specs.Field.{◌⊕◌};
 ghost use Rattle.gs_interpolate.specs.Family.{bytes_of, AreCoefficients, AreMultiplesAdded, IsCellStep, IsFamilyStep, IsRowStep, AreVectors, FillsVectors, IsReach, StaysWhole};
@@ -282,8 +282,7 @@ pub(crate) fn step_rows(
     requires small { reach * length factors.now < usize.MAX }
     requires weight { t ≤ MOST_DEGREE }
     requires places { length rows.old ≤ MOST_PLACES }
-    ensures { IfOk result (λ _.
-        IsFamilyStep factors.now p t reach (bytes_of rows.new) (bytes_of rows.old)) }
+    ensures { OnOk result (IsFamilyStep factors.now p t reach (bytes_of rows.new) (bytes_of rows.old)) }
 {
     for j in 0..rows.len() {
         let count = reach.saturating_sub(t as u64 * j as u64) as usize;

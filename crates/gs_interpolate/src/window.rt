@@ -126,7 +126,7 @@ impl Window {
     pub(crate) fn values(&self, u: usize, v: usize) -> &[u8]
         requires { u + v < self.now.m }
         ensures length { length result.now ≡ self.now.lanes }
-        ensures values { (g : ℕ) → g < self.now.lanes → slice_index result.now g ≡ derivative self.now u v g }
+        ensures each { (g : ℕ) → g < self.now.lanes → slice_index result.now g ≡ derivative self.now u v g }
     {
         let size = self.m * self.lanes;
         let row = &self.cells[v * size..v * size + size];

@@ -21,7 +21,7 @@ returns-in_default-clause-imposed c = record {
   alike = refl;
   values = c.values-values.result.now;
   are = values-of_window c.args.self.now c.args.window.now c.args.u c.args.v c.values-values.result.now c.requires.basis c.requires.order
-      c.values-values.ensures.values c.requires.derivatives;
+      c.values-values.ensures.each c.requires.derivatives;
   step = inl (c.in_default.ensures, refl);
 }
 
@@ -55,7 +55,7 @@ returns-clause-imposed c =
     record {
       alike = taken.alike;
       values = values;
-      are = values-of_window s w c.args.u c.args.v values c.requires.basis c.requires.order c.values-values.ensures.values c.requires.derivatives;
+      are = values-of_window s w c.args.u c.args.v values c.requires.basis c.requires.order c.values-values.ensures.each c.requires.derivatives;
       step = inr (
         p,
         pivot,
