@@ -209,8 +209,9 @@ fn is_found(alloc: Global, case: Case, state: &mut u32) -> Result<bool, AllocErr
 /// Numbers of rows, and degrees.
 const SHAPES: [(u8, u32); 5] = [(3, 1), (4, 2), (7, 1), (9, 5), (20, 3)];
 
-/// Numbers of columns: about one vector of 16, and one column more than a tile.
-const WIDTHS: [usize; 6] = [0, 1, 15, 16, 17, 1025];
+/// Numbers of columns: about one vector of 16; a block, a vector of 32, one of 16 and one column more; and one column more
+/// than two tiles.
+const WIDTHS: [usize; 7] = [0, 1, 15, 16, 17, 177, 513];
 
 /// The columns that can be wrong: none, the first, one in the middle and the last.
 fn wrong_columns(width: usize) -> [Option<usize>; 4] {
