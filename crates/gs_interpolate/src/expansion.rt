@@ -13,7 +13,7 @@ ghost use Rattle.gs_interpolate.specs.Family.{lane};
 ghost use Rattle.gs_interpolate.specs.Expansion.{AreExpanded, AreFolded, AreHalvesAdded, AreRaised, IsPieceAdded};
 
 use crate::basis::MOST_LANES;
-use gf256::rows::{Products, add_scaled_row, clear};
+use gf256::rows::{Products, add_row, add_scaled_row, clear};
 use gf256::vectors::{LANES, LookUp, Vectors};
 use std::simd::prelude::*;
 
@@ -114,6 +114,10 @@ pub(crate) fn add_values(sums: &mut [u8], values: &[u8], j: usize, terms: usize,
     requires few { j ≤ MOST_LANES }
     ensures { IsPieceAdded (power a (j - j % terms)) (j % terms) values.now sums.new sums.old }
 {
+    if j < terms {
+        let start = j * values.len();
+        return add_row(&mut sums[start..start + values.len()], values);
+    }
     let at = j % terms;
     let start = at * values.len();
     let factor = gf256::pow(a, (j - at) as u32);
@@ -178,15 +182,23 @@ fn terms_used(len: usize, lanes: usize, terms: usize) -> usize
 }
 
 /// Makes `made` the first `terms` coefficients about a of each of the polynomials in one row. Those of a short row have no
-/// more about a than it has.
-pub(crate) fn expand_row(made: &mut [u8], row: &[u8], lanes: usize, terms: usize, a: u8)
+/// more about a than it has. `whole` has the products with `a^terms`.
+pub(crate) fn expand_row(
+    made: &mut [u8],
+    row: &[u8],
+    lanes: usize,
+    terms: usize,
+    a: u8,
+    whole: &Products,
+)
+    requires factor { whole.now ≡ power a terms }
     requires some { 1 ≤ lanes }
     requires power { IsPowerOfTwo terms }
     requires few { terms ≤ MOST_TERMS }
     requires size { length made.old ≡ terms * lanes }
     ensures { AreExpanded lanes terms a made.new (λ g. lane lanes g row.now) }
 {
-    fold(made, row, &Products::of(gf256::pow(a, terms as u32)));
+    fold(made, row, whole);
     let used = terms_used(row.len(), lanes, terms);
     expand(&mut made[..used * lanes], lanes, used, a);
 }

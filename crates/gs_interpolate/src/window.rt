@@ -7,6 +7,7 @@ ghost use Rattle.gs_interpolate.specs.Window.{derivative, with_cells, IsForLanes
 use crate::basis::MOST_LANES;
 use crate::expansion::{add_values, expand, expand_row};
 use crate::family::{Tables, step_row};
+use gf256::rows::Products;
 use interpolation::MOST_MULTIPLICITY;
 use std::alloc::{AllocError, Global};
 use std::marker::Model;
@@ -92,8 +93,9 @@ impl Window {
         let mut first = self.first;
         first.clear();
         first.resize(terms * lanes, 0)?;
+        let whole = Products::of(gf256::pow(a, terms as u32));
         for j in 0..rows.len() {
-            expand_row(&mut first, &rows[j], lanes, terms, a);
+            expand_row(&mut first, &rows[j], lanes, terms, a, &whole);
             add_values(&mut cells, &first[..size], j, terms, b);
         }
         expand(&mut cells, size, terms, b);
