@@ -4,7 +4,8 @@
 # usage: bench/decide.sh [ROUNDS [FOLDER]]
 set -eu
 top=$(cd "$(dirname "$0")/.." && pwd)
-rounds=${1:-200}
+# About as long as the C++ program gets for a case.
+rounds=${1:-2000}
 peers=${2:-$top/../shared/peers}
 width=65536
 # shellcheck source=bench/program.sh
