@@ -11,6 +11,8 @@ mod interpolants;
 #[cfg(test)]
 mod lists;
 #[cfg(test)]
+mod plain_runs;
+#[cfg(test)]
 mod plans;
 #[cfg(test)]
 mod polynomials;

@@ -2,8 +2,8 @@
 ghost use Rattle.std.specs.Prelude.{◌≡◌, ◌≢◌, ◌+◌, ◌<◌, ◌≤◌, length, map, All, AllPairs, IsTrue};
 
 use crate::lists::{ascends, listed_by_koetter, next};
+use crate::plain_runs::plain_run;
 use column_lists::{Columns, decode_run};
-use column_runs::plain::plain_run;
 use std::alloc::{AllocError, Global};
 use std::marker::Brand;
 use std::sync::ledger::{Blank, Ledger};

@@ -14,7 +14,6 @@ pub mod Weight
 pub mod OneBlock
 pub mod UsableAnswers
 pub mod Continues
-pub mod SomeVerdict
 pub mod Pairs
 pub mod Squares
 pub mod Johnson

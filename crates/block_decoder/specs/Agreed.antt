@@ -42,11 +42,6 @@ pub record Lists (blocks : List (List ℕ)) (answers : List Answer) (width t h :
   pub sizes : All (λ b. length b ≡ width) blocks
   pub exact : (block : List ℕ) → Contains blocks block ↔ Agreed answers width t h block
 
--- any two blocks that are agreed on are one
-abbrev pub HasOneBlock : List Answer → ℕ → ℕ → ℕ → Type 0
-HasOneBlock answers width t h = (one other : List ℕ) → Agreed answers width t h one
-    → Agreed answers width t h other → one ≡ other
-
 -- each payload has so many bytes
 abbrev pub Filled : ℕ → List Answer → Type 0
 Filled width answers = All (λ a. length a.payload ≡ width) answers

@@ -45,8 +45,3 @@ pub record IsReportOn (session : Transcript) (verdict : Verdict) (report : Optio
 -- a report has so many agreements at most
 abbrev pub ReportsNoMoreThan : ℕ → Option (List Agreement) → Type 0
 ReportsNoMoreThan most report = (agreements : List Agreement) → report ≡ Some agreements → length agreements ≤ most
-
--- any two reports beside this verdict on the session are one
-abbrev pub HasOneReport : Transcript → Verdict → Type 0
-HasOneReport session verdict = (one other : Option (List Agreement)) → IsReportOn session verdict one
-    → IsReportOn session verdict other → one ≡ other

@@ -71,16 +71,6 @@ least_coefficients t (Listed []) = 0
 least_coefficients t (Listed (block ∷ [])) = 0
 least_coefficients t (Listed (block ∷ other ∷ blocks)) = t + 1
 
--- some verdict is that on the session
-pub record HasVerdict (session : Transcript) : Type 0 where
-  pub verdict : Verdict
-  pub is : IsVerdict session verdict
-
--- any two verdicts on the session are one
-abbrev pub HasOneVerdict : Transcript → Type 0
-HasOneVerdict session =
-    (one other : Verdict) → IsVerdict session one → IsVerdict session other → one ≡ other
-
 -- the verdict lists one block, or none
 abbrev pub ListsAtMostOne : Verdict → Type 0
 ListsAtMostOne (TooFew k agree) = ⊥

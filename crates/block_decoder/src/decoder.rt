@@ -52,7 +52,7 @@ use uni_poly::steps::Steps;
 /// h + w answers or more are left and each polynomial misses w of them or more: along one way lists are made at numbers of
 /// answers that lie w apart, and of candidates with a to a + w - 1 answers any two have parted, so that they share at most
 /// `t`, and there are at most `bound(k, t, a)` (Johnson 1962). This count of lists is the decoder's own, and never more than
-/// [`bound`] times k - `h` + 1 ([`lists_are_few`](crate::laws::lists_are_few)).
+/// [`bound`] times k - `h` + 1 (`pir_tool::verdict_laws::lists_are_few`).
 ///
 /// `cols` rises by at least one for a listing, and by `s` where a block is listed. `nodes` rises by at least `t + 1` where
 /// several blocks are listed, since their answers part in a list. For the other verdicts neither rises. A listing has at most

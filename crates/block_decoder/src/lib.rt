@@ -5,7 +5,8 @@
 //! costly (Guruswami and Sudan 1999), which it never is where `2h > k + t`. In the XOR scheme (Chor, Goldreich,
 //! Kushilevitz and Sudan 1995) it lists the sum of all servers' payloads, or says that one is missing. That holds for any
 //! degree, at most [`MOST_SERVERS`](wire_frames::MOST_SERVERS) answers, and whatever the servers do. A session has exactly
-//! one verdict, which lists one block at most where `2h > k + t`, for k answers of which h agree with degree t ([`laws`]).
+//! one verdict, which lists one block at most where `2h > k + t`, for k answers of which h agree with degree t: these laws
+//! stand above, in `pir_tool::verdict_laws`.
 //! It never lists more than [`bound`] blocks. The columns that are decoded are counted, and so are the coefficients that
 //! are fixed in looking for the polynomials of a column (Roth and Ruckenstein 2000), also where memory ran out. There is
 //! one column, and for each further one no more than [`bound`] says; how many coefficients at most doesn't grow with the
@@ -23,7 +24,6 @@ mod combining;
 mod decoder;
 mod decoding;
 mod judging;
-pub mod laws;
 mod liars;
 mod listing;
 mod narrowing;

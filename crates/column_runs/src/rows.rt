@@ -5,7 +5,7 @@ ghost use Rattle.column_runs.specs.Rows.{rows_of};
 
 /// The bytes of the row at a place from a column on.
 #[inline(always)]
-pub(crate) fn row_from<'a>(rows: &[&'a [u8]], place: usize, column: usize) -> &'a [u8]
+pub fn row_from<'a>(rows: &[&'a [u8]], place: usize, column: usize) -> &'a [u8]
     requires place { place < length rows.now }
     requires within { column ≤ length (slice_index_or (rows_of rows.now) place []) }
     ensures { result.now ≡ drop column (slice_index_or (rows_of rows.now) place []) }

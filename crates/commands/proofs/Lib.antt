@@ -9,7 +9,6 @@ mod ServeHeadline
 mod UnusedBits
 pub mod HonestReplies
 mod HeldRow
-mod Plans
 mod Formless
 mod Ordered
 mod InTurn

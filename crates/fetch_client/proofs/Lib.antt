@@ -6,6 +6,6 @@ pub mod HonestBlock
 pub mod HonestFrames
 pub mod HonestXor
 pub mod HonestVerdicts
-mod HonestReport
+pub mod HonestReport
 mod Judged
 mod Counts

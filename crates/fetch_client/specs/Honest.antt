@@ -92,11 +92,6 @@ pub record HonestRecords (session : Transcript) (t : ℕ) (holding : Holding) (c
       ≤ count_by (λ i. is_frame (frame_held session.params t holding coins blocks i) (record_by session i))
       (range_with_len 1 (length session.records))
 
--- where enough records are such frames, enough answers are honest, whatever is held
-abbrev pub FramesAreUsable : Transcript → ℕ → ℕ → List ℕ → List ℕ → Type 0
-FramesAreUsable session t tau coins blocks = (matrix : List (List ℕ)) (share_coins : List ℕ)
-    → HonestRecords session t (held_as tau matrix share_coins) coins blocks → IsHonest session t (held_as tau matrix share_coins) coins blocks
-
 -- each of the session's n records is the frame of an honest server that holds the matrix
 pub record AllHonest (session : Transcript) (t : ℕ) (matrix : List (List ℕ)) (coins blocks : List ℕ) : Type 0 where
   pub matrix_is : IsMatrix matrix session.params.r session.params.s

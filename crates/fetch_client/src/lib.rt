@@ -12,7 +12,6 @@
 #![tactic(auto)]
 
 mod fetching;
-pub mod laws;
 
 pub use fetching::{fetch, fetch_report};
 pub use query_rounds::{FetchFault, FetchPlan, NUMBER_LEN};

@@ -1,3 +1,4 @@
+mod SomeVerdict
 mod SameFrames
 mod SameLookUps
 mod SameSearches

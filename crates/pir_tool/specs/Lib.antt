@@ -1,5 +1,7 @@
 pub mod Privacy
 pub mod SearchPrivacy
+pub mod Verdicts
+pub mod Frames
 pub use Rattle.commands.specs.Table
 pub use Rattle.commands.specs.Told
 pub use Rattle.commands.specs.Said

@@ -1,5 +1,0 @@
-use Rattle.block_decoder.proofs.OneVerdict.{one_verdict as no_other}
-use Rattle.block_decoder.proofs.laws.one_verdict.Goals as goal
-
-pub returns : goal.returns
-returns c = λ one other p q. no_other c.args.session.now one other c.params.ensures.range p q
