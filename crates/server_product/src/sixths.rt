@@ -33,8 +33,8 @@ pub fn add_in_sixths(matrix: &Matrix, q: &[u8], from: u32, to: u32, sums: &mut [
     }
 }
 
-/// The same as `add_sixths`, with the products of all factors ready: of narrow rows making those of
-/// six factors takes as long as adding the rows.
+/// The same as `add_sixths`, with the products of all factors ready: where rows are narrow, making
+/// those of six factors takes a good part of the time.
 ///
 /// It is never inlined: else each worker's stack would have room for the tables, also for few rows.
 #[inline(never)]
