@@ -13,7 +13,7 @@ use Rattle.gs_interpolate.specs.Window.{Derivatives, condition_at, derivative, w
 use Rattle.gs_interpolate.specs.Basis.{Polynomials, with_rows, polynomial, weight, factor, raised_at, reach, AreValues, IsBasis, IsLight, IsLightWindow, IsRaised, IsStep, IsWithMultiple}
 use Rattle.gs_interpolate.proofs.Combinations.{hasse-multiple, hasse-raised_first, hasse-raised_later}
 use Rattle.gs_interpolate.proofs.Places.{cell-member}
-use Rattle.gs_interpolate.proofs.Steps.{row-pivot, row-others, row-rest}
+use Rattle.gs_interpolate.proofs.RowSteps.{row-pivot, row-others, row-rest}
 
 -- past the last row there is no coefficient
 past-cell : (n : ℕ) (rows : List (List ℕ)) (g j i : ℕ) → 1 ≤ n → length rows ≤ j → cell (member n rows g) j i ≡ 0

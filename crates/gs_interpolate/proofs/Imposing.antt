@@ -1,7 +1,6 @@
 -- What imposing a condition keeps, and what it gains.
-use Rattle.std.proofs.Common.{◌≡◌, ◌≢◌, ℕ, zero, suc, ◌+◌, ◌<◌, ◌≤◌, List, length, get_or, sum, refl, sym, ap, ap₂, ◌∙◌, subst, arith, inl, inr, length-set, get_or-set_same, get_or-set_other}
+use Rattle.std.proofs.Common.{◌≡◌, ◌≢◌, ℕ, zero, suc, ◌+◌, ◌<◌, List, length, get_or, refl, sym, ap, ap₂, ◌∙◌, subst, arith, inl, inr, length-set, get_or-set_same, get_or-set_other}
 use Rattle.std.proofs.lemmas.Bool.{cases_eq}
-use Rattle.std.proofs.lemmas.List.Sums.{sum_by-set}
 use Rattle.gf256.specs.Field.{◌⊕◌, ◌⊗◌, inverse}
 use Rattle.gf256.proofs.Xor.{add_zero, add_self}
 use Rattle.gf256.proofs.FieldLaws.{mul_zero, zero_mul, mul_one, mul_assoc, mul_comm}
@@ -171,13 +170,6 @@ module _ (s : Polynomials) (made : List (List ℕ)) (raised : List ℕ) (c : Con
             ∙ ap (◌⊕◌ (value j)) (sym is) ∙ add_self (value j)
       ]
 
-  -- one exponent rises by one
-  pub step-rise : sum raised ≤ sum s.exponents + 1
-  step-rise =
-      let e = ap sum step.exponents in
-      let one = sum_by-set (λ (x : ℕ). x) s.exponents p (get_or s.exponents p 0 + 1) 0 pivot-exponent in
-      omega (arith, e, one)
-
 -- nothing is done, or a step
 module _ {s new : Polynomials} {c : Condition} (basis : IsBasis s) (is : IsImposed s new c) where
   -- which of these it is, with the new polynomials written out
@@ -222,12 +214,4 @@ module _ {s new : Polynomials} {c : Condition} (basis : IsBasis s) (is : IsImpos
         | inr some ↦
             subst (λ g. IsLight g j → hasse (polynomial g j) c.u c.v c.a c.b ≡ 0) (sym is.alike)
             (step-gained s new.rows new.exponents c is.values some.0 basis is.are some.1 some.2 g j l) light
-      ]
-
-  -- the exponents rise by at most one together
-  pub imposed-rise : sum new.exponents ≤ sum s.exponents + 1
-  imposed-rise =
-      elim which [
-        | inl none ↦ let e = ap (λ g. sum g.exponents) none.1 in omega (arith, e)
-        | inr some ↦ step-rise s new.rows new.exponents c is.values some.0 basis is.are some.1 some.2
       ]

@@ -6,10 +6,12 @@ pub mod Leading
 pub mod Combinations
 pub mod Imposing
 pub mod Places
-pub mod Steps
+pub mod RowSteps
 pub mod Expansions
 pub mod Windows
 pub mod FamilySteps
+pub mod Taking
 pub mod Passing
+pub mod Keeping
 pub mod Lightest
 pub mod Pushed

@@ -5,7 +5,7 @@ use Rattle.std.proofs.lemmas.Bool.{cases_lt, cases_eq}
 use Rattle.interpolation.specs.Monomials.{conditions}
 use Rattle.gs_interpolate.specs.Basis.{Polynomials, with_rows, HaveZero, IsBasis, IsImposed, IsPassing}
 use Rattle.gs_interpolate.specs.declared.condition.Condition.{Condition}
-use Rattle.gs_interpolate.proofs.Imposing.{Vanish, imposed-size, imposed-basis, imposed-kept, imposed-gained, imposed-rise}
+use Rattle.gs_interpolate.proofs.Imposing.{Vanish, imposed-size, imposed-basis, imposed-kept, imposed-gained}
 
 -- how many orders (u, v) with u + v < m have their v below n
 unfoldable pub orders : ℕ → ℕ → ℕ
@@ -71,6 +71,14 @@ conditions-more i k m l =
     let more : (i + 1) * orders m m ≤ k * orders m m = mul-le-mul_right (orders m m) (omega arith) in
     omega (arith, e, f, g, more)
 
+-- before the last of the orders of a zero there are fewer than its conditions
+pub orders-left : (m u v : ℕ) → u + v < m → orders m v + u < conditions 1 m
+orders-left m u v l =
+    let next = orders-next m v (v + 1) refl in
+    let grows = orders_le m (v + 1) m (omega (arith, l)) in
+    let all = conditions-one m in
+    omega (arith, next, grows, all, l)
+
 -- What the polynomials s became under the conditions that come before c at its point: first those of the rows of a zero of
 -- multiplicity m before its row, and then those of its row before it.
 pub record IsUnder (s made : Polynomials) (c : Condition) (m : ℕ) : Type 0 where
@@ -79,7 +87,6 @@ pub record IsUnder (s made : Polynomials) (c : Condition) (m : ℕ) : Type 0 whe
   pub basis : IsBasis made
   pub zeros : (i w : ℕ) → i + w < m → (w < c.v) ⊎ ((w ≡ c.v) × (i < c.u)) → Vanish made i w c.a c.b
   pub kept : (x y k : ℕ) → HaveZero s x y k → HaveZero made x y k
-  pub rise : sum made.exponents ≤ sum s.exponents + (orders m c.v + c.u)
 
 -- none yet
 pub under-none : (s : Polynomials) (c : Condition) (m : ℕ) → c.u ≡ 0 → c.v ≡ 0 → IsBasis s → IsUnder s s c m
@@ -89,18 +96,7 @@ under-none s c m first row basis = record {
   basis = basis;
   zeros = λ i w l o. absurd (elim o [ inl x ↦ omega (arith, row, x) | inr x ↦ omega (arith, first, x.1) ]);
   kept = λ x y k z. z;
-  rise = omega arith;
 }
-
--- the exponents stay small
-pub under-room : (s made : Polynomials) (c : Condition) (m most : ℕ) → IsUnder s made c m → c.u + c.v < m
-    → sum s.exponents + conditions 1 m < most → sum made.exponents < most
-under-room s made c m most h l room =
-    let rise = h.rise in
-    let next = orders-next m c.v (c.v + 1) refl in
-    let grows = orders_le m (c.v + 1) m (omega (arith, l)) in
-    let all = conditions-one m in
-    omega (arith, rise, next, grows, all, room, l)
 
 -- one more
 module _ {s mid made : Polynomials} {c : Condition} {m : ℕ} (h : IsUnder s mid c m) (l : c.u + c.v < m) (is : IsImposed mid made c) where
@@ -140,7 +136,6 @@ module _ {s mid made : Polynomials} {c : Condition} {m : ℕ} (h : IsUnder s mid
         (λ g q still. h.kept x y k z g q still i w order)
         (λ o e g q still. h.kept x y k z g q still o w (omega (arith, e, order)))
         j inside light;
-    rise = let r = imposed-rise h.basis is in let before = h.rise in omega (arith, r, before);
   }
 
 -- all of one row
@@ -159,17 +154,16 @@ under-row s made c m h e = record {
             inr (same, omega (arith, same, e, k))
       ]);
   kept = h.kept;
-  rise = let s = h.rise in let next = orders-next m c.v (c.v + 1) refl in omega (arith, s, next, e);
 }
 
--- all
+-- all, where the exponents rose by no more than one for each
 pub under-all : (s made : Polynomials) (c : Condition) (m : ℕ) → IsUnder s made c m → c.u ≡ 0 → c.v ≡ m
-    → IsPassing s made c.a c.b m
-under-all s made c m h none e = record {
+    → sum made.exponents ≤ sum s.exponents + (orders m c.v + c.u) → IsPassing s made c.a c.b m
+under-all s made c m h none e rise = record {
   alike = h.alike;
   size = h.size;
   basis = h.basis;
   zeros = λ j inside light i w k. h.zeros i w k (inl (omega (arith, e, k))) j inside light;
   kept = h.kept;
-  rise = let s = h.rise in let all = conditions-one m in let same = ap (orders m) e in omega (arith, s, all, same, none);
+  rise = let all = conditions-one m in let same = ap (orders m) e in omega (arith, rise, all, same, none);
 }

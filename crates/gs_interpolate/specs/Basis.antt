@@ -1,10 +1,11 @@
 -- The polynomials of Koetter's iteration (Koetter 1996): their leading monomials in the weighted order, and what the
 -- iteration does to them. They stand side by side, each in a lane.
-use Rattle.std.specs.Prelude.{◌≡◌, ◌≢◌, ◌⊎◌, ℕ, suc, ◌+◌, ◌*◌, ◌<◌, ◌≤◌, List, length, min, sum, slice_index, slice_set}
+use Rattle.std.specs.Prelude.{◌≡◌, ◌≢◌, ◌⊎◌, Bool, ℕ, suc, ◌+◌, ◌*◌, ◌<◌, ◌≤◌, List, length, min, sum, slice_index, slice_set}
 use Rattle.gf256.specs.Field.{◌⊕◌, ◌⊗◌, inverse}
 use Rattle.bi_poly.specs.Rows.{row, cell, AreBytes}
 use Rattle.bi_poly.specs.Hasse.{hasse, HasZero}
-use Rattle.gs_interpolate.specs.Family.{member, AreWhole, IsFamilyStep}
+use Rattle.gs_interpolate.specs.Family.{member, AreWhole}
+use Rattle.gs_interpolate.specs.Steps.{KeptStep, HaveTakenAll, TakeIf}
 use Rattle.gs_interpolate.specs.Window.{Derivatives, derivative}
 use Rattle.gs_interpolate.specs.declared.condition.Condition.{Condition}
 use Rattle.gs_interpolate.specs.declared.basis.TheConstants.{MOST_PLACES, MOST_LANES}
@@ -141,11 +142,18 @@ reach s p = min (weight s p + 1) s.d + 1
 abbrev pub raised_at : List ℕ → ℕ → List ℕ
 raised_at exponents p = slice_set exponents p (slice_index exponents p + 1)
 
--- the rows took a step with the pivot p, whose exponent rises by one
-pub record IsStepInRows (factors : List ℕ) (p : ℕ) (s made : Polynomials) : Type 0 where
-  pub alike : made ≡ with_rows s made.rows made.exponents
-  pub exponents : made.exponents ≡ raised_at s.exponents p
-  pub rows : IsFamilyStep factors p s.t (reach s p) made.rows s.rows
+-- the step takes the values away with the pivot p, at weights below some reach. The pivot's own factor is 1
+pub record IsAimed (values : List ℕ) (p below : ℕ) (step : KeptStep) : Type 0 where
+  pub size : length step.factors ≡ length values
+  pub place : step.p ≡ p
+  pub reach : step.reach ≡ below
+  pub own : slice_index step.factors p ≡ 1
+  pub others : (j : ℕ) → j ≢ p → slice_index step.factors j ≡ factor values p j
+
+-- each row took all the steps, and nothing else changed
+pub record TakesSteps (steps : List KeptStep) (s made : Polynomials) : Type 0 where
+  pub alike : made ≡ with_rows s made.rows s.exponents
+  pub rows : HaveTakenAll steps s.t made.rows s.rows
 
 -- a step with the pivot p: multiples of it take the values of the other light ones away, and it is multiplied by x - a
 -- itself, if it is light then
@@ -168,6 +176,24 @@ pub record IsImposed (s made : Polynomials) (c : Condition) : Type 0 where
   pub values : List ℕ
   pub are : AreValues s c values
   pub step : IsStepOrNone s made values c.a
+
+-- as many rows, with which the polynomials are a basis, whose derivatives the window has from row v on
+pub record FitWindow (s : Polynomials) (w : Derivatives) (v : ℕ) (rows : List (List ℕ)) : Type 0 where
+  pub size : length rows ≡ length s.rows
+  pub basis : IsBasis (with_rows s rows s.exponents)
+  pub window : IsLightWindow (with_rows s rows s.exponents) w v
+
+-- the condition is imposed on the polynomials, and the window has their derivatives
+pub record IsImposedBeside (s made : Polynomials) (w : Derivatives) (c : Condition) : Type 0 where
+  pub imposed : IsImposed s made c
+  pub window : IsLightWindow made w c.v
+
+-- with the new exponents and the new window the condition is imposed on whatever rows fit what they were before: on those that
+-- took the step, if there is one
+abbrev pub Imposes : Bool → KeptStep → Condition → Polynomials × Derivatives → Polynomials × Derivatives → Type 0
+Imposes taken step c before now = (rows made : List (List ℕ))
+    → FitWindow before.0 before.1 c.v rows → TakeIf taken step before.0.t made rows
+    → IsImposedBeside (with_rows before.0 rows before.0.exponents) (with_rows before.0 made now.0.exponents) now.1 c
 
 -- each light polynomial has a zero of multiplicity m or more at (x, y)
 abbrev pub HaveZero : Polynomials → ℕ → ℕ → ℕ → Type 0

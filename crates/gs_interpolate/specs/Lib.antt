@@ -1,7 +1,7 @@
 pub mod Conditions
 pub mod Layout
-pub mod Tables
 pub mod Family
+pub mod Steps
 pub mod Expansion
 pub mod Window
 pub mod Basis

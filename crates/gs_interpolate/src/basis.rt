@@ -1,14 +1,16 @@
 //! The polynomials of Koetter's iteration.
 
-ghost use Rattle.std.specs.Prelude.{◌≡◌, ◌≢◌, ℕ, ◌+◌, ◌*◌, ◌<◌, ◌≤◌, length, sum, slice_index, IfOk, MatchOption};
+ghost use Rattle.std.specs.Prelude.{◌≡◌, ◌+◌, ◌*◌, ◌<◌, ◌≤◌, length, sum, IfOk, MatchOption};
 ghost use Rattle.interpolation.specs.Monomials.{conditions};
-ghost use Rattle.gs_interpolate.specs.Basis.{weight, factor, AreZero, AreZeroWhereLight, ArePowersOfY, IsBasis, IsFirstFailing, IsFirstNonzero, IsImposed, IsLeast, IsLightWindow, IsLightest, IsPassing, IsPivot, IsPowerRow, IsStepInRows};
+ghost use Rattle.gs_interpolate.specs.Basis.{raised_at, reach, weight, with_rows, AreZero, AreZeroWhereLight, ArePowersOfY, Imposes, IsBasis, IsFirstFailing, IsFirstNonzero, IsLeast, IsLightest, IsPassing, IsPivot, IsPowerRow, TakesSteps};
+ghost use Rattle.gs_interpolate.specs.Steps.{HaveLanes};
 ghost use Rattle.gs_interpolate.specs.Window.{condition_at, with_cells, IsForLanes};
 
-use crate::family::{Tables, coefficients, step_rows};
+use crate::family::coefficients;
+use crate::steps::{Step, take_steps};
 use crate::window::Window;
 use bi_poly::BiPoly;
-use gf256::rows::{add_scaled_row, clear};
+use gf256::tables::Tables;
 use interpolation::MOST_MULTIPLICITY;
 use quantity_limits::MOST_DEGREE;
 use std::alloc::{AllocError, Global};
@@ -76,17 +78,6 @@ fn first_nonzero(values: &[u8]) -> Option<usize>
     None
 }
 
-/// Makes of each of the `factors` that of the pivot's value which its value is.
-fn set_factors(factors: &mut [u8], values: &[u8], p: usize)
-    requires same { length values.now ≡ length factors.old }
-    requires inside { p < length values.now }
-    requires fails { slice_index values.now p ≢ 0 }
-    ensures { (j : ℕ) → slice_index factors.new j ≡ factor values.now p j }
-{
-    clear(factors);
-    add_scaled_row(factors, values, gf256::inv(values[p]));
-}
-
 impl Basis {
     /// The powers of y, as many as `n`, which is not 0.
     pub(crate) fn new(alloc: Global, n: usize, t: u32, d: u32) -> Result<Basis, AllocError>
@@ -139,7 +130,7 @@ impl Basis {
     /// is none exactly where the values of all light ones are 0: they come before those that are dropped, whose values may be
     /// anything.
     fn pivot(&self, values: &[u8]) -> Option<usize>
-        requires { length self.now.rows ≤ length values.now }
+        requires { length values.now ≡ self.now.lanes }
         ensures { MatchOption result (AreZeroWhereLight self.now values.now) (IsPivot self.now values.now) }
     {
         let first = self.first_failing(&values[..self.rows.len()])?;
@@ -149,87 +140,108 @@ impl Basis {
         Some(first)
     }
 
-    /// Takes a step with the pivot at place `p`. Where the pivot is dropped by it, it needs no coefficient that weighs more
-    /// than `d`, and light polynomials have none.
-    ///
-    /// `AllocError` where there is no memory for longer rows.
-    fn step(&mut self, factors: &[u8], p: usize, tables: &Tables) -> Result<(), AllocError>
-        requires room { sum self.old.exponents < MOST_EXPONENTS }
-        requires factors { length factors.now ≡ self.old.lanes }
-        requires inside { p < length self.old.rows }
-        ensures { IfOk result (λ _. IsStepInRows factors.now p self.old self.new) }
+    /// The weight from which on a step with the pivot at place `p` changes nothing. Where the pivot is dropped by it, it needs
+    /// no coefficient that weighs more than `d`, and light polynomials have none.
+    fn reach(&self, p: usize) -> u64
+        requires { p < length self.now.rows }
+        ensures reach { result ≡ reach self.now p }
+        ensures small { result ≤ MOST_WEIGHT }
     {
         let heaviest = self.weight(p) + 1;
-        let reach = heaviest.min(self.d as u64) + 1;
-        step_rows(&mut self.rows, factors, p, self.t, reach, tables)?;
-        self.exponents[p] += 1;
-        Ok(())
+        heaviest.min(self.d as u64) + 1
     }
 
-    /// Imposes the condition of order `(u, v)` at the point of the window. `factors` has room for one byte for each lane.
+    /// Makes the exponent at place `p` greater by one.
+    fn raise(&mut self, p: usize)
+        requires room { sum self.old.exponents < MOST_EXPONENTS }
+        requires inside { p < length self.old.rows }
+        ensures { self.new ≡ with_rows self.old self.old.rows (raised_at self.old.exponents p) }
+    {
+        self.exponents[p] += 1;
+    }
+
+    /// Imposes the condition of order `(u, v)` at the point of the window on the window and the exponents. Where it takes a step,
+    /// that is kept, and the rows have yet to take it.
     fn impose(
         &mut self,
         window: &mut Window,
-        factors: &mut [u8],
+        step: &mut Step,
         u: usize,
         v: usize,
         tables: &Tables,
-    ) -> Result<(), AllocError>
+    ) -> bool
         requires room { sum self.old.exponents < MOST_EXPONENTS }
-        requires basis { IsBasis self.old }
         requires order { u + v < window.old.m }
-        requires derivatives { IsLightWindow self.old window.old v }
-        requires factors { length factors.old ≡ self.old.lanes }
-        ensures imposed { IfOk result (λ _. IsImposed self.old self.new (condition_at window.old u v)) }
-        ensures window { IfOk result (λ _. window.new ≡ with_cells window.old window.new.cells) }
-        ensures derivatives { IfOk result (λ _. IsLightWindow self.new window.new v) }
+        requires window { window.old.lanes ≡ self.old.lanes }
+        requires step { length step.old.factors ≡ self.old.lanes }
+        ensures rows { self.new ≡ with_rows self.old self.old.rows self.new.exponents }
+        ensures rise { sum self.new.exponents ≤ sum self.old.exponents + 1 }
+        ensures cells { window.new ≡ with_cells window.old window.new.cells }
+        ensures lanes { length step.new.factors ≡ self.old.lanes }
+        ensures imposed { let c = condition_at window.old u v in
+            Imposes result step.new c (self.old, window.old) (self.new, window.new) }
     {
         let values = window.values(u, v);
         let Some(p) = self.pivot(values) else {
-            return Ok(());
+            return false;
         };
-        set_factors(factors, values, p);
-        factors[p] = 1;
-        window.step(factors, p, v, tables);
-        factors[p] = gf256::add(window.a(), 1);
-        self.step(factors, p, tables)?;
-        Ok(())
+        step.aim(values, p, self.reach(p));
+        window.step(step.factors(), p, v, tables);
+        step.shift(window.a());
+        self.raise(p);
+        true
+    }
+
+    /// Each row takes the steps, one row after the other.
+    ///
+    /// `AllocError` where there is no memory for longer rows.
+    fn take(&mut self, steps: &[Step], tables: &Tables) -> Result<(), AllocError>
+        ensures { IfOk result (λ _. TakesSteps steps.now self.old self.new) }
+    {
+        take_steps(steps, &mut self.rows, self.t, tables)
     }
 
     /// The number of lanes: that of the polynomials, or more, so that they are whole vectors.
     pub(crate) fn lanes(&self) -> usize
         ensures lanes { result ≡ self.now.lanes }
+        ensures some { 1 ≤ result }
         ensures few { result ≤ MOST_LANES }
     {
         self.lanes
     }
 
     /// Imposes the conditions of a zero at `(a, b)` of the multiplicity of the window: the derivatives of all polynomials at the
-    /// point are found once, and then those of the light ones follow the steps. `factors` has room for one byte for each
-    /// lane. Gives the window back, so that its room serves for the next point.
+    /// point are found once, and then those of the light ones follow the steps. The rows take the steps at the end, and there
+    /// is room for one for each condition. Gives the window back, so that its room serves for the next point.
     pub(crate) fn pass(
         &mut self,
         window: Window,
-        factors: &mut [u8],
+        steps: &mut [Step],
         a: u8,
         b: u8,
         tables: &Tables,
     ) -> Result<Window, AllocError>
         requires multiplicity { (1 ≤ window.m) × (window.m ≤ MOST_MULTIPLICITY) }
         requires lanes { window.lanes ≡ self.old.lanes }
-        requires factors { length factors.old ≡ self.old.lanes }
+        requires steps { HaveLanes self.old.lanes steps.old }
+        requires enough { conditions 1 window.m ≤ length steps.old }
         requires room { sum self.old.exponents + conditions 1 window.m < MOST_EXPONENTS }
         requires basis { IsBasis self.old }
         ensures passing { IfOk result (λ _. IsPassing self.old self.new a b window.m) }
         ensures window { IfOk result (IsForLanes self.old.lanes window.m) }
+        ensures steps { IfOk result (λ _. HaveLanes self.old.lanes steps.new) }
     {
         let m = window.m();
         let mut window = window.at(&self.rows, a, b)?;
+        let mut taken = 0;
         'rows: for v in 0..m {
             'orders: for u in 0..m - v {
-                self.impose(&mut window, factors, u, v, tables)?;
+                if self.impose(&mut window, &mut steps[taken], u, v, tables) {
+                    taken += 1;
+                }
             }
         }
+        self.take(&steps[..taken], tables)?;
         Ok(window)
     }
 

@@ -2,57 +2,19 @@
 //! they have at one power of x stand together in a row, one in each lane, and then those at the next power. There may be
 //! more lanes than polynomials.
 
-ghost use Rattle.std.specs.Prelude.{ℕ, ◌≡◌, ◌≢◌, ◌+◌, ◌-◌, ◌*◌, ◌<◌, ◌≤◌, length, slice_index, IfOk, OnOk};
+ghost use Rattle.std.specs.Prelude.{ℕ, ◌≡◌, ◌≢◌, ◌+◌, ◌-◌, ◌*◌, ◌<◌, ◌≤◌, length, slice_index, IfOk};
 ghost use Rattle.std.specs.Simd.Lanes.{chunk};
 ghost use Rattle.gf256.specs.Field.{◌⊕◌};
-ghost use Rattle.gs_interpolate.specs.Family.{bytes_of, AreCoefficients, AreMultiplesAdded, IsCellStep, IsFamilyStep, IsRowStep, AreVectors, FillsVectors, IsReach, StaysWhole};
+ghost use Rattle.gs_interpolate.specs.Family.{AreCoefficients, AreMultiplesAdded, IsCellStep, IsRowStep, AreVectors, FillsVectors, IsReach, StaysWhole};
 
-use crate::basis::MOST_PLACES;
-use gf256::rows::{Products, add_scaled_row};
+use gf256::rows::add_scaled_row;
+use gf256::tables::Tables;
 use gf256::vectors::LANES;
-use quantity_limits::MOST_DEGREE;
 use std::alloc::{AllocError, Global};
-use std::marker::Model;
 use std::simd::prelude::*;
 
 /// As many vectors of factors as are held at once. A list within the limit on costs has no more.
 pub(crate) const MOST_VECTORS: usize = 8;
-
-/// The products with every byte, made once. Contracts see the bytes.
-#[derive(Drop)]
-pub(crate) struct Tables {
-    all: Vec<Products>,
-}
-
-impl Model for Tables {
-    ghost use Rattle.std.specs.Prelude.{ℕ, List};
-    ghost use Rattle.gs_interpolate.specs.Tables.{AreAllBytes};
-
-    ghost Value = { List ℕ };
-
-    ghost view = { λ t. t.all.items };
-
-    ghost invariant = { λ t. AreAllBytes t.all.items };
-}
-
-impl Tables {
-    /// `AllocError` where there is no memory for them.
-    pub(crate) fn new(alloc: Global) -> Result<Tables, AllocError> {
-        let mut all = Vec::with_capacity(alloc, 256)?;
-        for factor in 0..256u16 {
-            all.push(Products::of(factor as u8))?;
-        }
-        Ok(Tables { all })
-    }
-
-    /// The products with `factor`.
-    #[inline(always)]
-    fn products(&self, factor: u8) -> &Products
-        ensures { result.now ≡ factor }
-    {
-        &self.all[factor as usize]
-    }
-}
 
 /// Adds `own` times the factors. Where it is 0, there is nothing to do.
 fn add_multiple(cell: &mut [u8], factors: &[u8], own: u8)
@@ -121,7 +83,7 @@ fn add_held_multiple<const VECTORS: usize>(
     ensures { AreMultiplesAdded factors.now own cell.new cell.old }
 {
     // Read once, and not again after each write.
-    let products = tables.products(own).copied();
+    let products = tables.products(own);
     for v in 0..VECTORS {
         let sum = u8x32::from_slice(&cell[v * LANES..]) ^ products.times(held[v]);
         sum.copy_to_slice(&mut cell[v * LANES..]);
@@ -247,7 +209,7 @@ fn step_reached(row: &mut [u8], factors: &[u8], p: usize, count: usize, tables: 
 /// Takes a step in one row, as `step_row` does. A row that has no place for so many coefficients is made longer, by zeros.
 ///
 /// `AllocError` where there is no memory for them.
-fn step_long_row(
+pub(crate) fn step_long_row(
     row: &mut Vec<u8>,
     factors: &[u8],
     p: usize,
@@ -263,31 +225,6 @@ fn step_long_row(
     let missing = room.saturating_sub(row.len());
     row.resize(row.len() + missing, 0)?;
     step_reached(row, factors, p, count, tables);
-    Ok(())
-}
-
-/// Takes a step in each row, at `x^i * y^j` with `i + t*j < reach`: past that the pivot must have no coefficient, and its
-/// product with `x - a` none either.
-///
-/// `AllocError` where there is no memory for a longer row. Some rows have taken the step then, and the others have not.
-pub(crate) fn step_rows(
-    rows: &mut [Vec<u8>],
-    factors: &[u8],
-    p: usize,
-    t: u32,
-    reach: u64,
-    tables: &Tables,
-) -> Result<(), AllocError>
-    requires inside { p < length factors.now }
-    requires small { reach * length factors.now < usize.MAX }
-    requires weight { t ≤ MOST_DEGREE }
-    requires places { length rows.old ≤ MOST_PLACES }
-    ensures { OnOk result (IsFamilyStep factors.now p t reach (bytes_of rows.new) (bytes_of rows.old)) }
-{
-    for j in 0..rows.len() {
-        let count = reach.saturating_sub(t as u64 * j as u64) as usize;
-        step_long_row(&mut rows[j], factors, p, count, tables)?;
-    }
     Ok(())
 }
 

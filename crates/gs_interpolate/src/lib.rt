@@ -15,6 +15,7 @@ mod expansion;
 mod family;
 mod koetter;
 mod layout;
+mod steps;
 mod window;
 
 pub use elimination::Elimination;

@@ -6,8 +6,9 @@ ghost use Rattle.gs_interpolate.specs.Window.{derivative, with_cells, IsForLanes
 
 use crate::basis::MOST_LANES;
 use crate::expansion::{add_values, expand, expand_row};
-use crate::family::{Tables, step_row};
+use crate::family::step_row;
 use gf256::rows::Products;
+use gf256::tables::Tables;
 use interpolation::MOST_MULTIPLICITY;
 use std::alloc::{AllocError, Global};
 use std::marker::Model;

@@ -2,7 +2,7 @@ use Rattle.std.proofs.Common.{◌≡◌, ◌<◌, ℕ, length, get_or, sym, ap, 
 use Rattle.std.proofs.lemmas.Result.{IfOk-from_err}
 use Rattle.std.proofs.lemmas.List.{length-replicate, length-set, get_or-set_same, get_or-set_other}
 use Rattle.bi_poly.proofs.Shift.{filled}
-use Rattle.gs_interpolate.proofs.Steps.{zeros}
+use Rattle.gs_interpolate.proofs.RowSteps.{zeros}
 use Rattle.gs_interpolate.proofs.basis.power_row.Goals as goal
 
 pub index_mut-requires : goal.index_mut-requires

@@ -23,7 +23,7 @@ loop-v-preserved g c =
     let enough = fills-enough g.row.VECTORS (length c.args.cell.now) c.requires.size in
     let room : at + LANES ≤ length acc = omega (arith, size, enough, c.loop-v-test.true) in
     let next : at + LANES ≡ (v + 1) * LANES = omega arith in
-    let factor = c.copied-products.ensures ∙ c.products.ensures in
+    let factor = c.products-products.ensures in
     let is = c.times.ensures ∙ ap (λ f. map (λ x. f ⊗ x) (row c.args.held.now v)) factor ∙ ap (map (λ x. f ⊗ x)) (c.requires.held v c.loop-v-test.true) in
     record {
       size = length-put_chunk at acc sum ∙ size;
@@ -46,7 +46,7 @@ returns-then-cell g c =
     let all : length cell ≡ at + 16 = fills-more n (length cell) c.requires.size (omega (arith, size, c.if-cell.true)) in
     let last : length factors - 16 ≡ at = omega (arith, same, all) in
     let done : c.loop-v.v ≡ n = omega (arith, c.loop-v.auto.v-end, c.loop-v-test.false) in
-    let factor = c.copied-products.ensures ∙ c.products.ensures in
+    let factor = c.products-products.ensures in
     let is = c.times-then-cell.ensures ∙ ap (λ f. map (λ x. f ⊗ x) c.args.last) factor ∙ ap (map (λ x. f ⊗ x)) (c.requires.last ∙ ap (λ k. chunk k 16 factors) last) in
     let added = subst (λ k. IsAdded acc cell (multiple factors f) 0 (k * LANES)) done c.loop-v.invariant.added in
     added-all (put_chunk at acc sum) cell (multiple factors f) (at + 16)

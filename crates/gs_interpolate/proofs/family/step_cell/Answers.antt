@@ -1,4 +1,4 @@
-use Rattle.gs_interpolate.proofs.Steps.{cell_step}
+use Rattle.gs_interpolate.proofs.RowSteps.{cell_step}
 use Rattle.gs_interpolate.proofs.family.step_cell.Goals as goal
 
 pub returns-clause-step : goal.returns-clause-step

@@ -2,7 +2,7 @@ use Rattle.std.proofs.Common.{◌≡◌, ◌*◌, ◌%◌, length, sym, ap, subs
 use Rattle.std.proofs.Math.Nat.{mul-mod_left}
 use Rattle.std.proofs.lemmas.Bool.{cases_lt}
 use Rattle.gs_interpolate.specs.Family.{IsRowStep}
-use Rattle.gs_interpolate.proofs.Steps.{row_step-longer, resized}
+use Rattle.gs_interpolate.proofs.RowSteps.{row_step-longer, resized}
 use Rattle.gs_interpolate.proofs.family.step_long_row.Goals as goal
 
 pub returns-clause-step : goal.returns-clause-step

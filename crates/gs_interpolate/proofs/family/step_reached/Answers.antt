@@ -1,5 +1,5 @@
 use Rattle.std.proofs.Common.{arith}
-use Rattle.gs_interpolate.proofs.Steps.{row_step-idle, row_step-all}
+use Rattle.gs_interpolate.proofs.RowSteps.{row_step-idle, row_step-all}
 use Rattle.gs_interpolate.proofs.family.step_reached.Goals as goal
 
 pub returns-then-powers-eq0 : goal.returns-then-powers-eq0

@@ -4,7 +4,7 @@ use borrow.Author.Count.{falls}
 use Rattle.gs_interpolate.specs.Family.{IsCellStep, IsRowStep}
 use Rattle.gf256.proofs.FlatRows.{row_within}
 use Rattle.gs_interpolate.proofs.Places.{length-part, length-power}
-use Rattle.gs_interpolate.proofs.Steps.{IsNextPower, row_step-none, row_step-next, carried_on}
+use Rattle.gs_interpolate.proofs.RowSteps.{IsNextPower, row_step-none, row_step-next, carried_on}
 use Rattle.gs_interpolate.proofs.family.step_row_of_any.Goals as goal
 
 pub loop-i-init : goal.loop-i-init

@@ -1,140 +1,79 @@
-use Rattle.std.proofs.Common.{◌≡◌, ℕ, ◌<◌, List, length, set, refl, sym, ap, subst, ◌∙◌, arith, inl, inr, length-set, get_or-set_same, get_or-set_other}
+use Rattle.std.proofs.Common.{◌≡◌, ◌≢◌, ℕ, ◌+◌, ◌<◌, ◌≤◌, List, length, get_or, set, sum, refl, sym, ap, subst, ◌∙◌, arith, inr, length-set, get_or-set_same, get_or-set_other}
+use Rattle.std.proofs.lemmas.List.Sums.{sum_by-set}
 use Rattle.gf256.specs.Field.{◌⊕◌}
 use Rattle.gf256.proofs.Xor.{add_assoc, add_self, add_zero}
-use Rattle.gs_interpolate.specs.Family.{multiplier}
-use Rattle.gs_interpolate.specs.Basis.{with_rows, IsLightWindow, IsStep}
+use Rattle.gs_interpolate.specs.Family.{multiplier, IsFamilyStep}
+use Rattle.gs_interpolate.specs.Window.{IsWindowStep}
+use Rattle.gs_interpolate.specs.Basis.{Polynomials, raised_at, with_rows, IsLightWindow, IsPivot}
 use Rattle.gs_interpolate.proofs.FamilySteps.{IsPivotStep, is_step, window-follows, values-of_window}
 use Rattle.gs_interpolate.proofs.basis.Basis.impose.Goals as goal
-use Rattle.gs_interpolate.proofs.basis.Basis.impose.Goals.{In-Some}
 
 -- with a + 1 as its own factor the pivot is multiplied by a
 own : (factors : List ℕ) (p a made : ℕ) → p < length factors → made ≡ a ⊕ 1 → multiplier (set factors p made) p ≡ a
 own factors p a made inside is =
     ap (λ x. x ⊕ 1) (get_or-set_same factors p made 0 inside ∙ is) ∙ add_assoc a 1 1 ∙ ap (◌⊕◌ a) (add_self 1) ∙ add_zero a
 
--- with 1 by 0
-none : (factors : List ℕ) (p : ℕ) → p < length factors → multiplier (set factors p 1) p ≡ 0
-none factors p inside = ap (λ x. x ⊕ 1) (get_or-set_same factors p 1 0 inside) ∙ add_self 1
+-- one exponent rises by one
+sum-raised : (exponents : List ℕ) (p : ℕ) → p < length exponents → sum (raised_at exponents p) ≤ sum exponents + 1
+sum-raised exponents p inside =
+    let one = sum_by-set (λ (x : ℕ). x) exponents p (get_or exponents p 0 + 1) 0 inside in
+    omega (arith, one)
 
-pub returns-in_default-clause-imposed : goal.returns-in_default-clause-imposed
-returns-in_default-clause-imposed c = record {
-  alike = refl;
-  values = c.values-values.result.now;
-  are = values-of_window c.args.self.now c.args.window.now c.args.u c.args.v c.values-values.result.now c.requires.basis c.requires.order
-      c.values-values.ensures.each c.requires.derivatives;
-  step = inl (c.in_default.ensures, refl);
-}
-
-pub returns-in_default-clause-window : goal.returns-in_default-clause-window
-returns-in_default-clause-window c = refl
-
-pub returns-in_default-clause-derivatives : goal.returns-in_default-clause-derivatives
-returns-in_default-clause-derivatives c = c.requires.derivatives
-
--- the pivot is one of the polynomials, and the factors have a place for it
-pub returns-clause-imposed : goal.returns-clause-imposed
-returns-clause-imposed c =
-    let s = c.args.self.now in
-    let w = c.args.window.now in
-    let values = c.values-values.result.now in
-    let taken = c.in_ok-step.ensures in
-    let p = c.in-Some.p in
-    let pivot = c.in-Some.ensures in
-    let found = c.set_factors.new.factors in
-    let shifting = set found p 1 in
-    let lanes = length-set shifting p c.add.result ∙ length-set found p 1 ∙ c.set_factors.auto.factors ∙ c.requires.factors in
-    let room : p < length shifting = omega (arith, pivot.first.inside, c.requires.basis.wide, length-set found p 1, c.set_factors.auto.factors, c.requires.factors) in
-    let step : IsPivotStep s c.step-2.new.self.rows (set shifting p c.add.result) p w.a = record {
-      basis = c.requires.basis;
-      inside = pivot.first.inside;
-      light = pivot.light;
-      lanes = lanes;
-      own = own shifting p w.a c.add.result room (c.add.ensures ∙ ap (λ x. x ⊕ 1) (c.a.ensures ∙ ap (λ w. w.a) c.step.ensures.window));
-      rows = taken.rows;
-    } in
+-- which is the pivot does not depend on the rows
+pivot-rows : (s : Polynomials) (rows : List (List ℕ)) (values : List ℕ) (p : ℕ) → length rows ≡ length s.rows → IsPivot s values p
+    → IsPivot (with_rows s rows s.exponents) values p
+pivot-rows s rows values p size pivot =
+    let first = pivot.first in
     record {
-      alike = taken.alike;
-      values = values;
-      are = values-of_window s w c.args.u c.args.v values c.requires.basis c.requires.order c.values-values.ensures.each c.requires.derivatives;
-      step = inr (
-        p,
-        pivot,
-        subst (λ g. IsStep s g values w.a p) (sym taken.alike)
-            (is_step step c.step-2.new.self.exponents values taken.exponents
-            (λ j l o. get_or-set_other shifting p j c.add.result 0 o ∙ get_or-set_other found p j 1 0 o ∙ c.set_factors.ensures j)),
-      );
+      light = pivot.light;
+      first = record {
+        inside = let inside = first.inside in omega (arith, size, inside);
+        fails = first.fails;
+        first = λ j l some other. first.first j (omega (arith, size, l)) some other;
+      };
     }
 
-pub returns-clause-window : goal.returns-clause-window
-returns-clause-window c = c.step.ensures.window
-
-pub returns-clause-derivatives : goal.returns-clause-derivatives
-returns-clause-derivatives c =
+pub returns-clause-imposed : goal.returns-clause-imposed
+returns-clause-imposed c = λ rows made fit taken.
     let s = c.args.self.now in
+    let before = with_rows s rows s.exponents in
     let w = c.args.window.now in
-    let taken = c.in_ok-step.ensures in
+    let v = c.args.v in
     let p = c.in-Some.p in
-    let pivot = c.in-Some.ensures in
-    let found = c.set_factors.new.factors in
-    let shifting = set found p 1 in
-    let lanes = length-set shifting p c.add.result ∙ length-set found p 1 ∙ c.set_factors.auto.factors ∙ c.requires.factors in
-    let room : p < length shifting = omega (arith, pivot.first.inside, c.requires.basis.wide, length-set found p 1, c.set_factors.auto.factors, c.requires.factors) in
-    let room-2 : p < length found = omega (arith, pivot.first.inside, c.requires.basis.wide, c.set_factors.auto.factors, c.requires.factors) in
-    let step : IsPivotStep s c.step-2.new.self.rows (set shifting p c.add.result) p w.a = record {
-      basis = c.requires.basis;
+    let values = c.values-values.result.now in
+    let aimed = c.aim.new.self.factors in
+    let shifted = c.shift.new.self.factors in
+    let raised = c.raise.new.self.exponents in
+    let place = c.aim.ensures.place in
+    let lanes : length aimed ≡ w.lanes = c.aim.ensures.size ∙ c.values-values.ensures.length in
+    let pivot = pivot-rows s rows values p fit.size c.in-Some.ensures in
+    let inside : p < length aimed = omega (arith, pivot.first.inside, fit.basis.wide, lanes, c.requires.window) in
+    let a = c.a.result in
+    let point : a ≡ w.a = c.a.ensures ∙ ap (λ w. w.a) c.step.ensures.window in
+    let is : shifted ≡ set aimed p (a ⊕ 1) = ap (λ x. x.factors) c.shift.ensures ∙ ap (λ k. set aimed k (a ⊕ 1)) place in
+    let alike : (g : ℕ) → g ≢ p → get_or shifted g 0 ≡ get_or aimed g 0 =
+    λ g o. ap (λ xs. get_or xs g 0) is ∙ get_or-set_other aimed p g (a ⊕ 1) 0 o in
+    let up : raised ≡ raised_at s.exponents p = ap (λ x. x.exponents) c.raise.ensures in
+    let step : IsPivotStep before made shifted p w.a = record {
+      basis = fit.basis;
       inside = pivot.first.inside;
       light = pivot.light;
-      lanes = lanes;
-      own = own shifting p w.a c.add.result room (c.add.ensures ∙ ap (λ x. x ⊕ 1) (c.a.ensures ∙ ap (λ w. w.a) c.step.ensures.window));
-      rows = taken.rows;
+      lanes = ap length is ∙ length-set aimed p (a ⊕ 1) ∙ lanes ∙ c.requires.window;
+      own = ap (λ xs. multiplier xs p) is ∙ own aimed p w.a (a ⊕ 1) inside (ap (λ x. x ⊕ 1) point);
+      rows =
+          subst (λ k. IsFamilyStep shifted p s.t k made rows) (ap (λ x. x.reach) c.shift.ensures ∙ c.aim.ensures.reach ∙ c.reach.ensures.reach)
+          (subst (λ k. IsFamilyStep shifted k s.t c.shift.new.self.reach made rows) (ap (λ x. x.p) c.shift.ensures ∙ place) taken);
     } in
-    subst (λ g. IsLightWindow g c.step.new.self c.args.v) (sym taken.alike)
-    (subst (λ x. IsLightWindow (with_rows s c.step-2.new.self.rows c.step-2.new.self.exponents) x c.args.v) (sym c.step.ensures.window)
-    (window-follows w step c.args.v c.step.new.self.cells shifting c.step-2.new.self.exponents taken.exponents c.requires.derivatives
-    c.step.ensures.step (length-set found p 1 ∙ c.set_factors.auto.factors ∙ c.requires.factors ∙ sym c.requires.derivatives.lanes)
-    (none found p room-2) (λ g o. sym (get_or-set_other shifting p g c.add.result 0 o))))
-
-pub pivot-requires : goal.pivot-requires
-pivot-requires c = omega (arith, c.requires.basis.wide, c.requires.derivatives.lanes, c.values-values.ensures.length)
-
-pub set_factors-requires-clause-same : goal.set_factors-requires-clause-same
-set_factors-requires-clause-same c = c.values-values.ensures.length ∙ c.requires.derivatives.lanes ∙ sym c.requires.factors
-
-pub set_factors-requires-clause-inside : goal.set_factors-requires-clause-inside
-set_factors-requires-clause-inside c =
-    omega (arith, c.in-Some.ensures.first.inside, c.requires.basis.wide, c.requires.derivatives.lanes, c.values-values.ensures.length)
-
-pub set_factors-requires-clause-fails : goal.set_factors-requires-clause-fails
-set_factors-requires-clause-fails c = c.in-Some.ensures.first.fails
-
-pub bounds-factors-p : goal.bounds-factors-p
-bounds-factors-p c = omega (arith, c.in-Some.ensures.first.inside, c.requires.basis.wide, c.set_factors.auto.factors, c.requires.factors)
-
-pub step-requires-clause-lanes : goal.step-requires-clause-lanes
-step-requires-clause-lanes c =
-    length-set c.set_factors.new.factors c.in-Some.p 1 ∙ c.set_factors.auto.factors ∙ c.requires.factors ∙ sym c.requires.derivatives.lanes
-
-pub step-requires-clause-inside : goal.step-requires-clause-inside
-step-requires-clause-inside c = omega (arith, c.in-Some.ensures.first.inside, c.requires.basis.wide, c.requires.derivatives.lanes)
-
-pub bounds-factors-p-2 : goal.bounds-factors-p-2
-bounds-factors-p-2 c =
-    omega (
-      arith,
-      length-set c.set_factors.new.factors c.in-Some.p 1,
-      c.in-Some.ensures.first.inside,
-      c.requires.basis.wide,
-      c.set_factors.auto.factors,
-      c.requires.factors,
-    )
-
-pub step-requires-2-clause-room : goal.step-requires-2-clause-room
-step-requires-2-clause-room c = c.requires.room
-
-pub step-requires-2-clause-factors : goal.step-requires-2-clause-factors
-step-requires-2-clause-factors c =
-    length-set (set c.set_factors.new.factors c.in-Some.p 1) c.in-Some.p c.add.result ∙ length-set c.set_factors.new.factors c.in-Some.p 1
-    ∙ c.set_factors.auto.factors ∙ c.requires.factors
-
-pub step-requires-2-clause-inside : goal.step-requires-2-clause-inside
-step-requires-2-clause-inside c = c.in-Some.ensures.first.inside
+    record {
+      imposed = record {
+        alike = refl;
+        values = values;
+        are = values-of_window before w c.args.u v values fit.basis c.requires.order c.values-values.ensures.each fit.window;
+        step = inr (p, pivot, is_step step raised values up (λ j l o. alike j o ∙ c.aim.ensures.others j o));
+      };
+      window =
+          subst (λ x. IsLightWindow (with_rows s made raised) x v) (sym c.step.ensures.window)
+          (window-follows w step v c.step.new.self.cells aimed raised up fit.window
+          (subst (λ xs. IsWindowStep xs p w.m c.step.new.self.cells w.cells v) c.factors.ensures c.step.ensures.step)
+          lanes (ap (λ x. x ⊕ 1) c.aim.ensures.own ∙ add_self 1) (λ g o. sym (alike g o)));
+    }

@@ -1,7 +1,9 @@
-use Rattle.std.proofs.Common.{◌≡◌, length}
+use Rattle.std.proofs.Common.{◌≡◌, ◌+◌, ◌≤◌, sum}
 use Rattle.gs_interpolate.specs.Window.{condition_at}
-use Rattle.gs_interpolate.specs.Basis.{IsLightWindow}
-use Rattle.gs_interpolate.proofs.Passing.{IsUnder}
+use Rattle.gs_interpolate.specs.Steps.{HaveLanes}
+use Rattle.gs_interpolate.specs.Basis.{with_rows}
+use Rattle.gs_interpolate.proofs.Passing.{orders}
+use Rattle.gs_interpolate.proofs.Keeping.{AreUnder}
 use Rattle.gs_interpolate.proofs.basis.Basis.pass.Given as goal
 
 abbrev pub invariant-rows : goal.invariant-rows
@@ -9,9 +11,12 @@ invariant-rows l = record {
   order : l.window.m ≡ l.m;
   first : l.window.a ≡ l.a;
   second : l.window.b ≡ l.b;
-  room : length l.factors ≡ l.self.lanes;
-  window : IsLightWindow l.self l.window l.v;
-  under : IsUnder l.fn.self l.self (condition_at l.window 0 l.v) l.m;
+  lanes : l.window.lanes ≡ l.fn.self.lanes;
+  kept : HaveLanes l.fn.self.lanes l.steps;
+  alike : l.self ≡ with_rows l.fn.self l.fn.self.rows l.self.exponents;
+  few : l.taken ≤ orders l.m l.v;
+  rise : sum l.self.exponents ≤ sum l.fn.self.exponents + orders l.m l.v;
+  under : AreUnder l.fn.self l.self.exponents l.steps l.taken l.window (condition_at l.window 0 l.v);
 }
 
 abbrev pub invariant-orders : goal.invariant-orders
@@ -19,7 +24,10 @@ invariant-orders l = record {
   order : l.window.m ≡ l.m;
   first : l.window.a ≡ l.a;
   second : l.window.b ≡ l.b;
-  room : length l.factors ≡ l.self.lanes;
-  window : IsLightWindow l.self l.window l.v;
-  under : IsUnder l.fn.self l.self (condition_at l.window l.u l.v) l.m;
+  lanes : l.window.lanes ≡ l.fn.self.lanes;
+  kept : HaveLanes l.fn.self.lanes l.steps;
+  alike : l.self ≡ with_rows l.fn.self l.fn.self.rows l.self.exponents;
+  few : l.taken ≤ orders l.m l.v + l.u;
+  rise : sum l.self.exponents ≤ sum l.fn.self.exponents + (orders l.m l.v + l.u);
+  under : AreUnder l.fn.self l.self.exponents l.steps l.taken l.window (condition_at l.window l.u l.v);
 }

@@ -1,11 +1,12 @@
-use Rattle.std.proofs.Common.{◌≡◌, ◌+◌, ◌≤◌, List, [], ◌∷◌, ℕ, length, sum, get_or, sym, ap, subst, ◌∙◌, arith, inl, inr, take_at}
+use Rattle.std.proofs.Common.{◌≡◌, ◌+◌, ◌*◌, ◌/◌, ◌≤◌, List, [], ◌∷◌, ℕ, length, sum, get_or, sym, ap, subst, ◌∙◌, arith, inl, inr, take_at}
 use Rattle.std.proofs.Math.Nat.{div-le_self}
 use Rattle.std.proofs.lemmas.Bool.{cases_lt}
-use Rattle.std.proofs.lemmas.List.{get_or_default, length-replicate}
+use Rattle.std.proofs.lemmas.List.{get_or_default}
 use Rattle.std.proofs.lemmas.Result.{IfOk-weaker}
 use Rattle.interpolation.specs.Interpolant.{IsInterpolant}
 use Rattle.interpolation.specs.Monomials.{conditions}
 use Rattle.interpolation.specs.declared.TheConstants.{MOST_MULTIPLICITY}
+use Rattle.gs_interpolate.specs.Steps.{HaveLanes}
 use Rattle.gs_interpolate.specs.Basis.{HaveZero, IsPassing}
 use Rattle.gs_interpolate.specs.Layout.{IsLayout}
 use Rattle.gs_interpolate.proofs.Passing.{conditions-next, conditions-more}
@@ -16,6 +17,10 @@ use Rattle.gs_interpolate.proofs.koetter.KoetterInterpolate.interpolate.Goals as
 some_rows : (ns : List ℕ) → 1 ≤ sum ns → 1 ≤ length ns
 some_rows [] h = absurd (omega arith)
 some_rows (n ∷ ns) h = omega arith
+
+-- the conditions of a zero at one point
+one_point : (m : ℕ) → conditions 1 m ≡ m * (m + 1) / 2
+one_point m = let one : 1 * m ≡ m = omega arith in ap (λ k. k * (m + 1) / 2) one
 
 pub overflow_mul-conditions : goal.overflow_mul-conditions
 overflow_mul-conditions c = omega arith
@@ -59,7 +64,8 @@ loop-a-init c =
       zeros = λ k l. absurd (omega (arith, l));
       lanes = c.in_ok-window.ensures.0 ∙ c.lanes.ensures.lanes;
       order = c.in_ok-window.ensures.1;
-      room = ap length (c.in_ok-factors.ensures.items_if_clones_equal (λ y e. e)) ∙ length-replicate _ 0 ∙ c.lanes-2.ensures.lanes;
+      steps = subst (λ n. HaveLanes n c.in_ok-steps.steps.items) c.lanes-2.ensures.lanes c.in_ok-steps.ensures.lanes;
+      enough = c.in_ok-steps.ensures.count ∙ sym (one_point c.args.m);
       few = let none = made.exponents in omega (arith, none);
     }
 
@@ -87,9 +93,12 @@ loop-a-preserved c =
           ];
       lanes = made.0 ∙ sym alike;
       order = made.1 ∙ h.order;
-      room =
-          ap length (take_at c.pass.new.factors _ c.loop-a.factors.len (c.pass.auto.factors ∙ c.deref_mut.ensures.len))
-          ∙ c.pass.auto.factors ∙ ap length c.deref_mut.ensures.value ∙ h.room ∙ sym alike;
+      steps =
+          subst (λ xs. HaveLanes new.lanes xs) (sym (take_at c.pass.new.steps _ c.loop-a.steps.len (c.pass.auto.steps ∙ c.deref_mut.ensures.len)))
+          (subst (λ n. HaveLanes n c.pass.new.steps) (sym alike) c.in_ok-window-2.ensures.steps);
+      enough =
+          ap length (take_at c.pass.new.steps _ c.loop-a.steps.len (c.pass.auto.steps ∙ c.deref_mut.ensures.len))
+          ∙ c.pass.auto.steps ∙ ap length c.deref_mut.ensures.value ∙ h.enough;
       few = let rise = passed.rise in let few = h.few in let next = conditions-next i m in omega (arith, rise, few, next);
     }
 
@@ -131,8 +140,12 @@ pass-requires-clause-basis c = c.loop-a.invariant.basis
 pub pass-requires-clause-lanes : goal.pass-requires-clause-lanes
 pass-requires-clause-lanes c = c.loop-a.invariant.lanes
 
-pub pass-requires-clause-factors : goal.pass-requires-clause-factors
-pass-requires-clause-factors c = ap length c.deref_mut.ensures.value ∙ c.loop-a.invariant.room
+pub pass-requires-clause-steps : goal.pass-requires-clause-steps
+pass-requires-clause-steps c = subst (HaveLanes c.loop-a.basis.lanes) (sym c.deref_mut.ensures.value) c.loop-a.invariant.steps
+
+pub pass-requires-clause-enough : goal.pass-requires-clause-enough
+pass-requires-clause-enough c =
+    omega (arith, ap length c.deref_mut.ensures.value, c.loop-a.invariant.enough, ap (conditions 1) c.loop-a.invariant.order)
 
 pub into_lightest-requires : goal.into_lightest-requires
 into_lightest-requires c = c.loop-a.invariant.basis

@@ -2,7 +2,7 @@ use Rattle.std.proofs.Common.{get_or, ap₂, ◌∙◌}
 use Rattle.gf256.specs.Field.{◌⊕◌, ◌⊗◌}
 use Rattle.gf256.proofs.Xor.{zero_add}
 use Rattle.gf256.proofs.FieldLaws.{mul_comm}
-use Rattle.gs_interpolate.proofs.basis.set_factors.Goals as goal
+use Rattle.gs_interpolate.proofs.steps.set_factors.Goals as goal
 
 pub returns : goal.returns
 returns c = λ j.
