@@ -19,7 +19,7 @@ AreUnder s exponents steps k w c = (rows : List (List ℕ)) → HaveTaken steps 
     → IsUnderBeside s (with_rows s rows exponents) w c
 
 -- another step has the place of one
-pub step-set_same : (steps : List KeptStep) (k : ℕ) (step : KeptStep) → k < length steps → step_at (set steps k step) k ≡ step
+step-set_same : (steps : List KeptStep) (k : ℕ) (step : KeptStep) → k < length steps → step_at (set steps k step) k ≡ step
 step-set_same steps k step l = get_or-set_same steps k step _ l
 
 -- and those before it stay

@@ -142,7 +142,7 @@ reach s p = min (weight s p + 1) s.d + 1
 abbrev pub raised_at : List ℕ → ℕ → List ℕ
 raised_at exponents p = slice_set exponents p (slice_index exponents p + 1)
 
--- the step takes the values away with the pivot p, at weights below some reach. The pivot's own factor is 1
+-- the step takes the values away with the pivot p, at weights below some reach. The pivot's own factor is 1 so far
 pub record IsAimed (values : List ℕ) (p below : ℕ) (step : KeptStep) : Type 0 where
   pub size : length step.factors ≡ length values
   pub place : step.p ≡ p

@@ -1,5 +1,5 @@
 use Rattle.std.proofs.Common.{◌≡◌, Bool, true, false, ℕ, ◌+◌, ◌<◌, ◌≤◌, length, get_or, take, set, sum, refl, sym, ap, subst, ◌∙◌, arith}
-use Rattle.std.proofs.lemmas.List.{get_or_default, get_or-take, length-take-le}
+use Rattle.std.proofs.lemmas.List.{get_or_default, get_or-take, length-set, length-take-le}
 use Rattle.interpolation.specs.Monomials.{conditions}
 use Rattle.gs_interpolate.specs.Family.{bytes_of}
 use Rattle.gs_interpolate.specs.Window.{condition_at, IsWindow}
@@ -29,6 +29,7 @@ rows-init c =
       second = made.second;
       lanes = made.lanes ∙ c.requires.lanes;
       kept = c.requires.steps;
+      enough = omega (arith, c.requires.enough, ap (conditions 1) c.m-m.ensures);
       alike = refl;
       few = omega arith;
       rise = omega arith;
@@ -52,14 +53,19 @@ orders-preserved c =
     let step = c.impose.new.step in
     let is = c.impose.ensures in
     let order : u + v < window.m = omega (arith, h.order) in
-    let imposed = λ (b : Bool) (e : c.impose.result ≡ b). subst (λ x. Imposes x step (condition_at window u v) (c.orders.self, window) (c.impose.new.self, now)) e is.imposed in
+    let made = c.impose.new.self in
+    let here = condition_at window u v in
+    let next = condition_at now (u + 1) v in
+    let imposed = λ (b : Bool) (e : c.impose.result ≡ b). subst (λ x. Imposes x step here (c.orders.self, window) (made, now)) e is.imposed in
+    let room = room_left m u v c.orders.taken (length steps) (omega arith) h.few h.enough in
     record {
       order = ap (λ w. w.m) is.cells ∙ h.order;
       first = ap (λ w. w.a) is.cells ∙ h.first;
       second = ap (λ w. w.b) is.cells ∙ h.second;
       lanes = ap (λ w. w.lanes) is.cells ∙ h.lanes;
       kept = have_lanes-set s.lanes steps c.orders.taken step h.kept (is.lanes ∙ ap (λ x. x.lanes) h.alike);
-      alike = is.rows ∙ ap (λ x. with_rows x x.rows c.impose.new.self.exponents) h.alike;
+      enough = omega (arith, h.enough, length-set steps c.orders.taken step);
+      alike = is.rows ∙ ap (λ x. with_rows x x.rows made.exponents) h.alike;
       few = elim c.if-impose.branch [
         | then-impose w ↦ omega (arith, h.few, w.taken-is)
         | else-impose w ↦ omega (arith, h.few, w.taken-is)
@@ -67,13 +73,11 @@ orders-preserved c =
       rise = omega (arith, h.rise, is.rise);
       under = elim c.if-impose.branch [
         | then-impose w ↦
-            subst (λ k. AreUnder s c.impose.new.self.exponents (set steps c.orders.taken step) k now (condition_at now (u + 1) v)) (sym w.taken-is)
-            (kept-next s c.orders.self c.impose.new.self steps c.orders.taken step u v order
-            (room_left m u v c.orders.taken (length steps) (omega arith) h.few (omega (arith, c.requires.enough, ap (conditions 1) c.m-m.ensures, c.orders.auto.steps)))
-            h.alike is.cells (imposed true w.if-impose.true) h.under)
+            subst (λ k. AreUnder s made.exponents (set steps c.orders.taken step) k now next) (sym w.taken-is)
+            (kept-next s c.orders.self made steps c.orders.taken step u v order room h.alike is.cells (imposed true w.if-impose.true) h.under)
         | else-impose w ↦
-            subst (λ k. AreUnder s c.impose.new.self.exponents (set steps c.orders.taken step) k now (condition_at now (u + 1) v)) (sym w.taken-is)
-            (kept-idle s c.orders.self c.impose.new.self steps c.orders.taken step u v order h.alike is.cells (imposed false w.if-impose.false) h.under)
+            subst (λ k. AreUnder s made.exponents (set steps c.orders.taken step) k now next) (sym w.taken-is)
+            (kept-idle s c.orders.self made steps c.orders.taken step u v order h.alike is.cells (imposed false w.if-impose.false) h.under)
       ];
     }
 
@@ -87,6 +91,7 @@ rows-preserved c =
       second = h.second;
       lanes = h.lanes;
       kept = h.kept;
+      enough = h.enough;
       alike = h.alike;
       few = omega (arith, h.few, next);
       rise = omega (arith, h.rise, next);
@@ -96,14 +101,12 @@ rows-preserved c =
 
 pub offset_bounds-steps-taken : goal.offset_bounds-steps-taken
 offset_bounds-steps-taken c =
-    let l = room_left c.m-m.result c.orders.u c.rows.v c.orders.taken (length c.orders.steps) (omega arith) c.orders.invariant.few
-    (omega (arith, c.requires.enough, ap (conditions 1) c.m-m.ensures, c.orders.auto.steps)) in
+    let l = room_left c.m-m.result c.orders.u c.rows.v c.orders.taken (length c.orders.steps) (omega arith) c.orders.invariant.few c.orders.invariant.enough in
     omega (arith, l)
 
 pub bounds-steps-taken : goal.bounds-steps-taken
 bounds-steps-taken c =
-    room_left c.m-m.result c.orders.u c.rows.v c.orders.taken (length c.orders.steps) (omega arith) c.orders.invariant.few
-    (omega (arith, c.requires.enough, ap (conditions 1) c.m-m.ensures, c.orders.auto.steps))
+    room_left c.m-m.result c.orders.u c.rows.v c.orders.taken (length c.orders.steps) (omega arith) c.orders.invariant.few c.orders.invariant.enough
 
 pub impose-requires-clause-room : goal.impose-requires-clause-room
 impose-requires-clause-room c =
@@ -115,15 +118,13 @@ impose-requires-clause-step c =
     let h = c.orders.invariant in
     let steps = c.orders.steps in
     let k = c.orders.taken in
-    let inside = room_left c.m-m.result c.orders.u c.rows.v k (length steps) (omega arith) h.few
-    (omega (arith, c.requires.enough, ap (conditions 1) c.m-m.ensures, c.orders.auto.steps)) in
+    let inside = room_left c.m-m.result c.orders.u c.rows.v k (length steps) (omega arith) h.few h.enough in
     let same : get_or steps k c.index-steps-taken.result ≡ step_at steps k = get_or_default steps k _ _ inside in
     ap (λ s. length s.factors) same ∙ h.kept k inside ∙ sym (ap (λ s. s.lanes) h.alike)
 
 pub overflow_add-taken : goal.overflow_add-taken
 overflow_add-taken c =
-    let l = room_left c.m-m.result c.orders.u c.rows.v c.orders.taken (length c.orders.steps) (omega arith) c.orders.invariant.few
-    (omega (arith, c.requires.enough, ap (conditions 1) c.m-m.ensures, c.orders.auto.steps)) in
+    let l = room_left c.m-m.result c.orders.u c.rows.v c.orders.taken (length c.orders.steps) (omega arith) c.orders.invariant.few c.orders.invariant.enough in
     omega (arith, l)
 
 -- all steps are at most as many as the conditions
@@ -133,13 +134,11 @@ room_all m v taken n all few enough =
 
 pub slice_bounds-take-end : goal.slice_bounds-take-end
 slice_bounds-take-end c =
-    room_all c.m-m.result c.rows.v c.rows.taken (length c.rows.steps) (omega arith) c.rows.invariant.few
-    (omega (arith, c.requires.enough, ap (conditions 1) c.m-m.ensures, c.rows.auto.steps))
+    room_all c.m-m.result c.rows.v c.rows.taken (length c.rows.steps) (omega arith) c.rows.invariant.few c.rows.invariant.enough
 
 pub slice_bounds-take-end-2 : goal.slice_bounds-take-end-2
 slice_bounds-take-end-2 c =
-    let fit = room_all c.m-m.result c.rows.v c.rows.taken (length c.rows.steps) (omega arith) c.rows.invariant.few
-    (omega (arith, c.requires.enough, ap (conditions 1) c.m-m.ensures, c.rows.auto.steps)) in
+    let fit = room_all c.m-m.result c.rows.v c.rows.taken (length c.rows.steps) (omega arith) c.rows.invariant.few c.rows.invariant.enough in
     sym (length-take-le c.rows.taken c.rows.steps fit)
 
 pub returns-clause-passing : goal.returns-clause-passing
@@ -153,8 +152,7 @@ returns-clause-passing c =
     let under = c.rows.self in
     let new = c.take.new.self in
     let taken = c.in_ok-take.ensures in
-    let fit = room_all m c.rows.v k (length steps) (omega arith) h.few
-    (omega (arith, c.requires.enough, ap (conditions 1) c.m-m.ensures, c.rows.auto.steps)) in
+    let fit = room_all m c.rows.v k (length steps) (omega arith) h.few h.enough in
     let many = length-take-le k steps fit in
     let done : HaveTaken steps s.t k new.rows s.rows =
     subst (λ x. HaveTaken steps x.t k new.rows x.rows) h.alike

@@ -1,4 +1,5 @@
-use Rattle.std.proofs.Common.{◌≡◌, ◌+◌, ◌≤◌, sum}
+use Rattle.std.proofs.Common.{◌≡◌, ◌+◌, ◌≤◌, length, sum}
+use Rattle.interpolation.specs.Monomials.{conditions}
 use Rattle.gs_interpolate.specs.Window.{condition_at}
 use Rattle.gs_interpolate.specs.Steps.{HaveLanes}
 use Rattle.gs_interpolate.specs.Basis.{with_rows}
@@ -13,6 +14,7 @@ invariant-rows l = record {
   second : l.window.b ≡ l.b;
   lanes : l.window.lanes ≡ l.fn.self.lanes;
   kept : HaveLanes l.fn.self.lanes l.steps;
+  enough : conditions 1 l.m ≤ length l.steps;
   alike : l.self ≡ with_rows l.fn.self l.fn.self.rows l.self.exponents;
   few : l.taken ≤ orders l.m l.v;
   rise : sum l.self.exponents ≤ sum l.fn.self.exponents + orders l.m l.v;
@@ -26,6 +28,7 @@ invariant-orders l = record {
   second : l.window.b ≡ l.b;
   lanes : l.window.lanes ≡ l.fn.self.lanes;
   kept : HaveLanes l.fn.self.lanes l.steps;
+  enough : conditions 1 l.m ≤ length l.steps;
   alike : l.self ≡ with_rows l.fn.self l.fn.self.rows l.self.exponents;
   few : l.taken ≤ orders l.m l.v + l.u;
   rise : sum l.self.exponents ≤ sum l.fn.self.exponents + (orders l.m l.v + l.u);
