@@ -4,7 +4,7 @@
 usage: bench/lane_products.py K,T,H ..
 
 For each K,T,H it goes through the iteration on the points that bench/decoder.sh takes (few of them agree), and counts as
-the loops of crates/gs_interpolate do: `step_rows` visits in row j of y the powers of x below reach - t * j, and
+the loops of crates/gs_interpolate do: `Step::change` visits in row j of y the powers of x below reach - t * j, and
 `add_held_multiple` (`add_multiple` where there are more than 32 lanes) takes one product for each 16 lanes where the pivot's own
 coefficient isn't 0. The line ends with the ratio to C * C / 2 * ceil(n / 16), for C conditions and n polynomials.
 """
