@@ -4,7 +4,7 @@
 # usage: bench/decoder.sh [ROUNDS [FOLDER]]
 set -eu
 top=$(cd "$(dirname "$0")/.." && pwd)
-rounds=${1:-20}
+rounds=${1:-10}
 peers=${2:-$top/../shared/peers}
 # shellcheck source=bench/program.sh
 source "$top/bench/program.sh"
@@ -41,41 +41,45 @@ points() {
 # least FIRST SECOND: the lesser number of the two; FIRST may be empty.
 least() { awk -v a="$1" -v b="$2" 'BEGIN { print (a == "" || b + 0 < a + 0) ? b : a }'; }
 
-# The best times so far of each build, and of the C++ program for the same lanes.
-declare -A agree few theirs
+# The best times so far, by shape and build: ours where all agree and where few do, and the C++ program's for the same lanes.
+declare -A agree few theirs agree_count few_count
 
 # turn LANES: one turn of that build and its peer at the present shape.
 turn() {
-  local program count time
+  local at="$shape $1" program count time theirs_count
   program=$(built_for "$1")
   count=$((rounds * often))
   # shellcheck disable=SC2046
-  read -r time agree_count < <("$program" column "$t" "$h" "$count" $(points agree "$k"))
-  agree[$1]=$(least "${agree[$1]-}" "$time")
+  read -r time "agree_count[$at]" < <("$program" column "$t" "$h" "$count" $(points agree "$k"))
+  agree[$at]=$(least "${agree[$at]-}" "$time")
   # shellcheck disable=SC2046
-  read -r time few_count < <("$program" column "$t" "$h" "$count" $(points few "$k"))
-  few[$1]=$(least "${few[$1]-}" "$time")
+  read -r time "few_count[$at]" < <("$program" column "$t" "$h" "$count" $(points few "$k"))
+  few[$at]=$(least "${few[$at]-}" "$time")
   if [ $have = yes ]; then
     # shellcheck disable=SC2046
     read -r time theirs_count _ < <("$built/column-$1" "$t" "$h" "$count" $(points few "$k"))
-    theirs[$1]=$(least "${theirs[$1]-}" "$time")
-    [ "$theirs_count" = "$few_count" ] || echo "$k,$t,$h: we list $few_count, C++ $theirs_count" >&2
+    theirs[$at]=$(least "${theirs[$at]-}" "$time")
+    [ "$theirs_count" = "${few_count[$at]}" ] || echo "$k,$t,$h: we list ${few_count[$at]}, C++ $theirs_count" >&2
   fi
 }
 
 # milliseconds NANOSECONDS
 milliseconds() { awk -v ns="$1" 'BEGIN { print ns / 1e6 }'; }
 
-# All take turns, and the best time of each counts, so that a busy machine spoils none alone. The last number says how many times
-# ROUNDS the list is made in a turn.
-for shape in "8 1 3 40" "8 3 5 10" "20 3 8 2" "32 5 13 1" "32 28 30 1" "32 15 23 40" "20 3 12 200" "47 1 7 1" "255 1 17 1"; do
-  read -r k t h often <<<"$shape"
-  agree=() few=() theirs=()
-  for _ in 1 2 3; do
+# All take turns, each through all shapes, and the best time of each counts: so neither a busy machine nor one of its phases, in which
+# all takes twice as long, spoils one alone. The last number says how many times ROUNDS the list is made in a turn.
+shapes=("8 1 3 20" "8 3 5 10" "20 3 8 2" "32 5 13 1" "32 28 30 1" "32 15 23 40" "20 3 12 200" "47 1 7 1" "255 1 17 1")
+for _ in 1 2 3 4 5 6; do
+  for shape in "${shapes[@]}"; do
+    read -r k t h often <<<"$shape"
     for lanes in $(each_build); do turn "$lanes"; done
   done
+done
+for shape in "${shapes[@]}"; do
+  read -r k t h often <<<"$shape"
   for lanes in $(each_build); do
-    told "column $k,$t,$h agree, $lanes, $agree_count listed" "$(milliseconds "${agree[$lanes]}")" ""
-    told "column $k,$t,$h few, $lanes, $few_count listed" "$(milliseconds "${few[$lanes]}")" "${theirs[$lanes]:+$(milliseconds "${theirs[$lanes]}")}"
+    at="$shape $lanes"
+    told "column $k,$t,$h agree, $lanes, ${agree_count[$at]} listed" "$(milliseconds "${agree[$at]}")" ""
+    told "column $k,$t,$h few, $lanes, ${few_count[$at]} listed" "$(milliseconds "${few[$at]}")" "${theirs[$at]:+$(milliseconds "${theirs[$at]}")}"
   done
 done
