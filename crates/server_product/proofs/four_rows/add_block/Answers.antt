@@ -2,6 +2,7 @@ use Rattle.std.proofs.Common.{◌≡◌, ◌≤◌, ◌+◌, ◌*◌, length, bi
 use Rattle.std.specs.Simd.Lanes.{zip2, put_chunk}
 use Rattle.gf256.specs.Rows.{IsAdded}
 use Rattle.gf256.proofs.Added.{added-none}
+use Rattle.row_workers.proofs.BlockSums.{blocks-few, lanes-fit}
 use Rattle.server_product.specs.Blocks.{four_at}
 use Rattle.server_product.proofs.BlockSums.{block-put}
 use Rattle.server_product.proofs.four_rows.add_block.Goals as goal
@@ -34,6 +35,21 @@ loop-v-preserved g c =
     c.requires.lanes.0 c.requires.wide c.requires.b c.requires.c c.requires.d (omega arith) room done c.start_of-start.ensures
     c.lanes_of-in_a.ensures c.lanes_of-in_b.ensures c.lanes_of-in_c.ensures c.lanes_of-in_d.ensures
     c.times.ensures c.times-in-loop-v.ensures c.times-in-loop-v-2.ensures c.times-in-loop-v-3.ensures c.loop-v.invariant))
+
+pub overflow_mul-at : goal.overflow_mul-at
+overflow_mul-at g c = omega (arith, blocks-few g.row.N c.args.i c.args.count c.requires.lanes.0 c.requires.memory c.requires.few)
+
+pub overflow_add-at : goal.overflow_add-at
+overflow_add-at g c = omega (arith, blocks-few g.row.N c.args.i c.args.count c.requires.lanes.0 c.requires.memory c.requires.few)
+
+pub overflow_mul-at-in-loop-v : goal.overflow_mul-at-in-loop-v
+overflow_mul-at-in-loop-v g c = omega (arith, lanes-fit g.row.N (c.args.i * c.args.count) c.loop-v.v c.args.count c.loop-v-test.true)
+
+pub lanes_of-requires : goal.lanes_of-requires
+lanes_of-requires g c = omega (arith, lanes-fit g.row.N (c.args.i * c.args.count) c.loop-v.v c.args.count c.loop-v-test.true)
+
+pub store-sums : goal.store-sums
+store-sums g c = omega (arith, lanes-fit g.row.N (c.args.i * c.args.count) c.loop-v.v c.args.count c.loop-v-test.true)
 
 pub returns : goal.returns
 returns g c =

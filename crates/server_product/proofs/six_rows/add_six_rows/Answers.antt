@@ -7,6 +7,28 @@ use Rattle.gf256.proofs.LaneSums.{lanes-put}
 use Rattle.server_product.proofs.SixSums.{six-past}
 use Rattle.server_product.proofs.six_rows.add_six_rows.Goals as goal
 
+pub add_six_short-requires : goal.add_six_short-requires
+add_six_short-requires c =
+    let needs = c.requires in
+    record { a = needs.a; b = needs.b; c = needs.c; d = needs.d; e = needs.e; f = needs.f }
+
+pub add_in_lanes-at-requires : goal.add_in_lanes-at-requires
+add_in_lanes-at-requires c =
+    let needs = c.requires in
+    record { products = c.products_of-products.ensures; a = needs.a; b = needs.b; c = needs.c; d = needs.d; e = needs.e; f = needs.f }
+
+pub six_lanes-requires : goal.six_lanes-requires
+six_lanes-requires c = (
+  omega arith,
+  (
+    c.products_of-products.ensures,
+    (omega arith, (omega arith, (omega arith, (omega arith, (omega arith, omega arith))))),
+  ),
+)
+
+pub store-acc : goal.store-acc
+store-acc c = omega arith
+
 pub returns-then-at-acc : goal.returns-then-at-acc
 returns-then-at-acc c = λ k.
     let old = c.args.acc.now in

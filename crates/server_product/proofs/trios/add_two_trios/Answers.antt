@@ -1,4 +1,4 @@
-use Rattle.std.proofs.Common.{◌≡◌, ◌+◌, ◌-◌, length, subst, arith}
+use Rattle.std.proofs.Common.{◌≡◌, ◌+◌, ◌-◌, length, ◌∙◌, subst, arith}
 use Rattle.gf256.specs.declared.vectors.TheConstants.{LANES}
 use Rattle.server_product.specs.Trios.{trio_at}
 use Rattle.server_product.proofs.TrioSums.{trio-past, IsLagged, lagged-start, lagged-first, lagged-second, lagged-all}
@@ -46,59 +46,47 @@ returns c = λ k.
     (trio-past c.args.second n c.requires.second_a c.requires.second_b c.requires.second_c)
     (lagged-second c.add_places-3.new.acc c.add_places-2.new.acc old g h n (at - lag) n (omega (arith, c.lanes.invariant.within)) (omega arith) c.add_places-3.ensures ahead) k
 
-pub add_places-requires-clause-a : goal.add_places-requires-clause-a
-add_places-requires-clause-a c = omega arith
-
-pub add_places-requires-clause-b : goal.add_places-requires-clause-b
-add_places-requires-clause-b c = omega arith
-
-pub add_places-requires-clause-c : goal.add_places-requires-clause-c
-add_places-requires-clause-c c = omega arith
-
-pub add_places-requires-clause-factor : goal.add_places-requires-clause-factor
-add_places-requires-clause-factor c = c.of-by_first.ensures
-
-pub add_places-requires-clause-order : goal.add_places-requires-clause-order
-add_places-requires-clause-order c = omega arith
-
-pub add_places-requires-clause-within : goal.add_places-requires-clause-within
-add_places-requires-clause-within c = omega arith
+pub add_places-requires : goal.add_places-requires
+add_places-requires c =
+    let needs = c.requires in
+    record {
+      a = needs.first_a;
+      b = needs.first_b;
+      c = needs.first_c;
+      factor = c.of-by_first.ensures;
+      order = omega arith;
+      within = omega arith;
+    }
 
 pub overflow_sub-len : goal.overflow_sub-len
 overflow_sub-len c = omega arith
 
-pub add_lanes-requires-clause-a : goal.add_lanes-requires-clause-a
-add_lanes-requires-clause-a c = omega arith
-
-pub add_lanes-requires-clause-b : goal.add_lanes-requires-clause-b
-add_lanes-requires-clause-b c = omega arith
-
-pub add_lanes-requires-clause-c : goal.add_lanes-requires-clause-c
-add_lanes-requires-clause-c c = omega arith
-
-pub add_lanes-requires-clause-factor : goal.add_lanes-requires-clause-factor
-add_lanes-requires-clause-factor c = c.of-by_first.ensures
-
-pub add_lanes-requires-clause-within : goal.add_lanes-requires-clause-within
-add_lanes-requires-clause-within c = omega arith
+pub add_lanes-requires : goal.add_lanes-requires
+add_lanes-requires c =
+    let needs = c.requires in
+    let same : length c.args.acc.now ≡ length c.lanes.acc = omega arith in
+    record {
+      a = needs.first_a ∙ same;
+      b = needs.first_b ∙ same;
+      c = needs.first_c ∙ same;
+      factor = c.of-by_first.ensures;
+      within = omega arith;
+    }
 
 pub overflow_sub-at : goal.overflow_sub-at
 overflow_sub-at c = omega arith
 
-pub add_lanes-requires-in-lanes-clause-a : goal.add_lanes-requires-in-lanes-clause-a
-add_lanes-requires-in-lanes-clause-a c = omega arith
-
-pub add_lanes-requires-in-lanes-clause-b : goal.add_lanes-requires-in-lanes-clause-b
-add_lanes-requires-in-lanes-clause-b c = omega arith
-
-pub add_lanes-requires-in-lanes-clause-c : goal.add_lanes-requires-in-lanes-clause-c
-add_lanes-requires-in-lanes-clause-c c = omega arith
-
-pub add_lanes-requires-in-lanes-clause-factor : goal.add_lanes-requires-in-lanes-clause-factor
-add_lanes-requires-in-lanes-clause-factor c = c.of-by_second.ensures
-
-pub add_lanes-requires-in-lanes-clause-within : goal.add_lanes-requires-in-lanes-clause-within
-add_lanes-requires-in-lanes-clause-within c = omega arith
+pub add_lanes-requires-in-lanes : goal.add_lanes-requires-in-lanes
+add_lanes-requires-in-lanes c =
+    let needs = c.requires in
+    let same : length c.args.acc.now ≡ length c.add_lanes.new.acc = omega arith in
+    record {
+      a = needs.second_a ∙ same;
+      b = needs.second_b ∙ same;
+      c = needs.second_c ∙ same;
+      factor = c.of-by_second.ensures;
+      within = omega arith;
+    }
 
 pub overflow_add-at : goal.overflow_add-at
 overflow_add-at c = omega arith
@@ -106,41 +94,31 @@ overflow_add-at c = omega arith
 pub lanes-smaller : goal.lanes-smaller
 lanes-smaller c = omega arith
 
-pub add_places-requires-2-clause-a : goal.add_places-requires-2-clause-a
-add_places-requires-2-clause-a c = omega arith
-
-pub add_places-requires-2-clause-b : goal.add_places-requires-2-clause-b
-add_places-requires-2-clause-b c = omega arith
-
-pub add_places-requires-2-clause-c : goal.add_places-requires-2-clause-c
-add_places-requires-2-clause-c c = omega arith
-
-pub add_places-requires-2-clause-factor : goal.add_places-requires-2-clause-factor
-add_places-requires-2-clause-factor c = c.of-by_first.ensures
-
-pub add_places-requires-2-clause-order : goal.add_places-requires-2-clause-order
-add_places-requires-2-clause-order c = omega arith
-
-pub add_places-requires-2-clause-within : goal.add_places-requires-2-clause-within
-add_places-requires-2-clause-within c = omega arith
+pub add_places-requires-2 : goal.add_places-requires-2
+add_places-requires-2 c =
+    let needs = c.requires in
+    let same : length c.args.acc.now ≡ length c.lanes.acc = omega arith in
+    record {
+      a = needs.first_a ∙ same;
+      b = needs.first_b ∙ same;
+      c = needs.first_c ∙ same;
+      factor = c.of-by_first.ensures;
+      order = omega arith;
+      within = omega arith;
+    }
 
 pub overflow_sub-at-2 : goal.overflow_sub-at-2
 overflow_sub-at-2 c = omega arith
 
-pub add_places-requires-3-clause-a : goal.add_places-requires-3-clause-a
-add_places-requires-3-clause-a c = omega arith
-
-pub add_places-requires-3-clause-b : goal.add_places-requires-3-clause-b
-add_places-requires-3-clause-b c = omega arith
-
-pub add_places-requires-3-clause-c : goal.add_places-requires-3-clause-c
-add_places-requires-3-clause-c c = omega arith
-
-pub add_places-requires-3-clause-factor : goal.add_places-requires-3-clause-factor
-add_places-requires-3-clause-factor c = c.of-by_second.ensures
-
-pub add_places-requires-3-clause-order : goal.add_places-requires-3-clause-order
-add_places-requires-3-clause-order c = omega arith
-
-pub add_places-requires-3-clause-within : goal.add_places-requires-3-clause-within
-add_places-requires-3-clause-within c = omega arith
+pub add_places-requires-3 : goal.add_places-requires-3
+add_places-requires-3 c =
+    let needs = c.requires in
+    let same : length c.args.acc.now ≡ length c.add_places-2.new.acc = omega arith in
+    record {
+      a = needs.second_a ∙ same;
+      b = needs.second_b ∙ same;
+      c = needs.second_c ∙ same;
+      factor = c.of-by_second.ensures;
+      order = omega arith;
+      within = omega arith;
+    }

@@ -32,6 +32,19 @@ pub returns-in-Ended-clause-fits : goal.returns-in-Ended-clause-fits
 returns-in-Ended-clause-fits g c =
     omega (arith, c.in-Ended.ensures.filled.fewer, c.read_exactly.auto.into)
 
+pub write_all-requires : goal.write_all-requires
+write_all-requires g c = c.requires.frame
+
+pub read_exactly-requires : goal.read_exactly-requires
+read_exactly-requires g c = c.requires.answer
+
+pub returns-in_default-clause-others : goal.returns-in_default-clause-others
+returns-in_default-clause-others g c = c.open.ensures.others
+
+pub returns-in_default-write_all-clause-others : goal.returns-in_default-write_all-clause-others
+returns-in_default-write_all-clause-others g c =
+    touches_more _ _ (g.P.Ports.world c.open.new.self) _ c.open.ensures.others c.write_all.ensures.others
+
 pub returns-in-Full-clause-others : goal.returns-in-Full-clause-others
 returns-in-Full-clause-others g c =
     touches_more _ _ (g.P.Ports.world c.write_all.new.ports) _

@@ -1,10 +1,19 @@
-use Rattle.std.proofs.Common.{◌≡◌, ◌∙◌, ℕ, suc, ◌+◌, ◌-◌, ◌*◌, ◌≤◌, List, ◌++◌, length, take, refl, sym, ap, arith, suc-mul, zero-mul}
+use Rattle.std.proofs.Common.{◌≡◌, ◌∙◌, ℕ, suc, ◌+◌, ◌-◌, ◌*◌, ◌<◌, ◌≤◌, List, ◌++◌, length, take, refl, sym, ap, arith, suc-mul, zero-mul}
+use Rattle.std.proofs.Math.Nat.{mul-le-mul_right}
 use Rattle.std.proofs.lemmas.List.{take_all}
 use Rattle.wire_frames.specs.Turns.{in_turn}
 use Rattle.wire_frames.proofs.Turns.{in_turn-more, length-piece, piece_between, piece_fits, turn_keeps, turn_written}
 use Rattle.shard_front.specs.Spread.{rows_in}
 use Rattle.shard_front.specs.Parts.{slice_at, slice_for}
 use Rattle.shard_front.proofs.parts.write_slices.Goals as goal
+
+-- a vector starts before it ends
+starts : (v given : ℕ) → v * given ≤ (v + 1) * given
+starts v given = mul-le-mul_right given (omega arith)
+
+-- it ends within the slice that has n of them
+ends : (v n given size len : ℕ) → given ≡ size → v < n → len ≡ n * size → (v + 1) * given ≤ len
+ends v n given size len is lt all = omega (arith, piece_fits v n size lt, ap (λ (w : ℕ). (v + 1) * w) is, all)
 
 pub loop-v-init : goal.loop-v-init
 unfolding in_turn
@@ -55,16 +64,41 @@ write_slice-requires-clause-vector c =
 
 pub overflow_mul-vector-in-loop-v : goal.overflow_mul-vector-in-loop-v
 overflow_mul-vector-in-loop-v c =
-    let fits = piece_fits c.loop-v.v c.args.count c.args.spread.rows (omega (arith, c.loop-v-test.true, c.from-v-end.ensures)) in
-    let end = ap (λ (w : ℕ). (c.loop-v.v + 1) * w) c.rows-rows.ensures.is in
-    omega (arith, end, fits, c.requires.vectors)
+    let below : c.loop-v.v < c.args.count = omega (arith, c.loop-v-test.true, c.from-v-end.ensures) in
+    omega (arith, ends c.loop-v.v _ _ _ _ c.rows-rows.ensures.is below c.requires.vectors)
+
+pub overflow_mul-vector : goal.overflow_mul-vector
+overflow_mul-vector c =
+    let below : c.loop-v.v < c.args.count = omega (arith, c.loop-v-test.true, c.from-v-end.ensures) in
+    let end = ends c.loop-v.v _ _ _ _ c.rows-rows.ensures.is below c.requires.vectors in
+    omega (arith, starts c.loop-v.v c.rows-rows.result, end)
+
+pub slice_bounds-vector-start : goal.slice_bounds-vector-start
+slice_bounds-vector-start c = starts c.loop-v.v c.rows-rows.result
+
+pub slice_bounds-vector-end : goal.slice_bounds-vector-end
+slice_bounds-vector-end c =
+    let below : c.loop-v.v < c.args.count = omega (arith, c.loop-v-test.true, c.from-v-end.ensures) in
+    ends c.loop-v.v _ _ _ _ c.rows-rows.ensures.is below c.requires.vectors
 
 pub overflow_mul-slice-in-loop-v : goal.overflow_mul-slice-in-loop-v
 overflow_mul-slice-in-loop-v c =
-    let size = rows_in c.args.spread c.args.place in
-    let fits = piece_fits c.loop-v.v c.args.count size (omega (arith, c.loop-v-test.true, c.from-v-end.ensures)) in
-    let end = ap (λ (w : ℕ). (c.loop-v.v + 1) * w) c.rows_in-size.ensures.is in
-    omega (arith, end, fits, c.loop-v.invariant.size)
+    let below : c.loop-v.v < c.args.count = omega (arith, c.loop-v-test.true, c.from-v-end.ensures) in
+    omega (arith, ends c.loop-v.v _ _ _ _ c.rows_in-size.ensures.is below c.loop-v.invariant.size)
+
+pub overflow_mul-slice : goal.overflow_mul-slice
+overflow_mul-slice c =
+    let below : c.loop-v.v < c.args.count = omega (arith, c.loop-v-test.true, c.from-v-end.ensures) in
+    let end = ends c.loop-v.v _ _ _ _ c.rows_in-size.ensures.is below c.loop-v.invariant.size in
+    omega (arith, starts c.loop-v.v c.rows_in-size.result, end)
+
+pub slice_bounds-slice-start : goal.slice_bounds-slice-start
+slice_bounds-slice-start c = starts c.loop-v.v c.rows_in-size.result
+
+pub slice_bounds-slice-end : goal.slice_bounds-slice-end
+slice_bounds-slice-end c =
+    let below : c.loop-v.v < c.args.count = omega (arith, c.loop-v-test.true, c.from-v-end.ensures) in
+    ends c.loop-v.v _ _ _ _ c.rows_in-size.ensures.is below c.loop-v.invariant.size
 
 pub returns : goal.returns
 returns c =

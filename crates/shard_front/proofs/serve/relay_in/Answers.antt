@@ -62,6 +62,21 @@ unreachable-requires g c =
     ∙ answer_size relay h.result.now h.ensures.is h.ensures.width c.answer_len.result c.answer_len.ensures in
     not_short (relay.header.count * relay.spread.width) _ c.in_default.ensures.cases long
 
+pub write_header-requires : goal.write_header-requires
+write_header-requires g c = c.header-asked.ensures.range
+
+pub give_lost-requires : goal.give_lost-requires
+give_lost-requires g c = c.header-asked.ensures.range
+
+pub ask_shards-requires-clause-fits : goal.ask_shards-requires-clause-fits
+ask_shards-requires-clause-fits g c = c.requires.fits
+
+pub returns-in-None-clause-fits : goal.returns-in-None-clause-fits
+returns-in-None-clause-fits g c = c.in-None.ensures.fits
+
+pub returns-in-Some-ask_shards-clause-fits : goal.returns-in-Some-ask_shards-clause-fits
+returns-in-Some-ask_shards-clause-fits g c = c.in-Some-ask_shards.ensures.fits
+
 pub returns-in-None-clause-relays : goal.returns-in-None-clause-relays
 returns-in-None-clause-relays g c =
     let relay = c.args.relay.now in

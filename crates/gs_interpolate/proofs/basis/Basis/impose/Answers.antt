@@ -1,4 +1,6 @@
-use Rattle.std.proofs.Common.{◌≡◌, ◌≢◌, ℕ, ◌+◌, ◌<◌, ◌≤◌, List, length, get_or, set, sum, refl, sym, ap, subst, ◌∙◌, arith, inr, length-set, get_or-set_same, get_or-set_other}
+use Rattle.std.proofs.Common.{◌≡◌, ◌≢◌, ℕ, ◌+◌, ◌<◌, ◌≤◌, List, length, get_or, set, sum, refl, sym, ap, subst, ◌∙◌, arith, inl, inr, length-set, get_or-set_same, get_or-set_other}
+use Rattle.std.proofs.lemmas.Bool.{cases_lt}
+use Rattle.std.proofs.lemmas.List.{get_or_past}
 use Rattle.std.proofs.lemmas.List.Sums.{sum_by-set}
 use Rattle.gf256.specs.Field.{◌⊕◌}
 use Rattle.gf256.proofs.Xor.{add_assoc, add_self, add_zero}
@@ -32,6 +34,71 @@ pivot-rows s rows values p size pivot =
         first = λ j l some other. first.first j (omega (arith, size, l)) some other;
       };
     }
+
+-- where a value is not 0, there is one
+is_inside : (xs : List ℕ) (p : ℕ) → get_or xs p 0 ≢ 0 → p < length xs
+is_inside xs p some = elim (cases_lt p (length xs)) [
+  | inl l ↦ l
+  | inr past ↦ absurd (some (get_or_past xs p 0 past))
+]
+
+pub values-values-requires : goal.values-values-requires
+values-values-requires c = c.requires.order
+
+pub pivot-requires : goal.pivot-requires
+pivot-requires c = c.values-values.ensures.length ∙ c.requires.window
+
+pub returns-in_default-clause-imposed : goal.returns-in_default-clause-imposed
+returns-in_default-clause-imposed c = λ rows made fit same.
+    let s = c.args.self.now in
+    let before = with_rows s rows s.exponents in
+    let w = c.args.window.now in
+    let values = c.values-values.result.now in
+    record {
+      imposed = record {
+        alike = refl;
+        values = values;
+        are = values-of_window before w c.args.u c.args.v values fit.basis c.requires.order c.values-values.ensures.each fit.window;
+        step = inl ((λ j l low. c.in_default.ensures j (subst (λ n. j < n) fit.size l) low), ap (λ rows. with_rows s rows s.exponents) same);
+      };
+      window = subst (λ rows. IsLightWindow (with_rows s rows s.exponents) w c.args.v) (sym same) fit.window;
+    }
+
+pub reach-requires : goal.reach-requires
+reach-requires c = c.in-Some.ensures.first.inside
+
+pub aim-requires-clause-same : goal.aim-requires-clause-same
+aim-requires-clause-same c = c.values-values.ensures.length ∙ c.requires.window ∙ sym c.requires.step
+
+pub aim-requires-clause-inside : goal.aim-requires-clause-inside
+aim-requires-clause-inside c = is_inside c.values-values.result.now c.in-Some.p c.in-Some.ensures.first.fails
+
+pub aim-requires-clause-fails : goal.aim-requires-clause-fails
+aim-requires-clause-fails c = c.in-Some.ensures.first.fails
+
+pub aim-requires-clause-small : goal.aim-requires-clause-small
+aim-requires-clause-small c = c.reach.ensures.small
+
+pub step-requires-clause-lanes : goal.step-requires-clause-lanes
+step-requires-clause-lanes c = ap length c.factors.ensures ∙ c.aim.ensures.size ∙ c.values-values.ensures.length
+
+pub step-requires-clause-inside : goal.step-requires-clause-inside
+step-requires-clause-inside c =
+    subst (λ n. c.in-Some.p < n) c.values-values.ensures.length (is_inside c.values-values.result.now c.in-Some.p c.in-Some.ensures.first.fails)
+
+pub raise-requires-clause-inside : goal.raise-requires-clause-inside
+raise-requires-clause-inside c = c.in-Some.ensures.first.inside
+
+pub returns-clause-rows : goal.returns-clause-rows
+returns-clause-rows c =
+    c.raise.ensures ∙ ap (with_rows c.args.self.now c.args.self.now.rows) (sym (ap (λ x. x.exponents) c.raise.ensures))
+
+pub returns-clause-cells : goal.returns-clause-cells
+returns-clause-cells c = c.step.ensures.window
+
+pub returns-clause-lanes : goal.returns-clause-lanes
+returns-clause-lanes c =
+    ap (λ x. length x.factors) c.shift.ensures ∙ length-set c.aim.new.self.factors _ _ ∙ c.aim.ensures.size ∙ c.values-values.ensures.length ∙ c.requires.window
 
 pub returns-clause-imposed : goal.returns-clause-imposed
 returns-clause-imposed c = λ rows made fit taken.

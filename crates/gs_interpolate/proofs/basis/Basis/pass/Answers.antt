@@ -1,5 +1,7 @@
-use Rattle.std.proofs.Common.{◌≡◌, Bool, true, false, ℕ, ◌+◌, ◌<◌, ◌≤◌, length, get_or, take, set, sum, refl, sym, ap, subst, ◌∙◌, arith}
-use Rattle.std.proofs.lemmas.List.{get_or_default, get_or-take, length-set, length-take-le}
+use Rattle.std.proofs.Common.{◌≡◌, Bool, true, false, ℕ, ◌+◌, ◌<◌, ◌≤◌, List, length, get_or, take, set, sum, refl, sym, ap, subst, ◌∙◌, arith, Vec, Global}
+use Rattle.std.proofs.lemmas.List.{get_or_default, get_or-take, length-map, length-set, length-take-le}
+use Rattle.std.proofs.lemmas.Result.{IfOk-from_err}
+use borrow.Author.Count.{falls}
 use Rattle.interpolation.specs.Monomials.{conditions}
 use Rattle.gs_interpolate.specs.Family.{bytes_of}
 use Rattle.gs_interpolate.specs.Window.{condition_at, IsWindow}
@@ -15,6 +17,21 @@ use Rattle.gs_interpolate.proofs.basis.Basis.pass.Goals.{then-impose, else-impos
 -- the steps so far are fewer than the conditions, so there is room for one
 room_left : (m u v taken n : ℕ) → u + v < m → taken ≤ orders m v + u → conditions 1 m ≤ n → taken < n
 room_left m u v taken n l few enough = let left = orders-left m u v l in omega (arith, left, few, enough)
+
+pub at-requires-clause-some : goal.at-requires-clause-some
+at-requires-clause-some c =
+    omega (arith, c.self.invariant.some, c.self.invariant.wide, c.requires.lanes, ap (λ s. s.lanes) c.self.view_is)
+
+pub at-requires-clause-few : goal.at-requires-clause-few
+at-requires-clause-few c = omega (arith, c.self.invariant.width, c.requires.lanes, ap (λ s. s.lanes) c.self.view_is)
+
+pub at-requires-clause-wide : goal.at-requires-clause-wide
+at-requires-clause-wide c =
+    let f : Vec ℕ Global → List ℕ = λ r. r.items in
+    omega (arith, ap length c.deref.ensures.value, length-map c.self.inside.rows.items f, c.self.invariant.wide, c.requires.lanes, ap (λ s. s.lanes) c.self.view_is)
+
+pub at-requires-clause-terms : goal.at-requires-clause-terms
+at-requires-clause-terms c = c.requires.multiplicity
 
 pub rows-init : goal.rows-init
 rows-init c =
@@ -39,6 +56,28 @@ rows-init c =
           (subst (λ n. IsWindow n m c.args.a c.args.b (bytes_of c.self.inside.rows.items) window) c.requires.lanes
           (subst (λ rows. IsWindow c.args.window.lanes m c.args.a c.args.b (bytes_of rows) window) c.deref.ensures.value made))));
     }
+
+pub orders-init : goal.orders-init
+orders-init c =
+    let h = c.rows.invariant in
+    record {
+      order = h.order;
+      first = h.first;
+      second = h.second;
+      lanes = h.lanes;
+      kept = h.kept;
+      enough = h.enough;
+      alike = h.alike;
+      few = omega (arith, h.few);
+      rise = omega (arith, h.rise);
+      under = h.under;
+    }
+
+pub orders-smaller : goal.orders-smaller
+orders-smaller c = falls _ c.orders.u c.orders-test.true
+
+pub rows-smaller : goal.rows-smaller
+rows-smaller c = falls _ c.rows.v c.rows-test.true
 
 pub orders-preserved : goal.orders-preserved
 orders-preserved c =
@@ -113,6 +152,12 @@ impose-requires-clause-room c =
     let left = orders-left c.m-m.result c.orders.u c.rows.v (omega arith) in
     omega (arith, left, c.orders.invariant.rise, c.requires.room, ap (conditions 1) c.m-m.ensures)
 
+pub impose-requires-clause-order : goal.impose-requires-clause-order
+impose-requires-clause-order c = omega (arith, c.orders.invariant.order)
+
+pub impose-requires-clause-window : goal.impose-requires-clause-window
+impose-requires-clause-window c = c.orders.invariant.lanes ∙ sym (ap (λ s. s.lanes) c.orders.invariant.alike)
+
 pub impose-requires-clause-step : goal.impose-requires-clause-step
 impose-requires-clause-step c =
     let h = c.orders.invariant in
@@ -166,3 +211,27 @@ returns-clause-passing c =
     (subst (λ b. IsPassing s (with_rows s new.rows under.exponents) c.args.a b window.m) h.second
     (subst (λ a. IsPassing s (with_rows s new.rows under.exponents) a window.b window.m) h.first
     (kept-all s new.rows under.exponents steps k window c.rows.v (omega (arith, h.order)) done rise h.under))))
+
+pub returns-clause-window : goal.returns-clause-window
+returns-clause-window c = (c.rows.invariant.lanes, c.rows.invariant.order ∙ c.m-m.ensures)
+
+pub returns-clause-steps : goal.returns-clause-steps
+returns-clause-steps c = c.rows.invariant.kept
+
+pub returns-in_err-window-clause-passing : goal.returns-in_err-window-clause-passing
+returns-in_err-window-clause-passing c = IfOk-from_err c.from_residual.result _ c.from_residual.ensures.0
+
+pub returns-in_err-window-clause-window : goal.returns-in_err-window-clause-window
+returns-in_err-window-clause-window c = IfOk-from_err c.from_residual.result _ c.from_residual.ensures.0
+
+pub returns-in_err-window-clause-steps : goal.returns-in_err-window-clause-steps
+returns-in_err-window-clause-steps c = IfOk-from_err c.from_residual.result _ c.from_residual.ensures.0
+
+pub returns-in_err-take-clause-passing : goal.returns-in_err-take-clause-passing
+returns-in_err-take-clause-passing c = IfOk-from_err c.from_residual-in_err-take.result _ c.from_residual-in_err-take.ensures.0
+
+pub returns-in_err-take-clause-window : goal.returns-in_err-take-clause-window
+returns-in_err-take-clause-window c = IfOk-from_err c.from_residual-in_err-take.result _ c.from_residual-in_err-take.ensures.0
+
+pub returns-in_err-take-clause-steps : goal.returns-in_err-take-clause-steps
+returns-in_err-take-clause-steps c = IfOk-from_err c.from_residual-in_err-take.result _ c.from_residual-in_err-take.ensures.0

@@ -2,6 +2,7 @@ use Rattle.std.proofs.Common.{◌≡◌, ℕ, ◌+◌, ◌-◌, ◌*◌, ◌/◌
 use Rattle.std.proofs.lemmas.Bool.{cases_lt}
 use Rattle.std.proofs.lemmas.List.{length-replicate, get_or-replicate, get_or_past, length-map, get_or-map, get_or-take, length-take-le}
 use Rattle.std.proofs.Math.Nat.{mul-le-mul_right}
+use borrow.Author.Count.{falls}
 use Rattle.gf256.specs.Field.{power}
 use Rattle.uni_poly.specs.Taylor.{taylor}
 use Rattle.bi_poly.proofs.Shift.{filled}
@@ -29,6 +30,10 @@ zeros_at n k zeros are =
 cells_fit : (e m n : ℕ) → e ≤ MOST_TERMS → m ≤ MOST_MULTIPLICITY → n ≤ MOST_LANES → e * (m * n) ≤ MOST_TERMS * (MOST_MULTIPLICITY * MOST_LANES)
 cells_fit e m n terms few wide = mul-le-mul terms (mul-le-mul few wide)
 
+-- the first values of what a row expands to, as many as there are cells in a row of a window
+length-values : (m n e : ℕ) (made now : List ℕ) → m ≤ e → length made ≡ e * n → now ≡ made → length (take (m * n) now) ≡ m * n
+length-values m n e made now few size same = length-take-le (m * n) now (omega (arith, mul-le-mul_right n few, ap length same, size))
+
 pub overflow_mul-terms : goal.overflow_mul-terms
 overflow_mul-terms c =
     let m = ap (λ w. w.m) c.self.view_is in
@@ -36,6 +41,69 @@ overflow_mul-terms c =
     let few : c.next_power_of_two-terms.result ≤ MOST_TERMS = omega (arith, c.next_power_of_two-terms.ensures.upper_bound, c.requires.terms, m) in
     let fit = cells_fit c.next_power_of_two-terms.result c.self.inside.m c.self.inside.lanes few (omega (arith, c.requires.terms, m)) (omega (arith, c.requires.few, lanes)) in
     omega (arith, fit)
+
+pub overflow_mul-size : goal.overflow_mul-size
+overflow_mul-size c =
+    let few : c.self.inside.m ≤ MOST_MULTIPLICITY = omega (arith, c.requires.terms, ap (λ w. w.m) c.self.view_is) in
+    let wide : c.self.inside.lanes ≤ MOST_LANES = omega (arith, c.requires.few, ap (λ w. w.lanes) c.self.view_is) in
+    omega (arith, mul-le-mul few wide)
+
+pub overflow_mul-terms-2 : goal.overflow_mul-terms-2
+overflow_mul-terms-2 c =
+    let few : c.next_power_of_two-terms.result ≤ MOST_TERMS = omega (arith, c.next_power_of_two-terms.ensures.upper_bound, c.requires.terms, ap (λ w. w.m) c.self.view_is) in
+    let wide : c.self.inside.lanes ≤ MOST_LANES = omega (arith, c.requires.few, ap (λ w. w.lanes) c.self.view_is) in
+    omega (arith, mul-le-mul few wide)
+
+pub overflow_mul-m : goal.overflow_mul-m
+overflow_mul-m c =
+    let few : c.self.inside.m ≤ MOST_MULTIPLICITY = omega (arith, c.requires.terms, ap (λ w. w.m) c.self.view_is) in
+    let wide : c.self.inside.lanes ≤ MOST_LANES = omega (arith, c.requires.few, ap (λ w. w.lanes) c.self.view_is) in
+    omega (arith, mul-le-mul few (mul-le-mul few wide))
+
+pub expand_row-requires-clause-some : goal.expand_row-requires-clause-some
+expand_row-requires-clause-some c = omega (arith, c.requires.some, ap (λ w. w.lanes) c.self.view_is)
+
+pub expand_row-requires-clause-power : goal.expand_row-requires-clause-power
+expand_row-requires-clause-power c = c.next_power_of_two-terms.ensures.power
+
+pub expand_row-requires-clause-size : goal.expand_row-requires-clause-size
+expand_row-requires-clause-size c = ap length c.deref_mut.ensures.value ∙ c.loop-j.invariant.first
+
+pub slice_bounds-add_values-end : goal.slice_bounds-add_values-end
+slice_bounds-add_values-end c =
+    let made = c.expand_row.new.made in
+    let size = c.expand_row.auto.made ∙ ap length c.deref_mut.ensures.value ∙ c.loop-j.invariant.first in
+    let whole = c.deref-in-loop-j.ensures.value ∙ take_at made _ c.loop-j.first.len (c.expand_row.auto.made ∙ c.deref_mut.ensures.len) in
+    sym (length-values c.self.inside.m c.self.inside.lanes c.next_power_of_two-terms.result made c.deref-in-loop-j.result.now c.next_power_of_two-terms.ensures.lower_bound size whole)
+
+pub add_values-requires-clause-size : goal.add_values-requires-clause-size
+add_values-requires-clause-size c =
+    let made = c.expand_row.new.made in
+    let size = c.expand_row.auto.made ∙ ap length c.deref_mut.ensures.value ∙ c.loop-j.invariant.first in
+    let whole = c.deref-in-loop-j.ensures.value ∙ take_at made _ c.loop-j.first.len (c.expand_row.auto.made ∙ c.deref_mut.ensures.len) in
+    ap length c.deref_mut-in-loop-j.ensures.value ∙ c.loop-j.invariant.size
+    ∙ ap (λ k. c.next_power_of_two-terms.result * k)
+    (sym (length-values c.self.inside.m c.self.inside.lanes c.next_power_of_two-terms.result made c.deref-in-loop-j.result.now c.next_power_of_two-terms.ensures.lower_bound size whole))
+
+pub add_values-requires-clause-some : goal.add_values-requires-clause-some
+add_values-requires-clause-some c = omega (arith, c.next_power_of_two-terms.ensures.lower_bound, c.requires.terms, ap (λ w. w.m) c.self.view_is)
+
+pub add_values-requires-clause-few : goal.add_values-requires-clause-few
+add_values-requires-clause-few c = omega (arith, c.loop-j-test.true, c.requires.wide, c.requires.few)
+
+pub loop-j-smaller : goal.loop-j-smaller
+loop-j-smaller c = falls (length c.args.rows.now) c.loop-j.j c.loop-j-test.true
+
+pub expand-requires-clause-some : goal.expand-requires-clause-some
+expand-requires-clause-some c =
+    let once : 1 ≤ c.self.inside.m = omega (arith, c.requires.terms, ap (λ w. w.m) c.self.view_is) in
+    omega (arith, mul-le-mul_right c.self.inside.lanes once, c.requires.some, ap (λ w. w.lanes) c.self.view_is)
+
+pub expand-requires-clause-power : goal.expand-requires-clause-power
+expand-requires-clause-power c = c.next_power_of_two-terms.ensures.power
+
+pub expand-requires-clause-size : goal.expand-requires-clause-size
+expand-requires-clause-size c = ap length c.deref_mut-2.ensures.value ∙ c.loop-j.invariant.size
 
 pub loop-j-init : goal.loop-j-init
 loop-j-init c =
@@ -55,6 +123,15 @@ expand_row-requires-clause-few c = omega (arith, c.next_power_of_two-terms.ensur
 
 pub expand-requires-clause-few : goal.expand-requires-clause-few
 expand-requires-clause-few c = omega (arith, c.next_power_of_two-terms.ensures.upper_bound, c.requires.terms, ap (λ w. w.m) c.self.view_is)
+
+pub invariant_of-result : goal.invariant_of-result
+invariant_of-result c =
+    let m = c.self.inside.m in
+    let s = m * c.self.inside.lanes in
+    let made = c.expand.new.cells in
+    let size = c.expand.auto.cells ∙ ap length c.deref_mut-2.ensures.value ∙ c.loop-j.invariant.size in
+    ap length (c.truncate.ensures.items ∙ ap (take (m * s)) (take_at made _ c.loop-j.cells.len (c.expand.auto.cells ∙ c.deref_mut-2.ensures.len)))
+    ∙ length-take-le (m * s) made (omega (arith, mul-le-mul_right s c.next_power_of_two-terms.ensures.lower_bound, size))
 
 pub loop-j-preserved : goal.loop-j-preserved
 loop-j-preserved c =
