@@ -4,8 +4,8 @@
 # usage: bench/decide.sh [ROUNDS [FOLDER]]
 set -eu
 top=$(cd "$(dirname "$0")/.." && pwd)
-# About as long as the C++ program gets for a case.
-rounds=${1:-2000}
+# About as many as the C++ program gets for the shortest case.
+rounds=${1:-500}
 peers=${2:-$top/../shared/peers}
 width=65536
 # shellcheck source=bench/program.sh
@@ -42,8 +42,8 @@ cases="3|1|2|0|0|all agree
 32|15|24|8|0|8 liars, all columns"
 
 # A machine with neighbours has phases in which all takes twice as long: so the programs take turns, and of each the best time of
-# three turns counts.
-turns=3
+# all turns counts.
+turns=8
 
 # ours PROGRAM T H: our best time in nanoseconds, of two runs, and how many blocks are listed.
 ours() {
@@ -64,7 +64,8 @@ theirs() {
 
 for ((turn = 1; turn <= turns; turn++)); do
   for lanes in $(each_build); do
-    [ ! -x "$work/rows-$lanes" ] || "$work/rows-$lanes" bench 0.3 >"$work/table-$lanes-$turn"
+    # Its cases of this width come first, in 14 lines behind two.
+    [ ! -x "$work/rows-$lanes" ] || "$work/rows-$lanes" bench 0.2 | head -n 16 >"$work/table-$lanes-$turn"
   done
   while IFS='|' read -r k t h liars first case; do
     given "$k" "$t" "$liars" "$first"
